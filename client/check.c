@@ -1,7 +1,7 @@
 /* Tests the client: sends ioctls to /dev/nvme0 and /dev/nvme1 of the demonstration subsystem, and checks each answer.
    ./nvme-model runs it, each time over a new subsystem:
        check commands | wide | lengths | many | broken | killed | nodes | gone
-   This file checks the answers to commands, and check_client.c how the client works. The status is 0 if everything was
+   This file checks the answers to commands, and check_client.c how the client works. The status is 0 if everything is
    as expected. */
 #define _GNU_SOURCE
 #include "check.h"
@@ -22,7 +22,7 @@ static unsigned tried, wrong;
 
 /* What was sent to each controller, as its error log reports it. */
 static unsigned commands[2], refusals[2], last_status[2], last_identifier[2], last_nsid[2];
-/* How many commands the launcher has sent itself, to look for nodes, and how many changes made it look. */
+/* How many commands the launcher has sent by itself, to look for nodes, and how many changes made it look. */
 static unsigned own[2], changes;
 
 void must(int is_so, const char *format, ...) {
@@ -69,7 +69,7 @@ int send_command(int file, const struct command *command, uint64_t *result) {
     return value;
 }
 
-/* Sends a command to a controller. It must have this status and dword 0. */
+/* Sends a command to a controller. Its completion must have this status and dword 0. */
 static void told(unsigned controller, struct command command, int status, uint32_t dword_0) {
     uint64_t result;
     int value = send_command(files[controller], &command, &result);
@@ -96,7 +96,7 @@ static void refused(unsigned controller, struct command command, int status) {
     told(controller, command, status, 0);
 }
 
-/* Commands with a page of data. */
+/* ---- commands with a page of data */
 
 struct command identify(uint32_t cns, uint32_t nsid) {
     memset(common, UNTOUCHED, PAGE);
@@ -125,7 +125,7 @@ struct command attachment(int detaches, uint32_t nsid, unsigned count, unsigned 
     return (struct command){ATTACHMENT, nsid, (uint32_t)detaches, PAGE, 0, 0, 0, NULL};
 }
 
-/* Commands without data, and logs. */
+/* ---- commands without data, and logs */
 
 struct command delete(uint32_t nsid) {
     return (struct command){MANAGEMENT, nsid, 1, 0, 0, 0, 0, NULL};
@@ -149,7 +149,7 @@ static struct command get_log(uint32_t nsid, uint32_t identifier, uint32_t bytes
     return (struct command){GET_LOG, nsid, dwords << 16 | identifier, bytes, dwords >> 16, offset, 0, NULL};
 }
 
-/* What the common buffer must hold. */
+/* ---- checks of the common buffer */
 
 static void is_number(unsigned at, unsigned bytes, uint64_t value) {
     must(number(common, at, bytes) == value, "byte %u holds %llu, not %llu", at, (unsigned long long)value,
@@ -183,7 +183,7 @@ static void is_namespace(uint64_t blocks, unsigned flbas, unsigned nmic, uint64_
     must(all_are(common, 140, PAGE, 0), "a namespace ends with zeros");
 }
 
-/* What the demonstration file says about a controller. */
+/* Checks that the common buffer holds what the demonstration file says about a controller. */
 static void is_controller(const char *serial, unsigned identifier, unsigned elpe, unsigned vwc, uint64_t unallocated) {
     static const struct {
         unsigned at, bytes;
@@ -203,7 +203,7 @@ static void is_controller(const char *serial, unsigned identifier, unsigned elpe
     is_number(296, 8, unallocated);
 }
 
-/* The newest entry of a controller's error log is its last refusal. */
+/* Checks that the newest entry of a controller's error log is its last refusal. */
 static void is_booked(unsigned controller, uint64_t specific) {
     done(controller, get_log(EVERY, 1, 64, 0), 0);
     is_number(0, 8, refusals[controller]);
@@ -356,7 +356,7 @@ static void try_formats(void) {
     is_list(0, NULL);
 }
 
-/* Opcodes that the model doesn't have, and fields that it refuses. */
+/* Sends opcodes that the model doesn't have, and fields that it refuses. */
 static void try_others(void) {
     static const unsigned char known[] = {GET_LOG,    IDENTIFY,   SET_FEATURES, GET_FEATURES,
                                           MANAGEMENT, ATTACHMENT, FORMAT};
@@ -380,7 +380,7 @@ static void try_commands(void) {
     try_others();
 }
 
-/* Data from the controller: as many of these bytes as there is room for, then zeros, and nothing past the room. */
+/* Checks data from the controller: as many of these bytes as fit, then zeros, and nothing past the end of the room. */
 static void comes(struct command command, int status, const unsigned char *bytes, size_t count) {
     memset(common, UNTOUCHED, sizeof common);
     told(0, command, status, 0);
@@ -390,14 +390,14 @@ static void comes(struct command command, int status, const unsigned char *bytes
     must(all_are(common, length, sizeof common, UNTOUCHED), "nothing comes behind %zu bytes", length);
 }
 
-/* Data that isn't transferred. */
+/* Checks that no data is transferred. */
 static void stays(struct command command, int status) {
     memset(common, UNTOUCHED, sizeof common);
     told(0, command, status, 0);
     must(all_are(common, 0, sizeof common, UNTOUCHED), "no data come of opcode %02xh", command.opcode);
 }
 
-/* Data from the host: as many bytes as there are, and zeros after them. */
+/* Checks data from the host: as many bytes as there are, and zeros after them. */
 static void try_sent(uint32_t length) {
     struct command attach = attachment(0, 1, 1, 1, 0), detach = attachment(1, 1, 1, 1, 0);
     attach.length = detach.length = length;

@@ -42,11 +42,11 @@ struct command delete(uint32_t nsid);
 struct command get_feature(uint32_t nsid, uint32_t identifier, uint32_t selector);
 struct command set_feature(uint32_t nsid, uint32_t identifier, uint32_t value, uint32_t saves);
 
-/* A little-endian number of `bytes` bytes, and whether bytes are all equal to one. */
+/* Returns a little-endian number of `bytes` bytes, and whether all bytes are equal to one. */
 uint64_t number(const unsigned char *data, unsigned at, unsigned bytes);
 int all_are(const unsigned char *data, size_t from, size_t to, unsigned char byte);
 
-/* What the common buffer must hold: a list of namespaces. */
+/* Checks that the common buffer holds this list of namespaces. */
 void is_list(unsigned count, const uint32_t *ids);
 
 /* The parts that test the client (check_client.c). */

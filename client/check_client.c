@@ -21,7 +21,7 @@
 #include <time.h>
 #include <unistd.h>
 
-/* Eight processes at once. Each must see its own answers and no others. */
+/* ---- eight processes at once, and then eight threads: each must see its own answers and no others */
 
 enum { WORKERS = 8, ROUNDS = 150 };
 
@@ -94,7 +94,7 @@ void try_many(void) {
     }
 }
 
-/* Clients of the launcher that misbehave. */
+/* ---- clients of the launcher that misbehave */
 
 static double seconds(void) {
     struct timespec now;
@@ -102,7 +102,7 @@ static double seconds(void) {
     return (double)now.tv_sec + (double)now.tv_nsec / 1e9;
 }
 
-/* Others are answered within a second, and no namespace was created. */
+/* Checks that other clients are answered within a second, and that no namespace was created. */
 static void others_go_on(const char *beside) {
     double begun = seconds();
     done(0, identify(0x10, 0), 0);
@@ -116,7 +116,7 @@ static int connect_to_launcher(void) {
     return connect(file, (struct sockaddr *)&address, sizeof address) == 0 ? file : -1;
 }
 
-/* Sends the first bytes of a request with data of a page, which creates a namespace. */
+/* Sends the first bytes of a request that creates a namespace, and has a page of data. */
 static int ask_partly(size_t bytes) {
     struct {
         struct request_header header;
@@ -150,7 +150,7 @@ static int hear(int file, uint32_t length) {
     return le16toh(answer.outcome);
 }
 
-/* The launcher's other child is the device. */
+/* Returns the process of the device, which is the launcher's other child. */
 static pid_t device_of(pid_t launcher) {
     DIR *processes = opendir("/proc");
     struct dirent *entry;
@@ -175,7 +175,7 @@ static void pause_for(unsigned milliseconds) {
     nanosleep(&moment, NULL);
 }
 
-/* Requests that were completely received while the device was busy are executed in this order: each creates a
+/* Requests that are completely received while the device is busy are executed in this order. Each creates a
    namespace. */
 static void try_order(void) {
     static const uint32_t wanted[] = {2, 4, 0};
@@ -245,7 +245,7 @@ static void settle(void) {
     }
 }
 
-/* A process is killed at any time between creating and deleting: the namespace exists or it doesn't. */
+/* A process is killed at any time while it creates and deletes a namespace. The namespace then exists or it doesn't. */
 void try_killed(void) {
     for (unsigned round = 0; round < 40; round++) {
         uint64_t result;
@@ -267,7 +267,7 @@ void try_killed(void) {
     }
 }
 
-/* Nodes and their descriptors. */
+/* ---- nodes and their descriptors */
 
 int answers(int file, char serial) {
     uint64_t result;
@@ -377,7 +377,7 @@ void try_nodes(void) {
     try_descriptors();
 }
 
-/* After the device is gone, each call reports that, and so does one that is waiting for its answer. */
+/* After the device is gone, each call reports this, and so does a call that is waiting for its answer. */
 void try_gone(void) {
     uint64_t result;
     struct stat about;

@@ -17,7 +17,7 @@
 /* The two lowest bits of an opcode give the direction of its data. */
 enum { TO_DEVICE = 1, FROM_DEVICE = 2 };
 
-/* The launcher or the device is gone, unless the error is this process's own. */
+/* Fails because the launcher or the device is gone, unless the error is this process's own. */
 static int is_lost(void) {
     int is_own = errno == EFAULT || errno == EMFILE || errno == ENFILE || errno == ENOMEM || errno == ENOBUFS;
     return fails_by(is_own ? errno : ENXIO);
@@ -90,7 +90,7 @@ static int ask(const struct node *node, unsigned kind) {
 
 int is_alive(const struct node *node) { return ask(node, KIND_ALIVE); }
 
-/* Sends an entry as it was given. Returns the status, and stores dword 0 of the completion. */
+/* Sends a given entry unchanged. Returns the status, and stores dword 0 of the completion. */
 static int pass_through(const struct node *node, const struct nvme_passthru_cmd *given, uint32_t *dword_0) {
     int direction = given->opcode & (TO_DEVICE | FROM_DEVICE);
     uint32_t length = direction && given->addr ? given->data_len : 0;
@@ -112,7 +112,7 @@ static int pass_through(const struct node *node, const struct nvme_passthru_cmd 
     return le16toh(answer.status) & 0x7fff;
 }
 
-/* The two forms of a command differ only in the result, which comes after the other fields in both. */
+/* Executes a command. Its two forms differ only in the result, which comes after the other fields in both. */
 static int admin_ioctl(const struct node *node, uint32_t request, unsigned char *argument) {
     struct nvme_passthru_cmd given;
     uint32_t dword_0 = 0;
@@ -128,7 +128,7 @@ static int admin_ioctl(const struct node *node, uint32_t request, unsigned char 
     return status;
 }
 
-/* What a block device reports about itself as a number of this size, as Linux does for one with one queue. */
+/* Reports a number about a block device, in its size, as Linux does for a device with one queue. */
 static int tell_number(const struct node *node, uint32_t request, void *argument) {
     uint64_t block = 1ULL << node->power, size = node->blocks << node->power;
     const struct {
@@ -149,7 +149,7 @@ static int tell_number(const struct node *node, uint32_t request, void *argument
     return fails_by(ENOTTY);
 }
 
-/* Discards blocks, which are zeros afterwards. */
+/* Discards blocks, which are then zeros. */
 static int discard(int file, const struct node *node, const uint64_t range[2]) {
     uint64_t size = node->blocks << node->power, mask = (1ULL << node->power) - 1;
     if (!range)

@@ -1,5 +1,5 @@
-/* Keeps the preloaded library in the command's processes: a program that is run gets it back in its environment if that
-   was replaced or is empty. None of this is proved. */
+/* Keeps the preloaded library in the command's processes: if the environment of a program was replaced or emptied, the
+   library is added to it again. None of this is proved. */
 #define _GNU_SOURCE
 #include "library.h"
 #include <errno.h>
@@ -26,8 +26,8 @@ static const char *value_of(char *const environment[]) {
     return "";
 }
 
-/* The environment with the library before whatever else is preloaded. Everything is on the stack, so that a child that
-   shares its parent's memory changes none of it. */
+/* Makes an environment with the library before all other preloaded libraries. Everything is on the stack, so a child
+   that shares its parent's memory doesn't change that memory. */
 static void keep(char *const from[], char *kept[], char *preload) {
     const char *before = value_of(from);
     size_t variable = kept_variable ? strcspn(kept_variable, "=") + 1 : 0;
@@ -74,7 +74,7 @@ PUBLIC int execveat(int at, const char *path, char *const arguments[], char *con
 PUBLIC int execv(const char *path, char *const arguments[]) { return execve(path, arguments, environ); }
 PUBLIC int execvp(const char *file, char *const arguments[]) { return execvpe(file, arguments, environ); }
 
-/* The calls whose arguments come one after another, with NULL at their end; one of them also takes the environment. */
+/* The calls whose arguments come one after another, with NULL at the end. One of them also takes the environment. */
 #define TAKE_ARGUMENTS(first, rest) \
     va_list rest; \
     size_t count = 1; \
@@ -119,7 +119,7 @@ PUBLIC int posix_spawnp(pid_t *child, const char *file, const posix_spawn_file_a
     return NEXT(posix_spawnp)(child, file, actions, attributes, arguments, kept);
 }
 
-/* What these calls run has the environment of this process. */
+/* Programs that these calls run have the environment of this process. */
 static void keep_here(void) {
     KEEP(kept, environ);
     if (folder[0]) {

@@ -1,6 +1,6 @@
-/* What the preloaded library does without a namespace: nodes are only names in /dev, which stand for files of the
-   launcher's folder, and a path that is or leads to a device of the machine is refused, however it is spelled. None of
-   this is proved. */
+/* The preloaded library without a namespace. Nodes are only names in /dev, which stand for files in the launcher's
+   folder. A path that is a device of the machine, or leads to one, is refused, however it is spelled. None of this is
+   proved. */
 #define _GNU_SOURCE
 #include "library.h"
 #include <ctype.h>
@@ -23,7 +23,7 @@ static struct {
 } real[MOST_REAL];
 static unsigned real_count;
 
-/* (after the folder: c240:0 b259:0 and so on) */
+/* Reads the device numbers of the machine's nodes, which come after the folder: c240:0 b259:0 and so on. */
 void read_real_nodes(const char *text) {
     char kind;
     unsigned numbers[2];
@@ -81,7 +81,7 @@ const char *find(int directory, const char *path, char room[PATH_MAX]) {
     return path;
 }
 
-/* Returns whether a path is that of a node, or leads to a device of the machine: such a path must not be changed. */
+/* Returns whether a path is that of a node, or leads to a device of the machine. Such a path must not be changed. */
 static int is_refused(int directory, const char *path) {
     char room[PATH_MAX];
     const char *found = find(directory, path, room);

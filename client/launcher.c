@@ -33,10 +33,10 @@ uint64_t geometry[] = {[DEPTH] = 32, [PAGE_SIZE] = 4096, [WINDOW] = 1};
 
 static pid_t command;
 static int status = -1;        /* of the command, once it has ended */
-static sigset_t mask, watched; /* the signals that were blocked at the start, and those that are waited for */
+static sigset_t mask, watched; /* the signals that were blocked at the start, and the signals to wait for */
 static char parts[PATH_MAX], library[PATH_MAX + 32];
 
-/* What the options ask for. */
+/* The values of the options. */
 static const char *files[MOST_DEVICES];
 static char *device_options[16];
 static unsigned file_count, device_option_count;
@@ -44,7 +44,7 @@ static int has_trace, without_namespace;
 static const char *trace_file;
 static uint64_t limit;
 
-/* (a device has nothing to clean up) */
+/* Kills the devices, which have nothing to clean up. */
 static void end_devices(void) {
     for (struct device *device = devices; device < devices + device_count; device++) {
         device->is_lost = 1;
@@ -60,13 +60,13 @@ static int remove_one(const char *path, const struct stat *about, int type, stru
     return remove(path);
 }
 
-/* (whatever the command left running may still write there) */
+/* Removes a folder. Processes that the command left running may still write there, so this tries again. */
 void remove_all(const char *path) {
     for (int tries = 0; tries < 3 && nftw(path, remove_one, 16, FTW_DEPTH | FTW_PHYS) != 0; tries++)
         continue;
 }
 
-/* Without a namespace the folder is in the machine's /tmp. */
+/* Removes the launcher's folder, which is in the machine's /tmp if there is no namespace. */
 static void remove_folder(void) {
     if (folder[0] && !has_namespace)
         remove_all(folder);
@@ -105,7 +105,7 @@ static void reap(void) {
     }
 }
 
-/* Waits for the command to end. What is typed on the terminal reaches the command anyway. Any other signal is passed on
+/* Waits for the command to end. Signals from the terminal's keys reach the command anyway. Other signals are passed on
    to it. */
 static void await_end(void) {
     siginfo_t signal;
@@ -133,8 +133,8 @@ static void open_pipe(int ends[2]) {
         fail_by_errno("pipe");
 }
 
-/* Runs a device's program in a session of its own, so that nothing that is typed on the terminal ends it. It is killed
-   when the launcher is. */
+/* Runs a device's program in a session of its own, so that signals from the terminal's keys don't end it. It is killed
+   when the launcher ends. */
 static void run_device(const char *file, int in, int out, int said) {
     char program[PATH_MAX + 32], *arguments[24] = {program};
     unsigned count = 1;
@@ -181,7 +181,7 @@ static void start_device(const char *file) {
     greet_device(device);
 }
 
-/* Another process tests whether a namespace can be made here, because a namespace that is only half made can't be
+/* Returns whether a namespace can be made here. Another process tests this, because a half-made namespace can't be
    undone. */
 static int can_enter(char reason[REASON_ROOM]) {
     int ends[2], how;
@@ -201,8 +201,8 @@ static int can_enter(char reason[REASON_ROOM]) {
     return waitpid(child, &how, 0) == child && how == 0;
 }
 
-/* Opens the folders that are open again by the same paths in the command's /dev, /sys and so on: through a descriptor
-   of the machine's own folders its nodes could be reached. */
+/* Opens each open folder again, by its path in the command's /dev, /sys and so on. Through a descriptor of the
+   machine's own folder, its nodes could be reached. */
 static void renew_folders(void) {
     DIR *open_files = opendir("/proc/self/fd");
     struct dirent *entry;
@@ -224,7 +224,7 @@ static void renew_folders(void) {
         closedir(open_files);
 }
 
-/* No descriptor of a real device is passed on. */
+/* Fails if the command would get a descriptor of a real device. */
 static void check_descriptors(void) {
     DIR *open_files = opendir("/proc/self/fd");
     struct dirent *entry;
@@ -238,7 +238,7 @@ static void check_descriptors(void) {
         closedir(open_files);
 }
 
-/* Removes the folder when the launcher has ended, even if it was killed. */
+/* Starts a process that removes the folder when the launcher has ended, even if it was killed. */
 static void start_sweeper(void) {
     int ends[2];
     char byte;
@@ -258,7 +258,7 @@ static void start_sweeper(void) {
     _exit(0);
 }
 
-/* Without a namespace, a folder in /tmp takes the place of the one in the command's own /dev. */
+/* Makes the folder in /tmp that replaces the one in the command's own /dev if there is no namespace. */
 static void make_folder(const char *reason) {
     const char *node = a_real_node();
     if (node && !without_namespace)
@@ -437,7 +437,7 @@ static int read_options(int count, char **arguments) {
     return optind;
 }
 
-/* The library and the device's program are next to the launcher, in ../lib/nvme-model. */
+/* Finds the library and the device's program, which are in ../lib/nvme-model beside the launcher's folder. */
 static void find_parts(void) {
     ssize_t length = readlink("/proc/self/exe", parts, sizeof parts - 64);
     parts[length < 0 ? 0 : length] = '\0';
@@ -452,7 +452,7 @@ static void find_parts(void) {
     limit += ((uint64_t)about.st_size + 4095) / 4096 * 4096;
 }
 
-/* `--qemu` as the first argument is for a program of its own, which is next to the library. */
+/* Runs the program for `--qemu` as the first argument, which is next to the library. */
 static void run_qemu(char **arguments) {
     char program[PATH_MAX + 32];
     find_parts();

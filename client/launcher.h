@@ -17,7 +17,7 @@ struct device {
     pid_t process;         /* 0 if it has ended */
     int to, from, said;    /* pipes to its input, from its output and, with a trace, from its standard error, or -1 */
     unsigned first, count; /* its controllers, by the numbers of /dev/nvmeX */
-    _Atomic int is_lost;   /* it doesn't answer any more */
+    _Atomic int is_lost;   /* it no longer answers */
     pthread_mutex_t lock;  /* for its turns: the current one, and how many were requested */
     pthread_cond_t ended;
     unsigned long turn, turns;
@@ -30,16 +30,16 @@ extern int watcher;         /* reports which files of nodes were written, or -1 
 extern int has_namespace;   /* whether /dev and /sys are the command's own */
 extern int waits;           /* whether nodes wait for a scan or a reset, because of --no-notice */
 extern uint64_t geometry[]; /* of the devices' drivers */
-extern char folder[];       /* MODEL_FOLDER, or what takes its place without a namespace */
+extern char folder[];       /* MODEL_FOLDER, or its replacement without a namespace */
 
-/* launcher.c: reports why it can't go on, and ends everything that was started; the second adds why the last call
-   failed. */
+/* launcher.c: `fail` reports why the launcher can't continue, and ends everything that was started; `fail_by_errno`
+   adds why the last call failed. */
 __attribute__((noreturn, format(printf, 1, 2))) void fail(const char *format, ...);
 __attribute__((noreturn)) void fail_by_errno(const char *what);
 void remove_all(const char *path);
 
 /* relay.c: sends a request to a device at the start; sends it a request, in a turn if others may want one, and returns
-   -1 if there is no device any more; and serves the command's processes. */
+   -1 if the device is gone; and serves the command's processes. */
 void greet_device(struct device *device);
 void lose_device(struct device *device);
 void begin_turn(struct device *device);
@@ -47,7 +47,7 @@ void end_turn(struct device *device);
 int exchange(struct device *device, const struct request_header *header, void *data, struct answer_header *answer);
 void start_serving(void);
 
-/* relay.c: copies what a device wrote to its standard error so far. */
+/* relay.c: copies what a device has written to its standard error so far. */
 void copy_said(struct device *device);
 extern int trace; /* where the lines of a trace go */
 
@@ -61,7 +61,7 @@ void *repair_files(void *unused);
 /* A namespace, as the launcher knows it. */
 struct volume {
     uint64_t blocks;
-    unsigned power;      /* a block has two to this power bytes; 0 if the namespace is not known */
+    unsigned power;      /* a block has two to this power bytes; 0 if the namespace isn't known */
     unsigned generation; /* how many namespaces had this NSID before */
     int watch;           /* for its data, by `watcher` */
 };

@@ -1,7 +1,7 @@
-/* Preloaded into a command: its calls of the C library on the files that stand for nodes are answered as those on
-   Linux's nodes are. A node's file is recognized by its device and inode (node.c); its descriptor is the file's, so
-   that the kernel follows it through dup, fork and exec, and reads and writes go to the file itself. Everything else
-   goes to the C library. Nothing is stored that a fork or a thread could break. None of this is proved. */
+/* Preloaded into a command. It answers the command's calls of the C library on files that stand for nodes, as Linux
+   does for its nodes. A node's file is recognized by its device and inode (node.c). Its descriptor is the file's, so
+   the kernel follows it through dup, fork and exec, and reads and writes go to the file itself. Everything else goes to
+   the C library. No state is stored that a fork or a thread could break. None of this is proved. */
 #define _GNU_SOURCE
 #include "library.h"
 #include <assert.h>
@@ -19,11 +19,11 @@
 #include <sys/uio.h>
 #include <unistd.h>
 
-/* (so calls with 64 at the end of their names do the same as those without) */
+/* (so calls whose names end with 64 do the same as the others) */
 static_assert(sizeof(struct stat) == sizeof(struct stat64) && O_LARGEFILE == 0, "files have 64-bit sizes");
 
-/* The calls that open. Those whose names end with 2 have no mode. A node isn't created, truncated, or opened for direct
-   access, and a node whose device is gone isn't opened. */
+/* ---- calls that open: those whose names end with 2 have no mode; a node isn't created, truncated, or opened for
+   direct access, and a node whose device is gone isn't opened */
 
 static int open_place(int directory, const char *given, int flags, mode_t mode) {
     char room[PATH_MAX];
@@ -41,7 +41,7 @@ static int open_place(int directory, const char *given, int flags, mode_t mode) 
     return fails_by(ENXIO);
 }
 
-/* The mode after the flags, which is there only if a file may be created. */
+/* Takes the mode after the flags, which is there only if a file may be created. */
 #define TAKE_MODE(mode, flags) \
     mode_t mode = 0; \
     if (flags & O_CREAT || (flags & O_TMPFILE) == O_TMPFILE) { \
@@ -87,7 +87,7 @@ PUBLIC FILE *fopen(const char *given, const char *mode) {
 }
 SAME(fopen64, fopen);
 
-/* The calls that describe a file. */
+/* ---- calls that describe a file */
 
 static unsigned major_of(const struct node *node) {
     return node->kind == 'b' ? BLOCK_MAJOR : node->kind == 'g' ? GENERIC_MAJOR : CONTROLLER_MAJOR;
@@ -172,7 +172,7 @@ PUBLIC int access(const char *path, int mode) { return faccessat(AT_FDCWD, path,
 PUBLIC int eaccess(const char *path, int mode) { return faccessat(AT_FDCWD, path, mode, AT_EACCESS); }
 SAME(euidaccess, eaccess);
 
-/* (a folder's entry says that it is a file, which isn't what `stat` says) */
+/* (the entry of a folder says that a node is a file, while `stat` says that it is a device) */
 PUBLIC struct dirent *readdir(DIR *directory) {
     struct dirent *entry = NEXT(readdir)(directory);
     struct stat about;
@@ -182,10 +182,11 @@ PUBLIC struct dirent *readdir(DIR *directory) {
 }
 SAME(readdir64, readdir);
 
-/* The calls that write. A namespace's block device doesn't grow: a write ends where it ends, and a write after its end
-   finds no space. A character device takes none. */
+/* ---- calls that write: a namespace's block device doesn't grow, so a write stops at its end, and a write after the
+   end finds no space; a character device takes no bytes */
 
-/* How many of `count` bytes can be written at a place, or -1 with errno if none can. (-1 is the file's offset.) */
+/* Returns how many of `count` bytes can be written at a place, or -1 with errno if none can. (The place -1 is the
+   file's offset.) */
 static ssize_t room_at(int file, off_t at, size_t count) {
     struct stat about;
     struct node node;
@@ -238,7 +239,7 @@ PUBLIC ssize_t pwritev2(int file, const struct iovec *pieces, int count, off_t a
     return at < 0 ? writev(file, pieces, count) : pwritev(file, pieces, count, at);
 }
 
-/* (a caller that copies like this writes instead if it learns that it can't be done) */
+/* (a caller of this call writes instead if it can't be done) */
 PUBLIC ssize_t copy_file_range(int from, off_t *at, int to, off_t *into, size_t count, unsigned flags) {
     struct stat about;
     return folder[0] && is_block_node(to, &about) ? fails_by(EXDEV)
@@ -291,7 +292,7 @@ SAME(ftruncate64, ftruncate);
 SAME(truncate64, truncate);
 SAME(fallocate64, fallocate);
 
-/* No NVMe command reaches a device of the machine. */
+/* Answers an ioctl of a node. No NVMe command reaches a device of the machine. */
 PUBLIC int ioctl(int file, unsigned long request, ...) {
     struct node node;
     va_list rest;

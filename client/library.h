@@ -15,7 +15,7 @@
         next; \
     })
 
-/* The calls that take the place of those of the C library are visible from outside. SAME gives one a second name. */
+/* The calls that replace those of the C library are visible from outside. SAME gives a call a second name. */
 #define PUBLIC __attribute__((visibility("default")))
 #define SAME(name, as) __asm__(".globl " #name "\n.type " #name ", @function\n.set " #name ", " #as)
 
@@ -31,10 +31,10 @@ struct node {
 /* The launcher's folder, "" if there is no launcher, and this library's own path. */
 extern char folder[PATH_MAX], library[PATH_MAX];
 
-/* Whether nodes are files of a /dev of the launcher's, and not only names (guard.c). */
+/* Whether nodes are files in a /dev that the launcher made, and not only names (guard.c). */
 extern int has_space;
 
-/* What the environment of each program must have: NULL, or FOLDER_VARIABLE with its value. */
+/* The variable that the environment of each program must have: FOLDER_VARIABLE with its value, or NULL for none. */
 extern const char *kept_variable;
 
 int fails_by(int number);
@@ -46,8 +46,8 @@ int is_block_node(int file, struct stat *about);
 int find_node(int directory, const char *path, int flags, struct stat *about, struct node *node);
 int is_on_nodes(const struct stat *about);
 
-/* guard.c: the path to give to the C library for a path, which is another one for a node without a namespace, or
-   `refused`, with errno. */
+/* guard.c: `find` returns the path to pass to the C library for a path, which is another one for a node without a
+   namespace, or `refused`, with errno. */
 extern const char refused[1];
 const char *find(int directory, const char *path, char room[PATH_MAX]);
 void read_real_nodes(const char *text);

@@ -1,5 +1,5 @@
-/* The preloaded library's nodes: a file is recognized by its device and inode numbers, whatever its name is. The text
-   of one of the launcher's links says what it stands for (nodes.c). None of this is proved. */
+/* The preloaded library's nodes. A file is recognized by its device and inode numbers, whatever its name is. The text
+   of one of the launcher's links says what the file stands for (nodes.c). None of this is proved. */
 #define _GNU_SOURCE
 #include "library.h"
 #include <errno.h>
@@ -46,8 +46,8 @@ int fails_by(int number) {
 
 int is_on_nodes(const struct stat *about) { return nodes_device != 0 && about->st_dev == nodes_device; }
 
-/* If a node is of several controllers, the one by whose name the file was opened: the kernel says the name, with links
-   followed. */
+/* Returns a node's controller. If it has several, this is the one by whose name the file was opened, which the kernel
+   gives with links followed. */
 static unsigned controller_of(int file, const char *controllers) {
     char link[64], path[PATH_MAX];
     unsigned first = (unsigned)strtoul(controllers, NULL, 10), named, nsid;
@@ -64,7 +64,7 @@ static unsigned controller_of(int file, const char *controllers) {
     return first;
 }
 
-/* Returns whether a regular file is a node, and which. */
+/* Returns whether a regular file is a node, and stores which node it is. */
 static int read_node(const struct stat *about, int file, struct node *node) {
     char link[PATH_MAX + 32], text[256];
     int before = errno, behind = 0;

@@ -1,7 +1,7 @@
-/* The launcher's nodes: the files that stand for controllers and namespaces, which are updated after what the devices
-   answer, and the data of namespaces, which no device stores. The file of a namespace's data is its node, under the
-   name of each controller that it is attached to: a hole as long as the namespace, in the memory that /dev is made of.
-   None of this is proved. */
+/* The launcher's nodes: the files that stand for controllers and namespaces, which follow the answers of the devices,
+   and the data of namespaces, which no device stores. The file with a namespace's data is its node, under the name of
+   each controller to which it is attached. At first it is a hole as long as the namespace, in the memory of /dev. None
+   of this is proved. */
 #define _GNU_SOURCE
 #include "launcher.h"
 #include <errno.h>
@@ -17,9 +17,9 @@
 
 enum { CNS_NAMESPACE = 0, CNS_CONTROLLER = 1 };
 
-/* What each controller's nodes show: the generation of the namespace plus 1, or 0 if there is no node. */
+/* What each controller's nodes show now: the generation of the namespace plus 1, or 0 if there is no node. */
 static unsigned shown[MOST_CONTROLLERS][MOST_NSID + 1];
-/* What they showed last, because a node that is still open after it was removed belongs to its controller. */
+/* What they showed last. A node that is still open after it was removed belongs to its controller. */
 static unsigned last_shown[MOST_CONTROLLERS][MOST_NSID + 1];
 static struct volume volumes[MOST_DEVICES][MOST_NSID + 1];
 static pthread_mutex_t changing = PTHREAD_MUTEX_INITIALIZER; /* for everything that is changed here */
@@ -88,7 +88,7 @@ static void make_character_node(unsigned controller, uint32_t nsid, int is_gener
         fail_by_errno(path);
 }
 
-/* The greatest length of a file takes the place of any greater one. Without a namespace there is no data. */
+/* Returns the length of a namespace's data, which is no greater than a file can be, and 0 without a namespace. */
 static off_t length_of(const struct volume *volume) {
     uint64_t most = (uint64_t)INT64_MAX >> volume->power;
     return has_namespace ? (off_t)((volume->blocks < most ? volume->blocks : most) << volume->power) : 0;
@@ -108,7 +108,8 @@ static void make_data(const struct device *device, uint32_t nsid, struct stat *a
     volume->watch = watcher < 0 ? -1 : inotify_add_watch(watcher, path, IN_CLOSE_WRITE);
 }
 
-/* Says of a namespace's data under whose names it is there, and then of whose it was, and how long it is. */
+/* Records the length of a namespace's data, and the controllers under whose names it exists, followed by those under
+   whose names it existed. */
 static void print_data(const struct device *device, uint32_t nsid) {
     char path[PATH_MAX], controllers[8 * MOST_CONTROLLERS] = "";
     size_t length = 0;
@@ -153,7 +154,7 @@ static void hide_namespace(const struct device *device, unsigned controller, uin
     print_data(device, nsid);
 }
 
-/* Sees how long a namespace is, where that is not known. */
+/* Finds out how long a namespace is, if this isn't known. */
 static int measure(struct device *device, unsigned controller, uint32_t nsid) {
     unsigned char data[IDENTIFY_BYTES];
     struct volume *volume = volume_at(device, nsid);
@@ -181,7 +182,7 @@ static int list_active(struct device *device, unsigned controller, unsigned char
     return 0;
 }
 
-/* Updates a controller's nodes after its list. */
+/* Updates a controller's nodes from its list of namespaces. */
 static void scan_controller(struct device *device, unsigned controller) {
     unsigned char is_active[MOST_NSID + 1];
     if (list_active(device, controller, is_active) < 0)
@@ -202,7 +203,7 @@ void scan(struct device *device, unsigned first, unsigned count) {
     pthread_mutex_unlock(&changing);
 }
 
-/* A namespace doesn't exist any more: its data is gone, even for processes that have it open. */
+/* Removes the data of a namespace that no longer exists, even for processes that have it open. */
 static void forget_namespace(struct device *device, uint32_t nsid) {
     char path[PATH_MAX];
     struct volume *volume = volume_at(device, nsid);
@@ -214,7 +215,7 @@ static void forget_namespace(struct device *device, uint32_t nsid) {
     *volume = (struct volume){.generation = volume->generation + 1};
 }
 
-/* A namespace was formatted: its data is all zeros, and as long as its new format makes it. */
+/* Clears the data of a formatted namespace, and makes it as long as the new format requires. */
 static void clear_namespace(struct device *device, unsigned controller, uint32_t nsid) {
     char path[PATH_MAX];
     struct volume *volume = volume_at(device, nsid);
@@ -232,7 +233,7 @@ static void clear_namespace(struct device *device, unsigned controller, uint32_t
             put_namespace(at, nsid, volume);
 }
 
-/* A format of all namespaces formats those that are active on its controller. */
+/* Clears the formatted namespace, or all namespaces that are active on the controller if all were formatted. */
 static void clear_namespaces(struct device *device, unsigned controller, uint32_t nsid) {
     unsigned char is_active[MOST_NSID + 1];
     int is_every = nsid == EVERY_NSID && list_active(device, controller, is_active) == 0;
@@ -290,7 +291,7 @@ void make_nodes(void) {
         make_controllers(devices + at);
 }
 
-/* Restores the length of the data of the namespace that was written. */
+/* Restores the length of the data of a namespace that was written. */
 static void repair_file(struct device *device, int watch) {
     char path[PATH_MAX];
     struct stat about;

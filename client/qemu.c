@@ -1,7 +1,7 @@
-/* Puts the controllers of a subsystem into a machine of QEMU: it starts QEMU with a PCI function for each, behind
-   QEMU's x-pci-proxy-dev, and answers what QEMU asks of them over socket pairs, until QEMU ends. The controllers are
-   the proved library's; here are their configuration spaces, the guest's memory and the interrupts. What a guest writes
-   comes in the messages, so that no number in them is trusted. No part of what is proved. */
+/* Puts the controllers of a subsystem into a virtual machine of QEMU: starts QEMU with a PCI function for each, behind
+   QEMU's x-pci-proxy-dev, and answers QEMU's messages over socket pairs until QEMU ends. The controllers are those of
+   the proved library. This file has their configuration spaces, the guest's memory and the interrupts. A guest's writes
+   come in the messages, so no number in them is trusted. None of this is proved. */
 #define _GNU_SOURCE
 #include "nvme_controller.h"
 #include "wire.h"
@@ -24,14 +24,14 @@
 
 enum { FAILED = 72, NOT_EXECUTABLE = 126, NOT_FOUND = 127 };
 
-/* A subsystem has at most 16 controllers and a file of at most 1 MiB; a message has at most 8 descriptors. */
+/* A subsystem has at most 16 controllers and a file of at most 1 MiB. A message has at most 8 descriptors. */
 enum { MOST_FUNCTIONS = 16, MOST_FILE = 1 << 20, MOST_SECTIONS = 8 };
 /* The BAR of the registers, and the configuration space with its register Command. */
 enum { BAR_SIZE = 0x4000, CONFIG_SIZE = 256, COMMAND = 4, IS_MASTER = 1 << 2, HAS_NO_INTERRUPT = 1 << 10 };
-/* The smallest page, the power by which the greatest is greater, and the end of a PC's area of windows and ROMs. */
+/* The smallest page, how often its size is doubled at most, and the end of a PC's area of windows and ROMs. */
 enum { SMALL_PAGE = 4096, MOST_POWER = 4, LEGACY_END = 1 << 20 };
 
-/* What QEMU says: a header, and a body of so many bytes, in this machine's byte order. */
+/* The kinds of QEMU's messages. Each has a header, and a body with the header's size, in this machine's byte order. */
 enum { MEMORY, ANSWER, CONFIG_WRITE, CONFIG_READ, BAR_WRITE, BAR_READ, INTERRUPT, RESET, KINDS };
 struct header {
     int32_t kind;
@@ -67,32 +67,32 @@ struct function {
     unsigned char config[CONFIG_SIZE];
     unsigned char *memory; /* the guest's, from its address 0 on */
     uint64_t length;
-    int interrupt, resample; /* event counters: one raises the interrupt, the other tells that it was seen; or -1 */
-    uint32_t fetched, tail;  /* the place of the next entry, and the tail that the guest told */
-    uint32_t posted, head;   /* the place of the next completion, and the head that the guest told */
+    int interrupt, resample; /* event counters: one raises the interrupt, the other says that it was seen; or -1 */
+    uint32_t fetched, tail;  /* the place of the next entry, and the tail that the guest wrote */
+    uint32_t posted, head;   /* the place of the next completion, and the head that the guest wrote */
 };
 
-/* The function after a reset: the numbers of QEMU's own controller, class 010802h, the interrupt's pin INTA. */
+/* A function's configuration after a reset: the numbers of QEMU's own controller, class 010802h, interrupt pin INTA. */
 static const unsigned char config_at_reset[CONFIG_SIZE] = {
     [0] = 0x36, [1] = 0x1b,    [2] = 0x10,    [8] = 2,       [9] = 2,   [10] = 8,
     [11] = 1,   [0x2c] = 0xf4, [0x2d] = 0x1a, [0x2f] = 0x11, [0x3d] = 1};
-/* The bits that can be written: memory space, bus master and interrupt disable, the BAR, the interrupt's line. */
+/* The bits that can be written: memory space, bus master and interrupt disable, the BAR, and the interrupt line. */
 static const unsigned char config_mask[CONFIG_SIZE] = {[COMMAND] = 6, 4, [0x11] = 0xc0, 0xff, 0xff, [0x3c] = 0xff};
 
-static const char *path, *memory = "128M"; /* what the options ask for */
+static const char *path, *memory = "128M"; /* the values of the options */
 static int has_summary;
 static nvme_machine *machine;
 static struct function functions[MOST_FUNCTIONS];
 static unsigned function_count;
 static pid_t qemu;
 
-/* Ends, and QEMU with it. */
+/* Reports a failure and ends, and QEMU with it. */
 __attribute__((noreturn)) static void fail(const char *what, const char *why) {
     fprintf(stderr, "nvme-model: %s%s%s\n", what, why ? ": " : "", why ? why : "");
     exit(FAILED);
 }
 
-/* Adds the descriptors of a piece of a message, and closes what is too much. */
+/* Adds the descriptors of a piece of a message, and closes those that are too many. */
 static void take_descriptors(struct msghdr *piece, struct descriptors *given) {
     for (struct cmsghdr *part = CMSG_FIRSTHDR(piece); part; part = CMSG_NXTHDR(piece, part)) {
         if (part->cmsg_level != SOL_SOCKET || part->cmsg_type != SCM_RIGHTS)
@@ -108,7 +108,7 @@ static void take_descriptors(struct msghdr *piece, struct descriptors *given) {
     }
 }
 
-/* Reads so many bytes: 1, or 0 where the stream has ended before the first. */
+/* Reads this many bytes, with their descriptors. Returns 1, or 0 if the stream ends before the first byte. */
 static int read_all(int socket, void *bytes, size_t length, struct descriptors *given) {
     for (size_t done = 0; done < length;) {
         _Alignas(struct cmsghdr) char control[CMSG_SPACE(MOST_SECTIONS * sizeof(int))];
@@ -134,11 +134,11 @@ static void answer(const struct function *function, uint64_t value) {
         struct header header;
         uint64_t value;
     } message = {{ANSWER, 0, sizeof value}, value};
-    /* (the next read tells where QEMU has ended) */
+    /* (if QEMU has ended, the next read finds it) */
     (void)!send(function->socket, &message, sizeof message, MSG_NOSIGNAL);
 }
 
-/* Whether a file has these bytes and can't lose them, so that no access ends in a signal. */
+/* Returns whether a file has these bytes and can't lose them, so that no access ends in a signal. */
 static int is_lasting(int file, uint64_t offset, uint64_t size) {
     struct stat about;
     int seals = fcntl(file, F_GET_SEALS);
@@ -146,12 +146,12 @@ static int is_lasting(int file, uint64_t offset, uint64_t size) {
            (uint64_t)about.st_size - size >= offset;
 }
 
-/* Where the guest's memory ends: at the first hole above the legacy area. 0 where the sections aren't lawful. */
+/* Returns where the guest's memory ends, at the first hole above the legacy area, or 0 if the sections aren't valid. */
 static uint64_t memory_end(const union body *body, const struct descriptors *given) {
     uint64_t end = 0, before = 0;
     for (unsigned at = 0; at < given->count; at++) {
         uint64_t address = body->memory.address[at], size = body->memory.size[at], offset = body->memory.offset[at];
-        uint64_t bits = address | size | offset; /* (no two of them make too great a sum) */
+        uint64_t bits = address | size | offset; /* (no sum of two of them is too great) */
         if (bits % SMALL_PAGE != 0 || bits > INT64_MAX / 2 || size == 0 || address < before ||
             !is_lasting(given->files[at], offset, size))
             return 0;
@@ -162,7 +162,7 @@ static uint64_t memory_end(const union body *body, const struct descriptors *giv
     return end;
 }
 
-/* Maps the guest's memory anew. In a hole of the legacy area the controller finds pages that nobody else sees. */
+/* Maps the guest's memory anew. In a hole of the legacy area, the controller finds pages that nothing else can see. */
 static void set_memory(struct function *function, const union body *body, const struct descriptors *given) {
     const int rights = PROT_READ | PROT_WRITE, hidden = MAP_PRIVATE | MAP_ANONYMOUS | MAP_NORESERVE;
     if (function->length > 0)
@@ -187,7 +187,7 @@ static void drop_interrupt(struct function *function) {
     function->interrupt = function->resample = -1;
 }
 
-/* Keeps two event counters, of which no call has to wait. */
+/* Keeps two event counters, on which no call waits. */
 static void set_interrupt(struct function *function, struct descriptors *given) {
     drop_interrupt(function);
     for (unsigned at = 0; at < given->count; at++)
@@ -200,7 +200,7 @@ static void set_interrupt(struct function *function, struct descriptors *given) 
     given->count = 0;
 }
 
-/* Raises the interrupt while the guest hasn't taken all completions. */
+/* Raises the interrupt if the guest hasn't taken all completions. */
 static void raise_interrupt(struct function *function) {
     const uint64_t one = 1;
     int is_off = function->config[COMMAND + 1] & HAS_NO_INTERRUPT >> 8;
@@ -209,7 +209,7 @@ static void raise_interrupt(struct function *function) {
         drop_interrupt(function);
 }
 
-/* The guest has seen the interrupt. */
+/* Raises the interrupt again if the guest has seen it but hasn't taken all completions. */
 static void resample(struct function *function) {
     uint64_t count;
     ssize_t length = read(function->resample, &count, sizeof count);
@@ -219,8 +219,8 @@ static void resample(struct function *function) {
         drop_interrupt(function);
 }
 
-/* Takes what waits in the guest's rings, where the function may reach the guest's memory. QEMU is stopped meanwhile:
-   the library copies the memory to and fro, and nobody else may change it then. */
+/* Takes the waiting entries of the guest's ring, if the function may access the guest's memory. QEMU is stopped
+   meanwhile, because the library works in this memory, and nothing else may write to it then. */
 static void take_turn(struct function *function) {
     siginfo_t stopped;
     unsigned power = nvme_machine_read32(machine, function->number, NVME_CC) >> 7 & 15;
@@ -252,7 +252,7 @@ static void write_register(struct function *function, uint32_t offset, uint32_t 
         take_turn(function);
 }
 
-/* Registers are written as dwords, or two at once. */
+/* Writes registers, which can be one dword or two at once. */
 static void write_bar(struct function *function, uint64_t address, uint32_t size, uint64_t value) {
     uint32_t offset = address % BAR_SIZE;
     if (offset % 4 != 0 || (size != 4 && size != 8))
@@ -284,17 +284,17 @@ static uint32_t read_config(const struct function *function, uint32_t address, i
 static void write_config(struct function *function, uint32_t address, uint32_t value, int32_t length) {
     for (uint32_t at = address; is_in_config(address, length) && at < address + (uint32_t)length; at++, value >>= 8)
         function->config[at] = (unsigned char)((function->config[at] & ~config_mask[at]) | (value & config_mask[at]));
-    take_turn(function); /* (it may reach the memory now) */
+    take_turn(function); /* (it may access the memory now) */
 }
 
-/* Clears CC: first EN, then what stands only while that is 1. */
+/* Resets a function, and clears CC: first EN, then the fields that can change only while EN is 0. */
 static void reset(struct function *function) {
     memcpy(function->config, config_at_reset, CONFIG_SIZE);
     write_register(function, NVME_CC, 0);
     write_register(function, NVME_CC, 0);
 }
 
-/* Does what one message asks. */
+/* Serves one message. */
 static void serve(struct function *function) {
     struct descriptors given = {.count = 0};
     struct header header;
@@ -329,7 +329,7 @@ static void serve(struct function *function) {
         close(given.files[--given.count]);
 }
 
-/* Serves all functions until QEMU has ended, and gives its status as a shell does. */
+/* Serves all functions until QEMU has ended, and returns its status as a shell does. */
 static int serve_all(const sigset_t *mask) {
     struct pollfd awaited[2 * MOST_FUNCTIONS];
     int how;
@@ -350,7 +350,7 @@ static int serve_all(const sigset_t *mask) {
     return WIFEXITED(how) ? WEXITSTATUS(how) : 128 + WTERMSIG(how);
 }
 
-/* Runs QEMU with options that put the functions and the shared memory into its machine, and then these. */
+/* Runs QEMU with options that put the functions and the shared memory into its machine, and then the given options. */
 __attribute__((noreturn)) static void run_qemu(char **options, unsigned count) {
     char device[MOST_FUNCTIONS][40], backend[80];
     char *first[] = {"qemu-system-x86_64", "-machine", "q35,memory-backend=nvme-model-ram", "-object", backend};
@@ -372,7 +372,7 @@ __attribute__((noreturn)) static void run_qemu(char **options, unsigned count) {
 
 static void note_end(int signal) { (void)signal; }
 
-/* Starts QEMU, which is killed where this process ends. What is typed is for QEMU alone, whose end is awaited. */
+/* Starts QEMU, which is killed if this process ends. Signals from the terminal's keys are for QEMU alone. */
 static void start_qemu(char **options, unsigned count, sigset_t *mask) {
     const struct sigaction at_end = {.sa_handler = note_end, .sa_flags = SA_NOCLDSTOP};
     pid_t self = getpid();
@@ -397,7 +397,7 @@ static void start_qemu(char **options, unsigned count, sigset_t *mask) {
     signal(SIGPIPE, SIG_IGN);
 }
 
-/* Opens the machine of a file, or that for demonstration where no file is named. */
+/* Opens the machine of a file, or the demonstration machine if no file is named. */
 static void open_machine(void) {
     static unsigned char bytes[MOST_FILE + 1];
     char fault[512] = "";
@@ -415,7 +415,7 @@ static void open_machine(void) {
         fail(number == NVME_NO_MEMORY ? "out of memory" : fault, NULL);
 }
 
-/* Makes a function for each controller, with a pair of sockets. */
+/* Creates a function for each controller, with a pair of sockets. */
 static void make_functions(void) {
     int ends[2];
     for (uint16_t number = 0; number < nvme_machine_controllers(machine); number++) {
@@ -427,7 +427,7 @@ static void make_functions(void) {
     }
 }
 
-/* Tells how many commands each controller has had, and its error log. */
+/* Prints how many commands each controller has had, and its error log. */
 static void tell_summary(void) {
     uint64_t refusals, commands;
     uint8_t entry[64];
@@ -455,7 +455,7 @@ static void show_usage(FILE *to) {
     exit(fflush(to) == 0 && to == stdout ? 0 : FAILED);
 }
 
-/* Whether a size can go to QEMU as it is: mebibytes or gibibytes, no more than lie below the hole for devices. */
+/* Returns whether a size can be passed to QEMU: mebibytes or gibibytes, no more than fit below the hole for devices. */
 static int is_size(const char *text) {
     char *unit;
     unsigned long size = strtoul(text, &unit, 10);
@@ -485,7 +485,7 @@ static unsigned read_options(int count, char **arguments) {
 int main(int count, char **arguments) {
     sigset_t mask;
     arguments[0] = "nvme-model";
-    mallopt(M_MMAP_MAX, 0); /* (copies of the memory are made in place of each other) */
+    mallopt(M_MMAP_MAX, 0); /* (so copies of the memory reuse the same place) */
     mallopt(M_TRIM_THRESHOLD, INT_MAX);
     unsigned at = read_options(count, arguments);
     open_machine();

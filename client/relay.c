@@ -1,6 +1,6 @@
 /* The launcher's exchange between clients and the devices. Each client has a thread, which reads a whole request, waits
-   for its turn at the controller's device, and sends the answer, so that no client waits while another one reads or
-   writes. Turns at a device are in the order in which requests were completed. None of this is proved. */
+   for its turn at the controller's device, and sends the answer, so no client waits while another one reads or writes.
+   Turns at a device are in the order in which requests were completed. None of this is proved. */
 #define _GNU_SOURCE
 #include "launcher.h"
 #include <errno.h>
@@ -42,13 +42,14 @@ void end_turn(struct device *device) {
     pthread_mutex_unlock(&device->lock);
 }
 
-/* (a device that doesn't even start reports why itself) */
+/* Marks a device as lost, and reports this. A device that doesn't even start reports the reason itself. */
 void lose_device(struct device *device) {
     if (!atomic_exchange(&device->is_lost, 1) && device->count > 0)
         fputs("nvme-model: the device ended, or answered what was not asked\n", stderr);
 }
 
-/* An answer has at most as many bytes of data as were asked for, and none if data was sent. */
+/* Sends a request and receives its answer, which has at most as many bytes of data as were asked for, and none if data
+   was sent. */
 int exchange(struct device *device, const struct request_header *header, void *data, struct answer_header *answer) {
     struct request_header request = *header;
     uint32_t sent = data_sent(header), most = sent > 0 ? 0 : le32toh(header->length);
@@ -104,7 +105,7 @@ static void *serve_client(void *given) {
     return NULL;
 }
 
-/* (if there is no room for another client, the next one waits a little) */
+/* Accepts clients. If there is no room for another client, the next one waits a little. */
 static void *serve_clients(void *unused) {
     (void)unused;
     for (;;) {
@@ -127,7 +128,7 @@ void start_serving(void) {
         fail("no thread can be started");
 }
 
-/* (the list is that of controller 0, and says how many there are) */
+/* Asks a new device for the list of controller 0, whose answer also says how many controllers there are. */
 void greet_device(struct device *device) {
     struct request_header header = {.kind = htole16(KIND_LIST)};
     struct answer_header answer;
@@ -142,7 +143,8 @@ void greet_device(struct device *device) {
         fail("the device does not answer as it should");
 }
 
-/* A line of a trace begins with a controller, whose number is another one among those of all devices. */
+/* Copies a line of a trace. It begins with a controller, whose number among all devices' controllers replaces its own.
+   */
 static void copy_line(const struct device *device, const char *line, size_t length) {
     unsigned number;
     int behind = 0;

@@ -1,6 +1,6 @@
-/* The launcher's namespace: a /dev with everything from the machine's except NVMe nodes and what leads to one, and a
-   /sys in which other files take the place of what Linux says about NVMe devices. Only the command's processes see
-   them, and they disappear with the last of these. None of this is proved. */
+/* The launcher's namespace: a /dev with everything of the machine's /dev except NVMe nodes and what leads to one, and a
+   /sys in which other files replace what Linux says about NVMe devices. Only the command's processes see them, and they
+   disappear with the last of these processes. None of this is proved. */
 #define _GNU_SOURCE
 #include "launcher.h"
 #include <ctype.h>
@@ -22,7 +22,7 @@
 #include <sys/sysmacros.h>
 #include <unistd.h>
 
-/* Everything is made here, and then moved to its place, because this folder exists on each machine. */
+/* Everything is made in this folder, which exists on each machine, and then moved to its place. */
 #define MAKING "/tmp"
 
 enum { MOST_REAL = 4096 };
@@ -75,7 +75,7 @@ static int note_node(const char *path, const char *name, void *with) {
     return 0;
 }
 
-/* (in /sys/class/KIND/NAME/dev) */
+/* Notes the device number in /sys/class/KIND/NAME/dev. */
 static int note_class(const char *path, const char *name, void *type) {
     char file[PATH_MAX];
     unsigned numbers[2];
@@ -149,7 +149,7 @@ int is_real_node(const char *path) {
     return stat(path, &about) == 0 && leads_to_real(about.st_mode, about.st_rdev);
 }
 
-/* ---- what is put together */
+/* ---- making the folders */
 
 static char *why;
 static dev_t machine_dev; /* the file system of the machine's /dev */
@@ -182,7 +182,7 @@ static int bind_to(const char *from, const char *to) {
     return mount(from, to, NULL, MS_BIND | MS_REC, NULL) == 0 ? 0 : cannot("bind of %s", from);
 }
 
-/* A file or a folder of the machine's. (It may disappear meanwhile.) */
+/* Binds a file or a folder of the machine to another place. (It may disappear meanwhile.) */
 static int bind_entry(const char *from, const char *to, mode_t mode) {
     int file = S_ISDIR(mode) ? -1 : open(to, O_WRONLY | O_CREAT | O_EXCL | O_CLOEXEC, 0600);
     if (S_ISDIR(mode) ? mkdir(to, 0755) < 0 : file < 0 || close(file) < 0)
@@ -213,8 +213,8 @@ static int look_for_real(const char *path, const char *name, void *with) {
     return S_ISDIR(about.st_mode) && about.st_dev == machine_dev ? each(path, look_for_real, with) : 0;
 }
 
-/* Puts an entry of the machine's /dev into another folder. A folder with something that leads to an NVMe device is
-   assembled anew without that. */
+/* Puts an entry of the machine's /dev into another folder. A folder with entries that lead to an NVMe device is
+   assembled anew without them. */
 static int fill_dev(const char *from, const char *name, void *into) {
     static const char *const left_out[] = {"disk", "block", "char", "mapper", "vfio"};
     char to[PATH_MAX];
@@ -234,8 +234,8 @@ static int fill_dev(const char *from, const char *name, void *into) {
     return bind_entry(from, to, about.st_mode);
 }
 
-/* A bound /dev/ptmx doesn't find the terminals next to it. If no node can be made, and the one among the terminals
-   can't be opened, the command gets terminals of its own. */
+/* Makes /dev/ptmx, because a bound one doesn't find the terminals next to it. If no node can be made, and the ptmx
+   among the terminals can't be opened, the command gets terminals of its own. */
 static int make_terminals(void) {
     if (access(MAKING "/pts", F_OK) < 0 || mknod(MAKING "/ptmx", S_IFCHR, makedev(5, 2)) == 0)
         return access(MAKING "/ptmx", F_OK) == 0 ? chmod(MAKING "/ptmx", 0666) : 0;
@@ -262,7 +262,7 @@ static int make_dev(uint64_t limit) {
     return mount(MAKING, "/dev", NULL, MS_MOVE, NULL) == 0 ? 0 : cannot("/dev");
 }
 
-/* Puts an entry of a folder of /sys into the folder that takes its place. */
+/* Puts an entry of a folder of /sys into the folder that replaces it. */
 static int fill_sys(const char *from, const char *name, void *into) {
     char to[PATH_MAX], target[PATH_MAX];
     struct stat about;
@@ -274,7 +274,7 @@ static int fill_sys(const char *from, const char *name, void *into) {
     return S_ISLNK(about.st_mode) ? copy_link(from, to) : bind_entry(from, to, about.st_mode);
 }
 
-/* The folder of a real controller below /sys/devices, which will look empty. */
+/* Covers the folder of a real controller below /sys/devices, which then looks empty. */
 static int cover_controller(const char *path, const char *name, void *with) {
     char *whole = realpath(path, NULL), *end = whole ? strrchr(whole, '/') : NULL;
     (void)name, (void)with;
@@ -295,8 +295,8 @@ static int see_domain(const char *path, const char *name, void *with) {
     return 0;
 }
 
-/* The folders of /sys that are assembled anew, those within others first. /sys/bus is the last, and only used if it has
-   no PCI. */
+/* The folders of /sys that are assembled anew, inner ones first. /sys/bus is the last, and is only used if it has no
+   PCI. */
 static const char *const remade[] = {"class/block", "class", "block", "devices/virtual", "devices", "dev/block",
                                      "dev/char",    "dev",   "bus"};
 static const char *const made[] = {".none",
@@ -385,8 +385,8 @@ static int is_left(const struct mntent *one, struct stat *about) {
            (is_in_dev && (about->st_dev == machine_dev || !S_ISDIR(about->st_mode)));
 }
 
-/* No node that is elsewhere, such as in a folder for chroot, opens a device; and if the machine's /dev itself is
-   visible elsewhere, nothing in it can be changed. (What can't be reached here can't be reached by the command.) */
+/* Makes sure that no node elsewhere, such as in a folder for chroot, opens a device, and that nothing can be changed in
+   another view of the machine's /dev. (What can't be reached here can't be reached by the command.) */
 static int close_nodes(void) {
     FILE *mounts = setmntent("/proc/self/mounts", "re");
     struct mntent *one;
@@ -434,10 +434,10 @@ int enter_space(uint64_t limit, char reason[REASON_ROOM]) {
     return make_dev(limit) < 0 || make_sys() < 0 || close_nodes() < 0 ? -1 : 0;
 }
 
-/* Root can look into processes that have no rights, or into those of a user whose identity it takes, and so reach the
-   machine's /dev. If the kernel has Landlock, a process that it restricts can look into none outside. (There is a
-   number for each call instead of a header file, because older systems have none. Nothing else is restricted except
-   making block devices: files may move from one folder to another below /.) */
+/* Keeps the command out of other processes. Root could look into processes without rights, or into those of a user
+   whose identity it takes, and so reach the machine's /dev. Landlock, if the kernel has it, prevents this. (The calls
+   have numbers here, because older systems have no header file for them. Only making block devices is restricted
+   besides: files may move from one folder to another below /.) */
 static int confine(void) {
     enum { CREATE_RULESET = 444, ADD_RULE, RESTRICT_SELF };
     enum { VERSION = 1, PATH_BENEATH = 1, MAKE_BLOCK = 1 << 11, REFER = 1 << 13 };
@@ -453,8 +453,8 @@ static int confine(void) {
                                                                              : (int)syscall(RESTRICT_SELF, rules, 0);
 }
 
-/* Without these rights even root can't make a node of a device, mount one of the machine's file systems of nodes, reach
-   the machine's /dev through another process, or open a file of it without a path. */
+/* Drops rights, so that even root can't make a node of a device, mount one of the machine's file systems of nodes,
+   reach the machine's /dev through another process, or open a file of it without a path. */
 int drop_rights(void) {
     static const unsigned rights[] = {CAP_MKNOD, CAP_SYS_ADMIN, CAP_SYS_PTRACE, CAP_DAC_READ_SEARCH};
     struct __user_cap_header_struct header = {.version = _LINUX_CAPABILITY_VERSION_3};

@@ -1,6 +1,6 @@
-/* The launcher's part of /sys: files that say what Linux says about NVMe subsystems, controllers and namespaces without
-   native multipath, and the links between them that a kernel makes. Each controller has a PCI bus of its own, in a
-   domain that the machine doesn't have. None of this is proved. */
+/* The launcher's part of /sys: the files and links that Linux has for NVMe subsystems, controllers and namespaces
+   without native multipath. Each controller has a PCI bus of its own, in a domain that the machine doesn't have. None
+   of this is proved. */
 #define _GNU_SOURCE
 #include "launcher.h"
 #include <errno.h>
@@ -12,7 +12,7 @@
 #include <sys/stat.h>
 #include <unistd.h>
 
-/* A file below /sys with its line, or a link, whose text begins with >. Names in braces are replaced by their
+/* A file below /sys with its line, or a link, whose text begins with >. Names in braces stand for their
    values. */
 struct row {
     const char *path, *text;
@@ -63,7 +63,7 @@ static const struct row controller_rows[] = {
     {SUBSYSTEM "/nvme{x}", ">../../../../" CONTROLLER},
     {0}};
 
-/* (sizes are in units of 512 bytes; what is below `queue` is that of a device with one queue) */
+/* (sizes are in units of 512 bytes; the files below `queue` are those of a device with one queue) */
 static const struct row block_rows[] = {
     {BLOCK "/size", "{size}"},
     {BLOCK "/nsid", "{n}"},
@@ -132,7 +132,7 @@ __attribute__((format(printf, 2, 3))) static void set(const char *name, const ch
     va_end(texts);
 }
 
-/* Replaces the names in a text by their values. */
+/* Replaces the names in a text with their values. */
 static void expand(char *into, const char *text) {
     for (; *text; text++) {
         size_t length = *text == '{' ? strcspn(text + 1, "}") : 0;
@@ -181,7 +181,7 @@ static void put_rows(const struct row *row) {
         put_row(row);
 }
 
-/* Removes the rows' links from elsewhere, and then their folder. */
+/* Removes the rows' links in other folders, and then their folder. */
 static void remove_rows(const struct row *row, const char *folder_of) {
     char path[PATH_MAX];
     for (; row->path; row++) {
@@ -206,7 +206,7 @@ static void set_controller(unsigned number) {
     set_numbers(CONTROLLER_MAJOR, number, 0);
 }
 
-/* The fields of Identify Controller. */
+/* Sets the values that come from the fields of Identify Controller. */
 static void set_identity(const unsigned char *identity) {
     const char *text = (const char *)identity;
     set("vendor", "%04x", (unsigned)number_at(identity, 2));
@@ -218,8 +218,8 @@ static void set_identity(const unsigned char *identity) {
     set("nqn", "%.256s", text + 768);
 }
 
-/* The registers as they are in the controller's first page of memory while it is ready. The addresses of its queues
-   follow from the geometry: each controller's rings, and after them the pages of its outstanding commands. */
+/* Writes the registers as they are while the controller is ready, in its first page of memory. The addresses of its
+   queues follow from the geometry: each controller's rings, and after them the pages of its outstanding commands. */
 static void put_registers(unsigned place) {
     const uint64_t page = geometry[PAGE_SIZE], submission = (64 * geometry[DEPTH] + page - 1) / page;
     const uint64_t completion = (16 * geometry[DEPTH] + page - 1) / page;

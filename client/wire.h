@@ -43,9 +43,9 @@ struct answer_header {
 static_assert(sizeof(struct request_header) == 72, "a request's header has 72 bytes");
 static_assert(sizeof(struct answer_header) == 12, "an answer's header has 12 bytes");
 
-/* Where the launcher stores what the library needs: in the /dev that the command sees or, without a namespace, in the
-   folder that the variable names. It has `socket`, `library.so` and, for each node, the link `nodes/INODE`, whose text
-   says what the file of that inode number stands for (see print_node in nodes.c and read_node in node.c). */
+/* The folder where the launcher stores what the library needs. It is in the /dev that the command sees or, without a
+   namespace, is named by the variable. It has `socket`, `library.so` and, for each node, the link `nodes/INODE`, whose
+   text says what the file with this inode number stands for (see print_node in nodes.c and read_node in node.c). */
 #define MODEL_FOLDER "/dev/.model"
 #define FOLDER_VARIABLE "NVME_MODEL_FOLDER"
 
@@ -56,13 +56,13 @@ static inline unsigned minor_of(unsigned controller, uint32_t nsid) {
     return controller * MOST_NSID + (nsid != 0 ? nsid - 1 : 0);
 }
 
-/* How many bytes of data follow a request's header. */
+/* Returns how many bytes of data follow a request's header. */
 static inline uint32_t data_sent(const struct request_header *header) {
     int sends = le16toh(header->kind) == KIND_ENTRY && header->entry[0] & 1;
     return sends ? le32toh(header->length) : 0;
 }
 
-/* Little-endian numbers in data. */
+/* Returns a little-endian number in data. */
 static inline uint64_t number_at(const unsigned char *at, unsigned bytes) {
     uint64_t number = 0;
     while (bytes-- > 0)

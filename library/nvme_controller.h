@@ -15,8 +15,8 @@
  *     nvme_machine_close(machine);
  *
  * Machines are independent, and there is no state outside them. Use a machine from one thread at a time, and make no
- * call from a signal handler. Memory is allocated only by `malloc` and `calloc`: when a machine is opened, until `free`
- * frees it when the machine is closed, and for a turn, until it ends. If that fails, the call's result says so.
+ * call from a signal handler. Memory is allocated only when a machine is opened, by `malloc` and `calloc`, and freed by
+ * `free` when it is closed. If an allocation fails, opening says so.
  *
  * It is safe to pass a null machine, or a controller that does not exist: a read returns FFFFFFFFh, a write does
  * nothing, and a turn returns 0. But a machine that is not null must have been opened and not closed, and each other
@@ -89,8 +89,8 @@ void nvme_machine_write32(nvme_machine *machine, uint16_t ctrl, uint32_t offset,
  * Only the bytes of the data that the entries ask for and of the completions' slots may change, and no byte outside the
  * memory is read or written. An entry with data outside it is refused with Data Transfer Error; queues outside it, or a
  * page size other than that in CC, cause a fatal status.
- * A turn works on a copy of the memory, which is copied back, so nothing else may write the memory meanwhile. If
- * `malloc` fails to allocate the copy, nothing is done and 0 is returned.
+ * A turn works in the memory itself and allocates none, so its time doesn't grow with the number of pages. Nothing else
+ * may write the memory during the call: what is proved assumes that only the turn does.
  *
  * For a page size other than 4096, 8192, 16384, 32768 and 65536, for null with pages, and for 2^32 pages or more, 0 is
  * returned and nothing changes. Null is a memory of no pages. */

@@ -26,7 +26,7 @@ NOWHERE = 0xffff_ffff_ffff_f000
 
 
 def sealed(length, seals=fcntl.F_SEAL_SHRINK):
-    """Memory as a file, sealed as QEMU's is."""
+    """Returns a file of memory that is sealed like QEMU's."""
     file = os.memfd_create('ram', os.MFD_ALLOW_SEALING)
     os.ftruncate(file, length)
     fcntl.fcntl(file, fcntl.F_ADD_SEALS, seals)
@@ -66,7 +66,7 @@ class Function:
         self.ask(BAR_WRITE, struct.pack('=QQIB3x', 0xfebd_4000 + offset, value, size, 1))
 
     def sections(self, rows, files):
-        """Sends the memory: rows of an address, a size and an offset in the file."""
+        """Sends the sections of memory, as rows of an address, a size and an offset in the file."""
         columns = zip(*[*rows, *[(0, 0, 0)] * 8][:8])
         self.say(MEMORY, b''.join(struct.pack('=8Q', *column) for column in columns), files)
 
@@ -120,7 +120,8 @@ class Function:
         self.say(INTERRUPT, files=[self.interrupt, self.seen])
 
     def is_raised(self):
-        """Returns whether the interrupt was raised since the last call. (Earlier messages have been handled.)"""
+        """Returns whether the interrupt was raised since the last call, after waiting until earlier messages have been
+        handled."""
         self.config(0)
         with contextlib.suppress(BlockingIOError):
             return os.read(self.interrupt, 8) != b''
@@ -132,13 +133,13 @@ class Function:
 
 
 def eventfd():
-    """An event counter on which no call waits. (Python has them from 3.10 on.)"""
+    """Returns an event counter whose reads don't wait. (Python's `os` has `eventfd` from 3.10 on.)"""
     import ctypes
     return ctypes.CDLL(None).eventfd(0, os.O_NONBLOCK | os.O_CLOEXEC)
 
 
 def configuration(first, second):
-    """What QEMU reads and writes before its machine begins."""
+    """QEMU's reads and writes before its machine starts."""
     for function in first, second:
         assert function.config(0) == 0x0010_1b36
         assert function.config(0x0a, 2) == 0x0108 and function.config(8, 1) == 2 and function.config(9, 1) == 2
@@ -158,7 +159,7 @@ def configuration(first, second):
 
 
 def registers(first, second):
-    """Registers in each size. Section "Controller Properties" defines their bits."""
+    """Registers are read and written in each size. Section "Controller Properties" defines their bits."""
     assert first.register(0, 8) == 0x0040_0020_0101_0fff and first.register(8) == 0x0001_0400
     assert first.register(1, 1) == 0x0f and first.register(2, 2) == 0x0101 and first.register(3, 2) == 0x2001
     for size in 0, 3, 16, 0xffff_ffff:
@@ -174,7 +175,7 @@ def registers(first, second):
 
 
 def commands(first, second):
-    """Commands of both controllers over one memory each, past the end of the queues, and a reset."""
+    """Both controllers take commands, each over its own memory and past the end of its queues, and one is reset."""
     first.begin()
     second.begin()
     for _ in range(20):
@@ -190,7 +191,7 @@ def commands(first, second):
 
 
 def page_sizes(first, second):
-    """The page sizes that CC can have, over memory that isn't a multiple of the greatest."""
+    """Each page size that CC can have works, over memory that isn't a multiple of the greatest one."""
     for power in range(5):
         first.begin(pages=65, power=power)
         assert first.serial() == 'S0'
@@ -198,7 +199,7 @@ def page_sizes(first, second):
 
 
 def stopped(first, second):
-    """QEMU is stopped while a controller works: another process notices."""
+    """QEMU is stopped while a controller works, which another process can see."""
     itself = os.getpid()
     child = os.fork()
     while child == 0:
@@ -216,7 +217,7 @@ def stopped(first, second):
 
 
 def bus_master(first, second):
-    """Nothing is taken from a function that may not access the memory, and everything once it may."""
+    """A function that may not access the memory takes no entries. Once it may, it takes all of them."""
     first.begin(command=2)
     first.put(IDENTIFY, 2 * PAGE, dword10=1)
     assert first.ram[PAGE:3 * PAGE] == bytes(2 * PAGE)
@@ -243,13 +244,13 @@ def interrupts(first, second):
     first.set_config(COMMAND, MASTER, 2)
     first.acknowledge()
     assert not first.is_raised()
-    # (others replace them: the earlier ones get nothing any more)
+    # (other counters replace them, and the earlier ones are no longer written)
     first.enable()
     for files in [], [first.interrupt], [os.open('/dev/null', os.O_RDWR)] * 2, [first.interrupt] * 3:
         first.say(INTERRUPT, files=files)
         first.put(IDENTIFY, 2 * PAGE, dword10=1)
         assert not first.is_raised()
-    # (some that can't be written, and some that end)
+    # (some counters can't be written, and some end)
     ends = os.pipe2(os.O_NONBLOCK)
     before = kept()
     for files in [ends[0], first.interrupt], [first.interrupt, ends[0]]:
@@ -261,11 +262,11 @@ def interrupts(first, second):
 
 
 def holes(first, second):
-    """If there is no memory, nothing is read or written, wherever an entry points."""
+    """Where there is no memory, nothing is read or written, wherever an entry points."""
     first.begin()
     file = sealed(64 << 20)
     first.ram = mmap.mmap(file, 64 << 20)
-    # a PC's windows are a hole, and what is above another one is out of reach
+    # a PC's windows are a hole, and memory above a second hole is out of reach
     low, legacy, high = (0, 0xa0000, 0), (0xc0000, 0x240000, 0xc0000), (0x400000, 0x100000, 0x400000)
     first.sections([low, legacy, high], [file] * 3)
     first.enable()
@@ -284,7 +285,7 @@ def holes(first, second):
 
 
 def until(condition):
-    """Returns whether the condition comes true within ten seconds."""
+    """Returns whether the condition becomes true within ten seconds."""
     end = time.monotonic() + 10
     while not condition() and time.monotonic() < end:
         time.sleep(0.01)
@@ -292,7 +293,7 @@ def until(condition):
 
 
 def sections(first, second):
-    """Sections that aren't memory: the function has none then, and keeps nothing of what was given."""
+    """After sections that aren't memory, the function has no memory, and keeps none of the given files."""
     plain, short, soft = sealed(1 << 20), sealed(PAGE), sealed(1 << 20, 0)
     other = os.open('/dev/zero', os.O_RDWR)
     whole, top = (0, 1 << 20, 0), 1 << 63
@@ -341,7 +342,7 @@ BROKEN = {
 
 
 def broken(name):
-    """A message that is invalid: the other process ends."""
+    """After an invalid message, the other process ends."""
     def scenario(first, second):
         first.socket.sendall(BROKEN[name])
         first.socket.shutdown(socket.SHUT_WR)
@@ -350,7 +351,7 @@ def broken(name):
 
 
 def gone(first, second):
-    """A function that QEMU releases because its device is unplugged: the other one continues."""
+    """QEMU releases a function because its device is unplugged, and the other function continues."""
     first.socket.close()
     second.begin()
     assert second.serial() == 'S1'
@@ -375,7 +376,7 @@ def random_body(lot, kind):
 
 
 def random_messages(seed, count):
-    """Random messages, in which valid memory and random queues recur."""
+    """Returns a scenario of random messages, in which valid memory and random queues recur."""
     def scenario(first, second):
         lot = random.Random(seed)
         files = [sealed(64 * PAGE), sealed(PAGE), sealed(64 * PAGE, 0), eventfd(), os.open('/dev/null', os.O_RDWR)]

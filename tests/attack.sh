@@ -1,8 +1,8 @@
-# Read by a shell inside ./nvme-model, on a machine that has nodes of its own: looks for these under each spelling of
-# their paths, and does to what it finds what must not reach them. It prints a line for each node that it reached, and
-# how often it read the model's data. $place is a folder with the file `number`, the device number of /dev/nvme0n1;
-# $caller is a process outside, and descriptors 7 and 8 are / and /dev. $more has further spellings; if $static is set,
-# no static program is used.
+# Read by a shell inside ./nvme-model, on a machine that has nodes of its own: looks for these nodes under each spelling
+# of their paths, and does to the files that it finds what must not reach the nodes. It prints a line for each node that
+# it reached, and how often it read the model's data. $place is a folder with the file `number`, the device number of
+# /dev/nvme0n1. $caller is a process outside, and descriptors 7 and 8 are / and /dev. $more has further spellings. If
+# $static is set, no static program is used.
 PATH=$PATH:/usr/sbin:/sbin
 launcher=${launcher:-$PPID}
 [ -n "${device-}" ] || read -r device rest < "/proc/$launcher/task/$launcher/children"
@@ -20,7 +20,7 @@ paths() {
         /dev/disk/by-id/nvme-machine /dev/folder/inner/node "$place/link" "$place/chain" $more
 }
 
-# Reads a path by a command. (Anything that doesn't return zeros and isn't the namespace is the machine's.)
+# Reads a path with a command. (Data that is neither zeros nor the namespace's is the machine's.)
 reads() {
     path=$1
     shift
@@ -32,7 +32,7 @@ reads() {
     esac
 }
 
-# each COMMAND..: runs this for each path
+# each COMMAND..: runs the command for each path
 each() {
     for path in $(paths); do
         "$@" "$path"

@@ -1,5 +1,5 @@
-# Runs a command as a caller does that has folders open, next to a process of the same user without any rights: sh
-# caller.sh FOLDER COMMAND..
+# Runs a command like a caller that has folders open, next to a process of the same user without any rights:
+# sh caller.sh FOLDER COMMAND..
 where=$1
 shift
 caller=$$

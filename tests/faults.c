@@ -1,7 +1,6 @@
-/* Preloaded into a program. The read from standard input that FAIL_READ names, counted from 1, fails as that of a
-   broken device does, and the write to standard output or standard error that INTERRUPT_1 or INTERRUPT_2 names is
-   interrupted. Everything else goes to the C library. If the call that is named never came, the program ends with
-   status 99. */
+/* Preloaded into a program. The read from standard input with the number FAIL_READ, counted from 1, fails like that of
+   a broken device, and the write to standard output or standard error with the number INTERRUPT_1 or INTERRUPT_2 is
+   interrupted. Everything else goes to the C library. If such a call never comes, the program ends with status 99. */
 #define _GNU_SOURCE
 #include <dlfcn.h>
 #include <errno.h>
@@ -37,7 +36,7 @@ ssize_t write(int file, const void *from, size_t size) {
     return next(file, from, size);
 }
 
-/* (a call of write that checks its size is linked to this) */
+/* (calls of write whose size is checked are linked to this one) */
 ssize_t __write(int file, const void *from, size_t size) { return write(file, from, size); }
 
 __attribute__((destructor)) static void end(void) {

@@ -1,5 +1,5 @@
-# Run by tests/test_qemu.py in a guest, over Linux's driver, and over ./nvme-model. Both outputs must be the same: each
-# command with its status and, if it was refused, what the newest entry of the error log says about it.
+# Run by tests/test_qemu.py in a guest, with Linux's driver, and under ./nvme-model. Both outputs must be the same: each
+# command with its output, its status and, if it was refused, the newest entry of the error log.
 t() {
     echo "> $*"
     "$@" 2>&1

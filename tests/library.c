@@ -1,6 +1,6 @@
-/* Tests the mistakes that a program in C can make with the calls of nvme_controller.h, and what they promise about its
- * memory. Prints what fails, and at the end how many checks there were. It is linked with --wrap of malloc, calloc,
- * realloc and free, to count blocks and to refuse one. */
+/* Tests the mistakes that a program in C can make with the calls of nvme_controller.h, and what these calls promise
+ * about its memory. Prints what fails, and at the end the number of checks. It is linked with --wrap for malloc,
+ * calloc, realloc and free, to count blocks and to refuse an allocation. */
 #include <nvme_controller.h>
 
 #include <stdio.h>
@@ -62,7 +62,7 @@ void __wrap_free(void *block) {
 
 /* ---- a host */
 
-/* Pages with an inaccessible one before and one after them. */
+/* Returns pages with an inaccessible page before them and one after them. */
 static uint8_t *guarded(size_t pages) {
     uint8_t *all = mmap(NULL, (pages + 2) * PAGE, PROT_READ | PROT_WRITE, MAP_PRIVATE | MAP_ANONYMOUS, -1, 0);
     if (all == MAP_FAILED || mprotect(all, PAGE, PROT_NONE) != 0 ||
@@ -81,7 +81,8 @@ static nvme_machine *opened(void) {
     return machine;
 }
 
-/* Makes a controller ready with queues of four entries, at page 0 and at a page for the completions. */
+/* Makes a controller ready with queues of four entries, the submissions at page 0 and the completions at a given page.
+ * */
 static void enable(nvme_machine *machine, uint32_t completions, uint32_t page_size_field) {
     nvme_machine_write32(machine, 0, NVME_AQA, 0x00030003);
     nvme_machine_write32(machine, 0, NVME_ASQ, 0);
@@ -95,7 +96,7 @@ static void put(uint8_t *at, int bytes, uint64_t value) {
     }
 }
 
-/* An entry of Identify Controller with its data at these addresses. */
+/* Writes an entry of Identify Controller with its data at these addresses. */
 static void identify(uint8_t *entry, uint16_t cid, uint64_t prp1, uint64_t prp2) {
     memset(entry, 0, 64);
     put(entry, 4, 0x06 | (uint32_t)cid << 16);
@@ -108,7 +109,7 @@ static unsigned status_at(const uint8_t *completion) {
     return (completion[14] | completion[15] << 8) >> 1;
 }
 
-/* ---- what is checked */
+/* ---- the checks */
 
 static void files(void) {
     nvme_machine *machine = (nvme_machine *)(uintptr_t)1;
@@ -155,8 +156,8 @@ static void absent(void) {
     nvme_machine_close(NULL);
 }
 
-/* Only the five page sizes, and only memories that can exist, are accepted; the entry in the queue is still waiting
- * afterwards. */
+/* Only the five page sizes, and only memories that can exist, are accepted. After a refusal, the entry in the queue is
+ * still waiting. */
 static void sizes(void) {
     static const uint32_t wrong[] = {0, 1, 2048, 4095, 4097, 6144, 65535, 131072, 0x80000000};
     nvme_machine *machine = opened();
@@ -210,7 +211,7 @@ static void places(void) {
     nvme_machine_close(machine);
 }
 
-/* A memory that is a page short: data in the missing page is refused, and queues there cause a fatal status. */
+/* If the memory is a page short, data in the missing page is refused, and queues there cause a fatal status. */
 static void short_memory(void) {
     for (size_t pages = 3; pages >= 2; pages--) {
         nvme_machine *machine = opened();
@@ -237,8 +238,8 @@ static void short_memory(void) {
     nvme_machine_close(machine);
 }
 
-/* Reads change nothing, and machines are independent: one that is read at every offset, and one that is not, give the
- * same answers. */
+/* Reads change nothing, and machines are independent: a machine that is read at every offset, and one that isn't read,
+ * give the same answers. */
 static void reads(void) {
     static const uint8_t reserved = 0xff;
     nvme_machine *machines[2] = {opened(), opened()};
@@ -273,8 +274,8 @@ static void reads(void) {
     nvme_machine_close(machines[1]);
 }
 
-/* Each allocation is refused in turn. The call reports it, and everything that was allocated is freed, as it is by
- * closing. A turn allocates nothing. */
+/* Each allocation is refused in turn. The call reports it, and frees everything that was allocated, as closing does. A
+ * turn allocates nothing. */
 static void allocations(void) {
     for (int demo = 0; demo < 2; demo++) {
         int number = NVME_NO_MEMORY;

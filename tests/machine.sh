@@ -1,7 +1,7 @@
 # Makes a machine's /dev and /tmp in a mount namespace, and waits until its input ends, so that a loop device is always
-# released. sh machine.sh NEW KEEP KIND DISK: a folder for what is made, one that stays in /tmp, and a file of known
-# bytes that becomes /dev/nvme0n1: with `devices` as a real block device, with `files` as a file, next to a character
-# device that is bound; `none` makes no NVMe nodes.
+# released. sh machine.sh NEW KEEP KIND DISK: NEW is the folder where they are made, KEEP is a folder that stays in
+# /tmp, and DISK is a file of known bytes. If KIND is `devices`, DISK becomes the block device /dev/nvme0n1, and if it
+# is `files`, a file of that name, next to bound character devices. `none` makes no NVMe nodes.
 set -eu
 new=$1 keep=$2 kind=$3 disk=$4
 mount -t tmpfs machine "$new"

@@ -26,7 +26,7 @@ os.environ['PATH'] += ':/usr/sbin:/sbin'
 
 @functools.lru_cache(maxsize=None)
 def is_there(tool):
-    """Returns whether a tool is installed; nvme-cli must have the version whose texts are known."""
+    """Returns whether a tool is installed. nvme-cli must have the version whose texts are known."""
     if not shutil.which(tool):
         return False
     return tool != 'nvme' or b'nvme version 2.3 ' in subprocess.run(['nvme', 'version'], capture_output=True).stdout
@@ -38,7 +38,7 @@ def missing_tools(text):
     return [tool for tool in called if not is_there(tool)]
 
 
-# The tests of a machine with NVMe devices cover these first, so that no bug of the launcher can harm one.
+# Tests on a machine with NVMe devices cover them first, so that no bug of the launcher can harm one.
 REAL = glob.glob('/dev/nvme*') + glob.glob('/dev/ng[0-9]*')
 COVERED = ('unshare', '-m', 'sh', '-c', 'mount --make-rprivate / && for node in /dev/nvme* /dev/ng[0-9]*; do '
            'test ! -e "$node" || mount --bind /dev/full "$node" || exit; done; exec "$@"', 'sh')
@@ -46,7 +46,7 @@ COVERED = ('unshare', '-m', 'sh', '-c', 'mount --make-rprivate / && for node in 
 
 @functools.lru_cache(maxsize=None)
 def has_namespaces(*command):
-    """Returns whether a mount namespace can be made, by this command or as the launcher makes it."""
+    """Returns whether a mount namespace can be made, by this command or in the launcher's way."""
     return run(*command or ('unshare', '-m' if os.geteuid() == 0 else '-Urm'), 'true').status == 0
 
 
@@ -60,7 +60,7 @@ def compiled_c(made, sources, *options):
 
 @functools.lru_cache(maxsize=None)
 def installed():
-    """Makes the launcher, with the library and the device where it looks for them."""
+    """Builds the launcher, with the library and the device where it looks for them."""
     place = process_folder() / 'installed'
     compiled_c(place / 'bin/nvme-model', PARTS['bin/nvme-model'])
     compiled_c(place / 'lib/nvme-model/library.so', PARTS['lib/nvme-model/library.so'], '-shared', '-fPIC', '-ldl')
@@ -69,7 +69,7 @@ def installed():
 
 
 def static_program(text):
-    """Makes a program of these lines of C, which is linked statically."""
+    """Compiles these lines of C to a program that is linked statically."""
     made = process_folder() / f'static{abs(hash(text))}'
     if not made.exists():
         subprocess.run(['cc', *WARNINGS, '-static', '-o', made, '-x', 'c', '-'], input=text.encode(), check=True)
@@ -106,7 +106,7 @@ class ModelCase(Case):
         self.addCleanup(self.leaves_nothing)
 
     def needs(self, *texts):
-        """Skips a test that calls something that isn't installed, itself or in a script that it runs."""
+        """Skips a test that calls a tool that isn't installed, itself or in a script that it runs."""
         files = [pathlib.Path(text) for text in texts if os.fspath(text).endswith('.sh')]
         text = '\n'.join([*map(os.fspath, texts), *(file.read_text() for file in files)])
         if missing_tools(text):
@@ -122,23 +122,23 @@ class ModelCase(Case):
         return run(*self.command(*arguments, options=options), **more)
 
     def shell(self, script, *words, options=(), **more):
-        """Runs a shell script over it."""
+        """Runs a shell script over the demonstration file."""
         return self.model('sh', '-c', script, 'sh', *words, options=options, **more)
 
     def python(self, script, options=(), **more):
-        """Runs a Python script over it."""
+        """Runs a Python script over the demonstration file."""
         head = 'import ctypes, errno, glob, mmap, os\n'
         return self.model(sys.executable, '-c', head + script, options=options, **more)
 
     def leaves_nothing(self):
-        """Checks that no device and no mount is left, and nothing of the launcher's in the machine's folders."""
+        """Checks that no device and no mount is left, and that the launcher left nothing in the machine's folders."""
         self.assertTrue(until(lambda: not processes_of(self.subsystem)), 'a device was left running')
         new = [line for line in mounts() if line not in self.mounts and 'nvme-model' in line]
         self.assertEqual(new, [], 'mounts are seen outside')
         self.assertFalse(os.path.exists('/dev/.model') or os.path.exists('/dev/nvme1n1'), 'nodes are seen outside')
 
     def says(self, ended, status, text):
-        """Checks that a run ended with this status, and with a last message that begins so."""
+        """Checks that a run ended with this status, and with a last message that begins with this text."""
         self.ends(ended, status)
         last = (ended.err.splitlines() or [b''])[-1]
         self.assertTrue(last.startswith(os.fsencode(text)), f'{ended}\nThe test alone: python3 -m unittest {self.id()}')

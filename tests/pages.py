@@ -42,8 +42,8 @@ def files_in(code):
 
 
 class Page:
-    """What a page names, each with its line: links, files, and words of clauses; its wide lines, and its blocks of code
-    that are said to come from a file."""
+    """A page: the links, files and words of clauses that it names, each with its line, its wide lines, and its blocks
+    of code that are said to come from a file."""
 
     def __init__(self, name):
         self.name = name

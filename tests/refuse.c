@@ -1,6 +1,6 @@
-/* Preloaded into a program: counts its allocations, and refuses the one that REFUSE names, counted from 1. At its end
-   it writes to the file that CALLS names how many calls there were, and the greatest number of bytes that were
-   allocated at once. */
+/* Preloaded into a program: counts its allocations, and refuses the one with the number REFUSE, counted from 1. At the
+   end it writes the number of allocations, and the greatest number of bytes that were allocated at once, to the file
+   CALLS. */
 #define _GNU_SOURCE
 #include <dlfcn.h>
 #include <malloc.h>

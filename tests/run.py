@@ -36,7 +36,7 @@ class Counts(unittest.TextTestResult):
 
 
 def run_one(name):
-    """Runs a module, or a test of one, in this process."""
+    """Runs a module, or one of its tests, in this process."""
     runner = unittest.TextTestRunner(sys.stdout, resultclass=Counts)
     result = unittest.main(None, argv=['tests', f'tests.{name}'], testRunner=runner, exit=False).result
     for reason in sorted({reason for _, reason in result.skipped}):
@@ -57,8 +57,8 @@ class Part:
             stdin=subprocess.DEVNULL, stdout=self.written, stderr=subprocess.STDOUT)
 
     def counts(self):
-        """Reports how it ended, and returns how many tests passed, failed and were skipped. If it ran nothing, it
-        failed."""
+        """Reports how the module ended, and returns how many tests passed, failed and were skipped. A module that ran
+        nothing counts as one failure."""
         self.written.seek(0)
         text = self.written.read().decode(errors='replace')
         found = re.search(r'^(\d+) passed, (\d+) failed, (\d+) skipped\n\Z', text, re.M)

@@ -31,7 +31,7 @@ MARK = f'NVME_TESTS_{secrets.token_hex(8)}'
 
 
 def interrupt(number, frame):
-    """Ends the tests at a signal as Ctrl-C does, so that their cleanup is done."""
+    """Ends the tests at a signal like Ctrl-C does, so that they clean up."""
     raise KeyboardInterrupt(signal.Signals(number).name)
 
 
@@ -50,8 +50,8 @@ def program(name):
 
 
 def library():
-    """Returns the folder of the library nvme_controller, if `make library` made it from the current sources. The gate
-    doesn't make it, because that proves each crate below the library once more."""
+    """Returns the folder of the library nvme_controller, if the gate or `make library` made it from the current
+    sources."""
     if run(TOP / 'tools/stamp', 'is-current', 'nvme_controller').status != 0:
         raise unittest.SkipTest('the library of these sources does not stand: make library')
     ended = run(TOP / 'tools/library', limit=600)
@@ -71,14 +71,14 @@ def process_folder():
 
 @functools.lru_cache(maxsize=None)
 def compiled(source, *options):
-    """Returns a library that is made from a C file of tests/, compiled once in this process."""
+    """Returns a library that is compiled from a C file of tests/, once in this process."""
     made = process_folder() / f'{source}.so'
     subprocess.run(['cc', '-O2', '-shared', '-fPIC', '-o', made, TOP / 'tests' / source, *options], check=True)
     return made
 
 
 def copy_sources(folder):
-    """Copies the sources of all crates to a folder, with the files that belong to them."""
+    """Copies the sources of all crates, and the files that list them, to a folder."""
     for name in 'crates.txt', 'HANDLES':
         shutil.copy(TOP / name, folder)
     for part in 'src', 'specs', 'proofs':
@@ -87,7 +87,7 @@ def copy_sources(folder):
 
 
 def until(condition, limit=60):
-    """Returns whether the condition comes true within this number of seconds."""
+    """Returns whether the condition becomes true within this number of seconds."""
     end = time.monotonic() + limit
     while not condition():
         if time.monotonic() > end:
@@ -100,7 +100,7 @@ def left_running():
     """Returns the running processes that the tests of this process started, directly or through others."""
     found = []
     for entry in pathlib.Path('/proc').glob('[0-9]*/environ'):
-        # (a process may end meanwhile, or be another user's)
+        # (a process may end meanwhile, or belong to another user)
         with contextlib.suppress(OSError):
             if f'{MARK}=1'.encode() in entry.read_bytes().split(b'\0'):
                 found.append(int(entry.parent.name))
@@ -123,7 +123,7 @@ def environment(variables=()):
 
 
 def shell_line(command, source=b'', out=None, err=None, env=(), cwd=TOP):
-    """Returns a run as a line for a shell, which repeats it."""
+    """Returns a line for a shell that repeats a run."""
     words = ['env'] * bool(env) + [f'{name}={value}' for name, value in dict(env).items()] + list(command)
     line = ' '.join(shlex.quote(os.fsdecode(word)) for word in words)
     if not isinstance(source, bytes):
@@ -136,7 +136,8 @@ def shell_line(command, source=b'', out=None, err=None, env=(), cwd=TOP):
 
 
 class Ended:
-    """How a run ended: its line for a shell, status (below zero, the number of a signal), output and messages."""
+    """How a run ended: its line for a shell, its status (a negative one is the number of a signal), its output and its
+    messages."""
 
     def __init__(self, line, status, out=b'', err=b''):
         self.line, self.status, self.out, self.err = line, status, out, err
@@ -149,7 +150,7 @@ class Ended:
 
 
 def opened(files, path, mode):
-    """Returns a file that is closed with these files: that of the path, or a temporary one."""
+    """Opens the file at a path, or a temporary file. It is closed together with these files."""
     if path is None:
         return files.enter_context(tempfile.TemporaryFile()).fileno()
     number = os.open(path, mode, 0o666)
@@ -202,17 +203,17 @@ class Running:
             os.close(number)
 
     def say(self, text):
-        """Writes to its input."""
+        """Writes to the command's input."""
         os.write(self.speaks, text)
 
     def hear(self, limit):
-        """Reads what it writes within this number of seconds. Returns whether there was anything."""
+        """Reads what the command writes within this number of seconds. Returns whether it wrote anything."""
         if not select.select([self.hears], [], [], max(0, limit))[0]:
             return False
         try:
             piece = os.read(self.hears, 65536)
         except OSError:
-            piece = b''  # (a terminal on which no program is left)
+            piece = b''  # (no program is left on the terminal)
         self.heard += piece.replace(b'\r', b'')
         return piece != b''
 
@@ -224,7 +225,7 @@ class Running:
                 raise AssertionError(f'{self.line}\n{text} did not come, only {self.heard[-2000:]}')
 
     def end(self, limit=60):
-        """Ends its input, and returns how it ended, with everything that was read as its output."""
+        """Ends the command's input, and returns how the command ended, with everything that was read as its output."""
         if self.is_on_terminal:
             self.say(b'\x04')
         else:
@@ -236,12 +237,12 @@ class Running:
 
 
 def own_terminal():
-    """Makes the terminal at the input the one whose keys send signals."""
+    """Makes the terminal at the input the controlling terminal, whose keys send signals."""
     fcntl.ioctl(0, termios.TIOCSCTTY, 0)
 
 
 def difference(name, wanted, got):
-    """Describes the first line in which an output isn't the wanted one. Returns nothing if there is none."""
+    """Describes the first line in which an output differs from the wanted one. Returns nothing if no line differs."""
     lines = itertools.zip_longest(wanted.splitlines(True), got.splitlines(True))
     return [f'{name}, line {number}: wanted {one}, got {other}'
             for number, (one, other) in enumerate(lines, 1) if one != other][:1]
@@ -268,7 +269,7 @@ class Case(unittest.TestCase):
         return path
 
     def ends(self, ended, status, out=None, err=None):
-        """Compares how a run ended with this status, output and messages. What is None may be anything."""
+        """Checks that a run ended with this status, output and messages. An output or messages of None may be any."""
         wrong = [] if ended.status == status else [f'wanted status {status}, got {ended.end()}']
         wrong += [] if out is None else difference('output', out, ended.out)
         wrong += [] if err is None else difference('messages', err, ended.err)

@@ -1,5 +1,5 @@
 """Scripts of any bytes: lines as long as a line may be and longer, very long words, carriage returns and NUL bytes.
-What can be written as lines of text stands in tests/scripts."""
+tests/scripts has the scripts that can be written as lines of text."""
 
 from tests.support import Case, program, run
 
@@ -8,7 +8,7 @@ TOO_LONG = b'line 1: line too long\n'
 
 
 def fault_of_repeated(byte):
-    """What is said of a line of this byte again and again, as far as there is room for it."""
+    """Returns the message for a line that repeats this byte, up to the greatest length of a line."""
     if bytes([byte]) in b' \t#':
         return b''
     return b'line 1: not UTF-8 text\n' if byte >= 128 else b'line 1: usage error\n'
@@ -16,7 +16,7 @@ def fault_of_repeated(byte):
 
 class AnyBytes(Case):
     def leaves(self, script, messages=b'', output=b'', status=None):
-        """A script leaves these. Where no status is given, a message is a fault of the last line."""
+        """Checks what a script leaves. If no status is given, a message is taken to be a fault of the last line."""
         if status is None:
             status = 1 if messages else 0
         self.ends(run(SCRIPT, source=script), status, output, messages)

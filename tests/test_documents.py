@@ -1,9 +1,9 @@
-"""Looks at the pages of the repository, as far as a program can. What a link leads to is there, its heading too. What
-is named as a file or folder is there. The words of the last column of a table of clauses, or of where to look, stand in
-the sources of the crates. A block of code that is said to be from a file stands there as it is. No line is wider than
-140 columns outside of tables and code, and none names a folder of a machine. Numbers of lines, programs, files and
-definitions that pages show are those of the sources, and scripts write what is shown. Words are spelled as codespell
-knows them. What the sentences claim is not looked at."""
+"""Checks the pages of the repository, as far as a program can. The target of each link exists, and so do its heading
+and each named file or folder. The words in the last column of a table of clauses, or of where to look, occur in the
+sources of the crates. A block of code that is said to be from a file occurs in it. No line is wider than 140 columns
+outside of tables and code, and none names a folder of a machine. The numbers of lines, programs, files and definitions
+in pages are those of the sources, and scripts write what pages show. codespell finds no misspelled word. What the
+sentences claim isn't checked."""
 
 import re
 import shutil
@@ -32,7 +32,7 @@ def of_kind(kind):
 
 
 def words_of_sources():
-    """Returns the words in the sources, and in the names of their files and of the proofs' files."""
+    """Returns the words in the sources, and in the names of their files."""
     words = set()
     for part in 'src', 'specs', 'proofs':
         for path in TOP.glob(f'crates/*/{part}/**/*'):
@@ -75,7 +75,7 @@ class Pages(Case):
 
     def test_files(self):
         for _, place, path in of_kind('files'):
-            # what a build makes exists only after one
+            # files that a build makes exist only after a build
             if not re.match(r'crates/[^/]*/out(/|$)', path):
                 with self.subTest(place):
                     self.assertTrue(any(TOP.glob(path)), f'{place}: there is no {path}')
@@ -109,12 +109,18 @@ class Pages(Case):
 
 
 class Examples(Case):
-    """What pages show of the program is what it writes."""
+    """Checks that the program writes what pages show."""
 
     def setUp(self):
         super().setUp()
         if IS_UNPROVED:
             self.skipTest('the examples of the pages are run by the proved program')
+
+    def test_session_of_benches(self):
+        session = re.search(r'(?m)(?:^    .*\n)+', text_of('docs/BENCHES.md')).group()
+        lines = textwrap.dedent(session).splitlines(keepends=True)
+        ended = run(program('nvme_bench'), source=''.join(line[2:] for line in lines if line[:2] == '> ').encode())
+        self.ends(ended, 0, ''.join(line for line in lines if line[:2] != '> ').encode(), b'')
 
     def test_first_script_of_readme(self):
         readme = text_of('README.md')
@@ -137,7 +143,7 @@ class Examples(Case):
                     self.assertEqual(ended.out.decode(), re.sub(r'(?m)^> .*\n', '', block), ended)
 
     def test_faults_of_subsystem_files(self):
-        """Each row of the table is a fault of the demonstration file with one text in place of another."""
+        """Each row of the table shows the fault of the demonstration file with one text in place of another."""
         rows = re.findall(r'^\| `(.+?)` \| `(.+?)` \| (?:`(.+?)`)? ?\| .*\|$', text_of('docs/SUBSYSTEM-FILE.md'), re.M)
         self.assertEqual(len(rows), 9)
         demo = text_of('examples/demo.toml')
@@ -177,7 +183,5 @@ class Copies(Case):
     def test_file_of_guide(self):
         self.assertEqual(code_of('docs/GUIDE.md', 'toml'), text_of('examples/guide.toml'))
 
-    def test_programs_of_benches(self):
-        names = 'by_hand', 'own_bus', 'in_memory'
-        source = ''.join(text_of(f'crates/nv_benches/src/{name}.rt') for name in names)
-        self.assertEqual(code_of('docs/BENCHES.md', 'rust'), source)
+    def test_program_of_benches(self):
+        self.assertEqual(code_of('docs/BENCHES.md', 'rust'), text_of('crates/nv_benches/src/in_memory.rt'))

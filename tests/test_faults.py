@@ -1,6 +1,6 @@
-"""Runs nvme-script and nvme-device over standard streams of which one call fails: a read in the middle of a script,
-even when the output can't be written any more, and writes that are interrupted; the device also over requests that are
-cut short or too long."""
+"""Runs nvme-script and nvme-device over standard streams in which a call fails: a read in the middle of a script, even
+if the output can no longer be written, and writes that are interrupted. The device also gets requests that are cut
+short or too long."""
 
 from tests.support import DEMO, TOP, Case, compiled, program, run
 
@@ -12,7 +12,7 @@ class Faulty(Case):
         self.subsystem = self.file('subsystem.toml', DEMO.read_bytes().replace(b'\nelpe = 3\n', b'\nelpe = 255\n'))
 
     def faulty(self, source, out=None, **faults):
-        """Returns a run over this input in which these calls fail."""
+        """Runs the program over this input while these calls fail."""
         faults['LD_PRELOAD'] = compiled('faults.c', '-ldl')
         return run(program(self.crate), '--subsystem', self.subsystem, source=source, out=out, env=faults)
 
@@ -73,6 +73,6 @@ class Device(Faulty):
         self.ends(ended, 4, self.answer, b'nvme-device: request cut short\n')
 
     def test_request_that_is_too_long(self):
-        # it has an answer, whose outcome is 3
+        # it is answered with outcome 3
         ended = self.faulty(b'\0\0\0\0\1\0\x10\0' + b'0' * 64)
         self.ends(ended, 4, b'\0\0\0\0\0\0\3\0\0\0\0\0', b'nvme-device: request too long\n')

@@ -1,5 +1,5 @@
-"""Installs the built programs with their manual in a folder, as a user would, and checks each: the programs work from
-there, the manual pages have no warnings, and each option of a program is described there and is in the completion."""
+"""Installs the built programs with their manual pages in a folder, as a user would. The programs work from there, the
+manual pages have no warnings, and each option of a program is in its manual page and in the completion."""
 
 import re
 import shutil
@@ -59,7 +59,7 @@ class Installed(Case):
     def has_no_warnings(self, page):
         if shutil.which('mandoc'):
             warnings = run('mandoc', '-Tlint', page, err='&1').out.splitlines()
-            # the pages to which they refer need not be installed
+            # the pages that a manual page refers to need not be installed
             self.assertEqual([line for line in warnings if b'referenced manual not found: Xr' not in line], [])
         elif shutil.which('man') and run('man', '--warnings', '-l', page).status == 0:
             self.ends(run('man', '--warnings', '-l', page), 0, err=b'')
@@ -88,7 +88,7 @@ class Installed(Case):
                 self.ends(self.completed(words), 0, wanted.encode() + b'\n', b'')
 
     def completed(self, words):
-        """Returns what the last of these words can be completed to."""
+        """Runs the completion, which prints what the last of these words can be completed to."""
         line = '. "$0"; compopt() { :; }; COMP_WORDS=("$@"); COMP_CWORD=$(($# - 1)); _nvme_script; echo ${COMPREPLY[*]}'
         completion = self.prefix / 'share/bash-completion/completions/nvme-script'
         return run('bash', '-c', line, completion, 'nvme-script', *words)

@@ -1,6 +1,6 @@
 """Tests the library nvme_controller from programs in C, C++, Python and SystemVerilog: the mistakes that its callers
-can make, what it does to their memory, and the examples of examples/c, which print what nvme-script prints. These tests
-need the library that `make library` made from the current sources."""
+can make, what it does to their memory, and the programs of examples/c, which print what nvme-script prints. These tests
+need the library, which the gate or `make library` makes from the current sources."""
 
 import shutil
 import unittest

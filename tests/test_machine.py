@@ -20,7 +20,7 @@ BEGIN = 'echo MODELLED | dd of=/dev/nvme0n1 conv=notrunc 2> /dev/null; . "$place
 LATER = 'sleep 1; . "$place/attack.sh"; attack > "$place/late" 2>&1; echo end >> "$place/late"'
 AGAIN = 'sh -c \'. "$place/attack.sh"; attack\''
 
-# How the attack is run: at once, or after the command has ended.
+# The ways to run the attack: at once, or, for those in LATE, after the command has ended.
 AT_ONCE = {
     'the command itself': 'attack', 'a static shell': f'busybox {AGAIN}', 'without an environment':
     f'env -i PATH="$PATH" static="$static" place="$place" caller=$caller launcher=$launcher device=$device {AGAIN}',
@@ -96,7 +96,7 @@ class Machine:
             self.case.assertEqual(sorted(set(pairs[0]) ^ set(pairs[1])), [], f'a {kind} has changed')
 
     def model(self, script, user=(), options=(), where='/', by=(), **more):
-        """Returns a shell script under ./nvme-model on this machine, run by a user."""
+        """Runs a shell script under ./nvme-model on this machine, as a user."""
         self.case.needs(script)
         for name in 'seven', 'plain', 'reached':
             self.case.file(name, b'CLOBBER').chmod(0o666)
@@ -117,7 +117,7 @@ class MachineCase(ModelCase):
         (self.folder / 'chain').symlink_to('/dev/disk/by-id/nvme-machine')
 
     def reached_nothing(self, machine, ended, text, least=1):
-        """Checks that an attack ran to its end, and found the model's data at least this often and nothing of the
+        """Checks that an attack ran to its end, and found the model's data at least this often and no data of the
         machine."""
         found = re.findall(rb"(?m)^(\d+) times the model's$", text)
         self.assertTrue(found, ended)
@@ -158,7 +158,7 @@ class Attacks(MachineCase):
 
 
 class Machines(MachineCase):
-    """What else holds on a machine with nodes, for root and for another user."""
+    """Tests other properties on a machine with nodes, for root and for another user."""
 
     def users(self):
         """Returns machines, each with a user."""
@@ -210,7 +210,7 @@ class Machines(MachineCase):
             self.assertEqual(ended.err, b'')
 
 
-# Runs a command where no mount namespace can be made.
+# Runs a command in a place where no mount namespace can be made.
 WITHOUT = ('unshare', '-Ur', 'sh', '-c', 'echo 0 > /proc/sys/user/max_mnt_namespaces; exec "$@"', 'sh')
 MISSING = b'nvme-model: the command has no namespace ('
 
@@ -260,7 +260,7 @@ class NoNamespace(MachineCase):
                 self.assertEqual(ended.err.splitlines()[0][:len(MISSING)], MISSING)
 
     def test_killed_launcher(self):
-        # its folder stays, and what the command left running reaches nothing
+        # its folder stays, and processes that the command left running reach nothing
         with contextlib.closing(Machine(self, 'none')) as machine:
             ended = machine.model('kill -9 $PPID; sleep 0.3; nvme id-ctrl /dev/nvme0 2> "$place/late"; '
                                   'test -c /dev/nvme0 || echo end >> "$place/late"', options=['--without-namespace'])

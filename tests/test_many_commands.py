@@ -1,6 +1,5 @@
-"""Commands by the hundred: the error log after 300 refusals, and as many namespaces as there may be.
-
-`nvme_bench` is given them. Single commands stand in tests/rows.
+"""Sends hundreds of commands through `nvme_bench`: the error log after 300 refusals, identifiers after 65,536 commands,
+and as many namespaces as there may be. tests/rows has single commands.
 
     python3 -m unittest tests.test_many_commands
 """
@@ -14,7 +13,7 @@ REFUSED = 'status=0x600b dword0=0x0 bytes='
 
 
 def subsystem(*edits):
-    """Returns the operation that makes the controllers of the demonstration file with these edits."""
+    """Returns the operation that creates the controllers of the demonstration file with these edits."""
     return f'subsystem {edited("demo.toml", *edits).encode().hex()}'
 
 
@@ -33,9 +32,9 @@ def data_of(answer):
 
 
 def booked(number):
-    """The entry of the refusal with this number, from 1 on, in hexadecimal digits. Its command identifier is one less,
-    and its phase tag that of its completion, in a ring of 32 slots that is gone through again and again. Section
-    "Completion Queue Entry", Phase Tag."""
+    """Returns the entry of the refusal with this number, counted from 1, in hexadecimal digits. Its command identifier
+    is one less. Its phase tag is that of its completion, and is inverted on each pass over the ring of 32 slots.
+    Section "Completion Queue Entry", Phase Tag."""
     phase = 1 - (number - 1) // 32 % 2
     return entry_of('error_entry', f'count={number} cid={number - 1} status=0x600b phase={phase} location=0xffff')
 
@@ -49,7 +48,7 @@ class ManyCommands(unittest.TestCase):
         return answers[len(before):]
 
     def test_newest_errors(self):
-        """The log keeps the newest errors. They are told one by one, and as a log page from each place on. Section
+        """The log keeps the newest errors. They can be read one by one, and as a log page from each place on. Section
         "Error Information (Log Identifier 01h)"."""
         for elpe in 0, 3, 255:
             with self.subTest(elpe=elpe):
@@ -67,13 +66,14 @@ class ManyCommands(unittest.TestCase):
                     self.assertEqual(data_of(answer), whole[place:place + 68], place)
 
     def test_errors_in_the_health(self):
-        """Section "SMART / Health Information (Log Identifier 02h)", Number of Error Information Log Entries."""
+        """The health log counts all errors. Section "SMART / Health Information (Log Identifier 02h)", Number of Error
+        Information Log Entries."""
         health = data_of(self.refused(3, [get_log(2, 0, 512)])[0])
         self.assertEqual(health, bytes(176) + REFUSALS.to_bytes(16, 'little') + bytes(320))
 
     def test_counts_beyond_the_command_identifiers(self):
-        """Identifiers go from 0 to fffeh and begin anew, so that the 65,537th command has 1; counts go on. Section
-        "Submission Queue Entry - Command Format": FFFFh is used for no command."""
+        """Identifiers go from 0 to FFFEh and then begin anew, so the 65,537th command has 1. The counts continue.
+        Section "Submission Queue Entry - Command Format": no command has FFFFh."""
         accepted = 65536 * ['passthrough 0 0x0a cdw10=6']
         told = ['passthrough 0 0x06', 'counts 0', 'log_entry 0 0']
         answers = answers_to(['subsystem', 'bring_up'] + accepted + told)
@@ -82,7 +82,7 @@ class ManyCommands(unittest.TestCase):
         self.assertEqual(answers[-3:], [REFUSED, 'refusals=0x1 commands=0x10001', f'bytes={entry}'])
 
     def test_namespaces(self):
-        """Section "Namespace Management command": each of 1,024 NSIDs is assigned, the least free one first."""
+        """Each of 1,024 NSIDs is assigned, the least free one first. Section "Namespace Management command"."""
         create = f'passthrough 0 0x0d data={entry_of("id_ns", "nsze=1 ncap=1")}'
         full = 'status=0x6116 dword0=0x0 bytes='
         answers = answers_to([subsystem('nn = 4', 'nn = 1024'), 'bring_up'] + 1023 * [create]

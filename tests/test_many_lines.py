@@ -1,5 +1,5 @@
-"""Scripts that are computed, with what they write: each threshold by its selector, lists of many namespaces, and
-hundreds of refusals. Single lines stand in tests/scripts."""
+"""Runs computed scripts, and checks what they write: each threshold by its selector, lists of many namespaces, and
+hundreds of refusals. tests/scripts has single lines."""
 
 import json
 
@@ -10,7 +10,7 @@ REFUSAL = 'NVMe status: Invalid Namespace or Format (0x600b)'
 
 
 def error_text(index, count, cid, nsid=0):
-    """What `error-log` shows of a refused Identify."""
+    """Returns what `error-log` shows of a refused Identify."""
     return (f'entry               : {index}\nerror_count         : {count}\nsqid                : 0\n'
             f'cmdid               : {cid:#x}\nstatus_field        : 0x600b\nparm_err_loc        : 0xffff\n'
             f'lba                 : 0x0\nnsid                : {nsid:#x}\nvs                  : 0x0\n'
@@ -19,7 +19,7 @@ def error_text(index, count, cid, nsid=0):
 
 class Scripts(Case):
     def leaves(self, script, output='', messages='', status=0, file=None, options=''):
-        """A script over the subsystem of a file's text, by a driver of these options, leaves these."""
+        """Checks what a script leaves over the subsystem of this text, with a driver of these options."""
         arguments = ['--subsystem', self.file('file.toml', file.encode())] if file else []
         ended = run(SCRIPT, *arguments, *options.split(), source=script.encode())
         self.ends(ended, status, output.encode(), messages.encode())
@@ -30,12 +30,13 @@ def is_under(selector):
 
 
 def usual(selector):
-    """What a threshold is where the file gives none. Section "Temperature Threshold (Feature Identifier 04h)"."""
+    """Returns the value of a threshold that the file doesn't give. Section "Temperature Threshold (Feature Identifier
+    04h)"."""
     return 0 if is_under(selector) else 0xffff if selector else 343
 
 
 class Thresholds(Scripts):
-    # the composite temperature and eight sensors, over and then under
+    # the composite temperature and eight sensors, first the over and then the under temperature thresholds
     selectors = [*range(9), *range(16, 25)]
     over, under = [*range(300, 309)], [*range(216, 225)]
 
@@ -44,19 +45,19 @@ class Thresholds(Scripts):
         self.script = self.output = ''
 
     def set(self, selector, threshold, save=0):
-        """A line sets the thresholds that a selector names."""
+        """Adds a line that sets the thresholds of a selector."""
         value = selector << 16 | threshold
         self.script += f'set-feature /dev/nvme0 -f 4 -v {value}{" -s" * save}\n'
         self.output += f'set-feature:0x4 (Temperature Threshold), value:{value:#x}, save:{save}\n'
 
     def get(self, kind, selector, threshold):
-        """A line asks for a threshold of a kind."""
+        """Adds a line that asks for a threshold of a kind."""
         sel = ['Current', 'Default', 'Saved'].index(kind)
         self.script += f'get-feature /dev/nvme0 -f 4 -s {sel} -c {selector << 16}\n'
         self.output += f'get-feature:0x4 (Temperature Threshold), {kind} value:{threshold:#x}\n'
 
     def check(self, keys='saveable = true\n', controller=''):
-        """What the lines up to here write, where the first controller's thresholds have these keys."""
+        """Checks what the lines so far write, if the first controller's thresholds have these keys."""
         file = DEMO.read_text().replace('version = 1', 'version = 2').replace('elpe = 3\n', f'elpe = 3\n{controller}')
         table = '[[controller.feature]]\n'
         self.leaves(self.script, self.output, file=file.replace(table, f'{table}fid = 4\n{keys}\n{table}'))
@@ -116,7 +117,7 @@ class Thresholds(Scripts):
 
 class Refusals(Scripts):
     def test_a_reset_among_300_refusals(self):
-        """Slots and phase tags begin anew, and command identifiers go on: the log is asked for by two commands."""
+        """Slots and phase tags begin anew, and command identifiers continue. Two commands read the log."""
         lines = ['id-ns /dev/nvme0 -n 0\n'] * 301
         lines[150] = 'reset /dev/nvme0\n'
         messages = ''.join(f'line {number}: {REFUSAL}\n' for number in range(1, 302) if number != 151)
@@ -126,7 +127,7 @@ class Refusals(Scripts):
             self.leaves(script, output, messages + f'line 303: {REFUSAL}\n', options=f'--depth {depth}')
 
     def test_command_identifiers_begin_anew_after_65535_commands(self):
-        """A log without errors is asked for by two commands, so that the refused one is the 65,537th."""
+        """Two commands read a log without errors, so the refused command is the 65,537th."""
         script = 'error-log /dev/nvme0\n' * 32768 + 'id-ns /dev/nvme0 -n 0\nerror-log /dev/nvme0\n'
         self.leaves(script, error_text(0, 1, 1), f'line 32769: {REFUSAL}\n')
         script = 'list-ns /dev/nvme0 -n 4\n' * 65536 + 'id-ns /dev/nvme0 -n 0\nerror-log /dev/nvme0\n'
@@ -134,14 +135,14 @@ class Refusals(Scripts):
 
 
 def listed(place, serial, nsid, blocks):
-    """A line of `list`, of 120 bytes, and its object, for a namespace with blocks of 512 bytes."""
+    """Returns a line of `list`, which has 120 bytes, and its JSON object, for a namespace with blocks of 512 bytes."""
     node, size = f'/dev/nvme{place}n{nsid}', blocks * 512
     line = f'{node:<18} {serial:<20} {"M":<40} {nsid:>10} {size:>20} {512:>6}\n'
     return line, {'block_size': 512, 'bytes': size, 'model': 'M', 'namespace': nsid, 'node': node, 'serial': serial}
 
 
 class Lists(Scripts):
-    # two controllers and forty namespaces that both have; namespace n has room for n blocks and one byte more
+    # two controllers, and forty namespaces that are attached to both; namespace n has n blocks and one more byte
     shared = ('version = 1\nnn = 40\ntnvmcap = 419880\nsubnqn = "n"\n[[format]]\nlbads = 9\n'
               '[[controller]]\ncntlid = 7\nsn = "S0"\nmn = "M"\nfr = "1"\n'
               '[[controller]]\ncntlid = 3\nsn = "S1"\nmn = "M"\nfr = "1"\n'
@@ -149,7 +150,8 @@ class Lists(Scripts):
                         'controllers = [3, 7]\n' for nsid in range(1, 41)))
 
     def test_the_same_whatever_the_geometry_is(self):
-        """Twice two commands and forty, on each controller: their number is the next command's identifier."""
+        """`list` sends two commands and forty to each controller, twice. Their number is the next command's
+        identifier."""
         lines, objects = zip(*[listed(place, f'S{place}', nsid, nsid) for place in (0, 1) for nsid in range(1, 41)])
         text = ''.join(lines)
         self.assertEqual(len(text), 9600)
@@ -168,7 +170,7 @@ class Lists(Scripts):
                 self.leaves(script, output, messages, file=file, options=options)
 
     def test_1024_namespaces_of_the_last_of_sixteen_controllers(self):
-        """The identifiers of the controllers fall from 100 on, and the last controller has all namespaces."""
+        """The identifiers of the controllers go down from 100, and the last controller has all namespaces."""
         file = 'version = 1\nnn = 1024\ntnvmcap = 524288\nsubnqn = "n"\n[[format]]\nlbads = 9\n'
         file += ''.join(f'[[controller]]\ncntlid = {cntlid}\nsn = "S"\nmn = "M"\nfr = "1"\n'
                         for cntlid in range(100, 84, -1))

@@ -119,8 +119,8 @@ class Arguments(ModelCase):
         self.says(self.model('true', options=['--trace=/none/x']), 72, 'nvme-model: /none/x: ')
 
     def test_script_in_a_copy(self):
-        # no command is run without a device; two launchers that build the client at the same time do no harm; paths
-        # have spaces, and links
+        # no command is run without a device; two launchers may build the client at the same time; paths have spaces and
+        # links
         copy, link = self.folder / 'a folder: here', self.folder / 'link'
         copy.mkdir()
         shutil.copy(TOP / 'nvme-model', copy)
@@ -184,7 +184,7 @@ class Subsystems(ModelCase):
 
 class Signals(ModelCase):
     def begun(self, script, *words):
-        """A run of a script that says `ready`."""
+        """Starts a script, and waits until it says `ready`."""
         running = Running(*self.command('sh', '-c', script, 'sh', *words))
         self.addCleanup(running.process.kill)
         running.comes(b'ready\n')
@@ -209,7 +209,7 @@ class Signals(ModelCase):
             with self.subTest(name):
                 running = self.begun('echo $$ > "$1"; ' + script, self.folder / 'group')
                 running.process.send_signal(signal.Signals['SIG' + name])
-                # a process that the command left running has no device any more, and the launcher doesn't end it
+                # a process that the command left running has no device any longer, and the launcher doesn't end it
                 self.assertTrue(until(lambda: running.process.poll() is not None))
                 self.assertEqual(running.process.returncode, {**BY_SIGNAL, 'KILL': -9}[name])
                 self.assertTrue(until(lambda: not processes_of('nvme_device\0--subsystem\0' + str(self.subsystem))))

@@ -1,5 +1,5 @@
 """Tests what ./nvme-model shows to programs: nodes in /dev and files in /sys, the data of namespaces, a library that
-stays with the processes, and the tools as they are installed."""
+stays in all processes, and the installed tools."""
 
 import json
 import os
@@ -12,7 +12,7 @@ import unittest
 from tests.modelled import WARNINGS, ModelCase, installed, static_program
 from tests.support import TOP, run
 
-# Run inside: calls that write to a node, with their expected results.
+# Run by the model's command: calls that write to a node, with their expected results.
 CALLS = """
 def fails(number, call, *words):
     try:
@@ -48,7 +48,7 @@ print(libc.splice(r, None, f, None, 99, 0) == 8 or ctypes.get_errno() in (errno.
 print(os.lseek(f, 0, 2))
 """
 
-# Run inside: the numbers in /sys are those of the nodes.
+# Run by the model's command: the numbers in /sys are those of the nodes.
 NUMBERS = """
 names = set()
 for folder in glob.glob('/sys/dev/*/409*') + glob.glob('/sys/class/nvme*/n*') + glob.glob('/sys/block/nvme*'):
@@ -104,7 +104,7 @@ class Nodes(ModelCase):
                                      options=['--no-notice']), 0,
                           b"ls: cannot access '/dev/nvme1n*': No such file or directory\n/dev/ng1n1\n/dev/nvme1n1\n"
                           b'/sys/class/block/nvme1n1/nsid\n', b'')
-        # what was deleted and created meanwhile is another namespace
+        # a namespace that was deleted and created meanwhile is another one
         self.ends(self.shell('echo old > /dev/nvme0n3; nvme delete-ns /dev/nvme0 -n 3; '
                              'nvme create-ns /dev/nvme0 -s 4 -c 4 -f 0 >&2; nvme ns-rescan /dev/nvme0; '
                              'ls /dev/nvme0n*', options=['--no-notice']), 0,
@@ -163,8 +163,8 @@ class Data(ModelCase):
                   b'full\nfull\n4608\n512 bytes\n12\n4608\n4608\n')
 
     def test_streams_past_the_end(self):
-        # (a stream of the C library writes by a call that the preloaded library doesn't see: what is past the end is
-        # cut off)
+        # (a stream of the C library writes with a call that the preloaded library doesn't see, so bytes past the end
+        # are cut off)
         script = 'seq 2000 > /dev/nvme0n3; sleep 0.5; busybox wc -c < /dev/nvme0n3; head -n 2 /dev/nvme0n3'
         self.ends(self.shell(script), 0, b'4608\n1\n2\n', b'')
 
@@ -183,7 +183,7 @@ class Data(ModelCase):
             with self.subTest(length):
                 self.ends(self.model('sh', '-c', script, cuts, str(length)), 0,
                           b'0\n' + first + b'\n4608\nregular file 4608\n', b'')
-        # its ioctl reaches a file
+        # the ioctl of a static program reaches a file
         asks = static_program('#include <fcntl.h>\n#include <stdio.h>\n#include <sys/ioctl.h>\n'
                               'int main(int n, char **a) '
                               '{ int f = open(a[n - 1], O_RDWR); ioctl(f, 0x4e40); perror("ioctl"); return 0; }\n')

@@ -1,5 +1,5 @@
-"""Talks to nvme-script line by line, through pipes and on a terminal: what a line prints is there before the next line
-is written, and messages are among the outputs in the order of the lines."""
+"""Talks to nvme-script line by line, through pipes and on a terminal. The output of a line comes before the next line
+is written, and outputs and messages come in the order of the lines."""
 
 import time
 
@@ -32,7 +32,7 @@ class Order(Case):
         self.ends(talk.end(), 0, b'[   0]:0x3\nline 2: no such device\ndelete-ns: Success, deleted nsid:3\n')
 
     def test_terminal(self):
-        # what is typed is shown too
+        # the terminal also shows what is typed
         talk = Running(SCRIPT, terminal=True)
         talk.say(b'list-ns /dev/nvme0 -n 3\n')
         talk.comes(b'list-ns /dev/nvme0 -n 3\n[   0]:0x3\n')
@@ -47,7 +47,7 @@ class FullDevice(Case):
         self.ends(run(SCRIPT, source=b'list-ns /dev/nvme0\n', out='/dev/full'), 5, err=b'nvme-script: write fault\n')
 
     def test_told_in_the_next_line_that_prints(self):
-        # it ends the run while the script goes on
+        # the fault ends the run before the script ends
         talk = Running('sh', '-c', 'exec "$0" > /dev/full', SCRIPT)
         talk.say(b'list-ns /dev/nvme0\n')
         time.sleep(0.5)

@@ -1,8 +1,7 @@
 """Runs nvme-script on arguments, files and standard streams that a script can't give it, and on each script of
 examples/ and of tests/scripts.
 
-With UNPROVED=1 in the environment the rows are given to the sources, by `rt try`, and those that it can't give are
-skipped.
+With UNPROVED=1 in the environment, `rt try` runs the sources on these rows, and the rows that it can't run are skipped.
 """
 
 import json
@@ -14,7 +13,7 @@ from tests.support import DEMO, IS_UNPROVED, TOP, Case, Ended, process_folder, p
 SCRIPT = 'nvme_script' if IS_UNPROVED else program('nvme_script')
 TEXT = DEMO.read_text()
 MISSING = str(process_folder() / 'missing.toml')
-# What is special in a row that can't be given to an unproved run, and why.
+# The special rows that an unproved run can't have, each with the reason.
 ONLY_BUILT = {
     'failing input': 'rt try gives a run its own streams',
     'failing output': 'rt try gives a run its own streams',
@@ -26,7 +25,7 @@ unproved = {}
 
 
 class Row(typing.NamedTuple):
-    """What the program is given, and the expected result. An output of None may be any."""
+    """The input of the program, and the expected result. An output of None may be any output."""
 
     arguments: tuple = ()
     status: int = 0
@@ -41,7 +40,7 @@ class Row(typing.NamedTuple):
 
 
 def told(text, *arguments, **more):
-    """A row with status 3, in which the program reports why."""
+    """Returns a row in which the program ends with status 3 and reports this reason."""
     return Row(arguments, 3, b'nvme-script: %s\n' % text.encode(), **more)
 
 
@@ -73,7 +72,8 @@ def refused_arguments():
 
 
 def refused_options():
-    """Options that are no 32-bit numbers, and geometries outside their limits, by the first such field."""
+    """Options that aren't 32-bit numbers, and geometries out of their limits, which are refused with the first such
+    field."""
     for option in 'depth', 'page-size', 'offset', 'list-offset', 'window', 'pace':
         for value in '', 'x', '-1', '08', '4294967296':
             yield told('arguments', f'--{option}={value}')
@@ -96,7 +96,7 @@ def geometry_shows_in_no_byte():
 
 
 def largest_list():
-    """1,024 namespaces of each of sixteen controllers."""
+    """A list of 1,024 namespaces on each of sixteen controllers."""
     text = 'version = 1\nnn = 1024\ntnvmcap = 524288\nsubnqn = "n"\n[[format]]\nlbads = 9\n'
     for number in range(1, 17):
         text += f'[[controller]]\ncntlid = {number}\nsn = "S"\nmn = "M"\nfr = "1"\n'
@@ -113,7 +113,7 @@ def largest_list():
 
 
 def mebibyte():
-    """A file of the greatest length."""
+    """Returns a file of the greatest length."""
     return (TEXT.encode() + b'# a comment\n' * 100000)[:1048576]
 
 
@@ -125,7 +125,7 @@ def unreadable_files():
 
 
 def faults_of_files():
-    """The first fault of a file, of each kind."""
+    """Files with a first fault of each kind."""
     yield told('subsystem: not TOML', '--subsystem', file('equals.toml', '=\n'))
     yield told('subsystem: not TOML', '--subsystem', file('bytes.toml', b'\xff\n'))
     for text, old, new in (
@@ -142,7 +142,8 @@ def faults_of_files():
 
 
 def examples():
-    """What each script writes is in the files next to it; the last line of its file .err is the status."""
+    """The scripts of examples/. The files beside a script have what it writes, and the last line of its file .err is
+    its status."""
     for script in sorted(TOP.glob('examples/*.nvme')):
         *messages, last = script.with_suffix('.err').read_bytes().splitlines(True)
         subsystem = script.with_suffix('.toml')
@@ -173,7 +174,7 @@ def scripts_of(path):
 
 
 def geometries():
-    """The options of drivers of every kind, and none."""
+    """Returns the options of every kind of geometry, and no options."""
     greatest = '--depth 4096 --page-size 65536 --offset 65532 --list-offset 65528 --window 16 --pace 4096'
     return [()] if IS_UNPROVED else [(), tuple(greatest.split())] + [
         ('--page-size', str(page), '--depth', str(depth), '--offset', str(offset))
@@ -181,7 +182,7 @@ def geometries():
 
 
 def unended_lines():
-    """Scripts that aren't lines of text with an end each."""
+    """Scripts that don't consist of whole lines of text."""
     for options in geometries():
         yield Row(options, 0, b'', b'', b'')
         yield Row(options, 0, b'', b'[   0]:0x1\n[   1]:0x3\n', b'list-ns /dev/nvme0')
@@ -190,8 +191,8 @@ def unended_lines():
 
 
 def scripts():
-    """By drivers of every kind of geometry, over the file beside the scripts or the demonstration file, and over that
-    in version 2."""
+    """The scripts of tests/scripts, with drivers of every kind of geometry, over the file beside the scripts or the
+    demonstration file, and over that file in version 2."""
     for path in sorted(TOP.glob('tests/scripts/*.txt')):
         subsystem = path.with_suffix('.toml') if path.with_suffix('.toml').exists() else DEMO
         version_2 = re.sub(r'(?m)^version = 1$', 'version = 2', subsystem.read_text())
@@ -212,13 +213,13 @@ def failing_streams():
 
 
 def want_of_memory():
-    """The least memory with which the program starts has no room for a file of 1 MiB."""
+    """A file of 1 MiB, which has no room in the least memory with which the program starts."""
     whole = file('whole.toml', mebibyte())
     yield Row(('--subsystem', whole), 6, b'nvme-script: out of memory\n', special='little memory')
 
 
 def given_to_rt_try(rows, *options):
-    """Gives rows to the unproved sources, and stores how each run ended."""
+    """Runs the unproved sources on rows, and stores how each run ended."""
     folder = process_folder() / f'cases{len(unproved)}'
     folder.mkdir()
     for number, row in enumerate(rows):
@@ -242,7 +243,7 @@ def given_to_rt_try(rows, *options):
 
 
 def with_little_memory(row):
-    """Returns a run with the least memory, in KiB, with which the program starts."""
+    """Runs a row with the least memory with which the program starts, in steps of 250 KiB."""
     for room in range(1250, 100000, 250):
         ended = run('sh', '-c', 'ulimit -v "$0" && exec "$@"', str(room), SCRIPT, *row.arguments, source=row.script)
         if ended.status != 127:

@@ -1,6 +1,6 @@
-"""Tries ./nvme-model --qemu: what QEMU may say, well or badly, by tests/as_qemu.py in its place, and SeaBIOS and Linux
-with nvme-cli over the controllers, where QEMU, a kernel and busybox are installed. NVME_TEST_KERNEL names a kernel in
-place of the newest in /boot, and NVME_TEST_MODULES the folder with its modules; busybox must be static."""
+"""Tests ./nvme-model --qemu: valid and invalid messages, which tests/as_qemu.py sends in QEMU's place, and SeaBIOS and
+Linux with nvme-cli over the controllers, if QEMU, a kernel and a static busybox are installed. NVME_TEST_KERNEL names a
+kernel instead of the newest one in /boot, and NVME_TEST_MODULES the folder with its modules."""
 
 import functools
 import glob
@@ -57,7 +57,7 @@ sleep 60
 
 @functools.lru_cache(maxsize=None)
 def program(*options):
-    """Makes the program, over the library that `make library` made."""
+    """Compiles the program, with the library."""
     place = library()
     made = process_folder() / f'qemu{len(options)}'
     subprocess.run(['cc', '-g', '-O1', '-Wall', '-Wextra', '-Werror', *options, '-o', made, f'-I{place}',
@@ -86,7 +86,7 @@ class Messages(Case):
                 self.ends(self.said(scenario), 0, b'')
 
     def test_counts(self):
-        # (the reset, the refused command and what is requested are those of the scenario)
+        # (the reset, the refused command and the requests are those of the scenario)
         ended = self.said('commands')
         self.assertEqual(re.findall(COUNTS, ended.err.decode()), [('0', '22', '1'), ('1', '21', '0')])
         self.assertEqual(re.findall(ERROR, ended.err.decode()), [('1', '104', '6001', 'ffff', '0')], ended)
@@ -151,7 +151,7 @@ def kernel():
 
 @functools.lru_cache(maxsize=None)
 def why_not():
-    """Returns why Linux can't be run here, or nothing."""
+    """Returns the reason why Linux can't be run here, or nothing if it can."""
     for tool in 'qemu-system-x86_64', 'busybox', 'nvme':
         if not is_there(tool):
             return f"{tool} not installed, or in a version that isn't known"
@@ -177,7 +177,7 @@ def module(name):
 
 
 def modules(names):
-    """Returns these modules as files, each after those that it needs."""
+    """Returns the files of these modules, each after those that it needs."""
     found = {}
     for name in names:
         own_name, data = module(name)
@@ -226,7 +226,7 @@ def documents(text):
 
 
 def told(error):
-    """Returns what is compared of an error log entry, as the program reports it at its end."""
+    """Returns the fields of an error log entry that are compared, as the program reports them at its end."""
     # (nvme-cli prints an NSID as a signed number)
     numbers = [error[key] for key in ('error_count', 'cmdid', 'status_field', 'parm_error_location')]
     numbers.append(error['nsid'] % 2 ** 32)
@@ -249,7 +249,7 @@ class Drivers(ModelCase):
         return ended.err.decode()
 
     def test_seabios(self):
-        # its driver identifies a controller, and then creates an I/O queue, whose opcode is refused
+        # SeaBIOS's driver identifies a controller, and then creates an I/O queue, whose opcode is refused
         summary = self.boot('-boot', 'reboot-timeout=1')
         self.assertEqual(re.findall(COUNTS, summary), [('0', '2', '1'), ('1', '2', '1')])
         self.assertEqual([error[2:] for error in re.findall(ERROR, summary)], [('6001', 'ffff', '0')] * 2)

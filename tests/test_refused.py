@@ -1,18 +1,18 @@
 """Refuses each allocation of a run in turn, and checks what the run left behind: whole lines, and nothing of the line
-that was cut short. A run of many lines or requests uses no more memory than one of a few."""
+that was cut short. A run of many lines or requests uses no more memory than a run of a few."""
 
 from tests.support import TOP, Case, compiled, program, run
 
 
 class Refusing(Case):
     def refused(self, number, crate, *arguments, source):
-        """Returns a run in which this allocation is refused, or none if the number is 0."""
+        """Runs a program in which the allocation with this number is refused, or no allocation if it is 0."""
         refuse = {'LD_PRELOAD': compiled('refuse.c', '-ldl'), 'REFUSE': number, 'CALLS': self.folder / 'calls'}
         return run(program(crate), *arguments, source=source, env=refuse)
 
     def whole(self, crate, *arguments, source):
-        """Returns a run in which none is refused, the number of its allocations, and the greatest number of bytes in
-        use."""
+        """Runs a program in which no allocation is refused. Returns how it ended, the number of its allocations, and
+        the greatest number of bytes in use."""
         ended = self.refused(0, crate, *arguments, source=source)
         self.ends(ended, 0, err=b'')
         allocations, most = (self.folder / 'calls').read_text().split()

@@ -1,4 +1,4 @@
-"""Requests to nvme-device and their answers, byte by byte. docs/PASSTHROUGH.md says what they have; the values are
+"""Requests to nvme-device and their answers, byte by byte. docs/PASSTHROUGH.md defines their bytes, and the values are
 those of the standard."""
 
 import re
@@ -12,7 +12,7 @@ NO_CONTROLLER, NO_KIND, TOO_LONG = range(1, 4)
 
 
 def request(controller=0, kind=ENTRY, length=0, opcode=0, nsid=0, cdw10=0, sent=b''):
-    """A request's bytes. The command identifier and the data pointer of its entry count for nothing."""
+    """Returns the bytes of a request. The command identifier and the data pointer of its entry are ignored."""
     entry = struct.pack('<BBHIQQQQI20x', opcode, 0, 0xffff, nsid, 0, 0, 3, 5, cdw10)
     return struct.pack('<HHI', controller, kind, length) + entry + sent
 
@@ -21,9 +21,9 @@ def answer(dword0=0, status=0, outcome=0, data=b''):
     return struct.pack('<IHHI', dword0, status, outcome, len(data)) + data
 
 
-# The namespaces of both controllers, the first one's serial number, a namespace attached to the second, requests that
-# no controller hears of, a reserved opcode with data, and the log that has it: the fifth command of its controller, so
-# that its command identifier is 4.
+# The namespaces of both controllers, the serial number of the first, a namespace that is attached to the second,
+# requests that reach no controller, a reserved opcode with data, and the log with its error. That was the fifth command
+# of its controller, so its command identifier is 4.
 ENTRIES = [
     (request(kind=LIST, length=8), answer(2, data=b'\1\0\0\0\3\0\0\0')),
     (request(length=24, opcode=0x06, cdw10=1), answer(data=bytes(4) + b'S0'.ljust(20))),
@@ -35,7 +35,7 @@ ENTRIES = [
     (request(length=2, opcode=0xff, nsid=5, sent=b'\t\t'), answer(status=0x6001)),
     (request(length=12, opcode=0x02, cdw10=0x000f0001), answer(data=b'\1\0\0\0\0\0\0\0\0\0\4\0')),
 ]
-# A feature is changed, and has its default again after a reset. The last request is too long.
+# A feature that is changed, and has its default again after a reset. The last request is too long.
 RESETS = [
     (request(opcode=0x09, cdw10=6), answer()),
     (request(opcode=0x0a, cdw10=6), answer()),
@@ -47,13 +47,13 @@ RESETS = [
 
 class Requests(Case):
     def answered(self, rows, *options, status=0, err=b''):
-        """These requests, whole or cut, are answered so."""
+        """Checks the answers to requests, which may be cut short."""
         requests, answers = (b''.join(column) for column in zip(*rows))
         ended = run(DEVICE, *options, source=requests)
         self.ends(ended, status, answers, err)
 
     def sent(self, rows, *options):
-        """How many entries the first controller was sent."""
+        """Returns how many entries the first controller was sent."""
         ended = run(DEVICE, '--trace', *options, source=b''.join(asked for asked, _ in rows))
         return ended.err.count(b'nvme0 taken ')
 
@@ -79,7 +79,7 @@ class Requests(Case):
         self.answered([(bytes(72), b'')], '--depth', '1', status=3, err=b'nvme-device: geometry: depth\n')
 
     def test_pointers_of_an_entry_by_the_offsets(self):
-        """Get Log Page of 131,072 bytes: data and list begin in their pages where the geometry says."""
+        """Get Log Page of 131,072 bytes: the data and the list begin at the geometry's offsets in their pages."""
         long_log = request(length=4, opcode=0x02, cdw10=0x7fff0001)
         for page_size, offset, list_offset in (4096, 4, 4088), (8192, 8188, 8), (32768, 0, 16):
             options = f'--page-size {page_size} --offset {offset} --list-offset {list_offset}'

@@ -1,15 +1,16 @@
 """Rows of operations: what `nvme_bench` answers to each line of `tests/rows/*.txt`.
 
-In a file each operation stands behind `>`, and below it the line that is wanted: `done` where there is none. Lines of
-`#` are comments. A file is one session, from its first operation to its last. `(HH*N)` stands for N times HH, and a
-line `> include NAME` for the operations of the file NAME beside it. Rows of rings over many commands are computed.
+In a file, each operation comes after `>`, and the expected answer is in the line below it, or is `done` if there is no
+such line. Lines that begin with `#` are comments. A file is one session, from its first operation to its last. `(HH*N)`
+stands for N times HH, and a line `> include NAME` for the operations of the file NAME beside it. Rows of rings over
+many commands are computed.
 
 `@sqe(KEY=NUMBER ..)`, `@cqe(..)` and `@error_entry(..)` stand for the bytes of such an entry, whose other fields are 0,
 and `@id_ns(..)` for the first bytes of the data that creates a namespace.
 
-`@NAME` stands for the bytes of a subsystem file of examples/, as `@demo.toml`, and `@NAME["OLD", "NEW"]` for those of
-the file with NEW in place of OLD; there may be more such pairs. `@"TEXT"` stands for those of a text. In them
-`(TEXT*N)` stands for N times TEXT.
+`@NAME` stands for the bytes of a subsystem file of examples/, such as `@demo.toml`, and `@NAME["OLD", "NEW"]` for those
+of the file with NEW in place of OLD. There may be more such pairs. `@"TEXT"` stands for the bytes of a text. In these
+texts, `(TEXT*N)` stands for N times TEXT.
 
     python3 -m unittest tests.test_rows
     NVME_BENCH=path/of/the/program python3 -m unittest tests.test_rows.Rows.test_records_of_queues
@@ -32,8 +33,8 @@ REPEATED_TEXT = re.compile(r"\(([^()]+)\*([0-9]+)\)")
 FILE = re.compile(r'@(?:([a-z_]+\.toml)(\[.*\])?|(".*"))')
 ENTRY = re.compile(r"@(sqe|cqe|error_entry|id_ns)\(([^()]*)\)")
 
-# How the fields of entries lie in their bytes, the lowest byte of each first, and their keys in this order; what is
-# reserved is 0. Sections "Submission Queue Entry - Command Format", "Completion Queue Entry", "Error Information (Log
+# The places of the fields of entries, the lowest byte of each field first, and their keys in this order. Reserved
+# fields are 0. Sections "Submission Queue Entry - Command Format", "Completion Queue Entry", "Error Information (Log
 # Identifier 01h)" and "Identify Namespace data structure (CNS 00h)".
 LAYOUTS = {
     "sqe": ("<BBHIQQQQ6I", "opcode flags cid nsid reserved mptr prp1 prp2 cdw10 cdw11 cdw12 cdw13 cdw14 cdw15"),
@@ -164,9 +165,10 @@ def command(number):
 
 
 def exchange(depth, number):
-    """A command there and back, by rings that begin with number 0: operations, each with the answer that is wanted.
-    Number n stands in slot n modulo the depth. A completion's phase tag is 1 in the first pass over its ring, and
-    is inverted on each. Sections "Submission Queue & Completion Queue Definition" and "Completion Queue Entry"."""
+    """Returns the operations of a command and its completion, over rings whose numbers begin at 0, each with its
+    expected answer. Number n is in slot n modulo the depth. A completion's phase tag is 1 in the first pass over its
+    ring, and is inverted on each pass. Sections "Submission Queue & Completion Queue Definition" and "Completion Queue
+    Entry"."""
     slot, after = number % depth, (number + 1) % depth
     phase = 1 - number // depth % 2
     completion = f"command_specific=0x1020304 sq_head={after:#x} sq_identifier=0x0 cid={number:#x}"
@@ -187,7 +189,8 @@ def exchange(depth, number):
 
 
 def exchanges(depth, count):
-    """Returns the first commands, one after another; for many commands, only the operations that change something."""
+    """Returns the first commands, one after another. For many commands, these are only the operations that change
+    something."""
     rows = [row for number in range(count) for row in exchange(depth, number)]
     if count <= 100:
         return rows
@@ -199,7 +202,7 @@ def new_rings(depth):
 
 
 class Rings(unittest.TestCase):
-    """Queues over many commands, past the wraps of both: each is a session of rows that are computed."""
+    """Queues over many commands, past the wraps of both. Each test is a session of computed rows."""
 
     def check(self, rows):
         answers = answers_to(operation for operation, _ in rows)
@@ -216,7 +219,7 @@ class Rings(unittest.TestCase):
                 self.check(new_rings(depth) + exchanges(depth, count) + fill + full)
 
     def test_both_rings_begin_anew(self):
-        """They work whatever numbers they have reached, and with a command that is waiting."""
+        """Rings can begin anew whatever numbers they have reached, even with a command that is waiting."""
         for depth, before, count in (2, 1, 6), (2, 2, 6), (2, 3, 6), (17, 20, 51), (4096, 4097, 3):
             with self.subTest(depth=depth, before=before):
                 after = (before + 1) % depth
@@ -228,7 +231,7 @@ class Rings(unittest.TestCase):
 
 
 class Pipes(unittest.TestCase):
-    """The program as the other side of a host, through two pipes."""
+    """Talks to the program through two pipes, as a host does."""
 
     def test_there_are_rows(self):
         self.assertTrue(FILES, f"no file of rows in {PLACE}")

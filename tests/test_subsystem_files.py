@@ -1,6 +1,5 @@
-"""Subsystem files by the dozen: both ends of each range, each beginning, each changed byte, and what is deep or large.
-
-Each file is given to `nvme_bench`, by its operation `subsystem`. Single faults stand in tests/rows/file_*.txt.
+"""Gives many subsystem files to `nvme_bench`, by its operation `subsystem`: both ends of each range, each beginning of
+a file, each changed byte, and deep or large files. tests/rows/file_*.txt has single faults.
 
     python3 -m unittest tests.test_subsystem_files
 """
@@ -22,8 +21,8 @@ def refused(text):
     return f'refused: {text}'
 
 
-# A number: a text of the demonstration file, what stands there instead with the number for #, its key, the least and
-# the greatest. docs/SUBSYSTEM-FILE.md has the ranges.
+# For each number, a text of the demonstration file, its replacement, in which # stands for the number, the key, and the
+# least and the greatest value. docs/SUBSYSTEM-FILE.md has the ranges.
 GREATEST = 2 ** 63 - 1
 LAST = 'elpe = 0'
 FEATURE = 'fid = 6\ndefault = 1\nsaveable = true'
@@ -65,7 +64,7 @@ NUMBERS = [
     ]
 ] + [(LAST, 'smart = { sensors = [#] }', 'smart.sensors', 0, 65535)]
 
-# A text: the same, with the text for #, and its greatest length in bytes.
+# For each text, the same, in which # stands for the text, and its greatest length in bytes.
 TEXTS = [
     ('subnqn = "nqn.2014-08.org.example:demo"', 'subnqn = "#"', 'top.subnqn', 223),
     ('sn = "S1"', 'sn = "#"', 'controller.sn', 20),
@@ -73,8 +72,8 @@ TEXTS = [
     ('fr = "1.0"', 'fr = "#"', 'controller.fr', 8),
 ]
 
-# The lines of the demonstration file that aren't empty: how much of each must stand before it says something, and the
-# answer from there on to the next line.
+# The lines of the demonstration file that aren't empty, each with the part that must be there before the line has a
+# meaning, and the answer from there on to the next line.
 BEGINNINGS = [
     ('version = 1', refused('missing top.nn')),
     ('nn = 4', refused('missing top.tnvmcap')),
@@ -121,8 +120,8 @@ BEGINNINGS = [
 
 
 def beginnings():
-    """Returns each beginning of the demonstration file, with the expected answer: that of its whole lines and of what
-    is there of the last one."""
+    """Returns each beginning of the demonstration file, with the expected answer, which depends on its whole lines and
+    on the part of the last line."""
     rows, wanted, end = iter(BEGINNINGS), refused('missing top.version'), 0
     yield '', wanted
     for line in DEMO.splitlines(True):
@@ -162,7 +161,7 @@ class SubsystemFiles(unittest.TestCase):
                 self.assertEqual(said, wanted)
 
     def test_numbers(self):
-        """Both ends of a range are accepted. The numbers next to them are out of range, or are no integers of TOML."""
+        """Both ends of a range are accepted. The numbers next to them are out of range, or aren't integers in TOML."""
         for old, new, key, least, greatest in NUMBERS:
             out = refused(f'out of range {key}')
             rows = [(least, READ), (greatest, READ), (least - 1, out)]
@@ -170,7 +169,8 @@ class SubsystemFiles(unittest.TestCase):
             self.check((edited('demo.toml', old, new.replace('#', str(number))), wanted) for number, wanted in rows)
 
     def test_texts(self):
-        """A text of one byte is accepted, and one of the greatest length; none and one more byte are out of range."""
+        """A text of one byte and one of the greatest length are accepted. An empty one and one with one more byte are
+        out of range."""
         for old, new, key, most in TEXTS:
             out = refused(f'out of range {key}')
             rows = [(0, out), (1, READ), (most, READ), (most + 1, out)]
@@ -180,8 +180,8 @@ class SubsystemFiles(unittest.TestCase):
         self.check(beginnings())
 
     def test_changed_bytes(self):
-        """The demonstration file with another byte at a place is accepted, or refused with a name; with a byte that
-        isn't UTF-8 it isn't TOML."""
+        """The demonstration file with another byte in one place is accepted, or refused with a named fault. With a byte
+        that isn't UTF-8, it isn't TOML."""
         demo = DEMO.encode()
         for byte in b'"', b'=', b'[', b'\n', b'\xff':
             for said in told(demo[:place] + byte + demo[place + 1:] for place in range(len(demo))):
@@ -190,7 +190,7 @@ class SubsystemFiles(unittest.TestCase):
                 self.assertTrue(byte != b'\xff' or said == refused('not TOML'), said)
 
     def test_deep_values(self):
-        """Arrays 10,000 deep that aren't closed and that are, and a table's name in as many brackets."""
+        """Arrays that are 10,000 deep, closed or not, and a table's name in as many brackets, are refused."""
         opened, closed = 10000 * '[', 10000 * ']'
         for said in told(file.encode() for file in [f'x = {opened}', f'x = {opened}{closed}', f'{opened}x{closed}']):
             self.assertRegex(said, '^refused: ')

@@ -1,7 +1,7 @@
-"""Runs nvme-trace: its trace of examples/demo.nvme is examples/trace.txt, and what stands after `| ` in a trace is what
-nvme-script prints and says of the same script. The scripts of tests/traces have the traces that stand below them. Each
-option of the geometry shows in a trace. A trace that can't be written is told. A device that is asked for a list traces
-what the script's first line does."""
+"""Runs nvme-trace. Its trace of examples/demo.nvme is examples/trace.txt. The text after `| ` in a trace is what
+nvme-script writes for the same script. The scripts of tests/traces have the traces below them. Each option of the
+geometry shows in a trace. A trace that can't be written is reported. A device that is asked for a list traces what the
+script's first line traces."""
 
 import re
 
@@ -47,9 +47,9 @@ class Scripts(Case):
 
 
 class Geometry(Case):
-    # which lines of the first controller are in a trace with these options, and which aren't
+    # the options, and lines of the first controller that are in a trace with them, and lines that aren't
     rows = [
-        # ASQS and ACQS are the number of slots, less one
+        # ASQS and ACQS are the number of slots minus one
         ('--depth 4', ['write AQA=0x30003$'], []),
         # CC.MPS, bits 10:7, is 1; the second queue begins at the next page
         ('--page-size 8192', ['write CC=0x460081$', 'write ACQ.low=0x2000$'], []),
@@ -82,7 +82,8 @@ class Geometry(Case):
 
 
 class DataPointers(Case):
-    """PRP1 and PRP2 of the last entry, below the size of a page. Section "Physical Region Page Entry and List"."""
+    """Checks the offsets of PRP1 and PRP2 in their pages, in the last entry. Section "Physical Region Page Entry and
+    List"."""
 
     entry = re.compile(r'(?m)^nvme0 taken .* \((0x\w+)\) cid=(0x\w+) .* prp1=(0x\w+) prp2=(0x\w+)')
 
@@ -103,8 +104,8 @@ class DataPointers(Case):
                 self.assertIn(b'\nnvme0 write AQA=0x10001\n', ended.out)
 
     def test_a_log_of_256_errors_over_pages_of_each_kind(self):
-        """The log takes five pages where it begins inside of one. The first Qword of its list is the address of the
-        next list page, or two entries come before that, or all four fit."""
+        """The log takes five pages if it begins inside a page. The first Qword of its list is the address of the next
+        list page, or two entries come before that address, or all four fit."""
         script = b'id-ns /dev/nvme0 -n 0\n' * 300 + b'error-log /dev/nvme0 -e 256\n'
         lines = [f'line {number}: {REFUSAL}\n' for number in range(1, 301)]
         lines += [error_text(index, 300 - index, 299 - index) for index in range(256)]
@@ -133,7 +134,7 @@ class Device(Case):
     request = b'\0\0\2\0\0\x10\0\0' + bytes(64)
 
     def places_left_out(self, trace):
-        """Returns a trace without the addresses of the queues and of the data."""
+        """Returns a trace without the addresses of the queues and the data."""
         return re.sub(rb'A[CS]Q\.low=.*| prp1=[^ \n]*', b'', trace)
 
     def test_trace_is_that_of_the_same_entry(self):

@@ -1,5 +1,5 @@
 """Runs drivers, and scripts and requests that reset a controller, over buses whose RDY comes late or never. Such a bus
-breaks its contract, and no proved program can have one: the program unready.rt.txt, which has such buses, is made in a
+breaks its contract, so no proved program can have one. The program unready.rt.txt, which has such buses, is added to a
 copy of the sources and run by `rt try`."""
 
 import shutil
@@ -17,7 +17,7 @@ class Unready(Case):
         shutil.copy(TOP / 'tests/unready.rt.txt', crate / 'src/main.rt')
         ended = run('rt', 'try', '--steps', '1', '--seconds', '300', cwd=crate, limit=1800)
         # which RDY is late, the read at which it is right, and the result: a run and a server end if a controller isn't
-        # ready, and a list is answered with 12 bytes, as a reset is
+        # ready, and a list, like a reset, is answered with 12 bytes
         in_time, too_late = ((1, 1), (16, 16)), ((17, 16), (4294967295, 16))
         wanted = [f'{call} {rdy} {at}: {reads} reads{end}' for rdy in (0, 1) for call, ends in (
             ('bring_up', ('', ', no ready')), ('reset', ('', ', no ready')),

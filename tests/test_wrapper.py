@@ -1,6 +1,6 @@
-"""Tries ./nvme-script in copies of the repository: which program it runs after edits, interrupted builds and the like,
-and what comes of an unproved run. The stand-in for `rt` answers as it is told; two real unproved runs must give the
-bytes of the built program."""
+"""Tests ./nvme-script in copies of the repository: which program it runs after edits, interrupted builds and the like,
+and how an unproved run ends. A stand-in for `rt` gives the answers that the tests set. Two real unproved runs must
+write the same bytes as the built program."""
 
 import os
 import re
@@ -25,7 +25,7 @@ def copy_repository(folder):
 
 
 class Copy(Case):
-    """Makes a copy with a built program, and the stand-in."""
+    """Makes a copy with a built program and the stand-in."""
 
     def setUp(self):
         super().setUp()
@@ -51,12 +51,12 @@ class Copy(Case):
         self.assertEqual(self.files_of_copy(), self.files)
 
     def answer(self, status, messages):
-        """Sets what the next `rt try` is to say."""
+        """Sets what the next `rt try` says."""
         (self.kit / 'status').write_text(f'{status}\n')
         (self.kit / 'err').write_bytes(messages)
 
     def answer_ended(self, status, messages=b''):
-        """Sets what a run that ended is to say."""
+        """Sets what `rt try` says of a run that ended."""
         lines = b'interpreter: no-answer: a reason\nchecked: ended status=N\nrun=ended status=N runners=1 proved=no\n'
         self.answer(status, messages + lines.replace(b'=N', b'=%d' % status))
 
@@ -80,7 +80,7 @@ class Copy(Case):
         self.assertRegex(ended.err.splitlines()[-1], b'^nvme-script: .*' + re.escape(text), ended)
 
     def says_alone(self, ended, status, text):
-        """Checks that it did so with one message after the line, and no output."""
+        """Checks that a run ended with this one message after the line, and no output."""
         self.says(ended, status, text)
         self.assertEqual((ended.out, ended.err.splitlines()[:-1]), (b'', [LINE]), ended)
 
@@ -127,7 +127,7 @@ class WhichProgram(Copy):
 
 class Builds(Copy):
     def begun(self):
-        """A build that waits in its first steps."""
+        """Starts a build that waits in its first steps."""
         build = Running(self.command, '--build', env=self.env)
         self.assertTrue(until((self.kit / 'begun').exists), build.line)
         return build
@@ -214,7 +214,7 @@ class Unproved(Copy):
         self.says(self.script(), 72, b'rt is not on the path')
 
     def test_arguments(self):
-        # unchanged, except for those that aren't UTF-8, which become one that is refused too
+        # arguments are passed on unchanged, except for those that aren't UTF-8, in whose place another one is refused
         words = '', 'a  b', 'x\ny', 'x\u00e9', '--depth', '*', '--'
         option = '--subsystem', '-x'
         for arguments, given in ((words, words), (option, option), (('--depth', b'\xed\xa0\x80'), ('refused',)),
@@ -257,7 +257,7 @@ class SubsystemFiles(Copy):
         self.assertEqual((self.given('1'), self.given('file')), (b'--subsystem', None))
 
     def test_pipe(self):
-        # what the file is read from a pipe isn't read again as the script
+        # a file that is read from a pipe isn't read again as the script
         line = 'printf "file in a pipe" | "$0" --subsystem /dev/stdin'
         self.ends(self.script('-c', line, self.command, command='sh'), 0, ANSWER)
         self.assertEqual((self.given('file'), self.given('input')), (b'file in a pipe', b''))
@@ -284,7 +284,7 @@ class Streams(Copy):
         self.ends(talk.end(), 71)
 
     def test_signal(self):
-        # it ends a run together with the processes that it started
+        # the wrapper ends a run together with the processes that the run started
         (self.kit / 'slow').touch()
         running = Running(self.command, env=self.env)
         os.close(running.speaks)

@@ -1,4 +1,4 @@
-"""What the gate does to the unproved sources: it runs the tests of each crate by `rt try`, and checks the layout of the
+"""Checks the unproved sources for the gate: runs the tests of each crate by `rt try`, and checks the layout of the
 files. `python3 -m tests.run --quick` runs this."""
 
 import re
@@ -15,7 +15,7 @@ CRATES = [crate for crate in sorted((TOP / 'crates').iterdir()) if tests_written
 
 
 def names():
-    """The tests of each crate, which run side by side."""
+    """Returns the names of the tests of all crates, which run side by side."""
     return [f'unproved.Tests.test_{crate.name}' for crate in CRATES]
 
 
@@ -28,7 +28,7 @@ class Tests(Case):
         for name, end in told:
             with self.subTest(name):
                 self.assertEqual(end, 'ok', said)
-        # one that isn't reported has failed
+        # a test that isn't reported has failed
         found = re.search(r'(?m)^tests: ([0-9]+)$', text)
         self.assertEqual(len(told), max(tests_written(crate), int(found.group(1)) if found else 0), said)
 

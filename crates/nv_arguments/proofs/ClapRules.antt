@@ -5,7 +5,6 @@ use Rattle.clap.specs.Words.{App, IsAmong, Row, Text, fault_of, is_simple, is_si
 use Rattle.clap.specs.declared.error.kind.ErrorKind.{ErrorKind}
 use Rattle.clap.specs.declared.error.kind.ErrorKind.TheVariants as kind
 use Rattle.nv_line.proofs.ClapRules.{with_fault, without_fault}
-use Rattle.nv_arguments.specs.ArgumentsFault.{IsUnlessMemory}
 use Rattle.nv_arguments.specs.ClapRule.{clap_rows, is_taken, program, rows_of_words}
 use Rattle.nv_arguments.specs.declared.fault.ArgumentsFault.TheVariants as fault
 
@@ -22,15 +21,15 @@ refused_rows : (ws : List Text) → is_taken ws ≡ false → rows_of_words ws �
 refused_rows ws h = rw h refl
 
 pub taken : (ws : List Text) (a : App) (rows : List Row) → a ≡ program
-    → fault_of a ws ≡ [] → rows ≡ matches_of a ws → IsUnlessMemory (rows_of_words ws) (Ok rows)
+    → fault_of a ws ≡ [] → rows ≡ matches_of a ws → rows_of_words ws ≡ Ok rows
 unfolding is_taken clap_rows
 taken ws a rows e f r =
     let found = without_fault program a ws rows e f r in
-    inr (ap Ok found.1 ∙ sym (taken_rows ws found.0))
+    taken_rows ws found.0 ∙ ap Ok (sym found.1)
 
 pub refused : (ws : List Text) (a : App) (k : ErrorKind) → a ≡ program
     → (k ≡ kind.OutOfMemory) ⊎ IsAmong k (fault_of a ws) → (k ≡ kind.OutOfMemory → ⊥)
-    → IsUnlessMemory {T = List Row} (rows_of_words ws) (Err fault.Refused)
+    → rows_of_words ws ≡ Err fault.Refused
 unfolding is_taken
 refused ws a k e (inl m) n = absurd (n m)
-refused ws a k e (inr among) n = inr (sym (refused_rows ws (with_fault program a ws k e among)))
+refused ws a k e (inr among) n = refused_rows ws (with_fault program a ws k e among)

@@ -1,4 +1,3 @@
 pub mod ArgumentOption
-pub mod ArgumentsFault
 pub mod ClapRule
 pub mod Arguments

@@ -4,8 +4,7 @@ ghost use Rattle.std.specs.Prelude.{◌≡◌, IfOk, false, map, option_map};
 ghost use Rattle.clap.specs.Words.{app_of, first_of, found_of, rows_of, rule_of};
 ghost use Rattle.nv_arguments.specs.ArgumentOption.{name_of};
 ghost use Rattle.nv_arguments.specs.ClapRule.{option_rule, program, rows_of_words};
-ghost use Rattle.nv_arguments.specs.ArgumentsFault.{IsUnlessMemory};
-ghost use Rattle.nv_line.specs.LineFault.{ok_map};
+ghost use Rattle.nv_layout.specs.UnlessMemory.{IsUnlessMemory};
 
 use crate::fault::ArgumentsFault;
 use crate::option::ArgumentOption;
@@ -39,8 +38,8 @@ pub(crate) fn clap_matches<'a>(
     alloc: Global,
     words: &'a [&'a str],
 ) -> Result<ArgMatches<'a>, ArgumentsFault>
-    ensures { IsUnlessMemory (rows_of_words (map (λ w. w.now) words.entry.now))
-        (ok_map (λ m. rows_of (found_of m)) result) }
+    ensures { IsUnlessMemory ArgumentsFault.Memory (λ m. rows_of (found_of m)) result
+        (rows_of_words (map (λ w. w.now) words.entry.now)) }
 {
     let command = command_of(alloc)?;
     match command.try_get_matches_from(words) {

@@ -11,7 +11,7 @@ use Rattle.nv_prp.specs.Place.{AreDistinct, table}
 use Rattle.nv_prp.proofs.BufferLaws.{buffer_kept}
 use Rattle.nv_prp.proofs.PlaceLaws.{get_or-table, length-table}
 
--- the memory was made with this number of pages
+-- the memory was created with this number of pages
 pub made_size : (m : PagedBytes) (size : ℕ) → IsPageSize size
     → m ≡ record { page_size = size; bytes = replicate (259 * size) 0 }
     → (4096 ≤ m.page_size) × (length m.bytes ≡ 259 * m.page_size)
@@ -59,7 +59,7 @@ are_distinct n pages e = subst (λ ps. AreDistinct (0 ∷ 1 ∷ ps)) (sym e) (λ
     let one : i ≡ k = sym (nth_page n i d (omega arith)) ∙ same ∙ nth_page n k d within in
     omega (arith, one, before))
 
--- a buffer stays one while the memory keeps its size
+-- a buffer remains one as long as the memory keeps its size
 pub buffer_stays : {old_size new_size start len : ℕ} {old new pages : List ℕ} → length new ≡ length old
     → new_size ≡ old_size
     → IsBuffer old old_size pages start len → IsBuffer new new_size pages start len

@@ -1,4 +1,4 @@
-//! A controller that is driven without a driver.
+//! A controller that is used without a driver.
 
 ghost use Rattle.std.specs.Prelude.{◌<◌, IfOk, length};
 ghost use Rattle.nv_bus.specs.Bus.{IsBus};

@@ -1,4 +1,4 @@
-//! A log that is read into pages anywhere, by a PRP list written by hand.
+//! A log that is read into pages in any order, with a PRP List that is written directly.
 
 ghost use Rattle.std.specs.Prelude.{◌<◌, length};
 ghost use Rattle.nv_bus.specs.Bus.{IsBus};
@@ -12,7 +12,7 @@ use nv_register::offset;
 use nv_subsystem::{DEMO, Subsystem};
 
 /// Makes a controller refuse an entry, reads 16,384 bytes of its error log into pages 13, 5, 11 and
-/// 6, and prints how the first of them begins and the last one ends.
+/// 6, and prints the newest error and the last bytes.
 #[tactic(auto, unfolding(nv_host::specs::Pages::IsPageSize))]
 pub(crate) fn read_log(rt: &HostRuntime) -> anyhow::Result<()> {
     let subsystem = Subsystem::from_toml(rt.alloc(), DEMO.as_bytes())?;

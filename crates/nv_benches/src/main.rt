@@ -1,5 +1,5 @@
-//! Programs that use the crates of this repository. The first argument names the one to run;
-//! without it, they run one after the other.
+//! Programs that use the crates of this repository. The first argument names the program to run.
+//! Without it, both run.
 #![tactic(auto)]
 
 mod by_hand;
@@ -12,7 +12,7 @@ mod speed;
 use anyhow::bail;
 use std::env;
 
-/// The benches of docs/BENCHES.md. Each prints what it finds.
+/// Runs the benches of docs/BENCHES.md. Each prints what it finds.
 fn run_benches(rt: &HostRuntime) -> anyhow::Result<()> {
     by_hand::identify(rt)?;
     by_list::read_log(rt)?;
@@ -21,7 +21,7 @@ fn run_benches(rt: &HostRuntime) -> anyhow::Result<()> {
     from_file::read_two(rt)
 }
 
-/// Runs the program with a name.
+/// Runs the program with this name.
 fn run_named(rt: &HostRuntime, word: &str) -> anyhow::Result<()> {
     match word {
         "benches" => run_benches(rt),
@@ -30,7 +30,7 @@ fn run_named(rt: &HostRuntime, word: &str) -> anyhow::Result<()> {
     }
 }
 
-/// Runs the program that the first argument names, or both if there is none.
+/// Runs the program that the first argument names, or both if there is no argument.
 fn run_asked(rt: &HostRuntime) -> anyhow::Result<()> {
     let words: Vec<String> = env::args(rt)?.collect(rt.alloc())?;
     match words.get(1) {

@@ -1,4 +1,4 @@
-//! A bus around a bus.
+//! A bus that wraps another bus.
 
 use anyhow::bail;
 use nv_command::{Command, Reply};
@@ -35,7 +35,7 @@ impl<B: Bus> Bus for Counted<B> {
     }
 }
 
-/// Reads the active namespaces, and prints how many turns that took.
+/// Reads the list of active namespaces, and prints how many turns this took.
 pub(crate) fn count_turns(rt: &HostRuntime) -> anyhow::Result<()> {
     let subsystem = Subsystem::from_toml(rt.alloc(), DEMO.as_bytes())?;
     let machine = Machine::new(rt.alloc(), subsystem)?;

@@ -1,4 +1,4 @@
-//! Measures the speed of lines of each kind at several geometries, of `list` over the largest
+//! Measures the speed of each kind of line at several geometries, of `list` over the largest
 //! subsystem, and of transfers of 1 MiB at each page size. The times are printed to standard error.
 
 mod counting_sink;
@@ -21,7 +21,7 @@ use crate::speed::transfer::{Measured, measure};
 use nv_host::is_page_size;
 use std::io;
 
-/// Measures lines of each kind at each geometry.
+/// Measures each kind of line at each geometry.
 fn measure_lines(rt: &HostRuntime) -> io::Result<()> {
     let rows = measure_rows(rt)?;
     eprintln!(rt; "{:<28} {HEADS}", "nanoseconds a line")?;

@@ -1,5 +1,5 @@
 -- What a host receives as the answer to a command.
-use Rattle.std.specs.Prelude.{ℕ, ◌+◌, ◌/◌, List, ◌++◌, Result, Ok, Err, replicate, take}
+use Rattle.std.specs.Prelude.{ℕ, ◌/◌, List, ◌++◌, Result, Ok, Err, replicate, take}
 use Rattle.nv_layout.specs.ErrorEntry.{no_entry}
 use Rattle.nv_layout.specs.declared.error_entry.ErrorEntry.{ErrorEntry}
 use Rattle.nv_layout.specs.declared.status.Status.{Status}

@@ -19,7 +19,6 @@ use Rattle.nv_model.specs.Meaning.{reply_of}
 use Rattle.nv_model.proofs.ReplyLaws.{reply_fits}
 use Rattle.nv_model.specs.State.{State}
 use Rattle.nv_model.specs.Step.{Step, step, step_by}
-use Rattle.nv_model.specs.Answer.{answer_by, answer_to, answer_without_phases}
 use Rattle.nv_model.specs.WellFormed.{IsWellFormed}
 use Rattle.nv_bus.specs.Call.{call_of}
 use Rattle.nv_model.specs.Conditions.{limit_of}
@@ -27,57 +26,40 @@ use Rattle.nv_bus.proofs.TagLaws.{dword0_tagged, tagged}
 use Rattle.nv_bus.specs.Entry.{Moves, MovesBy, One, Scene, call_in, completion_with, entry_in, entry_step, step_unless}
 use Rattle.nv_bus.specs.Entry.{success, told_by}
 use Rattle.nv_controller.specs.inner.Tags.{settled_next, settled_unless}
+use Rattle.nv_subsystem.proofs.TaggedLaws.{refusal_untagged, reply_untagged, untagged_keeps}
 use Rattle.nv_subsystem.specs.Tagged.{untagged, untagged_log}
 
 -- ---- answers
 
--- an answer is that of the step, except for phase tags
-answered_reply : (o : Option Refusal) (r reply : Reply) → Ok (without_phases r) ≡ answer_by o reply
-    → (o ≡ None) × (without_phases r ≡ reply)
-answered_reply None r reply e = (refl, cc)
-answered_reply (Some refusal) r reply e = absurd (cc)
+-- what is known if a command is accepted: its reply is that of the step, except for phase tags
+pub record IsAnswered (s : State) (c : ℕ) (k : Command) (cid : ℕ) : Type 0 where
+  pub is_reply : IsReplyTo k (reply_of s c k)
+  pub fits : FitsRecord (reply_of s c k)
+  pub answer : Ok (without_phases (reply_of s c k)) ≡ (step (untagged s) c k cid).answer
+  pub told : told_by (Ok (reply_of s c k)) ≡ told_by (step (untagged s) c k cid).answer
 
-answered_refusal : (o : Option Refusal) (refusal : Refusal) (reply : Reply)
-    → Err refusal ≡ answer_by o reply → o ≡ Some refusal
-answered_refusal None refusal reply e = absurd (cc)
-answered_refusal (Some other) refusal reply e = cc
-
--- what is known if a command was answered with a reply
-pub record IsAnswered (s : State) (c : ℕ) (k : Command) (cid : ℕ) (r : Reply) : Type 0 where
-  pub none : None ≡ refusal_of s c k
-  pub is_reply : IsReplyTo k r
-  pub fits : FitsRecord r
-  pub answer : Ok (without_phases r) ≡ (step s c k cid).answer
-  pub told : told_by (Ok r) ≡ told_by (step s c k cid).answer
-
-pub answered : (s : State) (c : ℕ) (k : Command) (cid : ℕ) (found : Result Reply Refusal)
-    (r : Reply) → IsWellFormed s → found ≡ Ok r
-    → answer_without_phases found ≡ answer_to s c k → IsAnswered s c k cid r
-answered s c k cid found r w is e =
-    let both = answered_reply (refusal_of s c k) r (reply_of s c k) (ap answer_without_phases (sym is) ∙ e) in
-    let law = reply_fits s c k w in
-    let own = tagged k r (reply_of s c k) both.1 (law.is_reply, law.fits) in
-    let answer : Ok (without_phases r) ≡ (step s c k cid).answer =
-    ap Ok both.1 ∙ ap (λ (o : Option Refusal). (step_by o s c k cid).answer) (sym both.0) in
+pub answered : (s : State) (c : ℕ) (k : Command) (cid : ℕ) → IsWellFormed s → refusal_of s c k ≡ None
+    → IsAnswered s c k cid
+answered s c k cid w none =
+    let bare = untagged s in
+    let law = reply_fits bare c k (untagged_keeps s w) in
+    let own = tagged k (reply_of s c k) (reply_of bare c k) (reply_untagged s c k) (law.is_reply, law.fits) in
+    let answer : Ok (without_phases (reply_of s c k)) ≡ (step bare c k cid).answer =
+    ap Ok (reply_untagged s c k)
+    ∙ ap (λ (o : Option Refusal). (step_by o bare c k cid).answer) (sym (refusal_untagged s c k ∙ none)) in
     record {
-      none = sym both.0;
       is_reply = own.0;
       fits = own.1;
       answer = answer;
-      told = ap (λ d. record { dword0 = d; status = success }) (sym (dword0_tagged r)) ∙ ap told_by answer;
+      told = ap (λ d. record { dword0 = d; status = success }) (sym (dword0_tagged (reply_of s c k)))
+          ∙ ap told_by answer;
     }
 
--- what is known if a command was refused
-pub record IsRefused (s : State) (c : ℕ) (k : Command) (cid : ℕ) (refusal : Refusal) : Type 0 where
-  pub some : Some refusal ≡ refusal_of s c k
-  pub answer : Err refusal.status ≡ (step s c k cid).answer
-
-pub refused_by : (s : State) (c : ℕ) (k : Command) (cid : ℕ) (found : Result Reply Refusal)
-    (refusal : Refusal) → found ≡ Err refusal
-    → answer_without_phases found ≡ answer_to s c k → IsRefused s c k cid refusal
-refused_by s c k cid found refusal is e =
-    let some = answered_refusal (refusal_of s c k) refusal (reply_of s c k) (ap answer_without_phases (sym is) ∙ e) in
-    record { some = sym some; answer = ap (λ (o : Option Refusal). (step_by o s c k cid).answer) (sym some) }
+-- the answer to a command that is refused
+pub refused_by : (s : State) (c : ℕ) (k : Command) (cid : ℕ) (refusal : Refusal) → refusal_of s c k ≡ Some refusal
+    → Err refusal.status ≡ (step (untagged s) c k cid).answer
+refused_by s c k cid refusal some =
+    ap (λ (o : Option Refusal). (step_by o (untagged s) c k cid).answer) (sym (refusal_untagged s c k ∙ some))
 
 -- the data that was written
 pub moved_reply : (k : Command) (at old new : List ℕ) (r : Reply) (answer : Result Reply Status)

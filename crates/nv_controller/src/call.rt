@@ -68,31 +68,28 @@ fn find_data<M: HostMemory>(
             spans.clear();
             Ok(())
         }
-        Transfer::ToHost(len) => walk_data(mem, entry, len, spans),
-        Transfer::FromHost(len) => walk_data(mem, entry, len, spans),
+        Transfer::ToHost(len) | Transfer::FromHost(len) => walk_data(mem, entry, len, spans),
     }
 }
 
-/// Returns the command of an entry, with the bytes that the host sends, if it sends any.
-fn read_command<'a, M: HostMemory>(
+/// Returns the bytes that the host sends, if it sends any. `page` receives them.
+fn read_sent<'a, M: HostMemory>(
     mem: &M,
-    entry: &Sqe,
     moves: Transfer,
     spans: &Spans,
-    page: &mut [u8; 4096],
-    listed: &'a mut CtrlList,
-) -> Result<Command<'a>, StatusCode>
+    page: &'a mut [u8; 4096],
+) -> &'a [u8]
     requires room { HasRoom moves }
     requires inside { LieIn (length (M.bytes mem.now)) spans.now }
     requires len { length (places spans.now) ≡ length_of moves }
-    ensures { result ≡ command_of entry.now (sent_from moves (M.bytes mem.now) (places spans.now)) }
+    ensures { result.now ≡ sent_from moves (M.bytes mem.now) (places spans.now) }
 {
     match moves {
-        Transfer::NoData | Transfer::ToHost(_) => Command::of(entry, &[], listed),
+        Transfer::NoData | Transfer::ToHost(_) => &[],
         Transfer::FromHost(len) => {
             let sent = &mut page[..len as usize];
             copy_in(mem, spans, sent);
-            Command::of(entry, sent, listed)
+            sent
         }
     }
 }
@@ -135,13 +132,7 @@ pub(crate) fn read_call<'a, M: HostMemory>(
     let asked = Transfer::of(entry)?;
     let moves = check_length(asked, limit)?;
     find_data(mem, entry, moves, &mut entry_data.spans)?;
-    let command = read_command(
-        mem,
-        entry,
-        moves,
-        &entry_data.spans,
-        &mut entry_data.page,
-        listed,
-    )?;
+    let sent = read_sent(mem, moves, &entry_data.spans, &mut entry_data.page);
+    let command = Command::of(entry, sent, listed)?;
     Ok(command)
 }

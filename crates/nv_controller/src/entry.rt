@@ -1,12 +1,13 @@
 //! Executes one entry.
 
-ghost use Rattle.std.specs.Prelude.{◌≡◌, ◌<◌, ◌≤◌, Err, Ok, length, true};
+ghost use Rattle.std.specs.Prelude.{◌≡◌, ◌*◌, ◌<◌, ◌≤◌, Err, Ok, length, true};
 ghost use Rattle.nv_layout.specs.Parts.{part};
 ghost use Rattle.nv_command.specs.Command.{transfer_by};
 ghost use Rattle.nv_command.specs.Reply.{FitsRecord, IsReplyTo, data_of, log_of, page_of};
 ghost use Rattle.nv_prp.specs.Place.{LieIn, places, written_at};
 ghost use Rattle.nv_prp.specs.Transfer.{most_bytes};
-ghost use Rattle.nv_model.specs.Meaning.{refusal_of};
+ghost use Rattle.nv_model.specs.Logs.{log_reply};
+ghost use Rattle.nv_model.specs.Meaning.{refusal_of, reply_of};
 ghost use Rattle.nv_model.specs.Step.{step};
 ghost use Rattle.nv_model.specs.WellFormed.{IsWellFormed};
 ghost use Rattle.nv_bus.specs.Call.{call_of, length_of};
@@ -21,19 +22,20 @@ use crate::call::read_call;
 use crate::log_part::LogPart;
 use crate::scratch::{EntryData, Scratch};
 use nv_bus::Told;
-use nv_command::{Command, Refusal, Reply, Transfer};
+use nv_command::{Command, LogQuery, Refusal};
 use nv_host::HostMemory;
 use nv_layout::{Cqe, NsList, Sqe, Status};
 use nv_prp::{Spans, copy_out, write_out};
 use nv_register::Rings;
 use nv_subsystem::{Origin, Subsystem};
 
-/// Returns what a completion says about a reply.
-fn reply_told(reply: &Reply) -> Told
-    ensures { result ≡ told_by (Ok reply.now) }
+/// Returns what a completion says about the reply to an accepted command.
+fn reply_told(subsystem: &Subsystem, ctrl: u16, command: &Command) -> Told
+    requires { ctrl < length subsystem.now.controllers }
+    ensures { result ≡ told_by (Ok (reply_of subsystem.now ctrl command.now)) }
 {
     Told {
-        dword0: reply.dword0(),
+        dword0: subsystem.dword0(ctrl, command),
         status: Status::SUCCESS,
     }
 }
@@ -62,81 +64,91 @@ fn completion(told: Told, cid: u16, sq_head: u16) -> Cqe
     }
 }
 
-/// Writes the page of a reply to the spans of the entry's data.
-fn deliver_page<M: HostMemory>(mem: &mut M, entry_data: &mut EntryData, reply: &Reply)
+/// Writes the page of the reply to an accepted command, if it has one, to the spans of the entry's
+/// data. A log has none.
+fn deliver_page<M: HostMemory>(
+    subsystem: &Subsystem,
+    ctrl: u16,
+    mem: &mut M,
+    command: &Command,
+    entry_data: &mut EntryData,
+    ids: &mut NsList,
+)
+    requires ctrl { ctrl < length subsystem.now.controllers }
+    requires page { let reply = reply_of subsystem.now ctrl command.now in
+        data_of command.now reply ≡ page_of reply }
     requires inside { LieIn (length (M.bytes mem.old)) entry_data.old.spans }
-    requires len { length (places entry_data.old.spans) ≡ 4096 }
-    requires page { length (page_of reply.now) ≡ 4096 }
-    ensures bytes { M.bytes mem.new
-        ≡ written_at (M.bytes mem.old) (places entry_data.old.spans) (page_of reply.now) }
+    requires len { length (places entry_data.old.spans) ≡ length_of (transfer_by command.now) }
+    requires is_reply { IsReplyTo command.now (reply_of subsystem.now ctrl command.now) }
+    requires fits { FitsRecord (reply_of subsystem.now ctrl command.now) }
+    ensures bytes { M.bytes mem.new ≡ written_at (M.bytes mem.old) (places entry_data.old.spans)
+        (data_of command.now (reply_of subsystem.now ctrl command.now)) }
     ensures len { length (M.bytes mem.new) ≡ length (M.bytes mem.old) }
     ensures page_len { M.page_len mem.new ≡ M.page_len mem.old }
 {
-    reply.put(&mut entry_data.page);
-    copy_out(mem, &entry_data.spans, &entry_data.page);
+    let EntryData { spans, page } = entry_data;
+    if subsystem.put_page(ctrl, command, ids, page) {
+        copy_out(mem, spans, page);
+    }
 }
 
 /// The greatest length of a log in bytes: 256 entries of 64 bytes.
 const LONGEST_LOG: u64 = 16_384;
 
-/// Writes part of the log of a reply to the spans, span by span.
-fn deliver_log<M: HostMemory>(mem: &mut M, spans: &Spans, reply: &Reply, offset: u64, len: usize)
+/// Writes the part of a log that is asked for to the spans, span by span.
+fn deliver_log<M: HostMemory>(
+    subsystem: &Subsystem,
+    ctrl: u16,
+    mem: &mut M,
+    asked: LogQuery,
+    spans: &Spans,
+)
+    requires ctrl { ctrl < length subsystem.now.controllers }
     requires inside { LieIn (length (M.bytes mem.old)) spans.now }
-    requires len { length (places spans.now) ≡ len }
-    requires short { length (log_of reply.now) ≤ 16384 }
-    requires few { len ≤ most_bytes }
+    requires len { length (places spans.now) ≡ 4 * asked.dwords }
+    requires short { length (log_of (log_reply subsystem.now ctrl asked.lid)) ≤ 16384 }
+    requires few { length (places spans.now) ≤ most_bytes }
     ensures bytes { M.bytes mem.new ≡ written_at (M.bytes mem.old) (places spans.now)
-        (part (log_of reply.now) offset len) }
+        (part (log_of (log_reply subsystem.now ctrl asked.lid)) asked.offset (4 * asked.dwords)) }
     ensures len { length (M.bytes mem.new) ≡ length (M.bytes mem.old) }
     ensures page_len { M.page_len mem.new ≡ M.page_len mem.old }
 {
     // There are zeros past the log's end, wherever the part begins.
-    let from = offset.min(LONGEST_LOG) as usize;
-    write_out(mem, spans, &LogPart { reply, from, len });
+    let from = asked.offset.min(LONGEST_LOG) as usize;
+    let part = LogPart {
+        subsystem,
+        ctrl,
+        lid: asked.lid,
+        from,
+        len: asked.dwords.bytes() as usize,
+    };
+    write_out(mem, spans, &part);
 }
 
-/// Writes `len` bytes of a reply's data to the spans.
-fn send<M: HostMemory>(
+/// Writes the data of the reply to an accepted command to the spans of the entry's data, if it has
+/// any.
+fn deliver<M: HostMemory>(
+    subsystem: &Subsystem,
+    ctrl: u16,
     mem: &mut M,
-    entry_data: &mut EntryData,
     command: &Command,
-    reply: &Reply,
-    len: u64,
+    entry_data: &mut EntryData,
+    ids: &mut NsList,
 )
+    requires ctrl { ctrl < length subsystem.now.controllers }
     requires inside { LieIn (length (M.bytes mem.old)) entry_data.old.spans }
-    requires to_host { transfer_by command.now ≡ Transfer.ToHost len }
-    requires len { length (places entry_data.old.spans) ≡ len }
-    requires few { len ≤ most_bytes }
-    requires is_reply { IsReplyTo command.now reply.now }
-    requires fits { FitsRecord reply.now }
+    requires len { length (places entry_data.old.spans) ≡ length_of (transfer_by command.now) }
+    requires few { length (places entry_data.old.spans) ≤ most_bytes }
+    requires is_reply { IsReplyTo command.now (reply_of subsystem.now ctrl command.now) }
+    requires fits { FitsRecord (reply_of subsystem.now ctrl command.now) }
     ensures bytes { M.bytes mem.new ≡ written_at (M.bytes mem.old) (places entry_data.old.spans)
-        (data_of command.now reply.now) }
+        (data_of command.now (reply_of subsystem.now ctrl command.now)) }
     ensures len { length (M.bytes mem.new) ≡ length (M.bytes mem.old) }
     ensures page_len { M.page_len mem.new ≡ M.page_len mem.old }
 {
     match command {
-        Command::GetLog(asked) => {
-            deliver_log(mem, &entry_data.spans, reply, asked.offset, len as usize)
-        }
-        _ => deliver_page(mem, entry_data, reply),
-    }
-}
-
-/// Writes the data of a reply to the spans of the entry's data, if it has any.
-fn deliver<M: HostMemory>(mem: &mut M, entry_data: &mut EntryData, command: &Command, reply: &Reply)
-    requires inside { LieIn (length (M.bytes mem.old)) entry_data.old.spans }
-    requires len { length (places entry_data.old.spans) ≡ length_of (transfer_by command.now) }
-    requires few { length (places entry_data.old.spans) ≤ most_bytes }
-    requires is_reply { IsReplyTo command.now reply.now }
-    requires fits { FitsRecord reply.now }
-    ensures bytes { M.bytes mem.new ≡ written_at (M.bytes mem.old) (places entry_data.old.spans)
-        (data_of command.now reply.now) }
-    ensures len { length (M.bytes mem.new) ≡ length (M.bytes mem.old) }
-    ensures page_len { M.page_len mem.new ≡ M.page_len mem.old }
-{
-    match command.transfer() {
-        Transfer::ToHost(len) => send(mem, entry_data, command, reply, len),
-        _ => {}
+        Command::GetLog(asked) => deliver_log(subsystem, ctrl, mem, *asked, &entry_data.spans),
+        _ => deliver_page(subsystem, ctrl, mem, command, entry_data, ids),
     }
 }
 
@@ -168,12 +180,13 @@ fn execute<M: HostMemory>(
     ensures len { length (M.bytes mem.new) ≡ length (M.bytes mem.old) }
     ensures page_len { M.page_len mem.new ≡ M.page_len mem.old }
 {
-    let (told, refusal) = match subsystem.answer(ctrl, command, ids) {
-        Ok(reply) => {
-            deliver(mem, entry_data, command, &reply);
-            (reply_told(&reply), None)
+    let refusal = subsystem.refusal(ctrl, command);
+    let told = match &refusal {
+        None => {
+            deliver(subsystem, ctrl, mem, command, entry_data, ids);
+            reply_told(subsystem, ctrl, command)
         }
-        Err(refusal) => (refusal_told(&refusal), Some(refusal)),
+        Some(refusal) => refusal_told(refusal),
     };
     subsystem.settle(ctrl, command, origin, refusal);
     told

@@ -1,4 +1,4 @@
-//! Drivers of the demonstration subsystem, watched on the bus, and lists of commands.
+//! Drivers of the demonstration subsystem on a bus that records turns, with lists of commands.
 
 ghost use Rattle.std.specs.Prelude.{◌≡◌, ◌≤◌, IfOk, length};
 ghost use Rattle.nv_command.specs.Command.{CommandFits};
@@ -14,18 +14,18 @@ use std::alloc::Global;
 use std::process::Abort;
 use std::test::Fail;
 
-/// What a command is to be answered.
+/// The answer that a command should get.
 #[derive(Clone, Copy)]
 enum Want<'a> {
     Number(u32),
     Done,
-    /// A namespace's fields.
+    /// The data of a namespace.
     Namespace,
     Ids(&'a [u32]),
     Refused(u16),
 }
 
-/// The answer in a slot is as wanted.
+/// Checks the answer in a slot.
 fn expect(rt: &impl Abort, slot: &AnswerSlot, want: Want) {
     match (&slot.answer(), want) {
         (Ok(Reply::Number(number)), Want::Number(wanted)) => assert_eq!(rt; *number, wanted),
@@ -37,7 +37,7 @@ fn expect(rt: &impl Abort, slot: &AnswerSlot, want: Want) {
     }
 }
 
-/// The answers of a list of commands are as wanted.
+/// Checks the answers to a list of commands.
 fn expect_all(rt: &impl Abort, answers: &[AnswerSlot], wants: &[Want]) {
     assert_eq!(rt; answers.len(), wants.len());
     for (slot, want) in answers.iter().zip(wants) {
@@ -45,7 +45,7 @@ fn expect_all(rt: &impl Abort, answers: &[AnswerSlot], wants: &[Want]) {
     }
 }
 
-/// A driver of a machine that is watched.
+/// Brings up a driver of a watched machine.
 fn bring_up(
     rt: &impl Abort,
     alloc: Global,
@@ -61,7 +61,7 @@ fn bring_up(
     Ok(driver)
 }
 
-/// Sends five commands to the first controller, of which the second is refused.
+/// Sends five commands to the first controller, which refuses the second.
 fn send_five(rt: &impl Abort, driver: &mut Driver, bus: &mut Watched, answers: &mut [AnswerSlot; 5])
     requires bus { IsBus bus.old.machine }
     requires left { bus.old.machine.banks ≡ banks_of driver.old }
@@ -77,8 +77,8 @@ fn send_five(rt: &impl Abort, driver: &mut Driver, bus: &mut Watched, answers: &
     driver.admin_all(bus, 0, &commands, answers);
 }
 
-/// Sends five commands. Checks how many entries the turns take, and which slots the head doorbell
-/// tells.
+/// Sends five commands, and checks how many entries each turn takes and which heads are written to
+/// the head doorbell.
 fn expect_five(
     rt: &impl Abort,
     alloc: Global,
@@ -109,8 +109,9 @@ fn expect_five(
     Ok(())
 }
 
-/// What is submitted as soon as the window has room for it is taken with what waits; the head is told
-/// each time that the pace is reached, where a turn takes nothing, and in the end.
+/// A command is submitted as soon as the window has room for it, and is taken with those that wait.
+/// The head is written each time that the pace is reached, when a turn takes nothing, and at the
+/// end.
 #[test]
 fn sends_by_the_window_and_the_pace(rt: HostRuntime) -> Result<(), Fail> {
     let rows = [
@@ -138,7 +139,7 @@ fn sends_by_the_window_and_the_pace(rt: HostRuntime) -> Result<(), Fail> {
     Ok(())
 }
 
-/// Identifies a namespace of the first controller, which answers or refuses.
+/// Identifies a namespace, and checks whether the first controller answers or refuses.
 fn identify(rt: &impl Abort, driver: &mut Driver, bus: &mut Watched, nsid: u32, answers: bool)
     requires bus { IsBus bus.old.machine }
     requires left { bus.old.machine.banks ≡ banks_of driver.old }
@@ -151,8 +152,8 @@ fn identify(rt: &impl Abort, driver: &mut Driver, bus: &mut Watched, nsid: u32, 
     assert!(rt; driver.admin(bus, 0, &command, &mut slot).is_ok() == answers);
 }
 
-/// Two commands, one after the other, of which the second is refused: how many entries each turn was
-/// to take at most.
+/// Sends two commands, one after the other, of which the second is refused. Returns how many
+/// entries each turn was allowed to take.
 fn most_of_two(rt: &impl Abort, alloc: Global, geometry: Geometry) -> Result<[u16; 8], Fail> {
     let mut bus = Watched::new(alloc)?;
     let mut driver = bring_up(rt, alloc, &mut bus, geometry)?;
@@ -175,7 +176,7 @@ fn asks_each_turn_for_the_pace(rt: HostRuntime) -> Result<(), Fail> {
     Ok(())
 }
 
-/// A private namespace of some blocks to create.
+/// Returns a command that creates a private namespace of `blocks` blocks.
 fn create<'a>(blocks: u64) -> Command<'a>
     ensures fits { CommandFits result }
     ensures sends { IsSendable result }
@@ -189,7 +190,7 @@ fn create<'a>(blocks: u64) -> Command<'a>
     })
 }
 
-/// A namespace to attach to the listed controllers.
+/// Returns a command that attaches a namespace to the listed controllers.
 fn attach<'a>(nsid: u32, ids: &'a [u16]) -> Command<'a>
     requires { length ids.now ≤ 2047 }
     ensures fits { CommandFits result }
@@ -202,7 +203,7 @@ fn attach<'a>(nsid: u32, ids: &'a [u16]) -> Command<'a>
     command
 }
 
-/// Sends seven commands, each way of data among them.
+/// Sends seven commands, some with data to the host, some with data from it, and some without data.
 fn send_seven(
     rt: &impl Abort,
     driver: &mut Driver,
@@ -225,7 +226,7 @@ fn send_seven(
     driver.admin_all(bus, 0, &commands, answers);
 }
 
-/// Seven commands, each way of data among them, of which two are refused.
+/// Checks the answers to these seven commands, of which two are refused.
 fn manages_by_a_list(rt: &impl Abort, alloc: Global, geometry: Geometry) -> Result<(), Fail> {
     let mut bus = Watched::new(alloc)?;
     let mut driver = bring_up(rt, alloc, &mut bus, geometry)?;

@@ -1,4 +1,4 @@
-//! A bus that keeps the turns of a driver, and what it writes to the first controller's head doorbell.
+//! A bus that records a driver's turns and what it writes to the first controller's head doorbell.
 
 ghost use Rattle.std.specs.Prelude.{◌≡◌, ◌≤◌, IfOk};
 ghost use Rattle.nv_bus.specs.Bus.{IsBus};
@@ -12,16 +12,16 @@ use std::test::Fail;
 /// The offset of the head doorbell.
 const HEAD: u32 = 0x1004;
 
-/// How many turns and how many dwords are kept.
+/// How many turns and how many dwords are recorded.
 const KEPT: usize = 8;
 
-/// The machine of the demonstration subsystem, and what was done with it.
+/// The machine of the demonstration subsystem, and a record of what was done with it.
 #[derive(Drop)]
 pub(crate) struct Watched {
     pub(crate) machine: Machine,
-    /// How many entries each of the first turns was to take at most.
+    /// How many entries each of the first turns was allowed to take.
     pub(crate) most: [u16; KEPT],
-    /// How many it took.
+    /// How many entries each of them took.
     pub(crate) taken: [u16; KEPT],
     turns: usize,
     heads: [u32; KEPT],
@@ -30,7 +30,7 @@ pub(crate) struct Watched {
 }
 
 impl Watched {
-    /// After power on.
+    /// Creates the machine after power on.
     pub(crate) fn new(alloc: Global) -> Result<Watched, Fail>
         ensures { IfOk result (λ w. IsBus w.machine) }
     {
@@ -45,12 +45,12 @@ impl Watched {
         })
     }
 
-    /// The first dwords that were written to the head doorbell.
+    /// Returns the first dwords that were written to the head doorbell.
     pub(crate) fn heads(&self) -> &[u32] {
         &self.heads[..self.writes]
     }
 
-    /// Keeps a dword that is written to the head doorbell.
+    /// Records a dword that is written to the head doorbell.
     fn keep_head(&mut self, dword: u32)
         ensures { self.new.machine ≡ self.old.machine }
     {
@@ -60,7 +60,7 @@ impl Watched {
         }
     }
 
-    /// Keeps a turn: how many entries it was to take at most, and took.
+    /// Records how many entries a turn was allowed to take, and how many it took.
     fn keep_turn(&mut self, most: u16, count: u16)
         ensures { self.new.machine ≡ self.old.machine }
     {

@@ -1,34 +1,32 @@
 -- Collecting answers while a list of commands is executed.
-use Rattle.std.specs.Prelude.{IfSome, IsSome, OnSome, Option, Some, set}
+use Rattle.std.specs.Prelude.{IsSome, Option, Some, set}
 use Rattle.std.proofs.Common.{◌≡◌, ◌∙◌, ℕ, ◌+◌, ◌-◌, ◌%◌, ◌<◌, ◌≤◌, All, AllPairs, List, [], ◌∷◌, ◌++◌, add-one}
-use Rattle.std.proofs.Common.{ap, arith, drop, false, get_or, inl, length, length-append, not, refl, subst, suc, sym}
-use Rattle.std.proofs.Common.{Ok, take, true, ◌==◌, ◌≢◌}
+use Rattle.std.proofs.Common.{Ok, ap, arith, drop, false, get_or, length, length-append, refl, subst, suc, sym, take}
+use Rattle.std.proofs.Common.{◌≢◌}
 use Rattle.std.proofs.Math.Seq.{drop-cons}
 use Rattle.std.proofs.Math.ListN.{length-set}
 use Rattle.std.proofs.lemmas.List.{take_more, take_more_set}
-use Rattle.std.proofs.lemmas.Bool.Decides.{nat_tests}
 use Rattle.std.proofs.lemmas.Nat.{mod_below}
 use Rattle.std.specs.FinSet as set
 use Rattle.nv_host.specs.PageSets.{IsOf, Pages}
 use Rattle.nv_layout.specs.declared.cqe.Cqe.{Cqe}
 use Rattle.nv_prp.specs.Buffer.{IsBuffer, buffer_places}
-use Rattle.nv_queue.proofs.KeptLaws.{between_kept, first_kept}
-use Rattle.nv_queue.specs.Numbers.{IsSlotBetween, first_in_slot}
-use Rattle.nv_queue.specs.Rings.{CollectNumbers, SubmitNumbers, collected_one, known_to}
-use Rattle.nv_queue.specs.Slots.{IsAwaitedThere, awaited_completion, completion_at}
+use Rattle.nv_queue.specs.Rings.{collected_one, known_to}
+use Rattle.nv_queue.specs.Slots.{awaited_completion, completion_at}
 use Rattle.nv_command.specs.Command.{transfer_by}
 use Rattle.nv_command.specs.Logs.{IsSendable}
 use Rattle.nv_command.specs.declared.command.Command.{Command}
 use Rattle.nv_command.specs.declared.command.Command.TheVariants.{ActiveList}
+use Rattle.nv_bus.specs.Bus.{BusValue}
 use Rattle.nv_bus.specs.Call.{length_of}
-use Rattle.nv_driver.specs.CommandPages.{AreTaken, data_pages, without}
-use Rattle.nv_driver.specs.inner.CommandPages.{all_pages, with_pages}
+use Rattle.nv_driver.specs.CommandPages.{AreTaken, without}
+use Rattle.nv_driver.specs.inner.CommandPages.{all_pages, data_pages, with_pages}
 use Rattle.nv_driver.specs.Answer.{Answer}
 use Rattle.nv_driver.specs.Request.{Asked, IsReadable, Request, request_of}
-use Rattle.nv_driver.specs.Schedule.{Collect, Happens, Holds, Numbered, Sent, answer_awaited, answer_from}
-use Rattle.nv_driver.specs.Schedule.{answer_read, answer_to, answers_to, awaited, collect_ring}
-use Rattle.nv_driver.specs.Schedule.{data_length, number, own_pages, places}
-use Rattle.nv_driver.specs.Schedule.{received_from, slot, submit_ring}
+use Rattle.nv_driver.specs.Schedule.{Holds, Numbered, Sent, answer_from}
+use Rattle.nv_driver.specs.Schedule.{answer_read, answer_to, answers_to}
+use Rattle.nv_driver.specs.Schedule.{data_length, own_pages, places}
+use Rattle.nv_driver.specs.Schedule.{received_from, slot}
 use Rattle.nv_driver.specs.Layout.{offset_for, pages_of_command}
 use Rattle.nv_driver.specs.inner.UnderWay.{HasAnswers}
 use Rattle.nv_driver.specs.UnderWay.{IsKept, IsUnderWay, Run, kept_at, pages_of_all, serial_at}
@@ -36,24 +34,18 @@ use Rattle.nv_driver.specs.UnderWay.{setting_of}
 use Rattle.nv_driver.specs.declared.batch.Batch.{Batch}
 use Rattle.nv_driver.specs.declared.command_pages.CommandPages.{CommandPages}
 use Rattle.nv_driver.specs.declared.queue_pair.QueuePair.{QueuePair as QueuePairFields}
-use Rattle.nv_driver.proofs.BatchLaws.{answer_at, answers_are, distance_is}
-use Rattle.nv_driver.proofs.CountLaws.{number_next}
+use Rattle.nv_driver.proofs.BatchLaws.{answer_at, answers_are, distance_is, length-answers}
 use Rattle.nv_driver.proofs.LayoutLaws.{offset_fits}
-use Rattle.nv_driver.proofs.KeptLaws.{collect_keeps, is_found}
-use Rattle.nv_driver.proofs.ScheduleLaws.{collect_others}
+use Rattle.nv_driver.proofs.OnWayLaws as W
 use Rattle.nv_driver.proofs.PointerLaws.{seven_pages}
-use Rattle.nv_driver.proofs.BatchLaws.{length-answers}
-use Rattle.nv_driver.proofs.SubmittingLaws.{buffer_as, of_set, pages_are, pair_by, pairs_same, places_as}
+use Rattle.nv_driver.proofs.SubmittingLaws.{buffer_as, of_set, pages_are, places_as}
 use Rattle.nv_driver.proofs.TurnLaws.{no_command}
-use Rattle.nv_driver.proofs.UnderWayLaws.{command_of, counts, held, pages_left, world}
+use Rattle.nv_driver.proofs.UnderWayLaws.{command_of, counts, held, world}
 use Rattle.nv_driver.proofs.WindowPageLaws.{given_back, gone, taken_first, taken_rest}
 
 -- what was asked for is a single command
 one_command : (asked : Asked) (k e : Command) → asked ≡ Ok k → asked ≡ Ok e → k ≡ e
 one_command asked k e is other = cc
-
-pub in_some : {X : Type 0} {P : Type 0} (o : Option X) (x : X) → o ≡ Some x → OnSome o P → P
-in_some {P = P} o x is all = subst (λ q. OnSome q P) is all
 
 -- a command that was sent with these pages
 pub record IsOne (r : Run) (o : CommandPages) (x : Sent) : Type 0 where
@@ -74,8 +66,10 @@ is_one r found o x k is =
     }
 
 -- completion q is that of the awaited command n
-pub record IsNext (r : Run) (turns : ℕ) (b : Batch) (bytes : List ℕ) (q : Cqe) (n : ℕ) : Type 0 where
+pub record IsNext (r : Run) (turns : ℕ) (b : Batch) (l : QueuePairFields) (bytes : List ℕ) (q : Cqe) (n : ℕ)
+    : Type 0 where
   pub more : b.collected < turns
+  pub awaited : q ≡ awaited_completion bytes l.completion
   pub completion : q ≡ completion_at bytes (setting_of r).cq (slot (setting_of r) b.collected)
   pub at : n ≡ b.collected
 
@@ -86,12 +80,8 @@ pub record CanGive (s : Pages) (o : CommandPages) : Type 0 where
   pub none : All (λ p. set.contains s.members p ≡ false) (all_pages o)
   pub distinct : AllPairs (λ p q. p ≢ q) (all_pages o)
 
--- more was collected than reported
-above_told : (h k : ℕ) → h ≤ k → true ≡ not (h == k + 1)
-above_told h k low = grind (arith, nat_tests)
-
-module _ {r : Run} {bells turns : ℕ} {b : Batch} {l : QueuePairFields} {now : ℕ} {bytes : List ℕ}
-    (u : IsUnderWay r bells turns b l now bytes) where
+module _ {r : Run} {bells turns : ℕ} {b : Batch} {bus : BusValue} {l : QueuePairFields} {now : ℕ} {bytes : List ℕ}
+    (u : IsUnderWay r bells turns b bus l now bytes) where
   pub no_more : (b.collected ≤ b.sent) × (turns ≤ b.sent)
   no_more = let c = counts u in (omega (arith, c.collected, c.done, c.rung), omega (arith, c.done, c.rung))
 
@@ -99,27 +89,16 @@ module _ {r : Run} {bells turns : ℕ} {b : Batch} {l : QueuePairFields} {now : 
   abbrev pub next_one : Sent
   next_one = get_or u.course.sent b.collected no_command
 
-  there : b.collected < turns → IsAwaitedThere bytes (awaited (setting_of r) (world u))
-  there more = (is_found (setting_of r) r.bus.state (world u) u.keeps).1 (omega (arith, more, u.collected))
-
-  pub is_there : b.collected < turns → IsAwaitedThere bytes l.completion
-  is_there more = subst (IsAwaitedThere bytes) (ap (λ n. collect_ring (setting_of r) n b.told) u.collected
-      ∙ ap (λ (q : QueuePairFields). q.completion) (sym u.pair)) (there more)
+  pub awaits : b.collected < turns → length u.course.answers < turns
+  awaits more = omega (arith, more, u.collected)
 
   held_here : b.collected < turns → Holds (setting_of r) r.bus.state (world u) b.collected next_one
   held_here more = u.keeps.held b.collected no_command (omega (arith, u.collected)) more
 
-  head_is : {q : Cqe} → b.collected < turns → q ≡ completion_at bytes (setting_of r).cq (slot
-      (setting_of r) b.collected)
-      → q.sq_head ≡ slot (setting_of r) (b.collected + 1)
-  head_is more is = ap (λ (c : Cqe). c.sq_head) is ∙ (held_here more).head
-
-  module _ (more : b.collected < turns) {found : Option Cqe} {q : Cqe} (some : found ≡ Some q)
-      (value : IfSome found (λ c. c ≡ awaited_completion bytes l.completion)) where
+  module _ (more : b.collected < turns) {q : Cqe} (is : q ≡ awaited_completion bytes l.completion) where
     completion_is : q ≡ completion_at bytes (setting_of r).cq (slot (setting_of r) b.collected)
-    completion_is =
-        subst (λ (o : Option Cqe). IfSome o (λ c. c ≡ awaited_completion bytes l.completion)) some value
-        ∙ ap (λ (o : QueuePairFields). awaited_completion bytes o.completion) u.pair
+    completion_is = is ∙ W.completion_is u.on_way (awaits more)
+        ∙ ap (λ n. completion_at bytes (setting_of r).cq (slot (setting_of r) n)) u.collected
 
     cid_is : q.cid ≡ serial_at r b.collected
     cid_is = ap (λ (c : Cqe). c.cid) completion_is ∙ (held_here more).cid
@@ -129,27 +108,23 @@ module _ {r : Run} {bells turns : ℕ} {b : Batch} {l : QueuePairFields} {now : 
     cid_below = let below = mod_below (r.pair.serial + b.collected) 65535 (omega arith) in omega (arith, cid_is, below)
 
     -- its command identifier is that of the awaited command
-    pub is_next : {n : ℕ} → n ≡ (l.serial + 65535 - q.cid) % 65535 → (n ≤ b.sent) × IsNext r turns b bytes q
-        (b.sent - n)
-    is_next {n} is =
+    pub is_next : {n : ℕ} {l' : QueuePairFields} → l' ≡ record l {
+      submission = known_to l.submission q.sq_head;
+      completion = collected_one l.completion;
+    } → n ≡ (l'.serial + 65535 - q.cid) % 65535 → (n ≤ b.sent) × IsNext r turns b l bytes q (b.sent - n)
+    is_next {n} first at =
         let to : n ≡ b.sent - b.collected =
-        is ∙ ap (λ c. (l.serial + 65535 - c) % 65535) cid_is
+        at ∙ ap (λ (o : QueuePairFields). (o.serial + 65535 - q.cid) % 65535) first
+        ∙ ap (λ c. (l.serial + 65535 - c) % 65535) cid_is
         ∙ ap (λ (o : QueuePairFields). (o.serial + 65535 - serial_at r b.collected) % 65535) u.pair
+        ∙ ap (λ m. (serial_at r m + 65535 - serial_at r b.collected) % 65535) u.sent
         ∙ distance_is r.pair.serial b.collected b.sent (no_more.0) (omega
-        (arith, u.window, u.begun.geometry.window.1)) in
-        (omega arith, record { more = more; completion = completion_is; at = omega (arith, no_more) })
+        (arith, u.window, u.begun.geometry.window.1)) in (
+          omega arith,
+          record { more = more; awaited = is; completion = completion_is; at = omega (arith, no_more) },
+        )
 
-    pub freed_between : IsSlotBetween l.submission.depth l.submission.known l.submission.submitted q.sq_head
-    freed_between =
-        let t = setting_of r in
-        let window = u.begun.geometry.window in
-        rw (ap (λ (o : QueuePairFields). o.submission) u.pair, head_is more completion_is) (
-        (between_kept t.depth (t.start + b.collected) 1 (b.sent - b.collected)
-        (t.start + (b.collected + 1)) (t.start + b.sent)
-        (omega (arith, no_more, more)) (omega (arith, u.window, window.2, u.begun.depth))
-        (omega arith) (omega (arith, no_more))))
-
-  module _ {q : Cqe} {n : ℕ} (e : IsNext r turns b bytes q n) where
+  module _ {q : Cqe} {n : ℕ} (e : IsNext r turns b l bytes q n) where
     -- it has its slot in the window
     kept_here : IsKept r (kept_at b.outstanding n) next_one
     kept_here = subst (λ i. IsKept r (kept_at b.outstanding i) next_one) (sym e.at)
@@ -160,15 +135,6 @@ module _ {r : Run} {bells turns : ℕ} {b : Batch} {l : QueuePairFields} {now : 
 
     pub number_inside : n < length r.commands
     number_inside = omega (arith, e.at, e.more, no_more, u.some)
-
-    freed_to : first_in_slot (setting_of r).depth (number (setting_of r) b.collected) q.sq_head
-        ≡ number (setting_of r) (b.collected + 1)
-    freed_to =
-        let t = setting_of r in
-        let deep = u.keeps.placed.deep in
-        ap (first_in_slot t.depth (number t b.collected)) (head_is e.more e.completion)
-        ∙ first_kept t.depth (t.start + (b.collected + 1)) (t.start + b.collected) 1 (omega arith)
-        (omega (arith, deep.0))
 
     -- ---- its pages
 
@@ -189,10 +155,10 @@ module _ {r : Run} {bells turns : ℕ} {b : Batch} {l : QueuePairFields} {now : 
       taken_all : AreTaken r.pair.pages (all_pages o ++ pages_of_all (drop (b.collected + 1) u.course.sent))
       taken_all = subst (AreTaken r.pair.pages) all_is u.taken
 
-      pub can_give : CanGive l.pages o
-      can_give =
+      pub can_give : {s : Pages} → s ≡ l.pages → CanGive s o
+      can_give same =
           let first = taken_first r.pair.pages (all_pages o) _ taken_all in
-          subst (λ s. CanGive s o) (sym (pages_left u ∙ ap (without r.pair.pages) all_is)) (record {
+          subst (λ s. CanGive s o) (sym (same ∙ u.left ∙ ap (without r.pair.pages) all_is)) (record {
             few = few_data;
             own = first.own;
             none = λ i d h. gone r.pair.pages (all_pages o) (pages_of_all (drop (b.collected + 1) u.course.sent)) i d h;
@@ -204,41 +170,29 @@ module _ {r : Run} {bells turns : ℕ} {b : Batch} {l : QueuePairFields} {now : 
 
       pages_back : with_pages l.pages (all_pages o) ≡ without r.pair.pages
           (pages_of_all (drop (b.collected + 1) u.course.sent))
-      pages_back = ap (λ s. with_pages s (all_pages o)) (pages_left u ∙ ap (without r.pair.pages) all_is)
+      pages_back = ap (λ s. with_pages s (all_pages o)) (u.left ∙ ap (without r.pair.pages) all_is)
           ∙ given_back r.pair.pages (all_pages o) (pages_of_all
           (drop (b.collected + 1) u.course.sent)) taken_all
 
       -- ---- what is left
 
-      pair_left : pair_by (known_to l.submission q.sq_head) (collected_one l.completion) l.serial
-          (with_pages l.pages (all_pages o))
-          ≡ pair_by (submit_ring (setting_of r) b.sent (b.collected + 1))
-          (collect_ring (setting_of r) (b.collected + 1) b.told)
-          (serial_at r b.sent) (without r.pair.pages (pages_of_all (drop (b.collected + 1) u.course.sent)))
-      pair_left =
-          let t = setting_of r in
-          let c = counts u in
-          let submission : known_to l.submission q.sq_head ≡ submit_ring t b.sent (b.collected + 1) =
-          ap (λ (x : QueuePairFields). known_to x.submission q.sq_head) u.pair
-          ∙ ap (λ n. record (submit_ring t b.sent b.collected) { known = n }) freed_to in
-          let completion : collected_one l.completion ≡ collect_ring t (b.collected + 1) b.told =
-          ap (λ (x : QueuePairFields). collected_one x.completion) u.pair
-          ∙ cc (number_next t b.collected, above_told b.told b.collected c.told) in
-          pairs_same submission completion (ap (λ (x : QueuePairFields). x.serial) u.pair) pages_back
-
-      pub collects : {a : SubmitNumbers} {p : CollectNumbers} {s : Pages}
-          → a ≡ known_to l.submission q.sq_head → p ≡ collected_one l.completion
-          → s ≡ with_pages l.pages (all_pages o) → IsUnderWay r bells turns
-          (record b { collected = b.collected + 1 }) (pair_by a p l.serial s) now bytes
-      collects submission completion pages =
-          let t = setting_of r in
-          let w = world u in
-          let a = answer_awaited t w (get_or w.sent (length w.answers) no_command) in
-          let w' = record w { answers = w.answers ++ a ∷ [] } in
-          let happens : Happens t Collect w w' = inl (there e.more, no_command, refl) in
+      pub collects : {l' : QueuePairFields} {s : Pages} → l' ≡ record l {
+        submission = known_to l.submission q.sq_head;
+        completion = collected_one l.completion;
+      } → s ≡ with_pages l'.pages (all_pages o)
+          → IsUnderWay r bells turns (record b { collected = b.collected + 1 }) bus (record l' { pages = s }) now bytes
+      collects {l'} {s} first pages =
+          let more = awaits e.more in
+          let next = W.collects_on u.on_way more {l' = record l' { pages = s }} e.awaited
+          (ap (λ (x : QueuePairFields). x.submission) first) (ap (λ (x : QueuePairFields). x.completion) first)
+          (ap (λ (x : QueuePairFields). x.serial) first) in
           record {
-            running = u.running;
-            course = record u.course { answers = w'.answers };
+            course = record u.course { answers = u.course.answers ++ W.answer_next u.on_way more ∷ [] };
+            on_way = next;
+            can = u.can;
+            geometry = u.geometry;
+            controller = u.controller;
+            room = u.room;
             has = record {
               window = omega (arith, u.window);
               some = u.some;
@@ -248,10 +202,9 @@ module _ {r : Run} {bells turns : ℕ} {b : Batch} {l : QueuePairFields} {now : 
               taken = taken_left;
               own = u.own;
             };
-            keeps = collect_keeps t r.bus.state w w' u.keeps happens;
-            others = collect_others t 0 r.bytes w w' u.others happens;
-            collected = length-append w.answers (a ∷ []) ∙ ap (λ n. n + 1) u.collected;
-            pair = pairs_same submission completion refl pages ∙ pair_left;
+            collected = length-append u.course.answers (W.answer_next u.on_way more ∷ [])
+                ∙ ap (λ n. n + 1) u.collected;
+            left = pages ∙ ap (λ (x : QueuePairFields). with_pages x.pages (all_pages o)) first ∙ pages_back;
           }
 
       -- ---- the answer

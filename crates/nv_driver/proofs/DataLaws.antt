@@ -48,12 +48,6 @@ most NoData is = lit≤ tt
 most (ToHost n) is = is.1
 most (FromHost n) is = omega (arith, is)
 
-some_from_host : (m : Transfer) → HasShape m → 0 < bytes_from_host m
-    → (bytes_from_host m ≡ 4096) × (length_of m ≡ 4096)
-some_from_host NoData is some = absurd (omega (arith, some))
-some_from_host (ToHost n) is some = absurd (omega (arith, some))
-some_from_host (FromHost n) is some = (is, is)
-
 -- ---- what the host sends
 
 pub length-host_data : (k : Command) → CommandFits k
@@ -69,25 +63,29 @@ unfolding written_at
 written-nothing bytes [] = refl
 written-nothing bytes (p ∷ at) = refl
 
--- nothing is written if the host sends nothing
-pub none_sent : (k : Command) (m : Transfer) (bytes at : List ℕ) → CommandFits k
-    → m ≡ transfer_by k → bytes_from_host m ≡ 0 → bytes ≡ written_at bytes at (host_data_of k)
-none_sent k m bytes at fits is none =
-    let len = length-host_data k fits ∙ ap bytes_from_host (sym is) ∙ none in
-    let sent = nothing (host_data_of k) len in
-    sym (ap (written_at bytes at) sent ∙ written-nothing bytes at)
+pub none_written : (bytes at xs : List ℕ) → length xs ≡ 0 → bytes ≡ written_at bytes at xs
+none_written bytes at xs none = sym (ap (written_at bytes at) (nothing xs none) ∙ written-nothing bytes at)
 
--- what the host sends is a page
-pub page_sent : (k : Command) (page : List ℕ) → CanBeSent k
-    → 0 < bytes_from_host (transfer_by k) → length page ≡ 4096
-    → (with_data (host_data_of k) page ≡ host_data_of k)
-    × (length_of (transfer_by k) ≡ 4096) × (length (host_data_of k) ≡ 4096)
-page_sent k page can some size =
+-- a command's data from the host is nothing, or a page
+pub none_sent : (k : Command) (m : Transfer) → CommandFits k → m ≡ transfer_by k → bytes_from_host m ≡ 0
+    → [] ≡ host_data_of k
+none_sent k m fits is none =
+    sym (nothing (host_data_of k) (length-host_data k fits ∙ ap bytes_from_host (sym is) ∙ none))
+
+pub page_sent : (k : Command) (page : List ℕ) (n : ℕ) → CanBeSent k → FromHost n ≡ transfer_by k
+    → length page ≡ 4096 → with_data (host_data_of k) page ≡ host_data_of k
+page_sent k page n can is size =
     let xs = host_data_of k in
-    let both = some_from_host (transfer_by k) (shape k can.sends) some in
-    let len = length-host_data k can.fits ∙ both.0 in
+    let few : n ≡ 4096 = shape_as k (FromHost n) can.sends is in
+    let len : length xs ≡ 4096 = length-host_data k can.fits ∙ ap bytes_from_host (sym is) ∙ few in
     let rest = nothing (drop 4096 page) (let left = length-drop 4096 page in omega (arith, left, size)) in
-    (ap (λ n. xs ++ drop n page) len ∙ ap (λ ys. xs ++ ys) rest ∙ append-nil xs, both.1, len)
+    ap (λ i. xs ++ drop i page) len ∙ ap (λ ys. xs ++ ys) rest ∙ append-nil xs
+
+-- what is sent is as long as the data
+pub all_sent : (m : Transfer) (n : ℕ) → n ≡ bytes_from_host m → 0 < n → n ≡ length_of m
+all_sent NoData n is some = absurd (omega arith)
+all_sent (ToHost k) n is some = absurd (omega arith)
+all_sent (FromHost k) n is some = is
 
 -- ---- what is sent and received
 

@@ -1,51 +1,52 @@
 -- A single request: how it begins, and the state after it was answered.
+use Rattle.std.specs.Prelude.{slice_set}
 use Rattle.std.proofs.Common.{◌≡◌, ◌∙◌, ℕ, ◌+◌, ◌*◌, ◌<◌, ◌≤◌, List, [], ◌∷◌, ap, arith, get_or, inl, length}
-use Rattle.std.proofs.Common.{Err, Ok, drop, refl, slice_index, subst, sym, take}
+use Rattle.std.proofs.Common.{Err, Ok, refl, slice_index, subst, sym, take}
 use Rattle.std.proofs.Math.Nat.{mul-le-mul_right}
-use Rattle.std.proofs.lemmas.List.{set-get_or}
-use Rattle.nv_prp.specs.Buffer.{IsApart, IsBuffer, buffer_places}
+use Rattle.std.proofs.lemmas.List.{get_or-take, get_or_default, length-take-le}
+use Rattle.nv_host.specs.Pages.{HasPage}
+use Rattle.nv_prp.specs.Buffer.{IsApart, buffer_places}
 use Rattle.nv_queue.specs.Numbers.{next, slot_of}
-use Rattle.nv_queue.specs.Rings.{IsSubmitFull, SubmitNumbers, submitted_one}
-use Rattle.nv_queue.specs.Slots.{with_submission}
+use Rattle.nv_queue.specs.Rings.{IsSubmitFull, SubmitNumbers, collected_one, known_to, told_all}
+use Rattle.nv_queue.specs.Slots.{awaited_completion}
 use Rattle.nv_layout.specs.declared.cqe.Cqe.{Cqe}
 use Rattle.nv_layout.specs.declared.status.Status.{Status}
+use Rattle.nv_register.specs.RegisterBank.{with_register_at}
 use Rattle.nv_bus.specs.declared.told.Told.{Told}
-use Rattle.nv_bus.specs.Bus.{BusValue}
+use Rattle.nv_bus.specs.Bus.{BusValue, IsBus, bank_at}
+use Rattle.nv_bus.specs.Turn as T
 use Rattle.nv_bus.specs.Entry.{status_in, told_by}
-use Rattle.nv_bus.specs.Call.{HasRoom, length_of}
-use Rattle.nv_model.specs.Conditions.{greatest_limit, limit_of}
+use Rattle.nv_bus.specs.Call.{asked_by, length_of}
+use Rattle.nv_model.specs.Conditions.{limit_of}
 use Rattle.nv_model.proofs.LimitLaws.{limit_bounds}
 use Rattle.nv_layout.specs.Sqe.{SqeFits}
 use Rattle.nv_layout.specs.declared.sqe.Sqe.{Sqe}
-use Rattle.nv_prp.specs.declared.builder.ListPlace.{ListPlace}
 use Rattle.nv_command.specs.declared.transfer.Transfer.{Transfer}
-use Rattle.nv_register.specs.RegisterBank.{new_bank}
-use Rattle.nv_driver.specs.inner.Alone.{CanExchange, EntryPlace, IsAnsweredBy, IsEntrySubmitted}
-use Rattle.nv_driver.specs.inner.Alone.{KeepsBelow, IsExchanged, came_with, place_in, sent_at, side}
-use Rattle.nv_driver.specs.Alone.{IsAlone, alone, Comes, IsReceived, asked_in, entry_step, world_of}
+use Rattle.nv_driver.specs.inner.Alone.{AreFrom, IsAnsweredBy, IsExchanged, KeepsBelow, Side, answered_way, came_with}
+use Rattle.nv_driver.specs.inner.Alone.{one_way, side}
+use Rattle.nv_driver.specs.Alone.{Comes, IsReceived, asked_in, entry_step}
 use Rattle.nv_driver.specs.Answer.{Answer}
 use Rattle.nv_driver.specs.Exchange.{IsReady}
 use Rattle.nv_driver.specs.Quiet.{pair_value}
 use Rattle.nv_driver.specs.Layout.{offset_for, pages_of_entry}
-use Rattle.nv_driver.specs.Request.{Asked, IsRequest, padded, request_for, transfer_for}
-use Rattle.nv_driver.specs.Schedule.{AreOutside, Happens, MaySubmit, Sent, Setting, Submit, entry}
-use Rattle.nv_driver.specs.Schedule.{Delivers, bytes_read, collect_ring, numbered, own_pages, received_from, slot}
-use Rattle.nv_driver.specs.Schedule.{step_of, submit_ring}
-use Rattle.nv_driver.specs.UnderWay.{Run, pair_at, run_of, setting_of}
+use Rattle.nv_driver.specs.Request.{Asked, IsRequest, padded, request_for, sent_for, transfer_for}
+use Rattle.nv_driver.specs.Schedule.{AreOutside, Delivers, IsAnswered, MaySubmit, Sent, Setting, bytes_read, numbered}
+use Rattle.nv_driver.specs.Schedule.{own_pages, received_from, slot, step_of}
+use Rattle.nv_driver.specs.Submitting.{RequestPlace, place_in, sent_at}
+use Rattle.nv_driver.specs.inner.Submitting.{IsPlaceFor, IsSubmittedAt, request_as}
+use Rattle.nv_driver.specs.UnderWay.{IsOnWay, Run, run_of, setting_of, way, world_of}
 use Rattle.nv_driver.specs.declared.geometry.Geometry.{Geometry}
+use Rattle.nv_driver.specs.declared.outgoing.Outgoing.{Outgoing}
 use Rattle.nv_driver.specs.declared.queue_pair.QueuePair.{QueuePair as QueuePairFields}
-use Rattle.nv_driver.proofs.AloneLaws.{ArePages, has_bank, length-pages, page_at, place_is, same_world}
 use Rattle.nv_driver.proofs.AskedLaws.{IsAnswerTo, answer_sound}
 use Rattle.nv_driver.proofs.CountLaws.{number_above, number_next}
-use Rattle.nv_driver.proofs.EndLaws.{ready_after}
 use Rattle.nv_driver.proofs.EveryEntryLaws.{every_entry}
-use Rattle.nv_driver.proofs.KeptLaws.{idle_keeps}
+use Rattle.nv_driver.proofs.OnWayLaws.{answer_next, begins, collects_on, completion_is, first_way, held, ready_after}
+use Rattle.nv_driver.proofs.OnWayLaws.{rings, submits_on, tells, turned}
 use Rattle.nv_driver.proofs.PaddingLaws.{length-padded}
-use Rattle.nv_driver.proofs.QuietLaws.{beginning, collect_ring_is, is_idle, submit_ring_is}
-use Rattle.nv_driver.proofs.ScheduleLaws.{others_now, submit_others}
-use Rattle.nv_driver.proofs.SubmitLaws.{submit_keeps}
-use Rattle.nv_driver.proofs.SubmittingLaws.{pairs_same}
-use Rattle.nv_driver.proofs.WindowPageLaws.{taken_none}
+use Rattle.nv_driver.proofs.PointerLaws.{entry_pages_few}
+use Rattle.nv_driver.proofs.QuietLaws.{submit_ring_is}
+use Rattle.nv_driver.proofs.SubmittingLaws.{first_two, place_fits, requests_same, submitted_as}
 
 abbrev told : ℕ → Status → Told
 told dword0 status = record { dword0 = dword0; status = status }
@@ -69,16 +70,25 @@ comes_by (Ok k) (Err refused) status bytes is sound delivered = rw (is, sound.1)
 comes_by (Err code) (Ok reply) status bytes is sound delivered = absurd sound
 comes_by (Err code) (Err refused) status bytes is sound delivered = rw (is, sound.1) refl
 
--- an entry that can be exchanged was submitted
+-- an entry can be exchanged over a queue pair without outstanding commands, with its data at a place after the
+-- queue pair whose first page is the list's
+pub record CanExchange (g : Geometry) (c : ℕ) (e : Sqe) (at : RequestPlace) (old : Side) : Type 0 where
+  pub ready : IsReady g old.bus c old.pair old.now old.bytes
+  pub fits : SqeFits e
+  pub place : IsPlaceFor old.bytes old.now at (length_of (transfer_for e))
+  pub first : AreFrom at.first at
+  pub last : old.pair.pages.first + old.pair.pages.count ≤ at.first
+
+-- it was submitted
 pub record IsBegun (g : Geometry) (bus : BusValue) (c : ℕ) (l : QueuePairFields) (bytes : List ℕ) (e : Sqe)
-    (given : List ℕ) (m : Transfer) (at : EntryPlace) (now : ℕ) (l' : QueuePairFields) (mem : List ℕ) : Type 0 where
-  pub can : CanExchange g c e m at (side bus l now bytes)
-  pub sub : IsEntrySubmitted now at (request_for (limit_of bus.state c) e given) l l' bytes mem
+    (given : List ℕ) (at : RequestPlace) (now : ℕ) (l' : QueuePairFields) (mem : List ℕ) : Type 0 where
+  pub can : CanExchange g c e at (side bus l now bytes)
+  pub sub : IsSubmittedAt g.page_size at (request_for (limit_of bus.state c) e given) l l' bytes mem
   pub size : length mem ≡ length bytes
 
 module _ {g : Geometry} {bus : BusValue} {c : ℕ} {l : QueuePairFields} {bytes : List ℕ} {e : Sqe} {given : List ℕ}
-    {m : Transfer} {at : EntryPlace} {now : ℕ} {l' : QueuePairFields} {mem : List ℕ}
-    (b : IsBegun g bus c l bytes e given m at now l' mem) where
+    {at : RequestPlace} {now : ℕ} {l' : QueuePairFields} {mem : List ℕ}
+    (b : IsBegun g bus c l bytes e given at now l' mem) where
   ready : IsReady g bus c l now bytes
   ready = b.can.ready
 
@@ -98,13 +108,13 @@ module _ {g : Geometry} {bus : BusValue} {c : ℕ} {l : QueuePairFields} {bytes 
   pages_end : (l.pages.first + l.pages.count) * g.page_size ≤ at.first * g.page_size
   pages_end = mul-le-mul_right g.page_size b.can.last
 
-  may : MaySubmit t (beginning t bytes bus.state) sent
+  may : MaySubmit t (world_of (first_way run) bus bytes) sent
   may =
       let laid = ready.laid in
       let deep = laid.deep in
       let from_first : l.pages.first * g.page_size ≤ (l.pages.first + l.pages.count) * g.page_size =
       mul-le-mul_right g.page_size (omega arith) in
-      let place' = rw (b.can.transfer, ready.page_size) at b.can.place in
+      let place' = rw (ready.page_size) at b.can.place in
       record {
         free = omega (arith, deep.0);
         can = can;
@@ -120,63 +130,25 @@ module _ {g : Geometry} {bus : BusValue} {c : ℕ} {l : QueuePairFields} {bytes 
       }
 
   -- nothing was reported yet
-  pub begins : IsAlone (alone run sent) 0 0 0 [] l' now mem bus
-  begins =
-      let w = beginning t bytes bus.state in
-      let idle = is_idle g bus c l now bytes ready in
-      let keeps = idle_keeps t w idle in
-      let ring = submit_ring_is g c (limit_of bus.state c) bytes l ready.quiet ready.laid.number in
-      let w' = world_of (alone run sent) bus 0 0 0 [] mem in
-      let put = b.sub.mem ∙ ap (λ r. with_submission b.sub.ready r (entry sent)) ring in
-      let happens : Happens t (Submit sent) w w' = (
-        may,
-        b.sub.ready,
-        rw ready.page_size at b.sub.prepared,
-        same_world (alone run sent) 0 0 0 [] mem refl ready.bank
-            ∙ ap (λ m. record w { mem = m; sent = sent ∷ [] }) put,
-      ) in
-      record {
-        begun = subst (λ n. IsReady g bus c l n bytes) ready.page_size ready;
-        page_size = ready.page_size;
-        size = b.size;
-        keeps = submit_keeps t bus.state sent w w' keeps happens;
-        others = submit_others t bus.state 0 bytes sent w w' keeps (others_now t w) happens;
-        lawful = ready.bus;
-        banks = sym (set-get_or bus.banks c new_bank);
-        pair = b.sub.pair ∙ pairs_same (ap submitted_one ring
-            ∙ ap (λ n. record (submit_ring t 0 0) { submitted = n }) (number_next t 0))
-            (collect_ring_is g c (limit_of bus.state c) bytes l ready.quiet ready.laid.number) refl refl;
-      }
+  pub submitted : {now1 : ℕ} → now1 ≡ now → IsOnWay (one_way run sent) bus l' now1 mem
+  submitted page = submits_on (begins [] ready) refl b.sub may b.size page
 
   -- ---- the end
 
   module _ {q' : QueuePairFields} {now' : ℕ} {after : List ℕ} {bus' : BusValue} {completion : Cqe}
-      (by : IsAnsweredBy (alone run sent) completion q' now' after bus') where
-    pub state_is : bus'.state ≡ (step_of c bus.state (numbered sent)).state
-    state_is = by.alone.keeps.state
-
-    pub told_is : record { dword0 = completion.command_specific; status = completion.status }
+      (by : IsAnsweredBy run sent completion bus' q' now' after) where
+    told_is : record { dword0 = completion.command_specific; status = completion.status }
         ≡ told_by (step_of c bus.state (numbered sent)).answer
     told_is = let told = by.answer in same_told told.dword0 told.status
 
-    pair_is : q' ≡ pair_at run 1 1 1 []
-    pair_is = by.alone.pair ∙ pairs_same (ap (submit_ring t 1) by.one) (ap (λ n. collect_ring t n 1) by.one) refl
-        (sym (taken_none l.pages).1)
-
-    -- the queue pair has no outstanding command again
-    pub ready_again : IsReady g bus' c q' now' after
-    ready_again =
-        let u = by.alone in
-        ready_after run 1 u.begun pair_is u.page_size u.size u.keeps.tags (has_bank u) u.lawful u.keeps.bank
-
-    pub page_is : now' ≡ now
-    page_is = by.alone.page_size ∙ sym ready.page_size
+    page_is : now' ≡ now
+    page_is = by.on_way.page_size ∙ sym ready.page_size
 
     -- what is before the request's pages and outside the queue pair doesn't change
     pub others_stay : KeepsBelow (at.first * g.page_size) g.page_size (pair_value l) bytes after
     others_stay from n low apart =
         let laid = ready.laid in
-        by.alone.others.same from n (record {
+        by.on_way.others.same from n (record {
           submissions = aside l.submission.base (64 * l.submission.depth)
               (omega (arith, laid.rings, laid.pages, from_first)) (omega arith);
           completions = aside l.completion.base (16 * l.submission.depth)
@@ -196,12 +168,13 @@ module _ {g : Geometry} {bus : BusValue} {c : ℕ} {l : QueuePairFields} {bytes 
     -- the data that comes back is received
     received_by : (n : ℕ) {size : ℕ} {out : List ℕ} → size ≡ g.page_size
         → out ≡ padded n (came_with completion.status
-        (received_from m after (buffer_places size at.pages at.offset (length_of m))))
+        (received_from (transfer_for e) after
+        (buffer_places size at.pages at.offset (length_of (transfer_for e)))))
         → IsReceived (asked_in bus.state c e given) (entry_step bus.state c e given l.serial).answer out
     received_by n {size} {out} page filled =
         let bytes = bytes_read g.page_size sent after in
         let came = came_with completion.status bytes in
-        let is : out ≡ padded n came = rw (b.can.transfer, page) at filled in
+        let is : out ≡ padded n came = rw (page) at filled in
         let long : length out ≡ n = ap (λ (xs : List ℕ). length xs) is ∙ length-padded n came in
         record {
           came = came;
@@ -212,34 +185,26 @@ module _ {g : Geometry} {bus : BusValue} {c : ℕ} {l : QueuePairFields} {bytes 
         }
 
     -- the complete state after the exchange
-    pub exchanged : (n : ℕ) {out : List ℕ}
+    pub exchanged : (n : ℕ) {out : List ℕ} → q'.pages ≡ l'.pages
         → out ≡ padded n (came_with completion.status
-        (received_from m after (buffer_places now' at.pages at.offset (length_of m))))
+        (received_from (transfer_for e) after
+        (buffer_places now' at.pages at.offset (length_of (transfer_for e)))))
         → IsExchanged g c e given at.first (side bus l now bytes) (side bus' q' now' after)
         (told completion.command_specific completion.status) out
-    exchanged n filled = record {
-      answer = told_is;
-      received = received_by n (page_is ∙ ready.page_size) filled;
-      state = state_is;
-      ready = ready_again;
-      banks = by.alone.banks;
-      pair = ap pair_value pair_is;
-      others = others_stay;
-      len = by.alone.size;
-      page = page_is;
-    }
-
-  -- the calls refer to the run that is meant
-  pub begins_as : {r : Run} {now1 : ℕ} → r ≡ run → now1 ≡ now → IsAlone (alone r sent) 0 0 0 [] l' now1 mem bus
-  begins_as same page = rw (same, page) begins
-
-  pub answered_as : {r : Run} {now1 now' : ℕ} {q' : QueuePairFields} {after : List ℕ} {bus' : BusValue}
-      {completion : Cqe} → r ≡ run → now1 ≡ now
-      → ((x : Sent) → IsAlone (alone r x) 0 0 0 [] l' now1 mem bus
-      → IsAnsweredBy (alone r x) completion q' now' after bus')
-      → IsAnsweredBy (alone run sent) completion q' now' after bus'
-  answered_as {now' = now'} {q' = q'} {after = after} {bus' = bus'} {completion = completion} same page f =
-      subst (λ x. IsAnsweredBy (alone x sent) completion q' now' after bus') same (f sent (begins_as same page))
+    exchanged n pages filled =
+        let again = ready_after 1 by.on_way refl refl refl refl refl
+        (pages ∙ ap (λ (o : QueuePairFields). o.pages) b.sub.pair) in
+        record {
+          answer = told_is;
+          received = received_by n (page_is ∙ ready.page_size) filled;
+          state = by.on_way.keeps.state;
+          ready = again.0;
+          banks = by.on_way.banks;
+          pair = ap pair_value again.1;
+          others = others_stay;
+          len = by.on_way.size;
+          page = page_is;
+        }
 
 -- ---- the ring of a queue pair without outstanding commands
 
@@ -257,64 +222,100 @@ module _ {g : Geometry} {bus : BusValue} {c : ℕ} {l : QueuePairFields} {bytes 
       let far = number_above t 0 0 (omega (arith, deep.0)) (omega arith) (omega (arith, deep.0)) in
       omega (arith, is, far, deep.0)
 
-  pub tail_is : {r : Run} {tail : ℕ} → r ≡ run_of g c bus l bytes []
-      → tail ≡ slot_of l.submission.depth (next l.submission.depth l.submission.submitted)
-      → tail ≡ slot (setting_of r) 1
-  tail_is {r} {tail} same is =
+  pub tail_is : {tail : ℕ} → tail ≡ slot_of l.submission.depth (next l.submission.depth l.submission.submitted)
+      → tail ≡ slot (setting_of (run_of g c bus l bytes [])) 1
+  tail_is is =
       let t = setting_of (run_of g c bus l bytes []) in
-      rw same (is ∙ ap (λ (o : SubmitNumbers). slot_of o.depth (next o.depth o.submitted))
+      is ∙ ap (λ (o : SubmitNumbers). slot_of o.depth (next o.depth o.submitted))
       (submit_ring_is g c (limit_of bus.state c) bytes l ready.quiet ready.laid.number)
-      ∙ ap (slot_of t.depth) (number_next t 0))
+      ∙ ap (slot_of t.depth) (number_next t 0)
+
+-- the tail doorbell was rung for a request, and the controller had a turn, which took it
+pub did : {r : Run} {x : Sent} {l : QueuePairFields} {now now' c value count : ℕ} {bytes mem : List ℕ}
+    {bus one two : BusValue} → IsOnWay (one_way r x) bus l now bytes → c ≡ r.controller
+    → value ≡ slot (setting_of r) 1 → one.state ≡ bus.state
+    → one.banks ≡ slice_set bus.banks c (with_register_at (bank_at bus.banks c) 0x1000 value)
+    → (IsBus bus → IsBus one) → T.Turn now c 1 count one bytes two mem → IsBus two → length mem ≡ length bytes
+    → now' ≡ now → IsOnWay (way r (record { sent = x ∷ []; answers = [] }) 1 1 0) two l now' mem
+did {r} {x} {l} {now' = now'} {mem = mem} {two = two} u same put state banks rung turn lawful size page =
+    let next = turned (rings u same put state banks rung) same refl turn lawful size page in
+    let deep = u.begun.laid.deep in
+    subst (λ n. IsOnWay (way r (record { sent = x ∷ []; answers = [] }) 1 n 0) two l now' mem)
+    (omega (arith, next.1, deep.0)) next.0
+
+-- its completion was collected, and the head doorbell was rung
+pub ends : {r : Run} {x : Sent} {bus bus' : BusValue} {l l1 l' : QueuePairFields} {now c value : ℕ} {mem : List ℕ}
+    {q : Cqe} (u : IsOnWay (way r (record { sent = x ∷ []; answers = [] }) 1 1 0) bus l now mem)
+    → q ≡ awaited_completion mem l.completion
+    → l1 ≡ record l { submission = known_to l.submission q.sq_head; completion = collected_one l.completion }
+    → l' ≡ record l1 { completion = told_all l1.completion } → c ≡ r.controller
+    → value ≡ slot_of l1.completion.depth l1.completion.collected → bus'.state ≡ bus.state
+    → bus'.banks ≡ slice_set bus.banks c (with_register_at (bank_at bus.banks c) 0x1004 value)
+    → (IsBus bus → IsBus bus') → IsAnsweredBy r x q bus' l' now mem
+ends {r} {x} {bus' = bus'} {now = now} {mem = mem} {q = q} u is first last same put state banks lawful =
+    let one : 0 < 1 = omega arith in
+    let next = collects_on u one is (ap (λ (o : QueuePairFields). o.submission) first)
+    (ap (λ (o : QueuePairFields). o.completion) first) (ap (λ (o : QueuePairFields). o.serial) first) in
+    record {
+      collected = answer_next u one;
+      on_way = subst (λ p. IsOnWay (answered_way r x (answer_next u one)) bus' p now mem) (sym last)
+          (tells next same put state banks lawful);
+      answer = subst (λ p. IsAnswered r.geometry.page_size x mem p
+          (step_of r.controller r.bus.state (numbered x)).answer) (sym (is ∙ completion_is u one)) (held u one).answer;
+    }
 
 -- ---- the place of its data
 
-abbrev pub list_at : List ℕ → ℕ → ListPlace
-list_at numbers offset =
-    record { first = slice_index numbers 0; second = slice_index numbers 1; offset = offset }
-
 -- an entry can be exchanged, with its data in consecutive pages from this one on
-pub can_exchange : {g : Geometry} {c first count : ℕ} {e : Sqe} {m : Transfer} {offset : ℕ} {numbers pages : List ℕ}
-    {list : ListPlace} {bus : BusValue} {l : QueuePairFields} {now : ℕ} {bytes : List ℕ}
-    → IsReady g bus c l now bytes → SqeFits e → m ≡ transfer_for e → HasRoom m → length_of m ≤ greatest_limit
-    → ArePages first count numbers
-    → pages ≡ take count (drop 2 numbers) → offset ≡ offset_for g (length_of m) → list ≡ list_at numbers g.list_offset
-    → offset_for g (length_of m) + length_of m ≤ count * g.page_size → count + 2 ≤ pages_of_entry g.page_size
+pub can_exchange : {g : Geometry} {c first n : ℕ} {e : Sqe} {m : Transfer} (count : ℕ) (numbers : List ℕ)
+    {at : RequestPlace} {bus : BusValue} {l : QueuePairFields} {now : ℕ} {bytes : List ℕ}
+    → IsReady g bus c l now bytes → SqeFits e → m ≡ transfer_for e → n ≡ length_of m
+    → ((i : ℕ) → i < count + 2 → slice_index numbers i ≡ first + i) → length numbers ≡ 259
+    → at ≡ place_in g numbers count n → offset_for g n + n ≤ count * g.page_size → count + 2 ≤ pages_of_entry g.page_size
     → (first + pages_of_entry g.page_size) * g.page_size ≤ length bytes → l.pages.first + l.pages.count ≤ first
-    → CanExchange g c e m (place_in pages offset list) (side bus l now bytes)
-can_exchange {g} {first = first} {count = count} {m = m} {numbers = numbers} {now = now} {bytes = bytes}
-    ready fits same room small are of_data begins of_list enough few inside last =
-    rw (of_data, begins, of_list) (record {
+    → CanExchange g c e at (side bus l now bytes)
+can_exchange {g} {first = first} {n = n} count numbers {now = now} {bytes = bytes}
+    ready fits moves long each size is enough few inside last =
+    let room : count + 2 ≤ length numbers = omega (
+      arith,
+      few,
+      entry_pages_few g.page_size ready.geometry.page_size,
+      size,
+    ) in
+    let many = length-take-le (count + 2) numbers room in
+    let two = first_two numbers count (omega (arith, room)) in
+    let page : (i d : ℕ) → i < length (take (count + 2) numbers) → get_or (take (count + 2) numbers) i d ≡ first + i =
+    λ i d low. get_or-take (count + 2) numbers i d (omega (arith, many))
+    ∙ get_or_default numbers i d 0 (omega (arith, room, many)) ∙ each i (omega (arith, many)) in
+    let has : (i d : ℕ) → i < length (take (count + 2) numbers)
+    → HasPage bytes g.page_size (get_or (take (count + 2) numbers) i d) =
+    λ i d low. let end : first + i + 1 ≤ first + pages_of_entry g.page_size = omega (arith, many, few) in
+    subst (HasPage bytes g.page_size) (sym (page i d low))
+    (omega (arith, mul-le-mul_right g.page_size end, inside)) in
+    rw is (record {
       ready = ready;
       fits = fits;
-      transfer = same;
-      room = room;
-      few = small;
-      place = place_is g first count (length_of m) now numbers bytes ready.geometry ready.page_size are enough few
-          inside;
-      offset = refl;
-      list_offset = refl;
+      place = rw (ap length_of (sym moves), ← long) (place_fits g numbers count n bytes now ready.geometry
+          ready.page_size room has (λ i j d before h same.
+          absurd (omega (arith, page i d (omega arith), page j d h, same))) enough);
       first = λ i d h. omega (
         arith,
-        are.each 0 (omega arith),
-        page_at first count numbers are i d (omega (arith, length-pages first count numbers are, h)),
+        each 0 (omega arith),
+        ap (λ xs. get_or xs i d) (sym two) ∙ page i d (omega (arith, ap (λ (xs : List ℕ). length xs) (sym two), h)),
       );
-      last = omega (arith, last, are.each 0 (omega arith));
+      last = omega (arith, last, each 0 (omega arith));
     })
 
--- it was submitted, with its limit under another name
+-- the entry was submitted
 pub begun_by : {g : Geometry} {bus : BusValue} {c : ℕ} {l : QueuePairFields} {bytes : List ℕ} {e : Sqe} {given : List ℕ}
-    {m : Transfer} {at : EntryPlace} {now limit : ℕ} {l' : QueuePairFields} {mem : List ℕ}
-    → CanExchange g c e m at (side bus l now bytes) → limit ≡ limit_of bus.state c
-    → IsEntrySubmitted now at (request_for limit e given) l l' bytes mem → length mem ≡ length bytes
-    → IsBegun g bus c l bytes e given m at now l' mem
-begun_by can same sub size = record { can = can; sub = rw same at sub; size = size }
-
--- a buffer in a memory is one in a later memory of the same size
-pub buffer_later : {old new pages : List ℕ} {size size' from len : ℕ} → length new ≡ length old → size' ≡ size
-    → IsBuffer old size pages from len → IsBuffer new size' pages from len
-buffer_later same page is = rw page (record {
-  below = is.below;
-  aligned = is.aligned;
-  enough = is.enough;
-  inside = λ i d h. let has = is.inside i d h in omega (arith, has, same);
-})
+    {at : RequestPlace} {now : ℕ} {l' : QueuePairFields} {mem : List ℕ} (q : Outgoing)
+    → CanExchange g c e at (side bus l now bytes) → q.entry ≡ e → q.transfer ≡ transfer_for e
+    → q.sends.now ≡ sent_for (transfer_for e) given
+    → ((asked : Asked) → IsSubmittedAt now at (request_as q asked) l l' bytes mem) → length mem ≡ length bytes
+    → IsBegun g bus c l bytes e given at now l' mem
+begun_by {bus = bus} {c = c} {e = e} {given = given} q can entry moves sends sub size = record {
+  can = can;
+  sub = submitted_as can.ready.page_size refl (requests_same entry moves sends) refl
+      (sub (asked_by (limit_of bus.state c) e (sent_for (transfer_for e) given)));
+  size = size;
+}

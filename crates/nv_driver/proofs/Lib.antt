@@ -18,7 +18,7 @@ pub mod KeptLaws
 pub mod AskedLaws
 pub mod RequestLaws
 pub mod PaddingLaws
-pub mod AloneLaws
+pub mod OnWayLaws
 pub mod ExchangeLaws
 pub mod EveryEntryLaws
 pub mod AnswerLaws

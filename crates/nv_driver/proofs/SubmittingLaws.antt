@@ -8,16 +8,21 @@ use Rattle.nv_host.specs.Bytes.{bytes_at}
 use Rattle.nv_host.proofs.PageLaws.{page_size_bounds}
 use Rattle.nv_queue.specs.Rings.{CollectNumbers, SubmitNumbers}
 use Rattle.nv_prp.proofs.PlaceLaws.{length-written_at}
-use Rattle.nv_prp.specs.Buffer.{IsBuffer, IsListPlace, KeepsList, KeepsOutside, StaysFor, buffer_places}
+use Rattle.nv_prp.specs.Buffer.{IsBuffer, KeepsList, KeepsOutside, StaysFor, buffer_places}
 use Rattle.nv_prp.proofs.BufferLaws.{rest_distinct}
 use Rattle.nv_prp.specs.Place.{AreDistinct, written_at}
 use Rattle.nv_prp.specs.Transfer.{transfer}
+use Rattle.nv_layout.specs.declared.sqe.Sqe.{Sqe}
 use Rattle.nv_command.specs.Command.{bytes_from_host}
-use Rattle.nv_driver.specs.CommandPages.{AreTaken, data_pages}
-use Rattle.nv_driver.specs.inner.CommandPages.{all_pages}
+use Rattle.nv_command.specs.declared.transfer.Transfer.{Transfer}
+use Rattle.nv_driver.specs.CommandPages.{AreTaken}
+use Rattle.nv_driver.specs.inner.CommandPages.{all_pages, data_pages}
 use Rattle.nv_driver.specs.Geometry.{IsGeometry}
 use Rattle.nv_driver.specs.Layout.{offset_for, pages_of_command}
 use Rattle.nv_bus.specs.Call.{sent_from}
+use Rattle.nv_driver.specs.Request.{Asked, Request}
+use Rattle.nv_driver.specs.Submitting.{RequestPlace, place_in}
+use Rattle.nv_driver.specs.inner.Submitting.{IsPlaceFor, IsSubmittedAt}
 use Rattle.nv_driver.specs.Schedule.{AreOutside, IsPrepared, Sent, StaysNamed, data_length, own_pages, places, pointed}
 use Rattle.nv_driver.specs.declared.command_pages.CommandPages.{CommandPages}
 use Rattle.nv_driver.specs.declared.geometry.Geometry.{Geometry}
@@ -68,24 +73,53 @@ has_taken {page_size = page_size} is count few seven taken inside = record {
   inside = inside;
 }
 
-each_inside : (s : Pages) (p : CommandPages) (page_size : ℕ) (bytes : List ℕ) → Has s p page_size (length bytes)
-    → All (λ page. HasPage bytes page_size page) (slice_index p.numbers 0 ∷ slice_index p.numbers 1 ∷ data_pages p)
-each_inside s p page_size bytes h =
-    subst (All (λ page. HasPage bytes page_size page)) (pages_are p h.seven)
-    (λ i d below. of_set s bytes page_size (get_or (all_pages p) i d) h.inside (h.taken.own i d below))
-
-pub buffer_of : (g : Geometry) (s : Pages) (p : CommandPages) (bytes : List ℕ) (page_size len : ℕ)
-    → IsGeometry g → page_size ≡ g.page_size → Has s p g.page_size (length bytes)
-    → offset_for g len + len ≤ p.data_pages * g.page_size
-    → IsBuffer bytes page_size (data_pages p) (offset_for g len) len
-buffer_of g s p bytes page_size len is page h enough =
+-- data and a list fit in distinct pages of the memory
+pub place_fits : (g : Geometry) (numbers : List ℕ) (count len : ℕ) (bytes : List ℕ) (page_size : ℕ) → IsGeometry g
+    → page_size ≡ g.page_size → count + 2 ≤ length numbers
+    → All (λ page. HasPage bytes g.page_size page) (take (count + 2) numbers) → AreDistinct (take (count + 2) numbers)
+    → offset_for g len + len ≤ count * g.page_size → IsPlaceFor bytes page_size (place_in g numbers count len) len
+place_fits g numbers count len bytes page_size is page long all distinct enough =
     let begins = offset_fits g len is in
-    subst (λ size. IsBuffer bytes size (data_pages p) (offset_for g len) len) (sym page) (record {
-      below = begins.1;
-      aligned = begins.0;
-      enough = rw (length-data_pages p h.seven h.few) enough;
-      inside = λ i d below. each_inside s p g.page_size bytes h (suc (suc i)) d (omega arith);
+    let two = first_two numbers count (omega arith) in
+    let has = subst (All (λ page. HasPage bytes g.page_size page)) two all in
+    let many : length (take count (drop 2 numbers)) ≡ count =
+    omega (arith, length-take count (drop 2 numbers), length-drop 2 numbers) in
+    rw page (record {
+      is_size = is.page_size;
+      buffer = record {
+        below = begins.1;
+        aligned = begins.0;
+        enough = rw many enough;
+        inside = λ i d below. has (suc (suc i)) d (omega arith);
+      };
+      list = record {
+        below = is.list_offset.1;
+        aligned = is.list_offset.0;
+        has_first = has 0 0 (omega arith);
+        has_second = has 1 0 (omega arith);
+      };
+      distinct = subst AreDistinct two distinct;
     })
+
+-- in the pages that a command took
+pub place_taken : (g : Geometry) (s : Pages) (p : CommandPages) (bytes : List ℕ) (page_size len : ℕ) → IsGeometry g
+    → page_size ≡ g.page_size → Has s p g.page_size (length bytes)
+    → offset_for g len + len ≤ p.data_pages * g.page_size
+    → IsPlaceFor bytes page_size (place_in g p.numbers p.data_pages len) len
+place_taken g s p bytes page_size len is page h enough =
+    place_fits g p.numbers p.data_pages len bytes page_size is page (omega (arith, h.seven, h.few))
+    (λ i d below. of_set s bytes g.page_size (get_or (all_pages p) i d) h.inside (h.taken.own i d below))
+    h.taken.distinct enough
+
+-- a place in a memory is one in a later memory of the same size
+pub buffer_later : {old new pages : List ℕ} {size size' from len : ℕ} → length new ≡ length old → size' ≡ size
+    → IsBuffer old size pages from len → IsBuffer new size' pages from len
+buffer_later same page is = rw page (record {
+  below = is.below;
+  aligned = is.aligned;
+  enough = is.enough;
+  inside = λ i d h. let has = is.inside i d h in omega (arith, has, same);
+})
 
 -- the same buffer and its places, under other names
 pub buffer_as : {bytes pages pages' : List ℕ} {size size' from from' len len' : ℕ}
@@ -101,23 +135,6 @@ pub places_as : {pages pages' : List ℕ} {size size' from from' len len' : ℕ}
     → size ≡ size' → pages ≡ pages' → from ≡ from' → len ≡ len'
     → buffer_places size pages from len ≡ buffer_places size' pages' from' len'
 places_as e f g h = cc
-
-pub list_of : (g : Geometry) (s : Pages) (p : CommandPages) (bytes : List ℕ) (page_size : ℕ)
-    → IsGeometry g → page_size ≡ g.page_size → Has s p g.page_size (length bytes)
-    → IsListPlace bytes page_size (slice_index p.numbers 0) (slice_index p.numbers 1) g.list_offset
-list_of g s p bytes page_size is page h =
-    let first = slice_index p.numbers 0 in
-    let second = slice_index p.numbers 1 in
-    rw page (record {
-      below = is.list_offset.1;
-      aligned = is.list_offset.0;
-      has_first = each_inside s p g.page_size bytes h 0 0 (omega arith);
-      has_second = each_inside s p g.page_size bytes h 1 0 (omega arith);
-    })
-
-pub distinct_of : (s : Pages) (p : CommandPages) → length p.numbers ≡ 7 → AreTaken s (all_pages p)
-    → AreDistinct (slice_index p.numbers 0 ∷ slice_index p.numbers 1 ∷ data_pages p)
-distinct_of s p seven taken = subst AreDistinct (pages_are p seven) taken.distinct
 
 -- a command whose data pointer was built
 pub record IsBuilt (page_size : ℕ) (x : Sent) (old built : List ℕ) : Type 0 where
@@ -171,6 +188,9 @@ prepared_by page_size x old built new is sends buffer distinct b put =
           (written_list page_size x built xs some buffer.enough distinct)) b.stays;
     }
 
+abbrev request : Sqe → Transfer → List ℕ → Asked → Request
+request e m xs asked = record { entry = e; transfer = m; sends = xs; asked = asked }
+
 -- queue pairs of the same parts
 abbrev pub pair_by : SubmitNumbers → CollectNumbers → ℕ → Pages → QueuePairFields
 pair_by a c n p = record { submission = a; completion = c; serial = n; pages = p }
@@ -181,3 +201,17 @@ pairs_same e f g h = cc
 
 pub on_ok : {X E : Type 0} {P : Type 0} (r : Result X E) (x : X) → r ≡ Ok x → OnOk r P → P
 on_ok {P = P} r x is all = subst (λ q. OnOk q P) is all
+
+-- requests of the same parts, and a submission under other names
+pub requests_same : {e e' : Sqe} {m m' : Transfer} {xs xs' : List ℕ} {asked : Asked} → e ≡ e' → m ≡ m' → xs ≡ xs'
+    → request e m xs asked ≡ request e' m' xs' asked
+requests_same e f g = cc
+
+pub submitted_as : {size size' : ℕ} {at at' : RequestPlace} {q q' : Request} {old old' new : QueuePairFields}
+    {before after : List ℕ} → size ≡ size' → at ≡ at' → q ≡ q' → old ≡ old'
+    → IsSubmittedAt size at q old new before after → IsSubmittedAt size' at' q' old' new before after
+submitted_as {size} {size'} {at} {at'} {q} {q'} {old} {old'} {new} {before} {after} e f g h is =
+    subst (λ x. IsSubmittedAt size' at' q' x new before after) h
+    (subst (λ x. IsSubmittedAt size' at' x old new before after) g
+    (subst (λ x. IsSubmittedAt size' x q old new before after) f
+    (subst (λ x. IsSubmittedAt x at q old new before after) e is)))

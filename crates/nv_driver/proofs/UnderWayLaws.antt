@@ -12,10 +12,9 @@ use Rattle.std.specs.FinSet as set
 use Rattle.nv_host.specs.PageSets.{IsOf, Pages}
 use Rattle.nv_queue.proofs.KeptLaws.{slots_apart}
 use Rattle.nv_queue.specs.Numbers.{next, slot_of}
-use Rattle.nv_queue.specs.Rings.{IsSubmitFull, submitted_one}
-use Rattle.nv_queue.specs.Slots.{with_submission}
+use Rattle.nv_queue.specs.Rings.{IsSubmitFull}
 use Rattle.nv_command.specs.declared.command.Command.{Command}
-use Rattle.nv_model.specs.Step.{next_serial}
+use Rattle.nv_bus.specs.Bus.{BusValue}
 use Rattle.nv_model.specs.Conditions.{limit_of}
 use Rattle.nv_model.proofs.LimitLaws.{limit_bounds}
 use Rattle.nv_driver.specs.Batch.{numbered_command}
@@ -25,25 +24,23 @@ use Rattle.nv_driver.specs.Exchange.{IsReady}
 use Rattle.nv_driver.specs.Keeping.{AreInOrder}
 use Rattle.nv_driver.specs.Layout.{pages_of_command}
 use Rattle.nv_driver.specs.Request.{CanBeSent}
-use Rattle.nv_driver.specs.Schedule.{AreOutside, Happens, MaySubmit, Sent, Submit, World}
-use Rattle.nv_driver.specs.Schedule.{entry, numbered, own_pages, slot, submit_ring}
+use Rattle.nv_driver.specs.Schedule.{AreOutside, MaySubmit, Sent, World, numbered, own_pages, slot}
 use Rattle.nv_driver.specs.inner.Submitting.{IsSubmitted}
 use Rattle.nv_driver.specs.Submitting.{sent_by}
-use Rattle.nv_driver.specs.UnderWay.{IsKept, IsUnderWay, Run, kept_at, numbered_of, pages_of_all, pair_at, serial_at}
-use Rattle.nv_driver.specs.UnderWay.{setting_of, world_at}
+use Rattle.nv_driver.specs.UnderWay.{IsKept, IsUnderWay, Run, kept_at, numbered_of, pages_of_all, serial_at}
+use Rattle.nv_driver.specs.UnderWay.{setting_of, way, world_of}
 use Rattle.nv_driver.specs.declared.batch.Batch.{Batch}
 use Rattle.nv_driver.specs.declared.command_pages.CommandPages.{CommandPages}
 use Rattle.nv_driver.specs.declared.geometry.Geometry.{Geometry}
 use Rattle.nv_driver.specs.declared.queue_pair.QueuePair.{QueuePair as QueuePairFields}
-use Rattle.nv_driver.proofs.BatchLaws.{command_at, length-from_serial, serial_next}
+use Rattle.nv_driver.proofs.BatchLaws.{command_at, length-from_serial}
 use Rattle.nv_driver.proofs.CountLaws.{number_above, number_next}
 use Rattle.nv_driver.proofs.PageSetLaws.{full_length, in_of, is_in}
 use Rattle.nv_driver.proofs.PointerLaws.{seven_pages}
 use Rattle.nv_driver.proofs.RequestLaws.{is_request}
-use Rattle.nv_driver.proofs.ScheduleLaws.{submit_others}
-use Rattle.nv_driver.proofs.SubmitLaws.{each_more, submit_keeps}
-use Rattle.nv_driver.proofs.SubmittingLaws.{Has, buffer_of, distinct_of, has_taken, list_of, pages_are, pairs_same}
-use Rattle.nv_driver.proofs.SubmittingLaws.{length-data_pages}
+use Rattle.nv_driver.proofs.OnWayLaws.{submits_on}
+use Rattle.nv_driver.proofs.SubmitLaws.{each_more}
+use Rattle.nv_driver.proofs.SubmittingLaws.{Has, has_taken, length-data_pages, pages_are, place_taken}
 use Rattle.nv_driver.proofs.TurnLaws.{no_command}
 use Rattle.nv_driver.proofs.WindowPageLaws.{few_pages, fresh, page_of_one, pages-append, taken_also, taken_len}
 use Rattle.nv_driver.proofs.WindowPageLaws.{without_also}
@@ -51,8 +48,8 @@ use Rattle.nv_driver.proofs.WindowPageLaws.{without_also}
 -- ---- what is known meanwhile
 
 -- the pages of the outstanding commands
-abbrev pub held : {r : Run} {bells turns : ℕ} {b : Batch} {l : QueuePairFields} {now : ℕ}
-    {bytes : List ℕ} → IsUnderWay r bells turns b l now bytes → List ℕ
+abbrev pub held : {r : Run} {bells turns : ℕ} {b : Batch} {bus : BusValue} {l : QueuePairFields} {now : ℕ}
+    {bytes : List ℕ} → IsUnderWay r bells turns b bus l now bytes → List ℕ
 held {r} {bells} {turns} {b} u = pages_of_all (drop b.collected u.course.sent)
 
 pub own_length : (r : Run) (o : List (Option CommandPages)) (n : ℕ) (x : Sent)
@@ -62,10 +59,10 @@ own_length r o n x ready k =
     let seven = seven_pages r.geometry.page_size ready.geometry.page_size in
     rw (k.sent) (omega (arith, length-data_pages k.one k.seven (omega (arith, k.few)), k.few))
 
-module _ {r : Run} {bells turns : ℕ} {b : Batch} {l : QueuePairFields} {now : ℕ} {bytes : List ℕ}
-    (u : IsUnderWay r bells turns b l now bytes) where
+module _ {r : Run} {bells turns : ℕ} {b : Batch} {bus : BusValue} {l : QueuePairFields} {now : ℕ} {bytes : List ℕ}
+    (u : IsUnderWay r bells turns b bus l now bytes) where
   abbrev pub world : World
-  world = world_at u.course bells turns b.told bytes
+  world = world_of (way r u.course bells turns b.told) bus bytes
 
   pub counts : AreInOrder r.pair.submission.depth b.collected turns bells b.sent b.told
   counts = rw (u.collected, u.sent) at u.keeps.counts
@@ -79,11 +76,8 @@ module _ {r : Run} {bells turns : ℕ} {b : Batch} {l : QueuePairFields} {now : 
       ∙ get_or-take b.sent (numbered_of r) n (numbered no_command) below
       ∙ command_at r.pair.serial n r.commands (numbered no_command) e u.begun.laid.serial (omega (arith, u.some))
 
-  pub pages_left : l.pages ≡ without r.pair.pages (held u)
-  pages_left = ap (λ (q : QueuePairFields). q.pages) u.pair
-
   pub still_inside : (l.pages.first + l.pages.count) * r.geometry.page_size ≤ length bytes
-  still_inside = rw pages_left (let laid = u.begun.laid in omega (arith, laid.inside, u.size))
+  still_inside = rw (u.left) (let laid = u.begun.laid in omega (arith, laid.inside, u.size))
 
   pub set_has : b.sent < b.collected + r.geometry.window
       → pages_of_command r.geometry.page_size ≤ set.len l.pages.members
@@ -93,7 +87,7 @@ module _ {r : Run} {bells turns : ℕ} {b : Batch} {l : QueuePairFields} {now : 
       let xs = drop b.collected u.course.sent in
       let all = ap (set.len) u.begun.quiet.free ∙ full_length pages.first pages.count in
       let rest = taken_len pages (held u) u.taken in
-      let now_has = ap (λ (p : Pages). set.len p.members) pages_left in
+      let now_has = ap (λ (p : Pages). set.len p.members) u.left in
       let few = few_pages each xs (λ n d h.
       subst (λ (x : Sent). length (own_pages x) ≤ each) (sym (get_or-drop b.collected u.course.sent n d))
       (own_length r b.outstanding (b.collected + n) _ u.begun
@@ -105,28 +99,29 @@ module _ {r : Run} {bells turns : ℕ} {b : Batch} {l : QueuePairFields} {now : 
       omega (arith, all, rest, now_has, few, times, u.begun.room)
 
   pub serial_below : l.serial < 65535
-  serial_below = rw (ap (λ (q : QueuePairFields). q.serial) u.pair) (mod_below (r.pair.serial + b.sent) 65535
+  serial_below = rw (ap (λ (q : QueuePairFields). q.serial) u.pair) (mod_below (r.pair.serial + length u.course.sent) 65535
       (omega arith))
 
   pub has_slot : b.sent < b.collected + r.geometry.window → ¬ IsSubmitFull l.submission
   has_slot more full =
       let window = u.begun.geometry.window in
-      let c = counts in
-      let far = number_above (setting_of r) b.collected b.sent (omega (arith, window.2, u.begun.depth))
-      (omega (arith, c.collected, c.done, c.rung)) (omega (arith, window.2, u.begun.depth)) in
+      let c = u.keeps.counts in
+      let far = number_above (setting_of r) (length u.course.answers) (length u.course.sent)
+      (omega (arith, window.2, u.begun.depth)) (omega (arith, c.collected, c.done, c.rung))
+      (omega (arith, more, u.sent, u.collected, window.2, u.begun.depth)) in
       let is = subst IsSubmitFull (ap (λ (q : QueuePairFields). q.submission) u.pair) full in
-      omega (arith, far, is, more, window.2, u.begun.depth)
+      omega (arith, far, is, more, u.sent, u.collected, window.2, u.begun.depth)
 
 -- the tail after one more command
-pub tail_after : {r : Run} {bells turns : ℕ} {b : Batch} {l : QueuePairFields} {now : ℕ} {bytes : List ℕ}
-    (u : IsUnderWay r bells turns b l now bytes) (n tail : ℕ)
+pub tail_after : {r : Run} {bells turns : ℕ} {b : Batch} {bus : BusValue} {l : QueuePairFields} {now : ℕ}
+    {bytes : List ℕ} (u : IsUnderWay r bells turns b bus l now bytes) (n tail : ℕ)
     → n ≡ b.sent → tail ≡ slot_of l.submission.depth
     (next l.submission.depth l.submission.submitted) → tail ≡ slot (setting_of r) (n + 1)
 tail_after {r} {bells} {turns} {b} u n tail sent is =
     is ∙ ap (λ (q : QueuePairFields). slot_of q.submission.depth
     (next q.submission.depth q.submission.submitted)) u.pair
-    ∙ ap (slot_of (setting_of r).depth) (number_next (setting_of r) b.sent)
-    ∙ ap (λ i. slot (setting_of r) (i + 1)) (sym sent)
+    ∙ ap (slot_of (setting_of r).depth) (number_next (setting_of r) (length u.course.sent))
+    ∙ ap (λ i. slot (setting_of r) (i + 1)) (u.sent ∙ sym sent)
 
 -- ---- a submission
 
@@ -146,15 +141,15 @@ unfolding slot_of
 two_places n m l h = λ same. slots_apart 16 m n l h (sym same)
 
 -- a command that is submitted while others are outstanding
-module _ {r : Run} {bells turns : ℕ} {b : Batch} {l l' : QueuePairFields} {now : ℕ} {bytes mem : List ℕ}
-    {k : Command} {o : CommandPages}
-    (u : IsUnderWay r bells turns b l now bytes) (more : b.sent < b.collected + r.geometry.window)
+module _ {r : Run} {bells turns : ℕ} {b : Batch} {bus : BusValue} {l l' : QueuePairFields} {now : ℕ}
+    {bytes mem : List ℕ} {k : Command} {o : CommandPages}
+    (u : IsUnderWay r bells turns b bus l now bytes) (more : b.sent < b.collected + r.geometry.window)
     (sub : IsSubmitted r.geometry k o l l' bytes mem) where
   abbrev new_one : Sent
   new_one = sent_by r.geometry k l.serial o sub.prp1 sub.prp2
 
   taken_new : AreTaken (without r.pair.pages (held u)) (own_pages new_one)
-  taken_new = subst (λ s. AreTaken s (own_pages new_one)) (pages_left u)
+  taken_new = subst (λ s. AreTaken s (own_pages new_one)) (u.left)
       (subst (AreTaken l.pages) (pages_are o sub.seven) sub.taken)
 
   may : CanBeSent k → MaySubmit (setting_of r) (world u) new_one
@@ -164,14 +159,15 @@ module _ {r : Run} {bells turns : ℕ} {b : Batch} {l l' : QueuePairFields} {now
       let c = counts u in
       let has : Has l.pages o g.page_size (length bytes) = has_taken u.begun.geometry.page_size refl
       sub.few sub.seven sub.taken (still_inside u) in
+      let place = place_taken g l.pages o bytes g.page_size _ u.begun.geometry refl has sub.enough in
       record {
         free = omega (arith, more, u.sent, u.collected, u.begun.geometry.window.2, u.begun.depth);
         can = is_request (limit_of r.bus.state r.controller) k (limit_bounds r.bus.state r.controller
             u.begun.bus.state (omega (arith, u.begun.controller, u.begun.bus.banks))).0 can;
         cid = omega (arith, serial_below u);
-        buffer = buffer_of g l.pages o bytes g.page_size _ u.begun.geometry refl has sub.enough;
-        list = list_of g l.pages o bytes g.page_size u.begun.geometry refl has;
-        distinct = distinct_of l.pages o sub.seven sub.taken;
+        buffer = place.buffer;
+        list = place.list;
+        distinct = place.distinct;
         submissions = before_pages r.pair.pages new_one g.page_size r.pair.submission.base
             (64 * r.pair.submission.depth) taken_new.own (omega (arith, laid.rings, laid.pages));
         completions = before_pages r.pair.pages new_one g.page_size r.pair.completion.base
@@ -188,17 +184,6 @@ module _ {r : Run} {bells turns : ℕ} {b : Batch} {l l' : QueuePairFields} {now
             both_ways (is_in (held u) p) (ap (is_in (held u)) same
             ∙ fresh r.pair.pages (held u) (own_pages new_one) taken_new j f low) there;
       }
-
-  submitted : CanBeSent k → Happens (setting_of r) (Submit new_one) (world u)
-      (record (world u) { mem = mem; sent = u.course.sent ++ new_one ∷ [] })
-  submitted can =
-      let t = setting_of r in
-      let w = world u in
-      let ring : l.submission ≡ submit_ring t (length w.sent) (length w.answers) =
-      ap (λ (q : QueuePairFields). q.submission) u.pair
-      ∙ rw (u.sent, u.collected) refl in
-      let put = sub.mem ∙ ap (λ q. with_submission sub.ready q (entry new_one)) ring in
-      (may can, sub.ready, sub.prepared, ap (λ m. record w { mem = m; sent = w.sent ++ new_one ∷ [] }) put)
 
   -- the window keeps the slots of the others, and has one more
   kept_more : (n : ℕ) (d : Sent) → b.collected ≤ n → n < b.sent + 1
@@ -226,20 +211,12 @@ module _ {r : Run} {bells turns : ℕ} {b : Batch} {l l' : QueuePairFields} {now
   all_held = let c = counts u in held_more u.course.sent new_one b.collected (omega
       (arith, c.collected, c.done, c.rung, u.sent))
 
-  pair_new : l' ≡ pair_at r (b.sent + 1) b.collected b.told
-      (pages_of_all (drop b.collected (u.course.sent ++ new_one ∷ [])))
-  pair_new =
-      let t = setting_of r in
-      sub.pair ∙ ap (λ (q : QueuePairFields). record q {
-        submission = submitted_one q.submission;
-        serial = next_serial q.serial;
-        pages = without q.pages (all_pages o);
-      }) u.pair
-      ∙ pairs_same (ap (λ n. record (submit_ring t b.sent b.collected) { submitted = n }) (number_next t b.sent)) refl
-      (serial_next r.pair.serial b.sent)
-      (without_also r.pair.pages (held u) (all_pages o)
+  pages_new : l'.pages ≡ without r.pair.pages (pages_of_all (drop b.collected (u.course.sent ++ new_one ∷ [])))
+  pages_new =
+      ap (λ (q : QueuePairFields). q.pages) sub.pair ∙ ap (λ s. without s (all_pages o)) u.left
+      ∙ without_also r.pair.pages (held u) (all_pages o)
       ∙ ap (λ ps. without r.pair.pages (held u ++ ps)) (pages_are o sub.seven)
-      ∙ ap (without r.pair.pages) (sym all_held))
+      ∙ ap (without r.pair.pages) (sym all_held)
 
   -- it is the next of the run's commands
   next_numbered : b.sent < length r.commands → ((d : Command) → k ≡ get_or r.commands b.sent d)
@@ -247,6 +224,7 @@ module _ {r : Run} {bells turns : ℕ} {b : Batch} {l l' : QueuePairFields} {now
   next_numbered below is =
       ap (λ q. numbered_command q l.serial) (is k)
       ∙ ap (λ (q : QueuePairFields). numbered_command (get_or r.commands b.sent k) q.serial) u.pair
+      ∙ ap (λ n. numbered_command (get_or r.commands b.sent k) (serial_at r n)) u.sent
       ∙ sym (command_at r.pair.serial b.sent r.commands (numbered new_one) k u.begun.laid.serial below)
 
   pub submits : (now' : ℕ) → b.sent < length r.commands
@@ -254,20 +232,18 @@ module _ {r : Run} {bells turns : ℕ} {b : Batch} {l l' : QueuePairFields} {now
       → IsUnderWay r bells turns (record b {
         outstanding = set b.outstanding (b.sent % 16) (Some o);
         sent = b.sent + 1;
-      }) l' now' mem
+      }) bus l' now' mem
   submits now' below is size page =
-      let t = setting_of r in
       let xs = u.course.sent in
       let can = subst CanBeSent (sym (is k)) (u.can b.sent k below) in
       let more_sent = length-append xs (new_one ∷ []) in
       record {
-        running = assumption (
-          page ∙ u.page_size,
-          size ∙ u.size,
-          length-set b.outstanding (b.sent % 16) (Some o)
-              ∙ u.room,
-        );
         course = record u.course { sent = xs ++ new_one ∷ [] };
+        on_way = submits_on u.on_way refl sub.one (may can) size page;
+        can = u.can;
+        geometry = u.geometry;
+        controller = u.controller;
+        room = length-set b.outstanding (b.sent % 16) (Some o) ∙ u.room;
         has = record {
           window = omega (arith, more);
           some = omega (arith, below);
@@ -283,28 +259,33 @@ module _ {r : Run} {bells turns : ℕ} {b : Batch} {l l' : QueuePairFields} {now
               new_one (λ i e from low. u.own i e (omega (arith, u.sent))) taken_new.own n d (omega arith)
               (omega (arith, h, u.sent, more_sent));
         };
-        keeps = submit_keeps t r.bus.state new_one (world u) _ u.keeps (submitted can);
-        others = submit_others t r.bus.state 0 r.bytes new_one (world u) _ u.keeps u.others (submitted can);
         collected = u.collected;
-        pair = pair_new;
+        left = pages_new;
       }
 
+-- a command of the run
+pub can_at : {n : ℕ} {k : Command} {ks all : List Command} (e : Command) → All CanBeSent all → ks ≡ all
+    → k ≡ get_or ks n e → n < length ks → CanBeSent k
+can_at {n = n} e can same one below =
+    subst CanBeSent (sym (one ∙ ap (λ xs. get_or xs n e) same))
+    (can n e (omega (arith, below, ap (λ (xs : List Command). length xs) same)))
+
 -- the next submission, by the number that a loop has reached
-pub submits_at : {r : Run} {bells turns : ℕ} {b : Batch} {l l' : QueuePairFields} {now now' n : ℕ}
+pub submits_at : {r : Run} {bells turns : ℕ} {b : Batch} {bus : BusValue} {l l' : QueuePairFields} {now now' n : ℕ}
     {bytes mem : List ℕ} {g : Geometry} {k : Command} {ks : List Command}
-    {o : CommandPages} (u : IsUnderWay r bells turns b l now bytes) (e : Command) → b.sent ≡ n
+    {o : CommandPages} (u : IsUnderWay r bells turns b bus l now bytes) (e : Command) → b.sent ≡ n
     → b.sent < b.collected + r.geometry.window → g ≡ r.geometry
     → IsSubmitted g k o l l' bytes mem → ks ≡ r.commands → k ≡ get_or ks n e → n < length ks
     → length mem ≡ length bytes → now' ≡ now
     → IsUnderWay r bells turns (record b {
       outstanding = set b.outstanding (n % 16) (Some o);
       sent = b.sent + 1;
-    }) l' now' mem
-submits_at {r} {bells} {turns} {b} {l} {l'} {now} {now'} {n} {bytes} {mem} {g} {k} {ks} {o} u e
+    }) bus l' now' mem
+submits_at {r} {bells} {turns} {b} {bus} {l} {l'} {now} {now'} {n} {bytes} {mem} {g} {k} {ks} {o} u e
     at more is sub same one below size page =
     let many = ap (λ (xs : List Command). length xs) same in
     subst (λ i. IsUnderWay r bells turns (record b
-    { outstanding = set b.outstanding (i % 16) (Some o); sent = b.sent + 1 }) l' now' mem) at
+    { outstanding = set b.outstanding (i % 16) (Some o); sent = b.sent + 1 }) bus l' now' mem) at
     (submits u more (subst (λ q. IsSubmitted q k o l l' bytes mem) is sub) now' (omega (arith, many))
     (λ d. one ∙ get_or_default ks n e d below ∙ ap (λ xs. get_or xs n d) same
     ∙ ap (λ i. get_or r.commands i d) (sym at)) size page)

@@ -1,11 +1,7 @@
 -- The pages of a command.
-use Rattle.std.specs.Prelude.{◌≡◌, ◌≢◌, ℕ, All, AllPairs, List, drop, take, true}
+use Rattle.std.specs.Prelude.{◌≡◌, ◌≢◌, ℕ, All, AllPairs, List, true}
 use Rattle.std.specs.FinSet as set
 use Rattle.nv_host.specs.PageSets.{IsOf, Pages}
-use Rattle.nv_driver.specs.declared.command_pages.CommandPages.{CommandPages}
-
-abbrev pub data_pages : CommandPages → List ℕ
-data_pages p = take p.data_pages (drop 2 p.numbers)
 
 -- pages in the range of a set that were in it, and are distinct
 pub record AreTaken (s : Pages) (pages : List ℕ) : Type 0 where

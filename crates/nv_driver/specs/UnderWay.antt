@@ -1,13 +1,13 @@
--- A list of commands of one controller on its way, of which several are outstanding.
+-- Requests of one controller on their way, of which several are outstanding.
 use Rattle.std.specs.Prelude.{◌≡◌, ℕ, ◌+◌, ◌%◌, ◌<◌, ◌≤◌, All, List, [], ◌++◌, ◌∷◌, Option, None}
-use Rattle.std.specs.Prelude.{Some, drop, length, map, slice_index_or, take}
-use Rattle.nv_host.specs.PageSets.{IsOf}
+use Rattle.std.specs.Prelude.{Some, drop, length, map, slice_index_or, slice_set, take}
+use Rattle.nv_host.specs.PageSets.{IsOf, Pages}
 use Rattle.nv_command.specs.declared.command.Command.{Command}
 use Rattle.nv_register.specs.declared.register_bank.RegisterBank.{RegisterBank}
 use Rattle.nv_model.specs.Conditions.{limit_of}
 use Rattle.nv_model.specs.Ranges.{serial_count}
 use Rattle.nv_model.specs.State.{State}
-use Rattle.nv_bus.specs.Bus.{BusValue}
+use Rattle.nv_bus.specs.Bus.{BusValue, IsBus, bank_at}
 use Rattle.nv_driver.specs.Batch.{from_serial}
 use Rattle.nv_driver.specs.CommandPages.{AreTaken, without}
 use Rattle.nv_driver.specs.Exchange.{IsReady}
@@ -63,6 +63,66 @@ numbered_of r = from_serial r.pair.serial r.commands
 abbrev pub serial_at : Run → ℕ → ℕ
 serial_at r n = (r.pair.serial + n) % serial_count
 
+-- ---- requests on their way
+
+-- the requests that were sent, and the answers that were collected
+pub record Course : Type 0 where
+  pub sent : List Sent
+  pub answers : List Answer
+
+-- For `rung` of a run's requests the tail doorbell was rung, `done` were executed by turns, and for `told` the
+-- head doorbell was rung.
+pub record Way : Type 0 where
+  pub run : Run
+  pub course : Course
+  pub rung : ℕ
+  pub done : ℕ
+  pub told : ℕ
+
+abbrev pub way : Run → Course → (rung done told : ℕ) → Way
+way r x rung done told = record { run = r; course = x; rung = rung; done = done; told = told }
+
+-- its schedule, with this state and these registers of the controller
+abbrev pub world_by : Way → State → RegisterBank → List ℕ → World
+world_by w s p bytes = record {
+  mem = bytes;
+  state = s;
+  bank = p;
+  sent = w.course.sent;
+  rung = w.rung;
+  done = w.done;
+  told = w.told;
+  answers = w.course.answers;
+}
+
+abbrev pub world_of : Way → BusValue → List ℕ → World
+world_of w bus bytes = world_by w bus.state (bank_at bus.banks w.run.controller) bytes
+
+-- the queue pair by how many requests were sent, collected and reported, and which pages are left
+abbrev pub pair_at : Run → (sent collected told : ℕ) → Pages → QueuePairFields
+pair_at r sent collected told pages = record {
+  submission = submit_ring (setting_of r) sent collected;
+  completion = collect_ring (setting_of r) collected told;
+  serial = serial_at r sent;
+  pages = pages;
+}
+
+-- they are on their way over a bus, a queue pair and a memory
+pub record IsOnWay (w : Way) (bus : BusValue) (l : QueuePairFields) (now : ℕ) (bytes : List ℕ)
+    : Type 0 where
+  pub begun : IsReady w.run.geometry w.run.bus w.run.controller w.run.pair w.run.geometry.page_size
+      w.run.bytes
+  pub page_size : now ≡ w.run.geometry.page_size
+  pub size : length bytes ≡ length w.run.bytes
+  pub keeps : Keeps (setting_of w.run) w.run.bus.state (world_of w bus bytes)
+  pub others : OthersStay (setting_of w.run) 0 w.run.bytes (world_of w bus bytes)
+  pub lawful : IsBus bus
+  pub banks : bus.banks
+      ≡ slice_set w.run.bus.banks w.run.controller (bank_at bus.banks w.run.controller)
+  pub pair : l ≡ pair_at w.run (length w.course.sent) (length w.course.answers) w.told l.pages
+
+-- ---- a list of commands
+
 -- the pages of commands, one after another
 abbrev pub pages_of_all : List Sent → List ℕ
 pages_of_all [] = []
@@ -81,16 +141,6 @@ pub record IsKept (r : Run) (o : Option CommandPages) (x : Sent) : Type 0 where
 abbrev pub kept_at : List (Option CommandPages) → ℕ → Option CommandPages
 kept_at places n = slice_index_or places (n % 16) None
 
--- what doesn't change during the run: its geometry, its controller, the memory's sizes, the number of slots
-pub record IsRunning (r : Run) (g : Geometry) (c places now length_now : ℕ) : Type 0 where
-  pub begun : IsReady r.geometry r.bus r.controller r.pair r.geometry.page_size r.bytes
-  pub can : All CanBeSent r.commands
-  pub geometry : g ≡ r.geometry
-  pub controller : c ≡ r.controller
-  pub page_size : now ≡ r.geometry.page_size
-  pub size : length_now ≡ length r.bytes
-  pub room : places ≡ 16
-
 -- the run's first m commands were sent, and those from k on have their slots and pages
 pub record HasSent (r : Run) (m k : ℕ) (places : List (Option CommandPages)) (xs : List Sent)
     : Type 0 where
@@ -104,48 +154,17 @@ pub record HasSent (r : Run) (m k : ℕ) (places : List (Option CommandPages)) (
   pub own : (n : ℕ) (d : Sent) → n < m
       → All (λ p. IsOf r.pair.pages.first r.pair.pages.count p) (own_pages (slice_index_or xs n d))
 
--- the parts of a schedule that the batch doesn't count
-pub record Course : Type 0 where
-  pub state : State
-  pub bank : RegisterBank
-  pub sent : List Sent
-  pub answers : List Answer
-
-abbrev pub world_at : Course → (bells turns told : ℕ) → List ℕ → World
-world_at course bells turns told bytes = record {
-  mem = bytes;
-  state = course.state;
-  bank = course.bank;
-  sent = course.sent;
-  rung = bells;
-  done = turns;
-  told = told;
-  answers = course.answers;
-}
-
--- the queue pair by how many commands were sent, collected and reported, and which pages are in use
-abbrev pub pair_at : Run → (sent collected told : ℕ) → List ℕ → QueuePairFields
-pair_at r sent collected told pages = record {
-  submission = submit_ring (setting_of r) sent collected;
-  completion = collect_ring (setting_of r) collected told;
-  serial = serial_at r sent;
-  pages = without r.pair.pages pages;
-}
-
--- for `bells` of its commands the tail doorbell was rung, and `turns` were executed by turns
-pub record IsUnderWay (r : Run) (bells turns : ℕ) (b : Batch) (l : QueuePairFields) (now : ℕ)
-    (bytes : List ℕ) : Type 0 where
-  pub running : IsRunning r b.geometry b.ctrl (length b.outstanding) now (length bytes)
-  pub open running use *
+-- a list of commands of which some were sent, and some answers were collected
+pub record IsUnderWay (r : Run) (bells turns : ℕ) (b : Batch) (bus : BusValue) (l : QueuePairFields)
+    (now : ℕ) (bytes : List ℕ) : Type 0 where
   pub course : Course
+  pub on_way : IsOnWay (way r course bells turns b.told) bus l now bytes
+  pub open on_way use *
+  pub can : All CanBeSent r.commands
+  pub geometry : b.geometry ≡ r.geometry
+  pub controller : b.ctrl ≡ r.controller
+  pub room : length b.outstanding ≡ 16
   pub has : HasSent r b.sent b.collected b.outstanding course.sent
   pub open has use *
-  pub keeps : Keeps (setting_of r) r.bus.state (world_at course bells turns b.told bytes)
-  pub others : OthersStay (setting_of r) 0 r.bytes (world_at course bells turns b.told bytes)
   pub collected : length course.answers ≡ b.collected
-  pub pair : l ≡ pair_at r b.sent b.collected b.told (pages_of_all (drop b.collected course.sent))
-
--- a run, and for how many of its commands the completions were posted
-pub record Moment : Type 0 where
-  pub run : Run
-  pub done : ℕ
+  pub left : l.pages ≡ without r.pair.pages (pages_of_all (drop b.collected course.sent))

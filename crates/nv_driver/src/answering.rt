@@ -17,9 +17,11 @@ use nv_host::HostMemory;
 use nv_layout::Cqe;
 use nv_prp::{Buffer, Spans, copy_in};
 
-/// Returns the `len` bytes that the controller sent to the buffer of a command's data.
+/// Returns the `len` bytes that the controller sent to the buffer of a command's data: where they
+/// lie, if that is in one page, or else a copy.
+#[tactic(auto, using(crate::proofs::PaddingLaws::one_page))]
 fn read_sent<'a, M: HostMemory>(
-    mem: &M,
+    mem: &'a M,
     buffer: &Buffer,
     len: u64,
     spans: &mut Spans,
@@ -32,7 +34,15 @@ fn read_sent<'a, M: HostMemory>(
         (buffer_places (M.page_len mem.now) buffer.now.pages.now buffer.now.offset len) }
     ensures len { length result.now ≡ len }
 {
-    buffer.spans(mem, len as u32, spans);
+    let len = len as u32;
+    let page_size = mem.page_size();
+    let end = buffer.offset + len;
+    let in_one_page = 0 < len && end <= page_size;
+    if in_one_page {
+        let page = mem.page(buffer.pages[0]);
+        return &page[buffer.offset as usize..end as usize];
+    }
+    buffer.spans(mem, len, spans);
     let sent = &mut data[..len as usize];
     copy_in(mem, spans, sent);
     sent

@@ -1,8 +1,8 @@
 //! A list of commands and their answers, with several commands outstanding.
 
-ghost use Rattle.std.specs.Prelude.{◌≡◌, ◌+◌, ◌-◌, ◌%◌, ◌<◌, ◌≤◌, All, MatchOption, false, length};
-ghost use Rattle.std.specs.Prelude.{None, min, set, slice_set, true};
-ghost use Rattle.nv_bus.specs.Bus.{IsBus, bank_at};
+ghost use Rattle.std.specs.Prelude.{◌≡◌, ℕ, ◌+◌, ◌-◌, ◌%◌, ◌<◌, All, MatchOption, false, length};
+ghost use Rattle.std.specs.Prelude.{None, min, slice_set, true};
+ghost use Rattle.nv_bus.specs.Bus.{BusValue, IsBus, bank_at};
 ghost use Rattle.nv_queue.specs.Numbers.{slot_of};
 ghost use Rattle.nv_queue.specs.Rings.{told_all};
 ghost use Rattle.nv_register.specs.RegisterBank.{with_register_at};
@@ -13,17 +13,20 @@ ghost use Rattle.nv_driver.specs.inner.Exchange.{KeepsOthers};
 ghost use Rattle.nv_driver.specs.Quiet.{pair_value};
 ghost use Rattle.nv_driver.specs.Request.{CanBeSent};
 ghost use Rattle.nv_driver.specs.Schedule.{slot};
-ghost use Rattle.nv_driver.specs.inner.UnderWay.{HasAnswers, IsBusOf};
-ghost use Rattle.nv_driver.specs.UnderWay.{IsUnderWay, Moment, Run, run_of, setting_of};
+ghost use Rattle.nv_driver.specs.inner.UnderWay.{HasAnswers};
+ghost use Rattle.nv_driver.specs.UnderWay.{IsUnderWay, Run, run_of, setting_of};
 ghost use Rattle.nv_driver.specs.inner.Pace.{IsToldByPace, IsToldInTime, taken_by_turn};
 
 use crate::answer_slot::AnswerSlot;
 use crate::answering::answer;
 use crate::checked_geometry::CheckedGeometry;
+use crate::collecting::next_completion;
 use crate::command_pages::CommandPages;
 use crate::host_side::HostSide;
+use crate::outgoing::length_of;
 use crate::queue_pair::QueuePair;
-use crate::submitting::{data_length, submit};
+use crate::submitting::submit_command;
+use crate::target::Target;
 use nv_bus::Bus;
 use nv_command::Command;
 use nv_host::HostMemory;
@@ -57,17 +60,17 @@ fn distance(cid: u16, next: u16) -> usize
 
 impl Batch {
     /// Creates a batch of which nothing was sent yet.
-    fn new(ctrl: u16, geometry: CheckedGeometry) -> Batch
-        ensures ctrl { result.ctrl ≡ ctrl }
-        ensures geometry { result.geometry ≡ geometry }
+    fn new(target: Target) -> Batch
+        ensures ctrl { result.ctrl ≡ target.ctrl }
+        ensures geometry { result.geometry ≡ target.geometry }
         ensures outstanding { length result.outstanding ≡ 16 }
         ensures sent { result.sent ≡ 0 }
         ensures collected { result.collected ≡ 0 }
         ensures told { result.told ≡ 0 }
     {
         Batch {
-            ctrl,
-            geometry,
+            ctrl: target.ctrl,
+            geometry: target.geometry,
             outstanding: [None; MOST],
             sent: 0,
             collected: 0,
@@ -85,10 +88,12 @@ impl Batch {
     ) -> Option<u16>
         ghost run: { Run }
         requires commands { commands.now ≡ run.commands }
-        requires under_way { IsUnderWay run self.old.sent self.old.collected
-            self.old pair.old (M.page_len host.old.mem) (M.bytes host.old.mem) }
-        ensures under_way { IsUnderWay run self.old.sent self.old.collected
-            self.new pair.new (M.page_len host.new.mem) (M.bytes host.new.mem) }
+        requires under_way { (b : BusValue) × IsUnderWay run self.old.sent self.old.collected
+            self.old b pair.old (M.page_len host.old.mem) (M.bytes host.old.mem) }
+        ensures under_way { (b : BusValue) → IsUnderWay run self.old.sent self.old.collected
+            self.old b pair.old (M.page_len host.old.mem) (M.bytes host.old.mem)
+            → IsUnderWay run self.old.sent self.old.collected
+            self.new b pair.new (M.page_len host.new.mem) (M.bytes host.new.mem) }
         ensures tail { MatchOption result (self.new.sent ≡ self.old.sent)
             (λ tail. tail ≡ slot (setting_of run) self.new.sent) }
         ensures sent { self.new.sent ≡ min (self.old.collected + self.old.geometry.window)
@@ -103,13 +108,7 @@ impl Batch {
         let end = self.sent + room.min(commands.len() - self.sent);
         let mut tail = None;
         for number in self.sent..end {
-            let (pages, next) = submit(
-                &mut host.mem,
-                pair,
-                geometry,
-                &commands[number],
-                &mut host.scratch,
-            );
+            let (pages, next) = submit_command(host, pair, geometry, &commands[number]);
             self.outstanding[number % MOST] = Some(pages);
             self.sent += 1;
             tail = Some(next);
@@ -128,14 +127,10 @@ impl Batch {
     )
         ghost run: { Run }
         requires commands { commands.now ≡ run.commands }
-        requires under_way { IsUnderWay run self.old.sent self.old.collected
-            self.old pair.old (M.page_len host.old.mem) (M.bytes host.old.mem) }
-        requires bus { IsBusOf run self.old.sent self.old.collected self.old.told
-            (B.meaning bus.old) }
-        ensures under_way { IsUnderWay run self.new.sent self.new.collected
-            self.new pair.new (M.page_len host.new.mem) (M.bytes host.new.mem) }
-        ensures bus { IsBusOf run self.new.sent self.new.collected self.new.told
-            (B.meaning bus.new) }
+        requires under_way { IsUnderWay run self.old.sent self.old.collected self.old
+            (B.meaning bus.old) pair.old (M.page_len host.old.mem) (M.bytes host.old.mem) }
+        ensures under_way { IsUnderWay run self.new.sent self.new.collected self.new
+            (B.meaning bus.new) pair.new (M.page_len host.new.mem) (M.bytes host.new.mem) }
         ensures sent { self.new.sent ≡ min (self.old.collected + self.old.geometry.window)
             (length commands.now) }
         ensures some { self.old.collected < length commands.now
@@ -172,35 +167,6 @@ impl Batch {
         self.told = self.collected;
     }
 
-    /// Gives the controller a turn, and returns how many commands it executed. If it executed none,
-    /// the head doorbell is written.
-    fn turn<B: Bus, M: HostMemory>(&mut self, bus: &mut B, mem: &mut M, pair: &mut QueuePair) -> u16
-        ghost run: { Run }
-        requires under_way { IsUnderWay run self.old.sent self.old.collected
-            self.old pair.old (M.page_len mem.old) (M.bytes mem.old) }
-        requires bus { IsBusOf run self.old.sent self.old.collected self.old.told
-            (B.meaning bus.old) }
-        requires some { self.old.collected < self.old.sent }
-        requires near { IsToldInTime self.old }
-        ensures under_way { IsUnderWay run self.new.sent (self.new.collected + result)
-            self.new pair.new (M.page_len mem.new) (M.bytes mem.new) }
-        ensures bus { IsBusOf run self.new.sent (self.new.collected + result) self.new.told
-            (B.meaning bus.new) }
-        ensures batch { self.new ≡ record self.old { told = self.new.told } }
-        ensures count { result ≡ taken_by_turn run self.old }
-        ensures near { IsToldInTime self.new }
-        ensures some { 0 < result → self.new.told ≡ self.old.told }
-        ensures none { result ≡ 0
-            → (self.old.told < self.old.collected) × (self.new.told ≡ self.old.collected) }
-    {
-        let geometry = self.geometry;
-        let posted = bus.turn(self.ctrl, mem, geometry.pace);
-        if posted == 0 {
-            self.tell(bus, pair);
-        }
-        posted
-    }
-
     /// Collects the next answer, which belongs to the command whose identifier is in the
     /// completion, and frees the command's pages. Section "Completion Queue Entry".
     fn collect_one<M: HostMemory>(
@@ -210,29 +176,29 @@ impl Batch {
         commands: &[Command],
         answers: &mut [AnswerSlot],
     )
-        ghost at: { Moment }
-        requires commands { commands.now ≡ at.run.commands }
-        requires under_way { IsUnderWay at.run self.old.sent at.done
-            self.old pair.old (M.page_len host.old.mem) (M.bytes host.old.mem) }
-        requires answers { HasAnswers at.run self.old.collected answers.old }
-        requires posted { self.old.collected < at.done }
-        ensures under_way { IsUnderWay at.run self.new.sent at.done
-            self.new pair.new (M.page_len host.new.mem) (M.bytes host.new.mem) }
-        ensures answers { HasAnswers at.run self.new.collected answers.new }
+        ghost run: { Run }
+        requires commands { commands.now ≡ run.commands }
+        requires under_way { (b : BusValue) × (done : ℕ) × IsUnderWay run self.old.sent done
+            self.old b pair.old (M.page_len host.old.mem) (M.bytes host.old.mem)
+            × (self.old.collected < done) }
+        requires answers { HasAnswers run self.old.collected answers.old }
+        ensures under_way { (b : BusValue) (done : ℕ) → IsUnderWay run self.old.sent done
+            self.old b pair.old (M.page_len host.old.mem) (M.bytes host.old.mem)
+            → self.old.collected < done → IsUnderWay run self.new.sent done
+            self.new b pair.new (M.page_len host.new.mem) (M.bytes host.new.mem) }
+        ensures answers { HasAnswers run self.new.collected answers.new }
         ensures batch { self.new ≡ record self.old { collected = self.old.collected + 1 } }
     {
-        let completion = pair.completion.poll(&host.mem).unwrap();
-        pair.submission.freed(completion.sq_head);
+        let completion = next_completion(&host.mem, pair);
         let number = self.sent - distance(completion.cid, pair.serial);
         let pages = self.outstanding[number % MOST].unwrap();
         pages.give(&mut pair.pages);
-        let geometry = self.geometry;
         let command = &commands[number];
-        let offset = geometry.offset_for(data_length(command));
-        let buffer = pages.buffer(offset);
+        let len = length_of(command.transfer());
+        let place = pages.place(self.geometry, len);
         answer(
             &host.mem,
-            &buffer,
+            &place.buffer,
             command,
             &completion,
             &mut answers[number],
@@ -241,51 +207,9 @@ impl Batch {
         self.collected += 1;
     }
 
-    /// Collects `posted` answers, and writes the head doorbell each time that the geometry's pace is
-    /// reached.
-    fn collect<B: Bus, M: HostMemory>(
-        &mut self,
-        bus: &mut B,
-        host: &mut HostSide<M>,
-        pair: &mut QueuePair,
-        commands: &[Command],
-        answers: &mut [AnswerSlot],
-        posted: u16,
-    )
-        ghost at: { Moment }
-        requires commands { commands.now ≡ at.run.commands }
-        requires under_way { IsUnderWay at.run self.old.sent at.done
-            self.old pair.old (M.page_len host.old.mem) (M.bytes host.old.mem) }
-        requires bus { IsBusOf at.run self.old.sent at.done self.old.told (B.meaning bus.old) }
-        requires answers { HasAnswers at.run self.old.collected answers.old }
-        requires posted { self.old.collected + posted ≡ at.done }
-        requires near { IsToldInTime self.old }
-        ensures under_way { IsUnderWay at.run self.new.sent at.done
-            self.new pair.new (M.page_len host.new.mem) (M.bytes host.new.mem) }
-        ensures bus { IsBusOf at.run self.new.sent at.done self.new.told (B.meaning bus.new) }
-        ensures answers { HasAnswers at.run self.new.collected answers.new }
-        ensures batch { self.new ≡ record self.old {
-          collected = at.done;
-          told = self.new.told;
-        } }
-        ensures near { IsToldInTime self.new }
-        ensures paced { IsToldByPace self.old.geometry.pace self.old.told self.new.told }
-        ensures told { posted ≡ 0 → self.new.told ≡ self.old.told }
-    {
-        let geometry = self.geometry;
-        let pace = usize::from(geometry.pace);
-        for _ in 0..posted {
-            self.collect_one(host, pair, commands, answers);
-            if self.collected - self.told == pace {
-                self.tell(bus, pair);
-            }
-        }
-    }
-
-    /// Submits what can be submitted, gives the controller a turn, and collects the answers. The
-    /// head doorbell is written each time that the geometry's pace is reached, and if the turn took
-    /// nothing.
-    fn round<B: Bus, M: HostMemory>(
+    /// Gives the controller a turn, and collects the answers that it posted. The head doorbell is
+    /// written each time that the geometry's pace is reached, and if the turn took nothing.
+    fn turn<B: Bus, M: HostMemory>(
         &mut self,
         bus: &mut B,
         host: &mut HostSide<M>,
@@ -295,31 +219,34 @@ impl Batch {
     )
         ghost run: { Run }
         requires commands { commands.now ≡ run.commands }
-        requires under_way { IsUnderWay run self.old.sent self.old.collected
-            self.old pair.old (M.page_len host.old.mem) (M.bytes host.old.mem) }
-        requires bus { IsBusOf run self.old.sent self.old.collected self.old.told
-            (B.meaning bus.old) }
+        requires under_way { IsUnderWay run self.old.sent self.old.collected self.old
+            (B.meaning bus.old) pair.old (M.page_len host.old.mem) (M.bytes host.old.mem) }
         requires answers { HasAnswers run self.old.collected answers.old }
-        requires some { self.old.collected < length commands.now }
+        requires some { self.old.collected < self.old.sent }
         requires near { IsToldInTime self.old }
-        ensures under_way { IsUnderWay run self.new.sent self.new.collected
-            self.new pair.new (M.page_len host.new.mem) (M.bytes host.new.mem) }
-        ensures bus { IsBusOf run self.new.sent self.new.collected self.new.told
-            (B.meaning bus.new) }
+        ensures under_way { IsUnderWay run self.new.sent self.new.collected self.new
+            (B.meaning bus.new) pair.new (M.page_len host.new.mem) (M.bytes host.new.mem) }
         ensures answers { HasAnswers run self.new.collected answers.new }
         ensures near { IsToldInTime self.new }
-        ensures sent { self.new.sent ≡ min (self.old.collected + self.old.geometry.window)
-            (length commands.now) }
-        ensures count { self.new.collected ≡ self.old.collected
-            + taken_by_turn run (record self.old { sent = self.new.sent }) }
+        ensures count { self.new.collected ≡ self.old.collected + taken_by_turn run self.old }
         ensures paced { self.old.collected < self.new.collected
             → IsToldByPace self.old.geometry.pace self.old.told self.new.told }
         ensures none { self.new.collected ≡ self.old.collected
             → (self.old.told < self.old.collected) × (self.new.told ≡ self.old.collected) }
     {
-        self.send(bus, host, pair, commands);
-        let posted = self.turn(bus, &mut host.mem, pair);
-        self.collect(bus, host, pair, commands, answers, posted);
+        let geometry = self.geometry;
+        let posted = bus.turn(self.ctrl, &mut host.mem, geometry.pace);
+        if posted == 0 {
+            self.tell(bus, pair);
+            return;
+        }
+        let pace = usize::from(geometry.pace);
+        for _ in 0..posted {
+            self.collect_one(host, pair, commands, answers);
+            if self.collected - self.told == pace {
+                self.tell(bus, pair);
+            }
+        }
     }
 }
 
@@ -327,38 +254,40 @@ impl Batch {
 /// its queue pair is outstanding before or after.
 pub(crate) fn exchange_all<B: Bus, M: HostMemory>(
     bus: &mut B,
-    ctrl: u16,
+    target: Target,
     host: &mut HostSide<M>,
     pair: &mut QueuePair,
-    geometry: CheckedGeometry,
     commands: &[Command],
     answers: &mut [AnswerSlot],
 )
     ghost run: { Run }
     requires run { run
-        ≡ run_of geometry ctrl (B.meaning bus.old) pair.old (M.bytes host.old.mem) commands.now }
-    requires ready { IsReady geometry (B.meaning bus.old) ctrl
+        ≡ run_of target.geometry target.ctrl (B.meaning bus.old) pair.old
+        (M.bytes host.old.mem) commands.now }
+    requires ready { IsReady target.geometry (B.meaning bus.old) target.ctrl
         pair.old (M.page_len host.old.mem) (M.bytes host.old.mem) }
     requires can { All CanBeSent commands.now }
     requires len { length answers.old ≡ length commands.now }
     ensures answers { answers.new
-        ≡ answers_of ctrl (B.meaning bus.old).state pair.old.serial commands.now }
+        ≡ answers_of target.ctrl (B.meaning bus.old).state pair.old.serial commands.now }
     ensures state { (B.meaning bus.new).state
-        ≡ state_after ctrl (B.meaning bus.old).state pair.old.serial commands.now }
-    ensures ready { IsReady geometry (B.meaning bus.new) ctrl
+        ≡ state_after target.ctrl (B.meaning bus.old).state pair.old.serial commands.now }
+    ensures ready { IsReady target.geometry (B.meaning bus.new) target.ctrl
         pair.new (M.page_len host.new.mem) (M.bytes host.new.mem) }
     ensures banks { (B.meaning bus.new).banks
-        ≡ slice_set (B.meaning bus.old).banks ctrl (bank_at (B.meaning bus.new).banks ctrl) }
+        ≡ slice_set (B.meaning bus.old).banks target.ctrl
+        (bank_at (B.meaning bus.new).banks target.ctrl) }
     ensures pair { pair_value pair.new
         ≡ after_some (length commands.now) (pair_value pair.old) }
-    ensures others { KeepsOthers geometry.page_size (pair_value pair.old)
+    ensures others { KeepsOthers target.geometry.page_size (pair_value pair.old)
         (M.bytes host.old.mem) (M.bytes host.new.mem) }
     ensures len { length (M.bytes host.new.mem) ≡ length (M.bytes host.old.mem) }
     ensures page { M.page_len host.new.mem ≡ M.page_len host.old.mem }
 {
-    let mut batch = Batch::new(ctrl, geometry);
+    let mut batch = Batch::new(target);
     while batch.collected < commands.len() {
-        batch.round(bus, host, pair, commands, answers);
+        batch.send(bus, host, pair, commands);
+        batch.turn(bus, host, pair, commands, answers);
     }
     batch.tell(bus, pair);
 }

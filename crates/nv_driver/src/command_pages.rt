@@ -1,15 +1,17 @@
 //! The pages that one command has in the host's memory.
 
-ghost use Rattle.std.specs.Prelude.{◌≡◌, ◌≢◌, ◌+◌, ◌≤◌, All, AllPairs, false, length, slice_index};
+ghost use Rattle.std.specs.Prelude.{◌≡◌, ◌≢◌, ◌+◌, ◌≤◌, All, AllPairs, false, length};
 ghost use Rattle.std.specs.FinSet as set;
 ghost use Rattle.nv_host.specs.PageSets.{IsOf};
 ghost use Rattle.nv_driver.specs.inner.CommandPages.{AreLowest, all_pages, with_pages};
-ghost use Rattle.nv_driver.specs.CommandPages.{AreTaken, data_pages, without};
+ghost use Rattle.nv_driver.specs.CommandPages.{AreTaken, without};
 ghost use Rattle.nv_driver.specs.inner.Layout.{most_data_pages};
+ghost use Rattle.nv_driver.specs.Submitting.{place_in};
+ghost use Rattle.nv_driver.specs.inner.Submitting.{place_of};
 
-use crate::data_place::{buffer_in, list_in};
+use crate::checked_geometry::CheckedGeometry;
+use crate::data_place::DataPlace;
 use nv_host::{PageNo, PageSet};
-use nv_prp::{Buffer, ListPlace};
 
 /// The greatest number of pages of one command: five for 16,384 bytes that begin inside a page of
 /// 4,096, and two for a list.
@@ -60,23 +62,12 @@ impl CommandPages {
         }
     }
 
-    /// Returns the pages of the data, which begins at an offset in bytes.
-    pub(crate) fn buffer(&self, offset: u32) -> Buffer<'_>
+    /// Returns the place of `len` bytes of data in the pages.
+    pub(crate) fn place(&self, geometry: CheckedGeometry, len: u32) -> DataPlace<'_>
         requires few { self.now.data_pages ≤ most_data_pages }
-        ensures pages { result.pages.now ≡ data_pages self.now }
-        ensures offset { result.offset ≡ offset }
+        ensures { place_of result
+            ≡ place_in geometry self.now.numbers self.now.data_pages len }
     {
-        buffer_in(&self.numbers, self.data_pages, offset)
-    }
-
-    /// Returns the place for a list, from an offset in bytes on.
-    pub(crate) fn list(&self, offset: u32) -> ListPlace
-        ensures { result ≡ record {
-          first = slice_index self.now.numbers 0;
-          second = slice_index self.now.numbers 1;
-          offset = offset;
-        } }
-    {
-        list_in(&self.numbers, offset)
+        DataPlace::new(&self.numbers, self.data_pages, geometry, len)
     }
 }

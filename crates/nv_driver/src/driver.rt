@@ -1,6 +1,6 @@
 //! The driver of the controllers of a bus.
 
-ghost use Rattle.std.specs.Prelude.{◌≡◌, ◌<◌, ◌≤◌, All, IfOk, IsOk, if◌then◌else◌, length};
+ghost use Rattle.std.specs.Prelude.{◌≡◌, ◌<◌, All, IfOk, IsOk, if◌then◌else◌, length};
 ghost use Rattle.nv_bus.specs.Bus.{IsBus};
 ghost use Rattle.nv_command.specs.Command.{CommandFits};
 ghost use Rattle.nv_command.specs.Logs.{IsSendable};
@@ -22,9 +22,10 @@ use crate::enabling::{enable_all, reset};
 use crate::error::DriverError;
 use crate::geometry::Geometry;
 use crate::host_side::HostSide;
-use crate::passthrough::exchange_entry;
+use crate::passthrough::{Passed, exchange_entry};
 use crate::queue_pair::{QueuePair, new_pairs};
 use crate::scratch::Scratch;
+use crate::target::Target;
 use nv_bus::{Bus, Told};
 use nv_command::Command;
 use nv_host::{FlatMemory, HostMemory};
@@ -184,16 +185,12 @@ impl Driver {
         ensures driver { self.new ≡ after_commands self.old ctrl (length commands.now) }
         ensures linked { IsLinked (B.meaning bus.new) self.new }
     {
-        let pair = &mut self.pairs[ctrl as usize];
-        exchange_all(
-            bus,
+        let target = Target {
             ctrl,
-            &mut self.host,
-            pair,
-            self.geometry,
-            commands,
-            answers,
-        );
+            geometry: self.geometry,
+        };
+        let pair = &mut self.pairs[ctrl as usize];
+        exchange_all(bus, target, &mut self.host, pair, commands, answers);
     }
 
     /// Sends an entry to a controller, unchanged except for its command identifier and data
@@ -227,19 +224,17 @@ impl Driver {
         ensures entries { HasEntryPages self.new }
         ensures linked { IsLinked (B.meaning bus.new) self.new }
     {
-        let first_page = self.geometry.pages(self.controllers() as u16);
-        let pair = &mut self.pairs[ctrl as usize];
-        exchange_entry(
-            bus,
+        let target = Target {
             ctrl,
-            &mut self.host,
-            pair,
-            self.geometry,
-            first_page,
+            geometry: self.geometry,
+        };
+        let passed = Passed {
             entry,
             bytes,
-            out,
-        )
+            first_page: self.geometry.pages(self.controllers() as u16),
+        };
+        let pair = &mut self.pairs[ctrl as usize];
+        exchange_entry(bus, target, &mut self.host, pair, &passed, out)
     }
 
     /// Returns how many controllers the driver has.

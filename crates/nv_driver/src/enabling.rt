@@ -1,6 +1,6 @@
 //! Enables and resets controllers.
 
-ghost use Rattle.std.specs.Prelude.{◌≡◌, ◌≢◌, ◌*◌, ◌<◌, ◌≤◌, All, IfErr, IsOk, MatchResult};
+ghost use Rattle.std.specs.Prelude.{◌≡◌, ◌≢◌, ◌<◌, ◌≤◌, All, IfErr, IsOk, MatchResult};
 ghost use Rattle.std.specs.Prelude.{length, map, slice_set};
 ghost use Rattle.nv_queue.specs.Slots.{HoldsTags};
 ghost use Rattle.nv_register.specs.Readiness.{is_ready};

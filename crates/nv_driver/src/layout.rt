@@ -108,6 +108,7 @@ impl CheckedGeometry {
         ghost most: { ℕ }
         requires len { len ≤ most }
         requires most { most ≤ greatest_limit }
+        ensures keeps { IsGeometry self }
         ensures enough { offset_for self len + len ≤ result * self.page_size }
         ensures none { len ≡ 0 → result ≡ 0 }
         ensures few { result + 2 ≤ pages_for most self.page_size }

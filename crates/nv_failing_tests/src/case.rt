@@ -25,7 +25,7 @@ pub enum Stream {
 }
 
 impl Stream {
-    /// Returns what a line writes to it.
+    /// Returns what a line writes to this stream.
     pub(crate) fn of(self, line: &Line) -> &str {
         match self {
             Stream::Output => line.out.as_str(),
@@ -33,7 +33,7 @@ impl Stream {
         }
     }
 
-    /// Returns the other one.
+    /// Returns the other stream.
     pub(crate) fn other(self) -> Stream {
         match self {
             Stream::Output => Stream::Messages,
@@ -152,7 +152,7 @@ impl Case {
         }
     }
 
-    /// Returns the controllers of its subsystem after power on, or none if memory was refused.
+    /// Returns the controllers of the subsystem after power on, or `None` if memory was refused.
     pub(crate) fn machine(&self, alloc: Global) -> Option<Machine>
         ensures { IfSome result IsBus }
     {

@@ -1,4 +1,4 @@
-//! The scripts that are cut short.
+//! The scripts of the cases.
 
 use crate::case::Case;
 use crate::kept::Kept;
@@ -12,7 +12,7 @@ const OFF: Option<u32> = Some(0);
 
 const NAMESPACE: &str = "Invalid Namespace or Format (0x600b)";
 
-/// Two lines that list, and one that is refused.
+/// Returns a case of two lines that list namespaces, and one that is refused.
 fn lists(alloc: Global) -> Result<Case, AllocError> {
     let mut case = Case::new(alloc, DEMO, ON)?;
     let list = "list-ns /dev/nvme0";
@@ -22,7 +22,8 @@ fn lists(alloc: Global) -> Result<Case, AllocError> {
     Ok(case)
 }
 
-/// A namespace of all the capacity that is left, one more, and the error that this causes.
+/// Returns a case that creates a namespace with all the remaining capacity and then one more, and
+/// prints the error that this causes.
 fn capacity(alloc: Global) -> Result<Case, AllocError> {
     let mut case = Case::new(alloc, DEMO, ON)?;
     case.prints(
@@ -55,7 +56,7 @@ cs                  : 0x200",
     Ok(case)
 }
 
-/// The errors of `errors`.
+/// The JSON that the case `errors` prints.
 const ERRORS: &str = "{\"errors\":[\
 {\"cmdid\":2,\"cs\":0,\"error_count\":3,\"lba\":0,\"nsid\":2,\"parm_err_loc\":65535,\
 \"sqid\":0,\"status_field\":24578,\"vs\":0},\
@@ -64,7 +65,7 @@ const ERRORS: &str = "{\"errors\":[\
 {\"cmdid\":0,\"cs\":0,\"error_count\":1,\"lba\":0,\"nsid\":0,\"parm_err_loc\":65535,\
 \"sqid\":0,\"status_field\":24587,\"vs\":0}]}";
 
-/// Three refusals, and the error log with them in JSON.
+/// Returns a case of three refusals that prints the error log in JSON.
 fn errors(alloc: Global) -> Result<Case, AllocError> {
     let mut case = Case::new(alloc, DEMO, ON)?;
     case.refused(alloc, "id-ns /dev/nvme0 -n 0", NAMESPACE, (1, 1))?;
@@ -75,7 +76,7 @@ fn errors(alloc: Global) -> Result<Case, AllocError> {
     Ok(case)
 }
 
-/// A log of 256 entries after 300 refusals.
+/// Returns a case that prints a log of 256 entries after 300 refusals.
 fn longest_log(alloc: Global) -> Result<Case, AllocError> {
     let file = DEMO.replace(alloc, "elpe = 3", "elpe = 255")?;
     let mut case = Case::new(alloc, file.as_str(), ON)?;
@@ -103,7 +104,7 @@ fn longest_log(alloc: Global) -> Result<Case, AllocError> {
     Ok(case)
 }
 
-/// A file of two controllers, with forty namespaces on both.
+/// Returns a file with two controllers and forty namespaces that are attached to both.
 fn shared_file(alloc: Global) -> Result<String, AllocError> {
     let mut file = String::new(alloc);
     write!(
@@ -122,7 +123,7 @@ fn shared_file(alloc: Global) -> Result<String, AllocError> {
     Ok(file)
 }
 
-/// Adds a device of that file to a list in JSON.
+/// Adds a device of this file to a list in JSON.
 fn add_device(text: &mut String, controller: u32, nsid: u32) -> Result<(), AllocError> {
     let comma = if controller == 0 && nsid == 1 {
         ""
@@ -139,7 +140,7 @@ fn add_device(text: &mut String, controller: u32, nsid: u32) -> Result<(), Alloc
     Ok(())
 }
 
-/// The list of forty namespaces on two controllers, in JSON.
+/// Returns a case that prints the list of forty namespaces on two controllers, in JSON.
 fn shared(alloc: Global) -> Result<Case, AllocError> {
     let file = shared_file(alloc)?;
     let mut case = Case::new(alloc, file.as_str(), None)?;
@@ -155,7 +156,7 @@ fn shared(alloc: Global) -> Result<Case, AllocError> {
     Ok(case)
 }
 
-/// A line that sets the write cache, and one that resets the controller.
+/// A line that turns the write cache off, and one that resets the controller, with what they print.
 const SET_OFF: (&str, &str) = (
     "set-feature /dev/nvme0 -f 6 -v 0",
     "set-feature:0x6 (Volatile Write Cache), value:0x0, save:0",
@@ -163,7 +164,7 @@ const SET_OFF: (&str, &str) = (
 
 const RESET: (&str, &str) = ("reset /dev/nvme0", "reset: Success");
 
-/// A value that a reset restores, twice, and one that is saved.
+/// Returns a case in which a reset twice restores a value, and then keeps a saved one.
 fn resets(alloc: Global) -> Result<Case, AllocError> {
     let mut case = Case::new(alloc, DEMO, ON)?;
     for (line, text, counts, cache) in [
@@ -186,8 +187,8 @@ fn resets(alloc: Global) -> Result<Case, AllocError> {
     Ok(case)
 }
 
-/// A line that is read byte by byte. Without its last two characters it would turn the write cache
-/// off, but if it is cut short there, the cache must stay on.
+/// Returns a case of a line that is read byte by byte. Without its last two characters it would
+/// turn the write cache off. If it is cut short there, the cache must stay on.
 fn bytes(alloc: Global) -> Result<Case, AllocError> {
     let mut case = Case::new(alloc, DEMO, ON)?;
     case.most = 1;

@@ -6,8 +6,8 @@ use nv_script::Sink;
 use std::alloc::Global;
 use std::cmp;
 
-/// Takes at most `most` bytes a write. After a given number of writes it fails: it takes none, or
-/// returns an error if `most` is odd.
+/// A sink that takes at most `most` bytes in a write. After a given number of writes it fails: it
+/// takes no bytes, or returns an error if `most` is odd.
 #[derive(Drop)]
 pub struct CutSink {
     pub taken: Vec<u8>,

@@ -6,7 +6,8 @@ ghost use Rattle.nv_stream.specs.Streams.{IsFresh};
 use nv_script::Source;
 use std::cmp;
 
-/// Provides a script in pieces of at most `most` bytes, and fails at a given call, counted from 0.
+/// A source that provides a script in pieces of at most `most` bytes, and fails at a given call,
+/// counted from 0.
 #[derive(Drop)]
 pub struct CutSource<'a> {
     script: &'a [u8],

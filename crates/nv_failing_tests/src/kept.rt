@@ -12,7 +12,7 @@ pub struct Kept {
     pub cache: Option<u32>,
 }
 
-/// The current value of the first controller's write cache.
+/// Returns the current value of the first controller's write cache, if it has one.
 fn cache_of(subsystem: &Subsystem) -> Option<u32> {
     let get = Command::GetFeature(FeatureQuery {
         fid: 6,
@@ -31,7 +31,7 @@ fn cache_of(subsystem: &Subsystem) -> Option<u32> {
 }
 
 impl Kept {
-    /// Returns the state now.
+    /// Returns the current state of a machine's first controller.
     pub(crate) fn of(machine: &Machine) -> Kept {
         let subsystem = machine.subsystem();
         let counts = if subsystem.controllers() == 0 {
@@ -45,7 +45,7 @@ impl Kept {
         }
     }
 
-    /// Returns whether this state can be between two others, of which `before` is the earlier one.
+    /// Returns whether this state can lie between two others, of which `before` is the earlier one.
     pub(crate) fn is_between(self, before: Kept, after: Kept) -> bool {
         let (refusals, commands) = self.counts;
         before.counts.0 <= refusals

@@ -1,6 +1,7 @@
 //! Tests runs that are cut short: a read, a write or an allocation fails at any place, and what the
-//! run leaves behind is compared with what its lines write. Reads and writes fail in tests. Whoever
-//! starts this program makes allocations fail; it then checks what each run left behind.
+//! run leaves behind is compared with what its lines write. The tests make reads and writes fail.
+//! The program itself only checks what each run leaves behind, and relies on its caller to make
+//! allocations fail.
 #![tactic(auto)]
 
 mod case;
@@ -20,8 +21,8 @@ use memory::{Left, run_case};
 use std::io;
 use std::process::ExitCode;
 
-/// Runs each script, and prints what it left behind. Returns whether each run left only whole
-/// lines.
+/// Runs each script, and prints what it left behind. Returns whether each run left whole lines
+/// only.
 fn run_all(rt: &HostRuntime) -> io::Result<bool> {
     let mut is_right = true;
     for case in &cases(rt.alloc())? {

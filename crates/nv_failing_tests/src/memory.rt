@@ -1,5 +1,5 @@
-//! Memory that is refused at any place: the texts of all lines before are complete, nothing of the
-//! line's own is written, and none, some or all of its commands were executed.
+//! Memory that is refused at any place: the texts of all earlier lines are complete, nothing of the
+//! current line's text is written, and none, some or all of its commands have been executed.
 
 use crate::case::{Case, Stream};
 use crate::cut_source::CutSource;
@@ -56,7 +56,7 @@ impl Streams {
         )
     }
 
-    /// Returns whether this is true for some first lines, but not for all.
+    /// Returns whether this holds for some first lines, but not for all lines.
     fn are_of_some(&self, alloc: Global, case: &Case) -> Result<bool, AllocError> {
         for lines in 0..case.lines.len() {
             if self.are_of(alloc, case, lines)? {
@@ -67,7 +67,7 @@ impl Streams {
     }
 }
 
-/// Runs a script and checks what it left behind. An error comes from outside the run.
+/// Runs a script, and checks what it left behind. An error is one outside the run.
 pub(crate) fn run_case(alloc: Global, case: &Case) -> io::Result<Left> {
     let Some(mut machine) = case.machine(alloc) else {
         return Err(io::Error::from(io::ErrorKind::OutOfMemory));

@@ -13,7 +13,7 @@ use std::alloc::Global;
 use std::process::Abort;
 use std::test::Fail;
 
-/// Returns how many newlines the first bytes of a script have.
+/// Returns how many newlines the first `bytes` bytes of a script have.
 fn newlines(script: &[u8], bytes: usize) -> usize {
     script
         .iter()
@@ -22,8 +22,8 @@ fn newlines(script: &[u8], bytes: usize) -> usize {
         .count()
 }
 
-/// Runs a script whose source provides at most `most` bytes a read and fails at a call. Returns
-/// whether it failed, which it doesn't if the script was read to its end before.
+/// Runs a script whose source provides at most `most` bytes in a read and fails at a given call.
+/// Returns whether it failed: it doesn't if the script has been read to its end before.
 fn fails_at(
     rt: &impl Abort,
     alloc: Global,
@@ -65,7 +65,7 @@ fn fails_at(
     }
 }
 
-/// The greatest number of calls of a run.
+/// An upper bound of the reads of a run.
 const MOST_CALLS: u64 = 1000;
 
 #[test]
@@ -84,7 +84,7 @@ fn executes_the_lines_that_were_read(rt: HostRuntime) -> Result<(), Fail> {
     Ok(())
 }
 
-/// Runs a script of one line, provided by one read, with at most `reads` reads.
+/// Runs a script of one line, which one read provides, with at most `reads` reads.
 fn ends_within(rt: &impl Abort, alloc: Global, reads: u32) -> Result<RunEnd, Fail>
     requires { 0 < reads }
 {

@@ -1,5 +1,5 @@
-//! A write that fails at each call: the texts of all lines before are complete, a beginning of the
-//! line's own text is written, and the line has been executed.
+//! A write that fails at each call: the texts of all earlier lines are complete, a part of the
+//! current line's text is written from its start on, and the line has been executed.
 
 use crate::case::{Case, Stream};
 use crate::cases::cases;
@@ -10,8 +10,8 @@ use std::alloc::Global;
 use std::process::Abort;
 use std::test::Fail;
 
-/// Returns the line in whose text a stream failed that had taken `taken` bytes, or none if it had
-/// taken all.
+/// Returns the line in whose text a stream failed after it had taken `taken` bytes, or `None` if it
+/// had taken all bytes.
 fn cut_line(case: &Case, stream: Stream, taken: usize) -> Option<usize> {
     let mut end = 0usize;
     for (index, line) in case.lines.iter().enumerate() {
@@ -23,7 +23,7 @@ fn cut_line(case: &Case, stream: Stream, taken: usize) -> Option<usize> {
     None
 }
 
-/// Runs a script in which one stream takes at most `most` bytes a write and fails after `calls`
+/// Runs a script in which one stream takes at most `most` bytes in a write and fails after `calls`
 /// writes. Returns whether it failed.
 fn fails_after(
     rt: &impl Abort,
@@ -69,7 +69,7 @@ fn fails_after(
     Ok(true)
 }
 
-/// The greatest number of writes of a run.
+/// An upper bound of the writes of a run.
 const MOST_CALLS: u64 = 1000;
 
 #[test]

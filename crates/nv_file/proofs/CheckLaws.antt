@@ -1,12 +1,11 @@
 -- The first check that fails, of checks one after the other.
 use Rattle.std.proofs.Common.{◌≡◌, ◌∙◌, inl, inr, Bool, true, false, if◌then◌else◌, List, [], ◌∷◌, ◌++◌, Option}
-use Rattle.std.proofs.Common.{Some, None, Result, Ok, Err, refl, sym, ap, subst}
+use Rattle.std.proofs.Common.{Some, None, Result, Ok, Err, refl, sym, ap}
 use Rattle.std.specs.Option.{option_map_or}
 use Rattle.nv_file.specs.declared.error.SubsystemError.{SubsystemError}
-use Rattle.nv_file.specs.declared.error.SubsystemError.TheVariants.{NotToml, Missing, Kind, Range, Repeated, Unknown}
-use Rattle.nv_file.specs.declared.error.SubsystemError.TheVariants.{Capacity, Attachment, Memory}
+use Rattle.nv_file.specs.declared.error.SubsystemError.TheVariants.{Memory}
 use Rattle.nv_file.specs.Check.{Check, check, checked, first_fault}
-use Rattle.nv_file.specs.Fault.{IsUnlessMemory}
+use Rattle.nv_layout.specs.UnlessMemory.{IsUnlessMemory}
 use Rattle.nv_file.specs.inner.Reading.{IsCheckedUnlessMemory}
 
 -- the first of two, or else the second
@@ -46,23 +45,9 @@ pub ruleset faults = (faults_append, faults_none, fault_of)
 
 -- ---- the same as an answer
 
-fails_exactly : {X A : Type 0} (f : X → A) (e : SubsystemError) (r : Result A SubsystemError)
-    → r ≡ Err e → IsUnlessMemory f (Err e) r
-fails_exactly f NotToml r h = h
-fails_exactly f (Missing t k) r h = h
-fails_exactly f (Kind t k) r h = h
-fails_exactly f (Range t k) r h = h
-fails_exactly f (Repeated t k) r h = h
-fails_exactly f (Unknown t) r h = h
-fails_exactly f Capacity r h = h
-fails_exactly f Attachment r h = h
-fails_exactly f Memory r h = tt
-
 pub answers : {X Y : Type 0} (view : X → Y) (checks : List Check) (value : Y) (r : Result X SubsystemError)
-    → IsCheckedUnlessMemory view checks value r → IsUnlessMemory view r (checked checks value)
+    → IsCheckedUnlessMemory view checks value r → IsUnlessMemory Memory view r (checked checks value)
 answers view checks value (Ok x) h =
     ap (λ o. option_map_or (λ e. Err e) o (Ok value)) h.0 ∙ ap (λ v. Ok v) (sym h.1)
-answers view checks value (Err e) (inl memory) =
-    subst (λ (x : SubsystemError). IsUnlessMemory view (Err x) (checked checks value)) (sym memory) tt
-answers view checks value (Err e) (inr fault) =
-    fails_exactly view e (checked checks value) (ap (λ o. option_map_or (λ x. Err x) o (Ok value)) fault)
+answers view checks value (Err e) (inl memory) = inl memory
+answers view checks value (Err e) (inr fault) = inr (ap (λ o. option_map_or (λ x. Err x) o (Ok value)) fault)

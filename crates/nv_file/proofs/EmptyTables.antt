@@ -8,6 +8,7 @@ use Rattle.nv_file.specs.declared.table_name.TableName.{TableName}
 use Rattle.nv_file.specs.Check.{check, first_fault}
 use Rattle.nv_file.specs.KeyChecks.{integer, integers_at, number_at, of_kind, optional_integer, optional_list}
 use Rattle.nv_file.specs.TableChecks.{counters_checks, counters_value, smart_checks, smart_value}
+use Rattle.nv_file.proofs.CheckLaws.{faults}
 
 -- an integer that must be there is missing
 pub nothing_there : (t : TableName) (k : Key) (low high : ℕ)
@@ -25,3 +26,5 @@ unfolding smart_value counters_value number_at integers_at
 no_smart_value = refl
 
 pub ruleset empty_tables = (nothing_there, no_smart_fault, no_smart_value)
+
+pub ruleset top_laws = (faults, empty_tables)

@@ -7,6 +7,7 @@ use Rattle.nv_file.specs.declared.controller.ControllerEntry.{ControllerEntry}
 use Rattle.nv_file.specs.declared.namespace.NamespaceEntry.{NamespaceEntry}
 use Rattle.nv_file.specs.File.{may_attach, is_cntlid, differ}
 use Rattle.nv_file.specs.FileValue.{ControllerValue, controller_entry_view, namespace_entry_view}
+use Rattle.nv_file.proofs.CheckLaws.{faults}
 
 capacities_onto : (n : ℕ) (ns : List NamespaceEntry)
     → fold (λ a m. a + m.namespace.capacity) n (map namespace_entry_view ns) ≡ fold
@@ -17,6 +18,8 @@ capacities_onto n (m ∷ ns) = capacities_onto (n + m.namespace.capacity) ns
 pub capacities : (ns : List NamespaceEntry) → sum_by (λ m. m.namespace.capacity)
     (map namespace_entry_view ns) ≡ sum_by (λ m. m.namespace.capacity) ns
 capacities ns = capacities_onto 0 ns
+
+pub ruleset file_laws = (faults, capacities)
 
 one_cntlid : (cs : List ControllerEntry) (z : ℤ)
     → is_cntlid (map controller_entry_view cs) z ≡ list_any (λ c. int_eq (pos c.identity.cntlid) z) cs

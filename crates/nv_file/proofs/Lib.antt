@@ -1,3 +1,4 @@
+pub mod Among
 pub mod Attached
 pub mod CheckLaws
 pub mod Distinct
@@ -5,5 +6,6 @@ pub mod EmptyTables
 pub mod Fused
 pub mod KeyLaws
 pub mod Keys
+pub mod Opens
 pub mod ReadTo
 pub mod TextLaws

@@ -1,5 +1,4 @@
 pub mod Check
-pub mod Fault
 pub mod FaultText
 pub mod File
 pub mod FileValue

@@ -29,7 +29,7 @@ pub struct ControllerEntry {
     pub smart: SmartBase,
 }
 
-#[tactic(auto, using(crate::proofs::CheckLaws::faults), unfolding(crate::specs::TableChecks::controller_checks, crate::specs::TableChecks::controller_value, crate::specs::TableChecks::identity_value, crate::specs::TableChecks::numbers_value))]
+#[tactic(auto, using(crate::proofs::CheckLaws::faults), unfolding(crate::proofs::Opens::controller))]
 fn controller_entry_of(
     alloc: Global,
     version: u8,

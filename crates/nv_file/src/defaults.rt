@@ -35,7 +35,7 @@ fn nine(numbers: &[u16]) -> [u16; 9]
 }
 
 /// What a key of Temperature Threshold holds, or what stands for it where it is missing.
-#[tactic(auto, using(crate::proofs::CheckLaws::faults), unfolding(crate::specs::TableChecks::thresholds, crate::specs::TableChecks::thresholds_at))]
+#[tactic(auto, using(crate::proofs::CheckLaws::faults), unfolding(crate::proofs::Opens::over_and_under))]
 fn thresholds_or(
     alloc: Global,
     default: [u16; 9],
@@ -71,7 +71,7 @@ fn default_over(wctemp: u16) -> [u16; 9]
 }
 
 /// The defaults of a feature, of which `value` is what stands at `default`.
-#[tactic(auto, using(crate::proofs::CheckLaws::faults), unfolding(crate::specs::TableChecks::defaults_checks, crate::specs::TableChecks::defaults_value))]
+#[tactic(auto, using(crate::proofs::CheckLaws::faults), unfolding(crate::proofs::Opens::defaults))]
 pub(crate) fn defaults_of(
     alloc: Global,
     version: u8,

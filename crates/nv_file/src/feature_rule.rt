@@ -60,7 +60,7 @@ fn may_save(fid: u8, saveable: bool) -> bool
     !(saveable && fid == 0x05)
 }
 
-#[tactic(auto, using(crate::proofs::CheckLaws::faults), unfolding(crate::specs::TableChecks::feature_checks, crate::specs::TableChecks::feature_value))]
+#[tactic(auto, using(crate::proofs::CheckLaws::faults), unfolding(crate::proofs::Opens::feature))]
 fn feature_of(
     alloc: Global,
     version: u8,

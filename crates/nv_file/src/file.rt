@@ -6,7 +6,7 @@ ghost use Rattle.toml.specs.Data.{no_members};
 ghost use Rattle.toml.specs.Errors.{IsBlank};
 ghost use Rattle.toml.specs.Parse.{parse_document};
 ghost use Rattle.toml.specs.View.{table_view};
-ghost use Rattle.nv_file.specs.Fault.{IsUnlessMemory};
+ghost use Rattle.nv_layout.specs.UnlessMemory.{IsUnlessMemory};
 ghost use Rattle.nv_file.specs.FileValue.{file_view};
 ghost use Rattle.nv_file.specs.File.{IsBlankText, document, file, file_checks, file_value};
 ghost use Rattle.nv_file.specs.File.{no_version};
@@ -44,7 +44,7 @@ pub struct File {
 
 /// The table that a text is.
 fn parsed(alloc: Global, text: &str) -> Result<Table, SubsystemError>
-    ensures exact { IsUnlessMemory table_view result
+    ensures exact { IsUnlessMemory SubsystemError.Memory table_view result
         (ok_or (parse_document text.now) SubsystemError.NotToml) }
     ensures blank { IsBlank text.now → IsAnswer table_view result (Ok no_members) }
 {
@@ -62,7 +62,7 @@ fn parsed(alloc: Global, text: &str) -> Result<Table, SubsystemError>
 
 /// The top table of a document; bytes that are no text are refused before anything is allocated.
 fn document(alloc: Global, bytes: &[u8]) -> Result<Table, SubsystemError>
-    ensures exact { IsUnlessMemory table_view result (document bytes.now) }
+    ensures exact { IsUnlessMemory SubsystemError.Memory table_view result (document bytes.now) }
     ensures text { is_utf8 bytes.now ≡ false → result ≡ Err SubsystemError.NotToml }
     ensures blank { IsBlankText bytes.now → IsAnswer table_view result (Ok no_members) }
 {
@@ -87,7 +87,7 @@ fn fits(tnvmcap: u64, namespaces: &[NamespaceEntry]) -> bool
     true
 }
 
-#[tactic(auto, using(crate::proofs::CheckLaws::faults, crate::proofs::Fused::capacities), unfolding(crate::specs::File::file_checks, crate::specs::File::file_value))]
+#[tactic(auto, using(crate::proofs::Fused::file_laws), unfolding(crate::proofs::Opens::file))]
 fn file_of(alloc: Global, table: &Table) -> Result<File, SubsystemError>
     ensures exact { IsCheckedUnlessMemory file_view (file_checks (table_view table.now))
         (file_value (table_view table.now)) result }
@@ -121,7 +121,7 @@ impl File {
     /// text of white space and comments alone.
     #[tactic(auto, unfolding(crate::specs::File::file))]
     pub fn from_toml(alloc: Global, bytes: &[u8]) -> Result<File, SubsystemError>
-        ensures exact { IsUnlessMemory file_view result (file bytes.now) }
+        ensures exact { IsUnlessMemory SubsystemError.Memory file_view result (file bytes.now) }
         ensures text { is_utf8 bytes.now ≡ false → result ≡ Err SubsystemError.NotToml }
         ensures blank { IsBlankText bytes.now → result ≡ Err no_version }
         ensures sound { IfOk result (λ f. IsFile (file_view f)) }

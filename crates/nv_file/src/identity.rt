@@ -16,7 +16,7 @@ use nv_model::{Identity, IdentityNumbers};
 use std::alloc::Global;
 use toml::Table;
 
-#[tactic(auto, using(crate::proofs::CheckLaws::faults), unfolding(crate::specs::TableChecks::numbers_checks, crate::specs::TableChecks::numbers_value))]
+#[tactic(auto, using(crate::proofs::CheckLaws::faults), unfolding(crate::proofs::Opens::numbers))]
 fn identity_numbers_of(table: &Table) -> Result<IdentityNumbers, SubsystemError>
     ensures exact { IsChecked (λ n. n) (numbers_checks (table_view table.now))
         (numbers_value (table_view table.now)) result }
@@ -57,7 +57,7 @@ fn has_cntlid(controllers: &[ControllerEntry], cntlid: u16) -> bool
 }
 
 /// What a controller says of itself, with the controllers before it at hand.
-#[tactic(auto, using(crate::proofs::CheckLaws::faults), unfolding(crate::specs::TableChecks::identity_checks, crate::specs::TableChecks::identity_value))]
+#[tactic(auto, using(crate::proofs::CheckLaws::faults), unfolding(crate::proofs::Opens::identity))]
 pub(crate) fn identity_of(
     alloc: Global,
     before: &[ControllerEntry],

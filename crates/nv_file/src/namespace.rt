@@ -77,7 +77,7 @@ fn may_extend(mc: u8, format: &Format, extended: bool) -> bool
     !extended || (format.ms > 0 && mc & 1 == 1)
 }
 
-#[tactic(auto, using(crate::proofs::CheckLaws::faults), unfolding(crate::specs::TableChecks::namespace_checks, crate::specs::TableChecks::namespace_value))]
+#[tactic(auto, using(crate::proofs::CheckLaws::faults), unfolding(crate::proofs::Opens::namespace))]
 fn namespace_entry_of(
     alloc: Global,
     nn: u32,

@@ -110,7 +110,7 @@ impl<'a> Section<'a> {
     }
 
     /// A required integer from `low` to `high`.
-    #[tactic(auto, using(crate::proofs::CheckLaws::faults), unfolding(crate::specs::KeyChecks::integer, crate::specs::KeyChecks::optional_integer, crate::specs::KeyChecks::of_kind, crate::specs::KeyChecks::number_at))]
+    #[tactic(auto, using(crate::proofs::CheckLaws::faults), unfolding(crate::proofs::Opens::keys))]
     pub(crate) fn integer(&self, key: Key, low: u64, high: u64) -> Result<u64, SubsystemError>
         ensures exact { IsChecked (λ n. n)
             (row.integer self.now.name key low high (table_view self.now.table.now))
@@ -123,7 +123,7 @@ impl<'a> Section<'a> {
     }
 
     /// An optional integer from `low` to `high`.
-    #[tactic(auto, using(crate::proofs::CheckLaws::faults), unfolding(crate::specs::KeyChecks::optional_integer, crate::specs::KeyChecks::of_kind, crate::specs::KeyChecks::number_at))]
+    #[tactic(auto, using(crate::proofs::CheckLaws::faults), unfolding(crate::proofs::Opens::keys))]
     pub(crate) fn integer_or(
         &self,
         key: Key,
@@ -153,7 +153,7 @@ impl<'a> Section<'a> {
     }
 
     /// An optional true or false.
-    #[tactic(auto, using(crate::proofs::CheckLaws::faults), unfolding(crate::specs::KeyChecks::of_kind, crate::specs::KeyChecks::flag_at))]
+    #[tactic(auto, using(crate::proofs::CheckLaws::faults), unfolding(crate::proofs::Opens::keys))]
     pub(crate) fn flag_or(&self, key: Key, default: bool) -> Result<bool, SubsystemError>
         ensures { IsChecked (λ b. b)
             (row.flag self.now.name key (table_view self.now.table.now))
@@ -167,7 +167,7 @@ impl<'a> Section<'a> {
     }
 
     /// A required text of 1 to `most` bytes.
-    #[tactic(auto, using(crate::proofs::CheckLaws::faults), unfolding(crate::specs::KeyChecks::text, crate::specs::KeyChecks::of_kind, crate::specs::KeyChecks::text_at))]
+    #[tactic(auto, using(crate::proofs::CheckLaws::faults), unfolding(crate::proofs::Opens::keys))]
     pub(crate) fn text(
         &self,
         alloc: Global,
@@ -209,7 +209,7 @@ impl<'a> Section<'a> {
     }
 
     /// A required list of 1 to `most` tables.
-    #[tactic(auto, using(crate::proofs::CheckLaws::faults), unfolding(crate::specs::KeyChecks::tables, crate::specs::KeyChecks::of_kind, crate::specs::KeyChecks::tables_at))]
+    #[tactic(auto, using(crate::proofs::CheckLaws::faults), unfolding(crate::proofs::Opens::keys))]
     pub(crate) fn tables(
         &self,
         alloc: Global,
@@ -231,7 +231,7 @@ impl<'a> Section<'a> {
     }
 
     /// An optional list of tables, of any length.
-    #[tactic(auto, using(crate::proofs::CheckLaws::faults), unfolding(crate::specs::KeyChecks::of_kind, crate::specs::KeyChecks::tables_at))]
+    #[tactic(auto, using(crate::proofs::CheckLaws::faults), unfolding(crate::proofs::Opens::keys))]
     pub(crate) fn tables_or_none(
         &self,
         alloc: Global,
@@ -285,7 +285,7 @@ impl<'a> Section<'a> {
     }
 
     /// An optional list of integers, of any size.
-    #[tactic(auto, using(crate::proofs::CheckLaws::faults), unfolding(crate::specs::KeyChecks::of_kind, crate::specs::KeyChecks::integers_at))]
+    #[tactic(auto, using(crate::proofs::CheckLaws::faults), unfolding(crate::proofs::Opens::keys))]
     pub(crate) fn integers_or_none(
         &self,
         alloc: Global,

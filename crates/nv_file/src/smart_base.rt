@@ -15,7 +15,7 @@ use nv_model::{Counters, GREATEST_INTEGER, SmartBase};
 use std::alloc::Global;
 use toml::Table;
 
-#[tactic(auto, using(crate::proofs::CheckLaws::faults), unfolding(crate::specs::TableChecks::counters_checks, crate::specs::TableChecks::counters_value))]
+#[tactic(auto, using(crate::proofs::CheckLaws::faults), unfolding(crate::proofs::Opens::counters))]
 fn counters_of(table: &Table) -> Result<Counters, SubsystemError>
     ensures exact { IsChecked (λ c. c) (counters_checks (table_view table.now))
         (counters_value (table_view table.now)) result }
@@ -70,7 +70,7 @@ fn eight(numbers: &[u16]) -> [u16; 8]
     ]
 }
 
-#[tactic(auto, using(crate::proofs::CheckLaws::faults), unfolding(crate::specs::TableChecks::smart_checks, crate::specs::TableChecks::smart_value))]
+#[tactic(auto, using(crate::proofs::CheckLaws::faults), unfolding(crate::proofs::Opens::smart))]
 fn smart_of(alloc: Global, table: &Table) -> Result<SmartBase, SubsystemError>
     ensures exact { IsCheckedUnlessMemory (λ s. s) (smart_checks (table_view table.now))
         (smart_value (table_view table.now)) result }

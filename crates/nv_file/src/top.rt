@@ -29,7 +29,7 @@ pub struct Top<'a> {
 }
 
 /// What the top table holds.
-#[tactic(auto, using(crate::proofs::CheckLaws::faults, crate::proofs::EmptyTables::empty_tables), unfolding(crate::specs::File::top_checks))]
+#[tactic(auto, using(crate::proofs::EmptyTables::top_laws), unfolding(crate::specs::File::top_checks))]
 pub(crate) fn top_of<'a>(alloc: Global, table: &'a Table) -> Result<Top<'a>, SubsystemError>
     ensures exact { IsCheckedUnlessMemory top_view (top_checks (table_view table.now))
         (top_value (table_view table.now)) result }

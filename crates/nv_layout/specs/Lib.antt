@@ -10,6 +10,7 @@ pub mod Smart
 pub mod ErrorEntry
 pub mod Feature
 pub mod Steps
+pub mod UnlessMemory
 pub mod Bits
 pub mod ErrorEntryBytes
 pub mod Limits

@@ -11,7 +11,7 @@ use Rattle.clap.specs.Words.{App, BuildsOrBreaks, IsAmong, Kinds, Row, Text, app
 use Rattle.clap.specs.Words.{is_buildable, is_simple, is_simple_and_free, matches_of}
 use Rattle.clap.specs.declared.error.kind.ErrorKind.{ErrorKind}
 use Rattle.clap.specs.declared.error.kind.ErrorKind.TheVariants as kind
-use Rattle.nv_line.specs.LineFault.{IsUnlessMemory}
+use Rattle.nv_layout.specs.UnlessMemory.{IsUnlessMemory}
 use Rattle.nv_line.specs.ClapRule.{IsAppOf, IsMade, app_for, clap_rows, is_taken, rows_of_words}
 use Rattle.nv_line.specs.declared.clap_rule.MadeCommand.{MadeCommand}
 use Rattle.nv_line.specs.declared.fault.LineFault.{LineFault}
@@ -110,26 +110,26 @@ refused_rows : (v : Verb) (ws : List Text) → is_taken v ws ≡ false → rows_
 refused_rows v ws h = rw h refl
 
 pub taken : (v : Verb) (ws : List Text) (a : App) (rows : List Row) → IsAppOf v a
-    → fault_of a ws ≡ [] → rows ≡ matches_of a ws → IsUnlessMemory (rows_of_words v ws) (Ok rows)
+    → fault_of a ws ≡ [] → rows ≡ matches_of a ws → rows_of_words v ws ≡ Ok rows
 unfolding is_taken clap_rows
 taken v ws a rows e f r =
     let same = answers_as v a e in
     let found = without_fault (app_for v) (app_for v) ws rows refl (sym (same.faults ws) ∙ f)
     (r ∙ same.matches ws) in
-    inr (ap Ok found.1 ∙ sym (taken_rows v ws found.0))
+    taken_rows v ws found.0 ∙ ap Ok (sym found.1)
 
 pub refused : (v : Verb) (ws : List Text) (a : App) (k : ErrorKind) → IsAppOf v a
     → (k ≡ kind.OutOfMemory) ⊎ IsAmong k (fault_of a ws) → (k ≡ kind.OutOfMemory → ⊥)
-    → IsUnlessMemory {T = List Row} (rows_of_words v ws) (Err fault.Usage)
+    → rows_of_words v ws ≡ Err fault.Usage
 unfolding is_taken
 refused v ws a k e (inl m) n = absurd (n m)
 refused v ws a k e (inr among) n =
     let told = subst (IsAmong k) ((answers_as v a e).faults ws) among in
-    inr (sym (refused_rows v ws (with_fault (app_for v) (app_for v) ws k refl told)))
+    refused_rows v ws (with_fault (app_for v) (app_for v) ws k refl told)
 
 pub made_more : (xs : List MadeCommand) (x : MadeCommand) → All IsMade xs → IsMade x → All IsMade (xs ++ x ∷ [])
 made_more xs x h m = All-push IsMade xs x h m
 
-pub rows_by : (v w : Verb) (ws : List Text) (r : Result (List Row) LineFault) → v ≡ w
-    → IsUnlessMemory (rows_of_words v ws) r → IsUnlessMemory (rows_of_words w ws) r
-rows_by v w ws r e h = subst (λ x. IsUnlessMemory (rows_of_words x ws) r) e h
+pub rows_by : {X : Type 0} (view : X → List Row) (r : Result X LineFault) (v w : Verb) (ws : List Text) → v ≡ w
+    → IsUnlessMemory fault.Memory view r (rows_of_words v ws) → IsUnlessMemory fault.Memory view r (rows_of_words w ws)
+rows_by view r v w ws e h = subst (λ x. IsUnlessMemory fault.Memory view r (rows_of_words x ws)) e h

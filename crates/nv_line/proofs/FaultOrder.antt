@@ -1,12 +1,13 @@
 -- The order of a line's faults.
-use Rattle.std.proofs.Common.{◌≡◌, ◌≤◌, ℕ, arith, refl, inl, inr, true, false, nat_lt, length, List, Ok, Err, Result}
+use Rattle.std.proofs.Common.{◌≡◌, ◌≤◌, ◌∙◌, ◌⊎◌, ℕ, ap, arith, refl, subst, sym, inl, inr, true, false, nat_lt}
+use Rattle.std.proofs.Common.{length, List, Ok, Err, Result}
 use Rattle.std.specs.Str.{IsUtf8, is_utf8}
 use Rattle.std.proofs.lemmas.Bool.{false_from_ne_true}
 use Rattle.std.proofs.lemmas.Str.{IsUtf8-from_is_utf8, is_utf8-from_IsUtf8}
 use Rattle.clap.specs.Words.{Text}
 use Rattle.nv_line.specs.Line.{reading}
 use Rattle.nv_layout.specs.Steps.{◌>>=◌}
-use Rattle.nv_line.specs.LineFault.{IsUnlessMemory}
+use Rattle.nv_layout.specs.UnlessMemory.{IsUnlessMemory}
 use Rattle.nv_line.specs.Request.{request_of}
 use Rattle.nv_line.specs.Word.{is_skipped, without_nvme, words_of}
 use Rattle.nv_line.specs.declared.fault.LineFault.{LineFault}
@@ -35,19 +36,17 @@ some_text text controllers short busy good =
     rw (long, busy, utf8) refl
 
 -- `?`: lack of memory or the fault is returned
-pub handed_up : (answer : Result Request LineFault) (e : LineFault) → IsUnlessMemory answer (Err e)
-    → IsUnlessMemory (said_by answer) (Err e)
-handed_up answer e (inl m) = inl (cc)
-handed_up answer e (inr is) = inr (rw (← is) refl)
-
-pub handed_on : (answer : Result Request LineFault) (r : Request) → IsUnlessMemory answer (Ok r)
-    → IsUnlessMemory (said_by answer) (Ok (line.Request r))
-handed_on answer r (inl m) = absurd (cc)
-handed_on answer r (inr is) = inr (rw (← is) refl)
+pub handed_up : (answer : Result Request LineFault) (e : LineFault) → (e ≡ fault.Memory) ⊎ (answer ≡ Err e)
+    → (e ≡ fault.Memory) ⊎ (said_by answer ≡ Err e)
+handed_up answer e (inl m) = inl m
+handed_up answer e (inr is) = inr (ap said_by is)
 
 -- the result for a text, by its words
 pub answer_at : (text : Text) (controllers : ℕ) (words : List Text) (r : Result Line LineFault)
     → length text ≤ line_limit → is_skipped text ≡ false → IsUtf8 text
     → words ≡ without_nvme (words_of text)
-    → IsUnlessMemory (said_by (request_of controllers words)) r → IsUnlessMemory (reading text controllers) r
-answer_at text controllers words r short busy good is h = rw (some_text text controllers short busy good, ← is) h
+    → IsUnlessMemory fault.Memory (λ l. l) r (said_by (request_of controllers words))
+    → IsUnlessMemory fault.Memory (λ l. l) r (reading text controllers)
+answer_at text controllers words r short busy good is =
+    subst (IsUnlessMemory fault.Memory (λ (l : Line). l) r)
+    (ap (λ ws. said_by (request_of controllers ws)) is ∙ sym (some_text text controllers short busy good))

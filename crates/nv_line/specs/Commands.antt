@@ -15,9 +15,8 @@ use Rattle.nv_line.specs.Options.{controllers_option, dps_option, flbas_option, 
 use Rattle.nv_line.specs.Options.{nsze_option}
 use Rattle.nv_line.specs.declared.device.Device.{Device}
 use Rattle.nv_line.specs.declared.fault.LineFault.{LineFault}
-use Rattle.nv_line.specs.declared.request.Act.TheVariants.{Send}
 use Rattle.nv_line.specs.declared.request.Ask.{Ask}
-use Rattle.nv_line.specs.declared.request.Ask.TheVariants.{Do, ErrorLog}
+use Rattle.nv_line.specs.declared.request.Ask.TheVariants.{Send, ErrorLog}
 use Rattle.nv_command.specs.declared.command.Command.{Command}
 
 abbrev pub get_feature_of : List Row → Device → Result Ask LineFault
@@ -26,19 +25,19 @@ get_feature_of rows device = do
   fid ← number_option_in rows feature_id_option device
   sel ← number_option_in rows sel_option device
   cdw11 ← number_option_in rows cdw11_option device
-  Ok (Do (Send (GetFeature (record { fid = fid; sel = sel; nsid = nsid; cdw11 = cdw11 }))))
+  Ok (Send (GetFeature (record { fid = fid; sel = sel; nsid = nsid; cdw11 = cdw11 })))
 
 abbrev pub set_feature_of : List Row → Device → Result Ask LineFault
 set_feature_of rows device = do
   nsid ← number_option_in rows feature_nsid_option device
   fid ← number_option_in rows feature_id_option device
   value ← number_option_in rows value_option device
-  Ok (Do (Send (SetFeature (record {
+  Ok (Send (SetFeature (record {
     fid = fid;
     value = value;
     save = flag_in rows save_option;
     nsid = nsid;
-  }))))
+  })))
 
 abbrev pub format_of : List Row → Device → Result Ask LineFault
 format_of rows device = do
@@ -48,7 +47,7 @@ format_of rows device = do
   pi ← number_option_in rows pi_option device
   pil ← number_option_in rows pil_option device
   mset ← number_option_in rows ms_option device
-  Ok (Do (Send (Format (record { nsid = nsid; lbaf = lbaf; mset = mset == 1; pi = pi; pil = pil == 1; ses = ses }))))
+  Ok (Send (Format (record { nsid = nsid; lbaf = lbaf; mset = mset == 1; pi = pi; pil = pil == 1; ses = ses })))
 
 -- the NSIDs above `after`: those attached to the controller, or all allocated ones
 abbrev pub list_command : Bool → ℕ → Command
@@ -62,17 +61,17 @@ namespace_command force nsid = if force then AllocatedNamespace nsid else Identi
 abbrev pub list_ns_of : List Row → Device → Result Ask LineFault
 list_ns_of rows device = do
   first ← number_option_in rows first_nsid_option device
-  Ok (Do (Send (list_command (flag_in rows all_option) (first - 1))))
+  Ok (Send (list_command (flag_in rows all_option) (first - 1)))
 
 abbrev pub id_ns_of : List Row → Device → Result Ask LineFault
 id_ns_of rows device = do
   nsid ← number_option_in rows nsid_option device
-  Ok (Do (Send (namespace_command (flag_in rows force_option) nsid)))
+  Ok (Send (namespace_command (flag_in rows force_option) nsid))
 
 abbrev pub smart_log_of : List Row → Device → Result Ask LineFault
 smart_log_of rows device = do
   nsid ← number_option_in rows smart_nsid_option device
-  Ok (Do (Send (GetLog (record { lid = 0x02; nsid = nsid; offset = 0; dwords = 128 }))))
+  Ok (Send (GetLog (record { lid = 0x02; nsid = nsid; offset = 0; dwords = 128 })))
 
 abbrev pub error_log_of : List Row → Device → Result Ask LineFault
 error_log_of rows device = do
@@ -86,16 +85,16 @@ create_ns_of rows device = do
   flbas ← number_option_in rows flbas_option device
   dps ← number_option_in rows dps_option device
   nmic ← number_option_in rows nmic_option device
-  Ok (Do (Send (Create (record { nsze = nsze; ncap = ncap; flbas = flbas; dps = dps; nmic = nmic }))))
+  Ok (Send (Create (record { nsze = nsze; ncap = ncap; flbas = flbas; dps = dps; nmic = nmic })))
 
 -- `detach` distinguishes detach-ns from attach-ns
 abbrev pub attachment_of : Bool → List Row → Device → Result Ask LineFault
 attachment_of detach rows device = do
   nsid ← number_option_in rows nsid_option device
   ids ← list_option_in rows controllers_option
-  Ok (Do (Send (Attachment nsid detach ids)))
+  Ok (Send (Attachment nsid detach ids))
 
 abbrev pub delete_ns_of : List Row → Device → Result Ask LineFault
 delete_ns_of rows device = do
   nsid ← number_option_in rows nsid_option device
-  Ok (Do (Send (Delete nsid)))
+  Ok (Send (Delete nsid))

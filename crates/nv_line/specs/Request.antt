@@ -19,12 +19,10 @@ use Rattle.nv_line.specs.Verb.{verb_of}
 use Rattle.nv_line.specs.declared.device.Device.{Device}
 use Rattle.nv_line.specs.declared.fault.LineFault.{LineFault}
 use Rattle.nv_line.specs.declared.fault.LineFault.TheVariants as fault
-use Rattle.nv_line.specs.declared.request.Act.TheVariants as act
 use Rattle.nv_line.specs.declared.request.Ask.{Ask}
-use Rattle.nv_line.specs.declared.request.Ask.TheVariants.{Do}
+use Rattle.nv_line.specs.declared.request.Ask.TheVariants as ask
 use Rattle.nv_line.specs.declared.request.Query.{Query}
 use Rattle.nv_line.specs.declared.request.Query.TheVariants as query
-use Rattle.nv_line.specs.declared.request.Question.{Question}
 use Rattle.nv_line.specs.declared.request.Request.{Request}
 use Rattle.nv_line.specs.declared.verb.DeviceVerb.{DeviceVerb}
 use Rattle.nv_line.specs.declared.verb.DeviceVerb.TheVariants.{IdCtrl, IdNs, ListNs, CreateNs}
@@ -36,7 +34,7 @@ use Rattle.nv_line.specs.declared.verb.Verb.TheVariants.{Of, List}
 
 -- the request of each command word, in one line each
 abbrev pub ask_of : DeviceVerb → ListOf Row → Device → Result Ask LineFault
-ask_of IdCtrl = λ rows device. Ok (Do (act.Send IdentifyController))
+ask_of IdCtrl = λ rows device. Ok (ask.Send IdentifyController)
 ask_of IdNs = id_ns_of
 ask_of ListNs = list_ns_of
 ask_of CreateNs = create_ns_of
@@ -48,7 +46,7 @@ ask_of GetFeature = get_feature_of
 ask_of SetFeature = set_feature_of
 ask_of SmartLog = smart_log_of
 ask_of ErrorLog = error_log_of
-ask_of Reset = λ rows device. Ok (Do act.Reset)
+ask_of Reset = λ rows device. Ok ask.Reset
 
 abbrev pub device_in : ℕ → ListOf Row → Result Device LineFault
 device_in controllers rows =
@@ -58,8 +56,8 @@ device_in controllers rows =
 abbrev pub query_of : ℕ → Verb → ListOf Row → Result Query LineFault
 query_of controllers (Of verb) rows = do
   device ← device_in controllers rows
-  ask ← ask_of verb rows device
-  Ok (query.One (record { controller = device.controller; ask = ask }))
+  asked ← ask_of verb rows device
+  Ok (query.One device.controller asked)
 query_of controllers List rows = Ok query.List
 
 -- the words after `nvme`: usage faults come first, by the command word, by clap and by the output
@@ -73,11 +71,11 @@ request_of controllers (word ∷ rest) = do
   asked ← query_of controllers verb rows
   Ok (record { query = asked; format = format })
 
--- the controller that is asked is one of the subsystem's, and a driver may ask it
-pub record IsQuestionKnown (controllers : ℕ) (question : Question) : Type 0 where
-  pub controller : question.controller < controllers
-  pub askable : IsAskable question.ask
+-- a controller that is asked is one of the subsystem's, and a driver may ask it
+pub record IsAskKnown (controllers c : ℕ) (a : Ask) : Type 0 where
+  pub controller : c < controllers
+  pub askable : IsAskable a
 
 abbrev pub IsQueryKnown : ℕ → Query → Type 0
-IsQueryKnown controllers (query.One question) = IsQuestionKnown controllers question
+IsQueryKnown controllers (query.One c a) = IsAskKnown controllers c a
 IsQueryKnown controllers query.List = Unit {0}

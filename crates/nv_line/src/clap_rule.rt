@@ -4,7 +4,7 @@ ghost use Rattle.std.specs.Prelude.{◌≡◌, IfOk, map, option_map, false};
 ghost use Rattle.clap.specs.Words.{app_of, first_of, found_of, rows_of, rule_of};
 ghost use Rattle.nv_line.specs.ClapRule.{IsMade, app_for, bare_app, option_rule, rows_of_words};
 ghost use Rattle.nv_line.specs.ClapRule.{rule_for};
-ghost use Rattle.nv_line.specs.LineFault.{IsUnlessMemory, ok_map};
+ghost use Rattle.nv_layout.specs.UnlessMemory.{IsUnlessMemory};
 
 use crate::fault::LineFault;
 use crate::option::{CommandOption, OptionName};
@@ -90,9 +90,8 @@ impl<'a> MadeCommand<'a> {
     /// failed for lack of memory, it fails for that reason from then on.
     pub(crate) fn matches(&mut self, words: &'a [&'a str]) -> Result<ArgMatches<'a>, LineFault>
         requires made { IsMade self.old }
-        ensures value { IsUnlessMemory
-            (rows_of_words self.old.verb (map (λ w. w.now) words.entry.now))
-            (ok_map (λ m. rows_of (found_of m)) result) }
+        ensures value { IsUnlessMemory LineFault.Memory (λ m. rows_of (found_of m)) result
+            (rows_of_words self.old.verb (map (λ w. w.now) words.entry.now)) }
         ensures made { IsMade self.new }
     {
         match self.command.try_get_matches_from_mut(words) {

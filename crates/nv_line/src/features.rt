@@ -8,7 +8,7 @@ ghost use Rattle.nv_line.specs.Commands.{get_feature_of, set_feature_of};
 use crate::device::Device;
 use crate::fault::LineFault;
 use crate::option_value::{is_set, read_number};
-use crate::request::{Act, Ask};
+use crate::request::Ask;
 use crate::verb::{CDW11, FEATURE_ID, FEATURE_NSID, SAVE, SEL, VALUE};
 use clap::ArgMatches;
 use nv_command::{Command, FeatureQuery, FeatureSetting};
@@ -26,12 +26,12 @@ pub(crate) fn get_feature<'a>(
     let fid = read_number(matches, FEATURE_ID, device)? as u8;
     let sel = ThreeBits::low(read_number(matches, SEL, device)? as u8);
     let cdw11 = read_number(matches, CDW11, device)? as u32;
-    Ok(Ask::Do(Act::Send(Command::GetFeature(FeatureQuery {
+    Ok(Ask::Send(Command::GetFeature(FeatureQuery {
         fid,
         sel,
         nsid,
         cdw11,
-    }))))
+    })))
 }
 
 /// Reads a `set-feature`.
@@ -46,10 +46,10 @@ pub(crate) fn set_feature<'a>(
     let fid = read_number(matches, FEATURE_ID, device)? as u8;
     let value = read_number(matches, VALUE, device)? as u32;
     let save = is_set(matches, SAVE);
-    Ok(Ask::Do(Act::Send(Command::SetFeature(FeatureSetting {
+    Ok(Ask::Send(Command::SetFeature(FeatureSetting {
         fid,
         value,
         save,
         nsid,
-    }))))
+    })))
 }

@@ -8,7 +8,7 @@ ghost use Rattle.nv_line.specs.Commands.{format_of};
 use crate::device::Device;
 use crate::fault::LineFault;
 use crate::option_value::read_number;
-use crate::request::{Act, Ask};
+use crate::request::Ask;
 use crate::verb::{LBAF, MS, NSID, PI, PIL, SES};
 use clap::ArgMatches;
 use nv_command::{Command, NewFormat};
@@ -25,12 +25,12 @@ pub(crate) fn format<'a>(matches: &ArgMatches<'_>, device: Device) -> Result<Ask
     let pi = ThreeBits::low(read_number(matches, PI, device)? as u8);
     let pil = read_number(matches, PIL, device)? == 1;
     let mset = read_number(matches, MS, device)? == 1;
-    Ok(Ask::Do(Act::Send(Command::Format(NewFormat {
+    Ok(Ask::Send(Command::Format(NewFormat {
         nsid,
         lbaf,
         mset,
         pi,
         pil,
         ses,
-    }))))
+    })))
 }

@@ -9,7 +9,7 @@ ghost use Rattle.nv_line.specs.Commands.{id_ns_of, list_command, list_ns_of, nam
 use crate::device::Device;
 use crate::fault::LineFault;
 use crate::option_value::{is_set, read_number};
-use crate::request::{Act, Ask};
+use crate::request::Ask;
 use crate::verb::{ALL, FIRST_NSID, FORCE, NSID};
 use clap::ArgMatches;
 use nv_command::Command;
@@ -48,7 +48,7 @@ pub(crate) fn list_ns<'a>(matches: &ArgMatches<'_>, device: Device) -> Result<As
 {
     let first = read_number(matches, FIRST_NSID, device)? as u32;
     let all = is_set(matches, ALL);
-    Ok(Ask::Do(Act::Send(list_command(all, first - 1))))
+    Ok(Ask::Send(list_command(all, first - 1)))
 }
 
 /// Reads an `id-ns`.
@@ -58,5 +58,5 @@ pub(crate) fn id_ns<'a>(matches: &ArgMatches<'_>, device: Device) -> Result<Ask<
 {
     let nsid = read_number(matches, NSID, device)? as u32;
     let force = is_set(matches, FORCE);
-    Ok(Ask::Do(Act::Send(namespace_command(force, nsid))))
+    Ok(Ask::Send(namespace_command(force, nsid)))
 }

@@ -4,9 +4,9 @@
 //! their options are read, follow from its rows.
 //!
 //! `read_line(alloc, b"list-ns /dev/nvme0 -n 2", 1, place)` returns
-//! `Ok(Line::Request(Request { query, format }))`, where `query` is `Query::One(Question {
-//! controller: 0, ask: Ask::Do(Act::Send( Command::ActiveList { after: 1 })) })` and `format` is
-//! `OutputFormat::Normal`. If there are no controllers, it returns `Err(LineFault::Device)`.
+//! `Ok(Line::Request(Request { query, format }))`, where `query` is `Query::One { controller: 0,
+//! ask: Ask::Send(Command::ActiveList { after: 1 }) }` and `format` is `OutputFormat::Normal`. If
+//! there are no controllers, it returns `Err(LineFault::Device)`.
 #![tactic(auto)]
 
 mod clap_rule;
@@ -36,5 +36,5 @@ pub use number::parse_number;
 pub use nv_layout::CtrlList;
 pub use option::OptionName;
 pub use output_format::OutputFormat;
-pub use request::{Act, Ask, Query, Question, Request};
+pub use request::{Ask, Query, Request};
 pub use word::{is_skipped_line, split_words};

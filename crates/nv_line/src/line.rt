@@ -2,7 +2,7 @@
 
 ghost use Rattle.std.specs.Prelude.{IfOk};
 ghost use Rattle.nv_line.specs.Line.{IsKnown, reading};
-ghost use Rattle.nv_line.specs.LineFault.{IsUnlessMemory};
+ghost use Rattle.nv_layout.specs.UnlessMemory.{IsUnlessMemory};
 
 use crate::fault::LineFault;
 use crate::line_reader::LineReader;
@@ -33,7 +33,7 @@ pub fn read_line<'a>(
     controllers: u16,
     place: &'a mut CtrlList,
 ) -> Result<Line<'a>, LineFault>
-    ensures exact { IsUnlessMemory (reading line.now controllers) result }
+    ensures exact { IsUnlessMemory LineFault.Memory (λ l. l) result (reading line.now controllers) }
     ensures known { IfOk result (IsKnown controllers) }
 {
     let room = Bump::new(alloc);

@@ -2,7 +2,7 @@
 
 ghost use Rattle.std.specs.Prelude.{IfOk};
 ghost use Rattle.nv_line.specs.Line.{IsKnown, reading};
-ghost use Rattle.nv_line.specs.LineFault.{IsUnlessMemory};
+ghost use Rattle.nv_layout.specs.UnlessMemory.{IsUnlessMemory};
 
 use crate::fault::LineFault;
 use crate::line::{LINE_LIMIT, Line};
@@ -38,7 +38,7 @@ impl<'a> LineReader<'a> {
         controllers: u16,
         place: &'b mut CtrlList,
     ) -> Result<Line<'b>, LineFault>
-        ensures exact { IsUnlessMemory (reading line.now controllers) result }
+        ensures exact { IsUnlessMemory LineFault.Memory (λ l. l) result (reading line.now controllers) }
         ensures known { IfOk result (IsKnown controllers) }
     {
         if line.len() > LINE_LIMIT {

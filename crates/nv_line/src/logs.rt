@@ -8,7 +8,7 @@ ghost use Rattle.nv_line.specs.Commands.{error_log_of, smart_log_of};
 use crate::device::Device;
 use crate::fault::LineFault;
 use crate::option_value::read_number;
-use crate::request::{Act, Ask};
+use crate::request::Ask;
 use crate::verb::{LOG_ENTRIES, SMART_NSID};
 use clap::ArgMatches;
 use nv_command::{Command, DwordCount, HEALTH, LogQuery};
@@ -19,12 +19,12 @@ pub(crate) fn smart_log<'a>(matches: &ArgMatches<'_>, device: Device) -> Result<
     ensures askable { IfOk result IsAskable }
 {
     let nsid = read_number(matches, SMART_NSID, device)? as u32;
-    Ok(Ask::Do(Act::Send(Command::GetLog(LogQuery {
+    Ok(Ask::Send(Command::GetLog(LogQuery {
         lid: HEALTH,
         nsid,
         offset: 0,
         dwords: DwordCount::from_zeros_based(127),
-    }))))
+    })))
 }
 
 /// Reads an `error-log`.

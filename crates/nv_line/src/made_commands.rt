@@ -3,7 +3,7 @@
 ghost use Rattle.std.specs.Prelude.{◌≡◌, ◌<◌, IfOk, get_or, length, map};
 ghost use Rattle.clap.specs.Words.{found_of, rows_of};
 ghost use Rattle.nv_line.specs.ClapRule.{rows_of_words};
-ghost use Rattle.nv_line.specs.LineFault.{IsUnlessMemory, ok_map};
+ghost use Rattle.nv_layout.specs.UnlessMemory.{IsUnlessMemory};
 ghost use Rattle.nv_line.specs.declared.verb.Verb.{Verb};
 
 use crate::clap_rule::MadeCommand;
@@ -62,8 +62,8 @@ impl<'a> MadeCommands<'a> {
         verb: Verb,
         words: &'a [&'a str],
     ) -> Result<ArgMatches<'a>, LineFault>
-        ensures { IsUnlessMemory (rows_of_words verb (map (λ w. w.now) words.entry.now))
-            (ok_map (λ m. rows_of (found_of m)) result) }
+        ensures { IsUnlessMemory LineFault.Memory (λ m. rows_of (found_of m)) result
+            (rows_of_words verb (map (λ w. w.now) words.entry.now)) }
     {
         let place = self.place_of(verb)?;
         self.made[place].matches(words)

@@ -8,7 +8,7 @@ ghost use Rattle.nv_line.specs.Commands.{attachment_of, create_ns_of, delete_ns_
 use crate::device::Device;
 use crate::fault::LineFault;
 use crate::option_value::{read_list, read_number};
-use crate::request::{Act, Ask};
+use crate::request::Ask;
 use crate::verb::{CONTROLLERS, DPS, FLBAS, NCAP, NMIC, NSID, NSZE};
 use clap::ArgMatches;
 use nv_command::{Command, NewNamespace};
@@ -24,13 +24,13 @@ pub(crate) fn create_ns<'a>(matches: &ArgMatches<'_>, device: Device) -> Result<
     let flbas = read_number(matches, FLBAS, device)? as u8;
     let dps = read_number(matches, DPS, device)? as u8;
     let nmic = read_number(matches, NMIC, device)? as u8;
-    Ok(Ask::Do(Act::Send(Command::Create(NewNamespace {
+    Ok(Ask::Send(Command::Create(NewNamespace {
         nsze,
         ncap,
         flbas,
         dps,
         nmic,
-    }))))
+    })))
 }
 
 /// Reads an `attach-ns` or a `detach-ns`, with the controllers in the order given. They are written
@@ -46,7 +46,7 @@ pub(crate) fn attachment<'a>(
 {
     let nsid = read_number(matches, NSID, device)? as u32;
     let list = read_list(matches, CONTROLLERS, place)?;
-    Ok(Ask::Do(Act::Send(Command::Attachment { nsid, detach, list })))
+    Ok(Ask::Send(Command::Attachment { nsid, detach, list }))
 }
 
 /// Reads a `delete-ns`.
@@ -55,5 +55,5 @@ pub(crate) fn delete_ns<'a>(matches: &ArgMatches<'_>, device: Device) -> Result<
     ensures askable { IfOk result IsAskable }
 {
     let nsid = read_number(matches, NSID, device)? as u32;
-    Ok(Ask::Do(Act::Send(Command::Delete { nsid })))
+    Ok(Ask::Send(Command::Delete { nsid }))
 }

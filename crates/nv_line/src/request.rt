@@ -3,7 +3,7 @@
 ghost use Rattle.std.specs.Prelude.{◌≡◌, ◌<◌, IfOk, map};
 ghost use Rattle.clap.specs.Words.{found_of, rows_of};
 ghost use Rattle.nv_line.specs.Ask.{IsAskable};
-ghost use Rattle.nv_line.specs.LineFault.{IsUnlessMemory};
+ghost use Rattle.nv_layout.specs.UnlessMemory.{IsUnlessMemory};
 ghost use Rattle.nv_line.specs.Request.{IsQueryKnown, ask_of, device_in, query_of, request_of};
 
 use crate::clap_rule::text_of;
@@ -22,38 +22,23 @@ use clap::ArgMatches;
 use nv_command::Command;
 use nv_layout::CtrlList;
 
-/// What is done at a controller.
-#[derive(Debug, Drop, PartialEq, Eq)]
-pub enum Act<'a> {
-    /// A command is sent to it.
-    Send(Command<'a>),
-    /// It is reset. Section "Controller Level Reset".
-    Reset,
-}
-
 /// What a controller is asked for.
 #[derive(Debug, Drop, PartialEq, Eq)]
 pub enum Ask<'a> {
-    /// One act.
-    Do(Act<'a>),
+    /// A command is sent to it.
+    Send(Command<'a>),
     /// The newest entries of the error log, at most `entries` of them. Before that the controller
     /// is asked how many it keeps. Section "Error Information".
     ErrorLog { entries: u32 },
-}
-
-/// What one controller is asked for.
-#[derive(Debug, Drop, PartialEq, Eq)]
-pub struct Question<'a> {
-    /// The place of the controller in the subsystem's file, counted from 0.
-    pub controller: u16,
-    pub ask: Ask<'a>,
+    /// It is reset. Section "Controller Level Reset".
+    Reset,
 }
 
 /// What is asked for, and which controllers are asked.
 #[derive(Debug, Drop, PartialEq, Eq)]
 pub enum Query<'a> {
-    /// One controller is asked.
-    One(Question<'a>),
+    /// One controller is asked, which is given by its place in the subsystem's file, counted from 0.
+    One { controller: u16, ask: Ask<'a> },
     /// Each controller is asked for the namespaces that are attached to it.
     List,
 }
@@ -86,7 +71,7 @@ fn read_ask<'a>(
     ensures askable { IfOk result IsAskable }
 {
     match verb {
-        DeviceVerb::IdCtrl => Ok(Ask::Do(Act::Send(Command::IdentifyController))),
+        DeviceVerb::IdCtrl => Ok(Ask::Send(Command::IdentifyController)),
         DeviceVerb::IdNs => id_ns(matches, device),
         DeviceVerb::ListNs => list_ns(matches, device),
         DeviceVerb::CreateNs => create_ns(matches, device),
@@ -98,7 +83,7 @@ fn read_ask<'a>(
         DeviceVerb::SetFeature => set_feature(matches, device),
         DeviceVerb::SmartLog => smart_log(matches, device),
         DeviceVerb::ErrorLog => error_log(matches, device),
-        DeviceVerb::Reset => Ok(Ask::Do(Act::Reset)),
+        DeviceVerb::Reset => Ok(Ask::Reset),
     }
 }
 
@@ -116,10 +101,10 @@ fn read_query<'a>(
         Verb::Of(verb) => {
             let device = chosen_device(matches, controllers)?;
             let ask = read_ask(matches, verb, device, place)?;
-            Ok(Query::One(Question {
+            Ok(Query::One {
                 controller: device.controller,
                 ask,
-            }))
+            })
         }
         Verb::List => Ok(Query::List),
     }
@@ -133,7 +118,8 @@ pub(crate) fn read_request<'w, 'a>(
     controllers: u16,
     place: &'a mut CtrlList,
 ) -> Result<Request<'a>, LineFault>
-    ensures value { IsUnlessMemory (request_of controllers (map (λ w. w.now) words.now)) result }
+    ensures value { IsUnlessMemory LineFault.Memory (λ r. r) result
+        (request_of controllers (map (λ w. w.now) words.now)) }
     ensures known { IfOk result (λ r. IsQueryKnown controllers r.query) }
 {
     if words.is_empty() {

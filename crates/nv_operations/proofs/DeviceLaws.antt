@@ -1,10 +1,9 @@
--- The controllers of a subsystem: faults of its file, and what is the same without phase tags.
-use Rattle.std.proofs.Common.{◌≡◌, ◌≢◌, ◌∙◌, ◌<◌, ℕ, Option, None, Some, Err, ap, arith, length, refl}
+-- The controllers of a subsystem: faults of its file, and what phase tags don't change.
+use Rattle.std.proofs.Common.{◌≡◌, ◌≢◌, ◌⊎◌, ◌∙◌, ◌<◌, ℕ, Option, None, Some, Err, ap, arith, inl, inr, length, refl}
 use Rattle.std.proofs.lemmas.List.{length-map}
 use Rattle.std.proofs.lemmas.Option.{slice_get-map}
 use Rattle.std.specs.Option.{option_map_or}
 use Rattle.std.specs.Prelude.{Result, option_map, slice_get}
-use Rattle.nv_file.specs.Fault.{IsUnlessMemory}
 use Rattle.nv_file.specs.declared.error.SubsystemError.{SubsystemError}
 use Rattle.nv_file.specs.declared.error.SubsystemError.TheVariants as fault
 use Rattle.nv_layout.specs.ErrorEntryBytes.{without_phase}
@@ -13,18 +12,11 @@ use Rattle.nv_model.specs.LogEntry.{counts_of, log_entry_of}
 use Rattle.nv_model.specs.State.{Controller, State}
 use Rattle.nv_subsystem.specs.Tagged.{untagged, untagged_log}
 
--- a fault that isn't want of memory is the file's
-pub other_fault : {A B : Type 0} (view : A → B) (answer : Result B SubsystemError) (e : SubsystemError)
-    → e ≢ fault.Memory → IsUnlessMemory view (Err e) answer → answer ≡ Err e
-other_fault view answer fault.NotToml other h = h
-other_fault view answer (fault.Missing t k) other h = h
-other_fault view answer (fault.Kind t k) other h = h
-other_fault view answer (fault.Range t k) other h = h
-other_fault view answer (fault.Repeated t k) other h = h
-other_fault view answer (fault.Unknown t) other h = h
-other_fault view answer fault.Capacity other h = h
-other_fault view answer fault.Attachment other h = h
-other_fault view answer fault.Memory other h = elim (other refl) [ ]
+-- a fault other than `Memory` is one of the file
+pub other_fault : {B : Type 0} (answer : Result B SubsystemError) (e : SubsystemError)
+    → e ≢ fault.Memory → (e ≡ fault.Memory) ⊎ (answer ≡ Err e) → answer ≡ Err e
+other_fault answer e other (inl memory) = absurd (other memory)
+other_fault answer e other (inr is) = is
 
 -- the controllers of a bus are those of its subsystem
 pub controller_within : (s : State) (b : BusValue) (c : ℕ) → untagged s ≡ b.state → IsBus b → c < length b.banks

@@ -5,3 +5,4 @@ pub mod TransferLaws
 pub mod ListLaws
 pub mod AnswerLaws
 pub mod DeviceLaws
+pub mod ReplyLaws

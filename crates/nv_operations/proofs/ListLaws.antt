@@ -1,4 +1,4 @@
--- Lists, element by element.
+-- Laws of lists, element by element.
 use Rattle.std.proofs.Common.{◌≡◌, ◌-◌, ℕ, ap₂, append_assoc, arith, drop, length, length-drop, take, List, ◌∷◌, ◌++◌}
 use Rattle.std.proofs.lemmas.List.{take_all}
 
@@ -6,7 +6,7 @@ use Rattle.std.proofs.lemmas.List.{take_all}
 pub and_more : {A : Type 0} {x y : A} {xs ys : List A} → x ≡ y → xs ≡ ys → x ∷ xs ≡ y ∷ ys
 and_more e es = ap₂ (λ x xs. x ∷ xs) e es
 
--- one element behind others that were added
+-- lists that were appended one after the other
 pub after_more : {A : Type 0} (xs ys zs : List A) → (xs ++ ys) ++ zs ≡ xs ++ (ys ++ zs)
 after_more xs ys zs = append_assoc xs ys zs
 

@@ -1,4 +1,4 @@
--- A list of numbers that is read piece by piece.
+-- Reading a list of numbers, piece by piece.
 use Rattle.std.proofs.Common.{◌≡◌, ◌∙◌, ℕ, ◌+◌, ◌<◌, ◌≤◌, true, false, nat_le, if◌then◌else◌, ap, refl, sym, arith}
 use Rattle.std.proofs.Common.{append-nil, append_assoc, List, [], ◌∷◌, ◌++◌, Option, Some, None, drop, get_or, length}
 use Rattle.std.proofs.Common.{length-append, option_and_then, option_map}
@@ -87,7 +87,7 @@ either_none each most text none = elim (nat_le (length (slice_split is_comma tex
       | false ↦ refl
     ]
 
--- a piece that is no number
+-- a piece that isn't a number
 pub no_number : (each most : ℕ) (text : List ℕ) (ns : List ℕ) (n : ℕ) (p : List ℕ)
     → IsReadTo each most (slice_split is_comma text) ns n
     → (n < length (slice_split is_comma text)) × (p ≡ get_or (slice_split is_comma text) n p)

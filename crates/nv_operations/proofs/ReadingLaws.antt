@@ -1,8 +1,8 @@
--- Words that are read one by one.
-use Rattle.std.proofs.Common.{◌≡◌, ◌∙◌, ℕ, ◌+◌, ◌<◌, ◌≤◌, ap, refl, sym, List, [], ◌∷◌, ◌++◌, drop, get_or, length}
-use Rattle.std.proofs.Common.{Result, Ok, Err}
+-- Reading words one by one.
+use Rattle.std.proofs.Common.{◌≡◌, ◌∙◌, ℕ, ◌+◌, ◌<◌, ◌≤◌, refl, List, [], ◌∷◌, ◌++◌, drop, get_or, length}
+use Rattle.std.proofs.Common.{Ok, Err}
 use Rattle.std.proofs.lemmas.List.{at_drop_all, at_drop_more}
-use Rattle.nv_operations.specs.Field.{Field, Row, at_place, field_in, fields_from}
+use Rattle.nv_operations.specs.Field.{Field, Row, field_in, fields_from}
 use Rattle.nv_operations.specs.declared.slip.Fault.TheVariants as fault
 use Rattle.nv_operations.specs.declared.slip.Slip.{Slip}
 
@@ -12,7 +12,7 @@ after_word : (rows : List Row) (place : ℕ) (fields : List Field) (words : List
 unfolding fields_from
 after_word rows place fields words word f e = rw e refl
 
--- one word more
+-- one more word
 pub word_read : (rows : List Row) (place : ℕ) (fields : List Field) (words : List (List ℕ)) (f : Field)
     → place < length words → field_in rows place fields (get_or words place []) ≡ Ok f
     → fields_from rows place fields (drop place words)
@@ -35,7 +35,7 @@ word_slips rows place fields words slip h e =
     at_drop_more (fields_from rows place fields) words place [] h
     ∙ after_slip rows place fields (drop (place + 1) words) (get_or words place []) slip e
 
--- no word is left
+-- no more words
 pub words_end : (rows : List Row) (place : ℕ) (fields : List Field) (words : List (List ℕ))
     → length words ≤ place → fields_from rows place fields (drop place words) ≡ Ok fields
 unfolding fields_from

@@ -1,5 +1,5 @@
--- Spans, one after the other.
-use Rattle.std.proofs.Common.{◌≡◌, ◌∙◌, ℕ, ◌+◌, ◌<◌, ap, sym, List, [], ◌∷◌, ◌++◌, length, take, length-append}
+-- Spans and pages, one after the other.
+use Rattle.std.proofs.Common.{◌≡◌, ◌∙◌, ℕ, ◌+◌, ◌<◌, ap, sym, List, [], length, take, length-append}
 use Rattle.std.proofs.Common.{◌≤◌, ◌-◌, ◌≢◌, All, arith, drop, get_or, inl, inr, length-drop}
 use Rattle.std.proofs.lemmas.Bool.{cases_lt}
 use Rattle.std.proofs.lemmas.List.{get_or-drop, get_or_default}
@@ -8,7 +8,7 @@ use Rattle.nv_prp.specs.Place.{AreDistinct, places, span_places}
 use Rattle.nv_prp.proofs.PlaceLaws.{length-span_places}
 use Rattle.nv_prp.specs.declared.spans.Span.{Span}
 
--- the bytes of one span more
+-- the bytes of one more span
 pub one_more_span : (spans : List Span) (i : ℕ) (d : Span) → i < length spans
     → length (places (take (i + 1) spans)) ≡ length (places (take i spans)) + (get_or spans i d).len
 unfolding places
@@ -18,15 +18,15 @@ one_more_span spans i d h =
     ∙ length-append (places (take i spans)) (span_places (get_or spans i d))
     ∙ ap (λ n. length (places (take i spans)) + n) (length-span_places (get_or spans i d))
 
--- the first n pages are none of those behind them
+-- none of the first n pages occurs again after it
 pub record ApartTo (pages : List ℕ) (n : ℕ) : Type 0 where
   pub apart : (i j d : ℕ) → i < n → i < j → j < length pages → get_or pages i d ≢ get_or pages j d
 
--- the page at i is none of those behind it
+-- the page at i doesn't occur again after it
 abbrev pub IsApart : List ℕ → ℕ → Type 0
 IsApart pages i = All (λ other. get_or pages i 0 ≢ other) (drop (i + 1) pages)
 
--- a page that comes again
+-- a page that occurs again
 pub one_again : (pages : List ℕ) (i : ℕ) → i < length pages → ¬ IsApart pages i → ¬ AreDistinct pages
 one_again pages i h again distinct =
     again (λ k d below e.
@@ -34,7 +34,7 @@ one_again pages i h again distinct =
     distinct i (i + 1 + k) d (omega arith) there
     (get_or_default pages i d 0 h ∙ e ∙ get_or-drop (i + 1) pages k d))
 
--- one page more that doesn't
+-- one more page that doesn't
 pub one_more_apart : (pages : List ℕ) (n : ℕ) → n < length pages → ApartTo pages n → IsApart pages n
     → ApartTo pages (n + 1)
 one_more_apart pages n h so here = record {
@@ -49,6 +49,6 @@ one_more_apart pages n h so here = record {
       (get_or_default pages n 0 d h ∙ ap (λ k. get_or pages k d) (sym same) ∙ e
       ∙ ap (λ k. get_or pages k d) (omega arith) ∙ sym (get_or-drop (n + 1) pages (j - (n + 1)) d))
 
--- all pages are apart
+-- all pages are distinct
 pub all_apart : (pages : List ℕ) (n : ℕ) → length pages ≤ n → ApartTo pages n → AreDistinct pages
 all_apart pages n h so = λ i j d less there. so.apart i j d (omega arith) less there

@@ -1,9 +1,8 @@
--- The line that answers a line.
+-- How a line is read, and the line that answers it.
 use Rattle.std.specs.Prelude.{◌≡◌, ℕ, not, List, [], ◌∷◌, ◌++◌, Option, Some, None, Result, Ok, Err}
-use Rattle.std.specs.Prelude.{MatchOption, MatchResult, codes, drop, if◌then◌else◌, slice_index_or}
+use Rattle.std.specs.Prelude.{MatchResult, codes, drop, if◌then◌else◌, slice_index_or}
 use Rattle.std.specs.Option.{option_map_or}
 use Rattle.std.specs.Str.{is_utf8}
-use Rattle.nv_line.specs.LineFault.{ok_map}
 use Rattle.nv_line.specs.Word.{is_skipped, words_of}
 use Rattle.nv_operations.specs.Field.{Field, fields_in}
 use Rattle.nv_operations.specs.Operations.{operation_named, rows_of, words_used}
@@ -16,10 +15,14 @@ use Rattle.nv_operations.specs.declared.session.Session.{Session}
 use Rattle.nv_operations.specs.declared.slip.Fault.{Fault}
 use Rattle.nv_operations.specs.declared.slip.Fault.TheVariants as fault
 
+abbrev pub ok_map : {T U E : Type 0} → (T → U) → Result T E → Result U E
+ok_map f (Ok x) = Ok (f x)
+ok_map f (Err e) = Err e
+
 abbrev pub asked : Operation → List Field → Request
 asked operation fields = record { operation = operation; fields = fields }
 
--- what the words behind an operation's own ask of it
+-- what an operation's line asks for, by the words after those that name it
 abbrev pub request_for : List (List ℕ) → Operation → Result Request Fault
 request_for words o = ok_map (asked o) (fields_in (rows_of o) (drop (words_used o) words))
 
@@ -29,7 +32,7 @@ request_in words =
     option_map_or (request_for words)
     (operation_named (slice_index_or words 0 []) (slice_index_or words 1 [])) (Err fault.Operation)
 
--- what a line asks for: nothing, where it is blank or a comment
+-- what a line asks for; a blank line or a comment asks for nothing
 abbrev pub reading : List ℕ → Result (Option Request) Fault
 reading line =
     if is_skipped line then Ok None
@@ -45,14 +48,14 @@ outcome_text (Err r) = codes "refused: " ++ (refusal_text r ++ newline)
 abbrev pub error_text : Fault → List ℕ
 error_text f = codes "error: " ++ (fault_text f ++ newline)
 
--- nothing happens where a line has a fault, or asks for nothing
+-- nothing happens if a line asks for nothing
 abbrev pub AnswersRequest : Option Request → Session → Option (List ℕ) → Session → Type 0
 AnswersRequest None old reply new = (reply ≡ None) × (new ≡ old)
 AnswersRequest (Some r) old reply new =
     (outcome : Outcome) × Performs r.operation r.fields old outcome new
     × (reply ≡ Some (outcome_text outcome))
 
--- a line is answered by this line, and leaves this session
+-- the answer to a line, if it has one, and the session that it leaves; a fault changes nothing
 abbrev pub Answers : List ℕ → Session → Option (List ℕ) → Session → Type 0
 Answers line old reply new =
     MatchResult (reading line) (λ request. AnswersRequest request old reply new)

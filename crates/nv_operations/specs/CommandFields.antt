@@ -1,4 +1,4 @@
--- Commands by their fields: the name of each with an NSID, and its own fields behind it.
+-- The fields of commands: the name of each with an NSID, and then its other fields.
 use Rattle.std.specs.Prelude.{ℕ, ◌-◌, Bool, List, [], ◌∷◌, codes, if◌then◌else◌}
 use Rattle.nv_layout.specs.Bits.{bit}
 use Rattle.nv_command.specs.declared.command.Command.{Command}
@@ -56,7 +56,7 @@ fields_of_setting x =
     ∷ number (codes "cdw11") x.value
     ∷ []
 
--- the number of dwords is one less than are asked for
+-- the field is one less than the number of dwords, as in the command
 abbrev pub fields_of_log_query : LogQuery → List Field
 fields_of_log_query q =
     number (codes "get_log") q.nsid

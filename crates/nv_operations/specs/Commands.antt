@@ -1,4 +1,4 @@
--- Operations on the entries of commands: their words, and what they are answered.
+-- Operations on the entries of commands: their words, and their answers.
 use Rattle.std.specs.Prelude.{ℕ, List, [], ◌∷◌, ◌++◌, Result, Ok, Err, codes, replicate}
 use Rattle.nv_layout.specs.Parts.{part}
 use Rattle.nv_layout.specs.Sqe.{bytes_of_sqe, sqe_of_bytes}
@@ -28,7 +28,7 @@ command_word command.Transfer = codes "transfer"
 command_word command.HostData = codes "host_data"
 command_word command.StatusName = codes "status_name"
 
--- an entry, and what the host sent with it
+-- an entry, and the data that the host sent with it
 abbrev pub entry_row : Row
 entry_row = needed (bytes_row (codes "entry") 64)
 
@@ -41,27 +41,27 @@ command_rows command.Transfer = entry_row ∷ []
 command_rows command.HostData = entry_row ∷ sent_row ∷ []
 command_rows command.StatusName = needed (word_row (codes "status")) ∷ []
 
--- ---- what they are answered
+-- ---- their answers
 
 abbrev pub fields_of_transfer : Transfer → List Field
 fields_of_transfer NoData = []
 fields_of_transfer (ToHost n) = number (codes "to_host") n ∷ []
 fields_of_transfer (FromHost n) = number (codes "from_host") n ∷ []
 
--- a command, its data, and its own entry under a command identifier
+-- a command, its data transfer, and its entry with a command identifier
 abbrev pub command_answer : Command → ℕ → List Field
 command_answer k cid =
     (fields_of_command k ++ fields_of_transfer (transfer_by k))
     ++ bytes (codes "entry") (bytes_of_sqe (entry_of k cid)) ∷ []
 
--- the data that the host sends, at the front of a page
+-- the data that the host sends, at the start of a page
 abbrev pub data_answer : Command → List Field
 data_answer k = bytes_alone (with_data (host_data_of k) (replicate 4096 0xff))
 
 abbrev pub name_answer : Status → List Field
 name_answer status = bytes (codes "name") (name_of_status status) ∷ []
 
--- an entry that isn't one of a command is refused by the status of the first rule that it breaks
+-- an entry that encodes no command is refused with the status of the first rule that it breaks
 abbrev pub command_read : ℕ → Result Command StatusCode → Result (List Field) Refusal
 command_read cid (Ok k) = Ok (command_answer k cid)
 command_read cid (Err code) = Err (refusal.Status code)

@@ -1,4 +1,4 @@
--- The operations on a controller of the subsystem: their words, and the fields of their lines.
+-- Operations on a controller of the subsystem: their words, and the fields of their lines.
 use Rattle.std.specs.Prelude.{ℕ, Bool, true, false, List, [], ◌∷◌, codes}
 use Rattle.nv_operations.specs.Field.{Row}
 use Rattle.nv_operations.specs.Rows.{dword_row, needed, word_row}
@@ -13,7 +13,7 @@ controller_word Turn = codes "turn"
 controller_word Counts = codes "counts"
 controller_word LogEntry = codes "log_entry"
 
--- registers and rings are written
+-- the operations that may change the controllers, by writing their registers or giving them turns
 abbrev pub is_by_hand : ControllerOperation → Bool
 is_by_hand Write = true
 is_by_hand Turn = true

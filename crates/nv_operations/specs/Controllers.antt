@@ -1,4 +1,4 @@
--- The controllers of a subsystem: what is asked of one is answered, and what it leaves.
+-- The controllers of a subsystem: the answers of the operations on one of them, and what they leave.
 use Rattle.std.specs.Prelude.{◌≡◌, ℕ, List, [], ◌∷◌, Option, Some, None, Result, Ok, Err}
 use Rattle.std.specs.Prelude.{MatchResult, codes, if◌then◌else◌, length, replicate, slice_set}
 use Rattle.nv_host.specs.Pages.{PagedBytes}
@@ -29,7 +29,7 @@ or_fault (Err fault) = Err (File fault)
 abbrev pub subsystem_in : List ℕ → Result State Refusal
 subsystem_in file = or_fault (subsystem file)
 
--- its controllers after power on
+-- the controllers of a subsystem after power on
 abbrev pub powered_on : Result State Refusal → Result BusValue Refusal
 powered_on (Ok s) =
     Ok (record { state = untagged s; banks = replicate (length s.controllers) new_bank })
@@ -38,11 +38,11 @@ powered_on (Err r) = Err r
 abbrev pub powered_in : List ℕ → Result BusValue Refusal
 powered_in file = powered_on (subsystem_in file)
 
--- the file that a line has, or else the demonstration file
+-- the field `file`, or the demonstration file if there is no such field
 abbrev pub file_in : List Field → List ℕ
 file_in fs = if has_field (codes "file") fs then bytes_of (codes "file") fs else DEMO.now
 
--- ---- what is asked of a controller
+-- ---- operations on a controller
 
 abbrev pub value_read : BusValue → ℕ → ℕ → List Field
 value_read b c offset = number (codes "value") (value_at (bank_at b.banks c) offset) ∷ []
@@ -51,7 +51,7 @@ pub record Writes (c offset x : ℕ) (b b' : BusValue) : Type 0 where
   pub state : b'.state ≡ state_written b c offset x
   pub banks : b'.banks ≡ slice_set b.banks c (with_register_at (bank_at b.banks c) offset x)
 
--- a turn over the memory, which tells how many entries it took
+-- a turn over the memory, whose answer is how many entries it took
 pub record Turns (c most : ℕ) (b : BusValue) (m : PagedBytes) (fields : List Field) (b' : BusValue)
     (m' : PagedBytes) : Type 0 where
   pub taken : ℕ
@@ -66,7 +66,7 @@ abbrev pub counts_alone : ℕ × ℕ → List Field
 counts_alone (refusals, commands) =
     number (codes "refusals") refusals ∷ number (codes "commands") commands ∷ []
 
--- an entry of the error log, whatever phase tag it has
+-- an entry of the error log, with either phase tag
 abbrev pub TellsEntry : Option ErrorEntry → Result (List Field) Refusal → Type 0
 TellsEntry (Some booked) outcome = (e : ErrorEntry) × (without_phase e ≡ booked)
     × (outcome ≡ Ok (bytes_alone (bytes_of_error_entry e)))
@@ -76,7 +76,7 @@ TellsEntry None outcome = outcome ≡ Err NoEntry
 abbrev pub Stay : BusValue → PagedBytes → BusValue → PagedBytes → Type 0
 Stay b m b' m' = (b' ≡ b) × (m' ≡ m)
 
--- what is asked of controller c, over the memory
+-- the operation on controller c, over the memory
 abbrev pub Asked : ControllerOperation → ℕ → List Field → BusValue → PagedBytes
     → Result (List Field) Refusal → BusValue → PagedBytes → Type 0
 Asked asked.Read c fs b m outcome b' m' =

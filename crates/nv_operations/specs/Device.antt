@@ -1,10 +1,14 @@
--- The controllers of a subsystem with their driver: what each operation on them is answered, and what it leaves.
-use Rattle.std.specs.Prelude.{◌≡◌, ℕ, ◌≤◌, List, [], ◌∷◌, Option, Some, None, Result, Ok, Err, MatchResult}
+-- The controllers of a subsystem with their driver: the answers of the operations on them, and what they leave.
+use Rattle.std.specs.Prelude.{◌≡◌, ℕ, ◌<◌, ◌≤◌, List, [], ◌∷◌, Option, Some, None, Result, Ok, Err, MatchResult}
 use Rattle.std.specs.Prelude.{codes, if◌then◌else◌, length, nat_lt}
 use Rattle.nv_host.specs.Pages.{PagedBytes}
 use Rattle.nv_layout.specs.Status.{number_of_status}
 use Rattle.nv_layout.specs.declared.sqe.Sqe.{Sqe}
-use Rattle.nv_model.specs.Step.{reset, reset_where}
+use Rattle.nv_command.specs.Logs.{IsSendable}
+use Rattle.nv_command.specs.Received.{answer_received}
+use Rattle.nv_command.specs.declared.command.Command.{Command}
+use Rattle.nv_command.specs.declared.status_code.StatusCode.{StatusCode}
+use Rattle.nv_model.specs.Step.{reset, reset_where, step}
 use Rattle.nv_bus.specs.Bus.{BusValue, IsBus, enabled_in}
 use Rattle.nv_bus.specs.Entry.{told_by}
 use Rattle.nv_bus.specs.declared.told.Told.{Told}
@@ -17,11 +21,13 @@ use Rattle.nv_driver.specs.declared.geometry.Geometry.{Geometry}
 use Rattle.nv_driver.specs.declared.geometry_field.GeometryField.{GeometryField}
 use Rattle.nv_operations.specs.Field.{Field, byte_of, bytes, bytes_of, dword_of, has_field, number, number_of}
 use Rattle.nv_operations.specs.Field.{word_of}
+use Rattle.nv_operations.specs.Commands.{command_in}
 use Rattle.nv_operations.specs.Controllers.{Asked, powered_in}
+use Rattle.nv_operations.specs.Replies.{fields_of_answer}
 use Rattle.nv_operations.specs.declared.controller_operation.ControllerOperation.{ControllerOperation}
 use Rattle.nv_operations.specs.ControllerOperations.{is_by_hand}
 use Rattle.nv_operations.specs.declared.driver_operation.DriverOperation.{DriverOperation}
-use Rattle.nv_operations.specs.declared.driver_operation.DriverOperation.TheVariants.{Passthrough, Reset}
+use Rattle.nv_operations.specs.declared.driver_operation.DriverOperation.TheVariants.{Admin, Passthrough, Reset}
 use Rattle.nv_operations.specs.declared.refusal.Refusal.{Refusal}
 use Rattle.nv_operations.specs.declared.refusal.Refusal.TheVariants as refusal
 
@@ -30,7 +36,7 @@ pub record DeviceValue : Type 0 where
   pub bus : BusValue
   pub driver : Option DriverValue
 
--- the bus is as the driver left it, which has room for the data of any entry
+-- the registers are as the driver left them, and its pages hold the data of any entry
 abbrev pub IsLeft : BusValue → Option DriverValue → Type 0
 IsLeft b None = Unit {0}
 IsLeft b (Some d) = (b.banks ≡ banks_of d) × HasEntryPages d
@@ -47,17 +53,17 @@ without_driver (Err r) = Err r
 abbrev pub device_of : List ℕ → Result DeviceValue Refusal
 device_of file = without_driver (powered_in file)
 
--- ---- controllers by hand
+-- ---- controllers without the driver
 
--- a driver is let go where a register is written or a turn given by hand
+-- the driver is dropped when a register is written or a turn is given
 abbrev pub driver_after : ControllerOperation → Option DriverValue → Option DriverValue
 driver_after o driver = if is_by_hand o then None else driver
 
--- controller c, where there is one
+-- controller c, if there is one
 abbrev pub controller_in : BusValue → ℕ → Result ℕ Refusal
 controller_in b c = if nat_lt c (length b.banks) then Ok c else Err refusal.NoController
 
--- what is asked of a controller is done where there is the controller
+-- an operation on a controller, which is refused if there is no such controller
 abbrev pub PerformsOn : ControllerOperation → List Field → DeviceValue → PagedBytes
     → Result (List Field) Refusal → DeviceValue → PagedBytes → Type 0
 PerformsOn o fs old m outcome new m' =
@@ -67,7 +73,7 @@ PerformsOn o fs old m outcome new m' =
 
 -- ---- what the fields of a line ask for
 
--- a number that a line may leave out
+-- the number of an optional field, or else `otherwise`
 abbrev pub dword_or : List ℕ → ℕ → List Field → ℕ
 dword_or key otherwise fs = if has_field key fs then dword_of key fs else otherwise
 
@@ -81,7 +87,7 @@ geometry_in fs = record {
   pace = dword_or (codes "pace") 1 fs;
 }
 
--- an entry, whose command identifier and data pointer are the driver's own
+-- an entry whose command identifier and data pointer the driver chooses
 unfoldable pub entry_in : List Field → Sqe
 entry_in fs = record {
   opcode = byte_of (codes "opcode") fs;
@@ -100,7 +106,7 @@ entry_in fs = record {
   cdw15 = dword_of (codes "cdw15") fs;
 }
 
--- ---- what is done with a driver
+-- ---- operations of a driver
 
 -- a driver of all controllers, which are ready with its rings; each that was enabled is reset
 abbrev pub made_driver : Geometry → BusValue → DriverValue
@@ -114,14 +120,14 @@ pub record IsBroughtUp (g : Geometry) (b : BusValue) (new : DeviceValue) : Type 
 abbrev pub pages_alone : ℕ → List Field
 pages_alone n = number (codes "pages") n ∷ []
 
--- or the first field of the geometry that is out of its limits, and all stays
+-- a geometry out of its limits is refused with its first such field, and nothing changes
 abbrev pub BringsUp : Geometry → Option GeometryField → DeviceValue → Result (List Field) Refusal
     → DeviceValue → Type 0
 BringsUp g (Some field) old outcome new = (outcome ≡ Err (refusal.Geometry field)) × (new ≡ old)
 BringsUp g None old outcome new =
     (outcome ≡ Ok (pages_alone (made_driver g old.bus).pages)) × IsBroughtUp g old.bus new
 
--- what the completion of an entry tells, and the bytes that came
+-- the fields of an entry's completion, and the bytes that came
 abbrev pub told_fields : Told → List ℕ → List Field
 told_fields told came =
     number (codes "status") (number_of_status told.status)
@@ -129,7 +135,7 @@ told_fields told came =
     ∷ bytes (codes "bytes") came
     ∷ []
 
--- an entry was sent to controller c with the bytes that the host had to send
+-- an entry was sent to controller c, with the bytes that the host sends
 pub record IsSent (c : ℕ) (e : Sqe) (given : List ℕ) (room : ℕ) (fields : List Field)
     (b : BusValue) (d : DriverValue) (b' : BusValue) (d' : DriverValue) : Type 0 where
   pub came : List ℕ
@@ -157,12 +163,12 @@ abbrev pub WithDrivers : Option DriverValue → Option DriverValue → (DriverVa
 WithDrivers (Some d) (Some d') Does = Does d d'
 WithDrivers driver driver' Does = ⊥
 
--- something was done by the driver
+-- the driver did something
 abbrev pub ByDriver : DeviceValue → DeviceValue → (BusValue → DriverValue → BusValue → DriverValue → Type 0)
     → Type 0
 ByDriver old new Does = WithDrivers old.driver new.driver (λ d d'. Does old.bus d new.bus d')
 
--- why it isn't: there is no driver, or it has no such controller
+-- why it did nothing: there is no driver, or it doesn't have this controller
 abbrev pub Lacks : Refusal → Option DriverValue → ℕ → Type 0
 Lacks refusal.NoDriver None c = Unit {0}
 Lacks refusal.NoController (Some d) c = length d.pairs ≤ c
@@ -174,14 +180,45 @@ Sends fs old outcome new =
     MatchResult outcome (λ fields. ByDriver old new (SendsBy c fs fields))
     (λ r. Lacks r old.driver c × (new ≡ old))
 
+-- command k was sent to controller c
+pub record IsAnswered (c : ℕ) (k : Command) (fields : List Field)
+    (b : BusValue) (d : DriverValue) (b' : BusValue) (d' : DriverValue) : Type 0 where
+  pub told : fields ≡ fields_of_answer
+      (answer_received k (step b.state c k (pair_at d.pairs c).serial).answer)
+  pub state : b'.state ≡ (step b.state c k (pair_at d.pairs c).serial).state
+  pub driver : d' ≡ after_command d c
+
+abbrev pub SendsCommand : ℕ → Result Command StatusCode → List Field
+    → BusValue → DriverValue → BusValue → DriverValue → Type 0
+SendsCommand c (Ok k) fields b d b' d' = IsAnswered c k fields b d b' d'
+SendsCommand c (Err code) fields b d b' d' = ⊥
+
+-- why a command isn't sent: the entry encodes none, or the command asks for a part of a log
+abbrev pub IsHeld : Result Command StatusCode → Refusal → DriverValue → ℕ → Type 0
+IsHeld (Err code) r d c = (r ≡ refusal.Status code) × (c < length d.pairs)
+IsHeld (Ok k) r d c = (r ≡ refusal.PartOfLog) × (c < length d.pairs) × (IsSendable k → ⊥)
+
+abbrev pub HoldsBack : Refusal → Option DriverValue → ℕ → Result Command StatusCode → Type 0
+HoldsBack refusal.NoDriver driver c k = Lacks refusal.NoDriver driver c
+HoldsBack refusal.NoController driver c k = Lacks refusal.NoController driver c
+HoldsBack r (Some d) c k = IsHeld k r d c
+HoldsBack r None c k = ⊥
+
+abbrev pub Administers : List Field → DeviceValue → Result (List Field) Refusal → DeviceValue → Type 0
+Administers fs old outcome new =
+    let c = word_of (codes "ctrl") fs in
+    MatchResult outcome (λ fields. ByDriver old new (SendsCommand c (command_in fs) fields))
+    (λ r. HoldsBack r old.driver c (command_in fs) × (new ≡ old))
+
 abbrev pub Resets : List Field → DeviceValue → Result (List Field) Refusal → DeviceValue → Type 0
 Resets fs old outcome new =
     let c = word_of (codes "ctrl") fs in
     MatchResult outcome (λ fields. (fields ≡ []) × ByDriver old new (IsReset c))
     (λ r. Lacks r old.driver c × (new ≡ old))
 
--- what is asked of the driver, or why it isn't, and then all stays
+-- the operation of the driver; if it is refused, nothing changes
 abbrev pub Drives : DriverOperation → List Field → DeviceValue → Result (List Field) Refusal
     → DeviceValue → Type 0
+Drives Admin fs old outcome new = Administers fs old outcome new
 Drives Passthrough fs old outcome new = Sends fs old outcome new
 Drives Reset fs old outcome new = Resets fs old outcome new

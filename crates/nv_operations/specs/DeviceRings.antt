@@ -1,4 +1,4 @@
--- Operations on the device's side of rings: what they are answered and what they leave.
+-- Operations on the device's side of rings: their answers and what they leave.
 use Rattle.std.specs.Prelude.{◌≡◌, ◌≢◌, ◌+◌, ◌-◌, ◌≤◌, ◌==◌, Bool, length}
 use Rattle.std.specs.Prelude.{List, [], ◌∷◌, MatchResult, Result, codes}
 use Rattle.nv_host.specs.Pages.{PagedBytes}
@@ -27,7 +27,7 @@ TakeFails refusal.SlotOutside m ring = ¬ HasNext m ring
 TakeFails refusal.NoSubmission m ring = ring.fetched ≡ ring.rung
 TakeFails other m ring = ⊥
 
--- its fields are answered, where there is one; else all stays
+-- the answer has the submission's fields, if there is one; otherwise nothing changes
 abbrev pub Takes : PagedBytes → FetchNumbers → Result (List Field) Refusal → FetchNumbers → Type 0
 Takes m ring outcome left =
     MatchResult outcome
@@ -42,7 +42,7 @@ PostFails refusal.SlotOutside m ring = ¬ HasFree m ring
 PostFails refusal.CompletionsFull m ring = IsPostFull ring
 PostFails other m ring = ⊥
 
--- it stands in its slot with the phase tag that is due; else all stays
+-- the completion is in its slot with the current phase tag; otherwise nothing changes
 abbrev pub Posts : Cqe → PagedBytes → PostNumbers → Result (List Field) Refusal → PagedBytes
     → PostNumbers → Type 0
 Posts completion m ring outcome m_left left =
@@ -58,7 +58,7 @@ Posts completion m ring outcome m_left left =
 abbrev pub is_empty : FetchNumbers → Bool
 is_empty ring = ring.fetched == ring.rung
 
--- all but one of the slots hold completions that are not known to be collected
+-- all slots but one hold completions that aren't known to be collected
 abbrev pub is_full : PostNumbers → Bool
 is_full ring = above ring.depth ring.posted ring.told == ring.depth - 1
 

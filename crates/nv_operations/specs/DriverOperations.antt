@@ -1,11 +1,12 @@
--- The operations on a driver of the controllers: their words, and the fields of their lines.
+-- Operations on a driver of the controllers: their words, and the fields of their lines.
 use Rattle.std.specs.Prelude.{ℕ, List, [], ◌∷◌, codes}
 use Rattle.nv_operations.specs.Field.{Row}
 use Rattle.nv_operations.specs.Rows.{byte_row, bytes_row, dword_row, needed, number_row, word_row}
 use Rattle.nv_operations.specs.declared.driver_operation.DriverOperation.{DriverOperation}
-use Rattle.nv_operations.specs.declared.driver_operation.DriverOperation.TheVariants.{Passthrough, Reset}
+use Rattle.nv_operations.specs.declared.driver_operation.DriverOperation.TheVariants.{Admin, Passthrough, Reset}
 
 abbrev pub driver_word : DriverOperation → List ℕ
+driver_word Admin = codes "admin"
 driver_word Passthrough = codes "passthrough"
 driver_word Reset = codes "reset"
 
@@ -17,6 +18,13 @@ bring_up_rows =
     ∷ dword_row (codes "list_offset")
     ∷ dword_row (codes "window")
     ∷ dword_row (codes "pace")
+    ∷ []
+
+unfoldable pub admin_rows : List Row
+admin_rows =
+    needed (word_row (codes "ctrl"))
+    ∷ needed (bytes_row (codes "entry") 64)
+    ∷ bytes_row (codes "sent") 8192
     ∷ []
 
 unfoldable pub passthrough_rows : List Row
@@ -38,5 +46,6 @@ unfoldable pub reset_rows : List Row
 reset_rows = needed (word_row (codes "ctrl")) ∷ []
 
 abbrev pub driver_rows : DriverOperation → List Row
+driver_rows Admin = admin_rows
 driver_rows Passthrough = passthrough_rows
 driver_rows Reset = reset_rows

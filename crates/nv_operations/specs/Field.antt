@@ -1,7 +1,7 @@
--- Fields: what the words of a line give, by a table of those that there may be.
+-- Fields: how the words of a line are read, by a table of the fields that are allowed.
 use Rattle.std.specs.Prelude.{ℕ, Bool, ◌==◌, ◌+◌, ◌%◌, ◌^◌, ◌&&◌, not, nat_lt, length, if◌then◌else◌, find}
 use Rattle.std.specs.Prelude.{List, [], ◌∷◌, ◌++◌, Option, Some, None, Result, Ok, Err, option_map}
-use Rattle.std.specs.Prelude.{option_and_then, codes, position, slice_get}
+use Rattle.std.specs.Prelude.{codes, position, slice_get}
 use Rattle.std.specs.Int.{from_le_bytes, w128}
 use Rattle.std.specs.List.{after_first, before_first, list_any, position_or_len}
 use Rattle.std.specs.Option.{ok_or, option_map_or}
@@ -17,7 +17,7 @@ use Rattle.nv_operations.specs.declared.slip.Slip.TheVariants.{Unknown, Repeated
 use Rattle.nv_operations.specs.declared.value.Value.{Value}
 use Rattle.nv_operations.specs.declared.value.Value.TheVariants.{Number, Bytes, Numbers}
 
--- a row of a table: a key, what its value may be, and whether a line needs it
+-- a row of a table: a key, the form of its value, and whether it is required
 pub record Row : Type 0 where
   pub key : List ℕ
   pub form : Form
@@ -42,7 +42,7 @@ bytes key bs = field key (Bytes bs)
 abbrev pub numbers : List ℕ → List ℕ → Field
 numbers key ns = field key (Numbers ns)
 
--- some bytes, as the one field of an answer
+-- the answer that consists of some bytes
 abbrev pub bytes_alone : List ℕ → List Field
 bytes_alone bs = bytes (codes "bytes") bs ∷ []
 
@@ -69,11 +69,11 @@ as_numbers (Number n) = []
 as_numbers (Bytes bs) = []
 as_numbers (Numbers ns) = ns
 
--- the number of the field with a key, or 0 where there is none
+-- the number of the field with a key, or 0 if there is no such number
 unfoldable pub number_of : List ℕ → List Field → ℕ
 number_of key fields = option_map_or as_number (value_of key fields) 0
 
--- its lowest byte, two bytes and four bytes, and whether it is 1
+-- its lowest byte, its lowest two and four bytes, and whether it is 1
 abbrev pub byte_of : List ℕ → List Field → ℕ
 byte_of key fields = number_of key fields % 2 ^ 8
 
@@ -89,11 +89,11 @@ flag_of key fields = number_of key fields == 1
 unfoldable pub bytes_of : List ℕ → List Field → List ℕ
 bytes_of key fields = option_map_or as_bytes (value_of key fields) []
 
--- the first n of them, with zeros behind them
+-- the first n of the bytes, filled up with zeros
 abbrev pub array_of : ℕ → List ℕ → List Field → List ℕ
 array_of n key fields = part (bytes_of key fields) 0 n
 
--- the number of sixteen bytes that they are, the lowest one first
+-- the number that the first sixteen bytes encode, the lowest one first
 abbrev pub wide_of : List ℕ → List Field → ℕ
 wide_of key fields = from_le_bytes w128 (array_of 16 key fields)
 
@@ -111,7 +111,7 @@ names_key word = nat_lt (position_or_len is_equals word) (length word)
 abbrev pub row_named : List Row → List ℕ → Option Row
 row_named rows key = find (λ r. bytes_eq r.key key) rows
 
--- KEY=VALUE is for the row with that key, and any other word for the row at its own place
+-- KEY=VALUE is for the row with this key, and any other word for the row at the word's place
 abbrev pub row_for : List Row → ℕ → List ℕ → Option Row
 row_for rows place word =
     if names_key word then row_named rows (before_first is_equals word) else slice_get rows place
@@ -119,13 +119,13 @@ row_for rows place word =
 abbrev pub text_of : List ℕ → List ℕ
 text_of word = if names_key word then after_first is_equals word else word
 
--- the field that a text gives a row, behind other fields
+-- the field of a row, after the fields that were read before it
 abbrev pub field_for : List Field → Row → List ℕ → Result Field Slip
 field_for fields r text =
     if has_field r.key fields then Err Repeated
     else ok_or (option_map (λ v. field r.key v) (value_in r.form text)) Wrong
 
--- and where there is no row
+-- without a row, the field is unknown
 abbrev pub field_if : List Field → Option Row → List ℕ → Result Field Slip
 field_if fields r text = option_map_or (λ r. field_for fields r text) r (Err Unknown)
 
@@ -137,14 +137,14 @@ abbrev pub at_place : ℕ → Result Field Slip → Result Field Fault
 at_place place (Ok f) = Ok f
 at_place place (Err slip) = Err (fault.Argument (place + 1) slip)
 
--- the fields that words from a place on give, behind others
+-- the fields that the words from a place on give, after those before them
 unfoldable pub fields_from : List Row → ℕ → List Field → List (List ℕ) → Result (List Field) Fault
 fields_from rows place fields [] = Ok fields
 fields_from rows place fields (word ∷ words) = do
   f ← at_place place (field_in rows place fields word)
   fields_from rows (place + 1) (fields ++ f ∷ []) words
 
--- the place of the first row that a line needs and that has no field
+-- the place of the first required row that has no field
 abbrev pub missing_in : List Row → List Field → Option ℕ
 missing_in rows fields = position (λ r. r.is_needed && not (has_field r.key fields)) rows
 

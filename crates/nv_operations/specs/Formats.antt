@@ -1,4 +1,4 @@
--- The formats of a namespace's logical blocks as bytes: sixteen, of four bytes each.
+-- The LBA formats of a namespace as bytes: sixteen formats of four bytes each.
 use Rattle.std.specs.Prelude.{ℕ, List, map}
 use Rattle.std.specs.Int.{to_le_bytes, w32}
 use Rattle.nv_layout.specs.IdNs.{lbaf_of_bytes}

@@ -1,4 +1,4 @@
--- Operations on the host's side of rings: what they are answered and what they leave.
+-- Operations on the host's side of rings: their answers and what they leave.
 use Rattle.std.specs.Prelude.{◌≡◌, ℕ, ◌+◌, ◌*◌, ◌≤◌, true, false, length, replicate}
 use Rattle.std.specs.Prelude.{List, [], ◌∷◌, MatchResult, Result, codes}
 use Rattle.nv_host.specs.Bytes.{with_bytes}
@@ -16,7 +16,7 @@ use Rattle.nv_operations.specs.declared.refusal.Refusal.TheVariants as refusal
 abbrev pub with_memory : PagedBytes → List ℕ → PagedBytes
 with_memory m bytes = record m { bytes = bytes }
 
--- all slots lie in the memory, of 64 bytes for submissions and 16 for completions
+-- all slots lie in the memory; a submission has 64 bytes, a completion 16
 abbrev pub HasSubmissions : PagedBytes → SubmitNumbers → Type 0
 HasSubmissions m ring = ring.base + 64 * ring.depth ≤ length m.bytes
 
@@ -30,7 +30,7 @@ SubmitFails refusal.RingOutside m ring = ¬ HasSubmissions m ring
 SubmitFails refusal.SubmissionsFull m ring = IsSubmitFull ring
 SubmitFails other m ring = ⊥
 
--- it stands in its slot, and the new tail is answered; else all stays
+-- the command is in its slot, and the answer is the new tail; otherwise nothing changes
 abbrev pub Submits : Sqe → PagedBytes → SubmitNumbers → Result (List Field) Refusal → PagedBytes
     → SubmitNumbers → Type 0
 Submits command m ring outcome m_left left =
@@ -40,7 +40,7 @@ Submits command m ring outcome m_left left =
     × (fields ≡ number (codes "tail") (slot_of ring.depth (submitted_one ring).submitted) ∷ []))
     (λ r. SubmitFails r m ring × (m_left ≡ m) × (left ≡ ring))
 
--- the submissions below a head are known to be taken, where it lies from the known one to the tail
+-- the submissions before a head are known to be taken, if it lies between the known head and the tail
 abbrev pub Frees : ℕ → SubmitNumbers → Result (List Field) Refusal → SubmitNumbers → Type 0
 Frees head ring outcome left =
     MatchResult outcome
@@ -56,7 +56,7 @@ CollectFails refusal.RingOutside m ring = ¬ HasCompletions m ring
 CollectFails refusal.NoCompletion m ring = ¬ IsAwaitedThere m.bytes ring
 CollectFails other m ring = ⊥
 
--- its fields are answered where it has the phase tag that is due; else all stays
+-- the answer has the completion's fields, if it has the expected phase tag; otherwise nothing changes
 abbrev pub Collects : PagedBytes → CollectNumbers → Result (List Field) Refusal → CollectNumbers
     → Type 0
 Collects m ring outcome left =
@@ -65,7 +65,7 @@ Collects m ring outcome left =
     × (fields ≡ fields_of_cqe (awaited_completion m.bytes ring)))
     (λ r. CollectFails r m ring × (left ≡ ring))
 
--- the head to tell, where something was collected since the last one
+-- the head to write to the doorbell, if something was collected since the last one
 abbrev pub Tells : CollectNumbers → Result (List Field) Refusal → CollectNumbers → Type 0
 Tells ring outcome left =
     MatchResult outcome
@@ -74,7 +74,7 @@ Tells ring outcome left =
     (λ r. (r ≡ refusal.NoHead) × (ring.untold ≡ false))
     × (left ≡ told_all ring)
 
--- the slots are zeros
+-- all slots become zeros
 abbrev pub Zeroes : PagedBytes → CollectNumbers → Result (List Field) Refusal → PagedBytes → Type 0
 Zeroes m ring outcome m_left =
     MatchResult outcome

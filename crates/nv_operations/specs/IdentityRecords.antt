@@ -1,4 +1,4 @@
--- What Identify tells of a namespace and of a controller, by its fields.
+-- The data structures that Identify returns for a namespace and a controller, by their fields.
 use Rattle.std.specs.Prelude.{List, [], ◌∷◌, ◌++◌, codes, flat_map}
 use Rattle.std.specs.Int.{to_le_bytes, w128}
 use Rattle.nv_layout.specs.IdNs.{bytes_of_lbaf}
@@ -10,7 +10,7 @@ use Rattle.nv_operations.specs.Field.{number_of, wide_of, word_of}
 use Rattle.nv_operations.specs.Formats.{lbafs_in}
 use Rattle.nv_operations.specs.Rows.{byte_row, bytes_row, dword_row, number_row, qword_row, word_row}
 
--- ---- formats of logical blocks
+-- ---- LBA formats
 
 unfoldable pub lbaf_rows : List Row
 lbaf_rows =
@@ -19,7 +19,7 @@ lbaf_rows =
     ∷ number_row (codes "rp") 0x3
     ∷ []
 
--- the one that fields give
+-- the format that fields describe
 unfoldable pub lbaf_of : List Field → Lbaf
 lbaf_of fs = record {
   ms = word_of (codes "ms") fs;
@@ -52,7 +52,7 @@ id_ns_rows =
     ∷ bytes_row (codes "lbafs") 64
     ∷ []
 
--- the one that fields give
+-- the namespace that fields describe
 unfoldable pub id_ns_of : List Field → IdNs
 id_ns_of fs = record {
   nsze = number_of (codes "nsze") fs;
@@ -102,7 +102,7 @@ id_ctrl_rows =
     ∷ bytes_row (codes "subnqn") 256
     ∷ []
 
--- the one that fields give
+-- the controller that fields describe
 unfoldable pub id_ctrl_of : List Field → IdCtrl
 id_ctrl_of fs = record {
   vid = word_of (codes "vid") fs;
@@ -164,7 +164,7 @@ abbrev pub fields_of_id_ns : IdNs → List Field
 fields_of_id_ns r =
     sizes_of r ++ (capabilities_of r ++ (capacity_and_formats r))
 
--- ---- those of a controller
+-- ---- the fields of a controller, part by part
 
 abbrev pub names_of : IdCtrl → List Field
 names_of r =

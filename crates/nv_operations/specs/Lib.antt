@@ -11,6 +11,7 @@ pub mod ListRecords
 pub mod Records
 pub mod CommandFields
 pub mod Commands
+pub mod Replies
 pub mod HostRings
 pub mod DeviceRings
 pub mod Registers

@@ -1,4 +1,4 @@
--- Lists of namespaces and of controllers by their fields.
+-- Lists of namespaces and of controllers, by their fields.
 use Rattle.std.specs.Prelude.{ℕ, ◌%◌, ◌^◌, List, [], ◌∷◌, codes, map, take}
 use Rattle.nv_layout.specs.Limits.{most_cntlids}
 use Rattle.nv_layout.specs.Limits.{most_nsids}
@@ -17,7 +17,7 @@ cut_dword n = n % 2 ^ 32
 abbrev pub cut_word : ℕ → ℕ
 cut_word n = n % 2 ^ 16
 
--- the lists that fields give
+-- the lists that fields describe
 unfoldable pub nsids_of : List Field → List ℕ
 nsids_of fs = map cut_dword (take most_nsids (numbers_of (codes "nsids") fs))
 

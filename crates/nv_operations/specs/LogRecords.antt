@@ -1,4 +1,4 @@
--- The records of logs by their fields.
+-- The records of logs, by their fields.
 use Rattle.std.specs.Prelude.{List, [], ◌∷◌, ◌++◌, codes, flat_map}
 use Rattle.std.specs.Int.{to_le_bytes, w128}
 use Rattle.byteorder.specs.Endian.{little_bytes}
@@ -28,7 +28,7 @@ error_entry_rows =
     ∷ qword_row (codes "specific")
     ∷ []
 
--- the one that fields give
+-- the entry that fields describe
 unfoldable pub error_entry_of : List Field → ErrorEntry
 error_entry_of fs = record {
   count = number_of (codes "count") fs;
@@ -81,7 +81,7 @@ smart_rows =
     ∷ bytes_row (codes "sensors") 16
     ∷ []
 
--- the one that fields give
+-- the log that fields describe
 unfoldable pub smart_of : List Field → Smart
 smart_of fs = record {
   critical_warning = byte_of (codes "critical_warning") fs;
@@ -104,7 +104,7 @@ smart_of fs = record {
   sensors = numbers_at 0 2 8 (array_of 16 (codes "sensors") fs);
 }
 
--- its fields, part by part
+-- the fields of the log, part by part
 abbrev pub health_values : Smart → List Field
 health_values r =
     number (codes "critical_warning") r.critical_warning

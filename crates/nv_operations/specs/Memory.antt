@@ -1,4 +1,4 @@
--- What operations on the host's memory are answered, and what they leave.
+-- Operations on the host's memory: their answers and what they leave.
 use Rattle.std.specs.Prelude.{◌≡◌, ℕ, ◌+◌, ◌*◌, nat_le, length, replicate, if◌then◌else◌}
 use Rattle.std.specs.Prelude.{List, [], ◌∷◌, Result, Ok, Err, codes}
 use Rattle.nv_host.specs.Bytes.{bytes_at, with_bytes}
@@ -7,7 +7,7 @@ use Rattle.nv_operations.specs.Field.{Field, bytes_alone, number}
 use Rattle.nv_operations.specs.declared.refusal.Refusal.{Refusal}
 use Rattle.nv_operations.specs.declared.refusal.Refusal.TheVariants.{OutsideMemory, NoPage, PageSize}
 
--- the n bytes from an address on, where they lie in the memory
+-- the n bytes from an address on, if they lie in the memory
 abbrev pub loaded : PagedBytes → ℕ → ℕ → Result (List Field) Refusal
 loaded m address n =
     if nat_le (address + n) (length m.bytes) then Ok (bytes_alone (bytes_at m.bytes address n))
@@ -25,12 +25,12 @@ abbrev pub zeroed : ℕ → ℕ → PagedBytes
 zeroed page_size pages =
     record { page_size = page_size; bytes = replicate (pages * page_size) 0 }
 
--- a memory of zeros, where pages can have this size
+-- a memory of zeros, if pages can have this size
 abbrev pub new_memory : ℕ → ℕ → Result PagedBytes Refusal
 new_memory page_size pages =
     if is_page_size page_size then Ok (zeroed page_size pages) else Err PageSize
 
--- a page of the memory, where there is the page
+-- a page, if the memory has it
 abbrev pub page_of : PagedBytes → ℕ → Result (List Field) Refusal
 page_of m n =
     if nat_le ((n + 1) * m.page_size) (length m.bytes)

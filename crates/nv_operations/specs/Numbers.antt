@@ -7,14 +7,14 @@ use Rattle.nv_line.specs.Values.{number_in}
 abbrev pub is_comma : ℕ → Bool
 is_comma b = b == 44
 
--- the numbers that pieces write, where each writes one of 0 to `each`
+-- the numbers that pieces of text write, if each writes a number from 0 to `each`
 unfoldable pub numbers_of : ℕ → List (List ℕ) → Option (List ℕ)
 numbers_of each [] = Some []
 numbers_of each (piece ∷ pieces) =
     option_and_then (λ n. option_map (λ ns. n ∷ ns) (numbers_of each pieces))
     (number_in 0 each piece)
 
--- those between commas, where they are no more than `most`
+-- the numbers that a text lists with commas between them, at most `most` of them
 unfoldable pub numbers_in : ℕ → ℕ → List ℕ → Option (List ℕ)
 numbers_in each most text =
     let pieces = slice_split is_comma text in

@@ -51,7 +51,7 @@ word_of (Controller o) = controller_word o
 word_of BringUp = codes "bring_up"
 word_of (Driver o) = driver_word o
 
--- the second word names the record that is put or got
+-- the second word names the record to encode or decode
 abbrev pub is_for : List ℕ → Operation → Bool
 is_for second (Put k) = bytes_eq second (record_word k)
 is_for second (Get k) = bytes_eq second (record_word k)
@@ -65,7 +65,7 @@ records =
     kind.Sqe ∷ kind.Cqe ∷ kind.Status ∷ kind.Lbaf ∷ kind.IdNs ∷ kind.IdCtrl ∷ kind.NsList ∷ kind.CtrlList
     ∷ kind.Smart ∷ kind.ErrorEntry ∷ []
 
--- each operation, which its words name
+-- all operations
 abbrev pub operations : List Operation
 operations =
     map Put records
@@ -78,7 +78,7 @@ operations =
     ++ Subsystem ∷ Controllers ∷ []
     ++ map Controller (asked.Read ∷ asked.Write ∷ asked.Turn ∷ asked.Counts ∷ asked.LogEntry ∷ [])
     ++ BringUp ∷ []
-    ++ map Driver (driven.Passthrough ∷ driven.Reset ∷ [])
+    ++ map Driver (driven.Admin ∷ driven.Passthrough ∷ driven.Reset ∷ [])
 
 abbrev pub operation_named : List ℕ → List ℕ → Option Operation
 operation_named first second = find (is_named first second) operations
@@ -102,12 +102,12 @@ record_rows kind.CtrlList = ctrl_list_rows
 record_rows kind.Smart = smart_rows
 record_rows kind.ErrorEntry = error_entry_rows
 
--- a status field is read from its number, and other records from bytes
+-- a status field is decoded from its number, and any other record from bytes
 abbrev pub get_rows : RecordKind → List Row
 get_rows kind.Status = needed (word_row (codes "status")) ∷ []
 get_rows k = needed (bytes_row (codes "bytes") 4096) ∷ []
 
--- the greatest number of bytes that are moved at once
+-- the most bytes that one operation moves
 abbrev pub most_moved : ℕ
 most_moved = 1048576
 
@@ -150,7 +150,7 @@ spread_rows =
 unfoldable pub copy_rows : List Row
 copy_rows = needed (bytes_row (codes "bytes") most_moved) ∷ []
 
--- a file may have so many bytes
+-- the most bytes that a subsystem file may have
 abbrev pub most_of_file : ℕ
 most_of_file = 4194304
 

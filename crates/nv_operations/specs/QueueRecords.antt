@@ -1,4 +1,4 @@
--- The records of queues by their fields.
+-- The records of queues, by their fields: submission queue entries, completions and status fields.
 use Rattle.std.specs.Prelude.{List, [], ◌∷◌, codes}
 use Rattle.nv_layout.specs.Bits.{bit}
 use Rattle.nv_layout.specs.Status.{number_of_status, status_of_number}
@@ -29,7 +29,7 @@ sqe_rows =
     ∷ dword_row (codes "cdw15")
     ∷ []
 
--- the one that fields give
+-- the entry that fields describe
 unfoldable pub sqe_of : List Field → Sqe
 sqe_of fs = record {
   opcode = byte_of (codes "opcode") fs;
@@ -78,7 +78,7 @@ cqe_rows =
     ∷ number_row (codes "status") 0x7fff
     ∷ []
 
--- the one that fields give
+-- the completion that fields describe
 unfoldable pub cqe_of : List Field → Cqe
 cqe_of fs = record {
   command_specific = dword_of (codes "command_specific") fs;
@@ -110,7 +110,7 @@ status_rows =
     ∷ flag_row (codes "dnr")
     ∷ []
 
--- the one that fields give
+-- the status field that fields describe
 unfoldable pub status_of : List Field → Status
 status_of fs = record {
   sc = byte_of (codes "sc") fs;

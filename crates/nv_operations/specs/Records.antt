@@ -1,4 +1,4 @@
--- The records that a host and a controller exchange: what putting and getting them answers.
+-- The records that a host and a controller exchange: the answers of `put` and `get`.
 use Rattle.std.specs.Prelude.{ℕ, List, [], ◌∷◌, Result, Ok, Err, codes}
 use Rattle.nv_layout.specs.Parts.{part}
 use Rattle.nv_layout.specs.Status.{number_of_status, status_of_number}
@@ -37,7 +37,7 @@ record_word kind.CtrlList = codes "ctrl_list"
 record_word kind.Smart = codes "smart"
 record_word kind.ErrorEntry = codes "error_entry"
 
--- ---- putting: the fields of a record, as its bytes
+-- ---- put: the bytes of a record, from its fields
 
 abbrev pub status_alone : ℕ → List Field
 status_alone n = number (codes "status") n ∷ []
@@ -54,7 +54,7 @@ put_answer kind.CtrlList fs = bytes_alone (bytes_of_ctrl_list (cntlids_of fs))
 put_answer kind.Smart fs = bytes_alone (bytes_of_smart (smart_of fs))
 put_answer kind.ErrorEntry fs = bytes_alone (bytes_of_error_entry (error_entry_of fs))
 
--- ---- getting: the bytes of a record, with zeros behind them, as its fields
+-- ---- get: the fields of a record, from the first bytes, filled up with zeros
 
 abbrev pub bytes_given : ℕ → List Field → List ℕ
 bytes_given size fs = part (bytes_of (codes "bytes") fs) 0 size

@@ -1,4 +1,4 @@
--- Operations on the registers of a controller: their words, what they are answered and what they leave.
+-- Operations on the registers of a controller: their words, their answers and what they leave.
 use Rattle.std.specs.Prelude.{ℕ, true, List, [], ◌∷◌, ◌++◌, codes}
 use Rattle.nv_layout.specs.Bits.{bit}
 use Rattle.nv_register.specs.Readiness.{is_enabled, is_fatal, is_ready}
@@ -26,7 +26,7 @@ register_rows Read = needed (dword_row (codes "offset")) ∷ []
 register_rows Write = needed (dword_row (codes "offset")) ∷ needed (dword_row (codes "value")) ∷ []
 register_rows o = []
 
--- ---- what they are answered
+-- ---- their answers
 
 abbrev pub bits_of_readiness : Readiness → List Field
 bits_of_readiness r =
@@ -39,7 +39,7 @@ abbrev pub fields_of_rings : Rings → List Field
 fields_of_rings r =
     number (codes "page_size") r.page_size ∷ fields_of_fetch r.submission ++ fields_of_post r.completion
 
--- the rings are told of where there are some
+-- the rings have fields if the controller is ready
 abbrev pub state_of : Readiness → List Field
 state_of (readiness.Ready rings fatal) =
     bits_of_readiness (readiness.Ready rings fatal) ++ fields_of_rings rings
@@ -51,7 +51,7 @@ offset_in fs = dword_of (codes "offset") fs
 abbrev pub value_in : List Field → ℕ
 value_in fs = dword_of (codes "value") fs
 
--- a write tells whether it clears an EN that is 1, which resets the controller
+-- the answer to a write is whether it clears EN, which was 1, and so resets the controller
 abbrev pub register_answer : RegisterOperation → List Field → RegisterBank → List Field
 register_answer PowerOn fs bank = []
 register_answer Read fs bank = number (codes "value") (value_at bank (offset_in fs)) ∷ []
@@ -62,7 +62,7 @@ register_answer Fail fs bank = []
 
 -- ---- what they leave
 
--- a turn set the fatal status
+-- the fatal status that a turn sets
 abbrev pub failed : Readiness → Readiness
 failed (readiness.Ready rings fatal) = readiness.Ready rings true
 failed r = r

@@ -1,4 +1,4 @@
--- Operations on the rings of a queue pair: their words, what they are answered and what they leave.
+-- Operations on the rings of a queue pair: their words, their answers and what they leave.
 use Rattle.std.specs.Prelude.{◌≡◌, ℕ, false, List, [], ◌∷◌, ◌++◌, MatchResult, Result, Ok, codes}
 use Rattle.nv_host.specs.Pages.{PagedBytes}
 use Rattle.nv_queue.specs.Numbers.{IsDepth}
@@ -42,7 +42,7 @@ ring_rows ring.Head = needed (dword_row (codes "head")) ∷ []
 ring_rows ring.Free = needed (word_row (codes "head")) ∷ []
 ring_rows o = []
 
--- ---- rings that begin
+-- ---- new rings
 
 -- their numbers begin at 0
 abbrev pub new_pair : ℕ → ℕ → ℕ → QueuePair
@@ -61,7 +61,7 @@ renewed_pair p = record {
   completions = renewed_collect p.completions;
 }
 
--- new rings take the place of the old ones, where rings can have so many slots
+-- new rings replace the old ones, if rings can have this many slots
 abbrev pub Begins : List Field → QueuePair → Result (List Field) Refusal → QueuePair → Type 0
 Begins fs old outcome new =
     MatchResult outcome
@@ -73,7 +73,7 @@ Begins fs old outcome new =
 abbrev pub fields_of_pair : QueuePair → List Field
 fields_of_pair p = fields_of_fetch p.fetch ++ fields_of_post p.post
 
--- ---- what each operation is answered, and what it leaves of the memory and of the rings
+-- ---- the answer of each operation, and the memory and the rings that it leaves
 
 abbrev pub PerformsRing : RingOperation → List Field → PagedBytes → QueuePair
     → Result (List Field) Refusal → PagedBytes → QueuePair → Type 0

@@ -1,4 +1,4 @@
--- What each operation is answered, and what it leaves.
+-- The answers of all operations, and what they leave.
 use Rattle.std.specs.Prelude.{◌≡◌, ℕ, List, [], ◌∷◌, Option, None, Some, Result, Ok, Err, MatchResult}
 use Rattle.std.specs.Prelude.{codes, length, map}
 use Rattle.nv_prp.specs.Transfer.{PrpTransfer, transfer}
@@ -31,8 +31,8 @@ use Rattle.nv_operations.specs.declared.rings.RingOperation.{RingOperation}
 use Rattle.nv_operations.specs.declared.refusal.Refusal.TheVariants.{NoController}
 use Rattle.nv_operations.specs.declared.session.Session.{Session}
 
--- a session begins with 16 pages of zeros, no spans, the registers after power on, rings of 16 slots, and
--- no controllers
+-- a session begins with 16 pages of zeros, no spans, the registers after power on, rings of 16 slots, and no
+-- controllers
 pub record IsNew (s : Session) : Type 0 where
   pub memory : s.memory ≡ zeroed 4096 16
   pub spans : s.spans ≡ []
@@ -44,7 +44,7 @@ pub record IsNew (s : Session) : Type 0 where
 abbrev pub Outcome : Type 0
 Outcome = Result (List Field) Refusal
 
--- something was done, and there is no value to tell
+-- an operation that returns no value is answered without fields
 abbrev pub done : Result (Unit {0}) Refusal → Outcome
 done (Ok u) = Ok []
 done (Err r) = Err r
@@ -68,9 +68,9 @@ transfer_in fs s =
     transfer s.memory.page_size s.memory.bytes
     (number_of (codes "prp1") fs) (number_of (codes "prp2") fs) (dword_of (codes "length") fs)
 
--- ---- what is done
+-- ---- what operations do
 
--- another memory takes the old one's place, where pages can have that size
+-- a new memory replaces the old one, if pages can have this size
 abbrev pub Renews : List Field → Session → Outcome → Session → Type 0
 Renews fs old outcome new =
     MatchResult (new_memory (dword_of (codes "page_size") fs) (dword_of (codes "pages") fs))
@@ -115,7 +115,7 @@ RingsIn o fs old outcome new =
     PerformsRing o fs old.memory old.rings outcome new.memory new.rings
     × (new ≡ record old { memory = new.memory; rings = new.rings })
 
--- the controllers of a file's subsystem take the place of the old ones, unless the file has a fault
+-- the controllers of a file's subsystem replace the old ones, unless the file has a fault
 abbrev pub SetsUp : List Field → Session → Outcome → Session → Type 0
 SetsUp fs old outcome new =
     MatchResult (device_of (file_in fs))
@@ -126,7 +126,7 @@ abbrev pub count_of : Option DeviceValue → ℕ
 count_of None = 0
 count_of (Some d) = length d.bus.banks
 
--- something is done with the controllers; there are none before a subsystem is given
+-- something is done with the controllers; there are none before the first subsystem
 abbrev pub OnDevice : Option DeviceValue → Option DeviceValue → Outcome → PagedBytes → PagedBytes
     → (DeviceValue → DeviceValue → Type 0) → Type 0
 OnDevice None None outcome m m' Does = (outcome ≡ Err NoController) × (m' ≡ m)
@@ -139,7 +139,7 @@ Asks o fs old outcome new =
     (λ d d'. PerformsOn o fs d old.memory outcome d' new.memory)
     × (new ≡ record old { memory = new.memory; device = new.device })
 
--- the host's memory is not the driver's
+-- the driver has a memory of its own, so the host's memory doesn't change
 abbrev pub ByDevice : (DeviceValue → Outcome → DeviceValue → Type 0) → Session → Outcome → Session
     → Type 0
 ByDevice Does old outcome new =
@@ -153,7 +153,7 @@ BringsUpIn fs old outcome new =
 abbrev pub DrivesIn : DriverOperation → List Field → Session → Outcome → Session → Type 0
 DrivesIn o fs old outcome new = ByDevice (Drives o fs) old outcome new
 
--- the operation answers this, and leaves this
+-- the answer of an operation, and the session that it leaves
 abbrev pub Performs : Operation → List Field → Session → Outcome → Session → Type 0
 Performs (Put k) fs old outcome new = (outcome ≡ Ok (put_answer k fs)) × (new ≡ old)
 Performs (Get k) fs old outcome new = (outcome ≡ get_outcome k fs) × (new ≡ old)

@@ -30,7 +30,7 @@ field_text f = f.key ++ (codes "=" ++ value_text f.value)
 abbrev pub spaced : Field → List ℕ
 spaced f = codes " " ++ field_text f
 
--- fields with spaces between them, or `done` where there are none
+-- fields with spaces between them, or `done` if there are none
 abbrev pub fields_text : List Field → List ℕ
 fields_text [] = codes "done"
 fields_text (f ∷ fs) = field_text f ++ flat_map spaced fs

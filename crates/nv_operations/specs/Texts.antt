@@ -51,3 +51,4 @@ refusal_text refusal.NoController = codes "no such controller"
 refusal_text refusal.NoEntry = codes "no such entry"
 refusal_text (refusal.Geometry field) = codes "geometry: " ++ field_name field
 refusal_text refusal.NoDriver = codes "no driver"
+refusal_text refusal.PartOfLog = codes "part of a log"

@@ -1,4 +1,4 @@
--- What operations on transfers are answered, and what they leave.
+-- Operations on transfers: their answers and what they leave.
 use Rattle.std.specs.Prelude.{◌≡◌, ◌≢◌, ℕ, ◌+◌, ◌*◌, ◌%◌, ◌<◌, ◌≤◌, length, map, All, List, [], ◌∷◌}
 use Rattle.std.specs.Prelude.{MatchResult, Result, Some, codes}
 use Rattle.nv_host.specs.Pages.{HasPage, PagedBytes}
@@ -13,7 +13,7 @@ use Rattle.nv_operations.specs.Field.{Field, bytes_alone, number, numbers}
 use Rattle.nv_operations.specs.declared.refusal.Refusal.{Refusal}
 use Rattle.nv_operations.specs.declared.refusal.Refusal.TheVariants as refusal
 
--- a transfer moves at least one byte, and no more than may be
+-- a transfer has at least one byte, and at most `most_bytes`
 abbrev pub IsLength : ℕ → Type 0
 IsLength len = (0 < len) × (len ≤ most_bytes)
 
@@ -36,13 +36,13 @@ abbrev pub refusal_of : PrpError → Refusal
 refusal_of prp.Offset = refusal.PrpOffset
 refusal_of prp.Outside = refusal.PrpOutside
 
--- why a walk was refused, and the spans that it left: a length that no transfer has leaves them, and
--- the fault of the first entry that has one leaves none
+-- why a walk was refused, and the spans that it left: the old ones if no transfer can have this length, and none if an
+-- entry has a fault, of which the first counts
 abbrev pub WalkFails : Refusal → PrpTransfer → List Span → List Span → Type 0
 WalkFails refusal.Length t old new = (¬ IsLength t.len) × (new ≡ old)
 WalkFails r t old new = ((e : PrpError) × (first_fault t ≡ Some e) × (r ≡ refusal_of e)) × (new ≡ [])
 
--- a walk over a transfer's entries answers its spans, and keeps them
+-- the answer to a walk over a transfer's entries is the transfer's spans, which are kept
 abbrev pub Walks : PrpTransfer → List Span → Result (List Field) Refusal → List Span → Type 0
 Walks t old outcome new =
     MatchResult outcome
@@ -51,7 +51,7 @@ Walks t old outcome new =
 
 -- ---- building
 
--- the pages of a buffer and of a list, and how many bytes are moved
+-- the pages of a buffer and of a list, and the length of a transfer
 pub record Request : Type 0 where
   pub pages : List ℕ
   pub offset : ℕ
@@ -70,7 +70,7 @@ request pages offset first second list_offset len = record {
   len = len;
 }
 
--- an offset lies in its page, at a multiple of so many bytes
+-- an offset lies in its page, at a multiple of `alignment`
 abbrev pub IsOffset : ℕ → ℕ → ℕ → Type 0
 IsOffset page_size alignment offset = (offset < page_size) × (offset % alignment ≡ 0)
 
@@ -99,7 +99,7 @@ pub record CanBuild (m : PagedBytes) (r : Request) : Type 0 where
   pub enough : HoldsAll m.page_size r
   pub distinct : AreDistinct (all_pages r)
 
--- the condition that fails
+-- the condition of `CanBuild` that fails
 abbrev pub FailsFor : Refusal → PagedBytes → Request → Type 0
 FailsFor refusal.Length m r = ¬ IsLength r.len
 FailsFor refusal.Offset m r = ¬ HasOffsets m.page_size r
@@ -108,8 +108,7 @@ FailsFor refusal.TooFewPages m r = ¬ HoldsAll m.page_size r
 FailsFor refusal.SamePages m r = ¬ AreDistinct (all_pages r)
 FailsFor other m r = ⊥
 
--- the entries of a legal transfer of the buffer's bytes, in a memory where only the list's pages
--- are other ones
+-- the entries of a legal transfer of the buffer's bytes, in a memory where only the list's pages have changed
 pub record IsBuilt (old new : PagedBytes) (r : Request) (prp1 prp2 : ℕ) : Type 0 where
   pub legal : IsLegal (transfer new.page_size new.bytes prp1 prp2 r.len)
   pub places : (i : ℕ) → i < r.len
@@ -125,7 +124,7 @@ pub record IsBuilt (old new : PagedBytes) (r : Request) (prp1 prp2 : ℕ) : Type
 abbrev pub fields_of_entries : ℕ → ℕ → List Field
 fields_of_entries prp1 prp2 = number (codes "prp1") prp1 ∷ number (codes "prp2") prp2 ∷ []
 
--- The entries of the transfer that is asked for, where it can be built. Else the memory stays.
+-- the entries of the transfer, if it can be built; otherwise the memory is unchanged
 abbrev pub Builds : PagedBytes → PagedBytes → Request → Result (List Field) Refusal → Type 0
 Builds old new r outcome =
     MatchResult outcome
@@ -135,7 +134,7 @@ Builds old new r outcome =
 
 -- ---- a buffer's spans
 
--- a buffer's bytes can be found
+-- the spans of a buffer's bytes can be found
 abbrev pub CanSpread : PagedBytes → List ℕ → ℕ → ℕ → Type 0
 CanSpread m pages offset len =
     (len ≤ most_bytes) × IsOffset m.page_size 4 offset × HasEach m pages
@@ -148,7 +147,7 @@ SpreadFails refusal.NoPage m pages offset len = ¬ HasEach m pages
 SpreadFails refusal.TooFewPages m pages offset len = ¬ (offset + len ≤ length pages * m.page_size)
 SpreadFails other m pages offset len = ⊥
 
--- The spans of a buffer's bytes are answered and kept. Else those that were there stay.
+-- the answer is the spans of a buffer's bytes, which are kept; after a refusal, the old ones stay
 abbrev pub Spreads : PagedBytes → List ℕ → ℕ → ℕ → List Span → Result (List Field) Refusal
     → List Span → Type 0
 Spreads m pages offset len old outcome new =

@@ -1,5 +1,5 @@
 -- Values, as they are written and read.
-use Rattle.std.specs.Prelude.{ℕ, Bool, nat_le, length, if◌then◌else◌, List, [], Option, Some, None}
+use Rattle.std.specs.Prelude.{ℕ, nat_le, length, if◌then◌else◌, List, Option, Some, None}
 use Rattle.std.specs.Prelude.{option_and_then, option_map}
 use Rattle.std.specs.Result.{result_ok}
 use Rattle.hex.specs.Hex.{decode_of}
@@ -13,11 +13,11 @@ use Rattle.nv_operations.specs.declared.value.Value.TheVariants as value
 abbrev pub no_more_than : ℕ → List ℕ → Option (List ℕ)
 no_more_than most bytes = if nat_le (length bytes) most then Some bytes else None
 
--- the bytes of which a text has two hexadecimal digits each, where they are no more than `most`
+-- the bytes that a text writes, in two hexadecimal digits each, at most `most` of them
 abbrev pub bytes_in : ℕ → List ℕ → Option (List ℕ)
 bytes_in most text = option_and_then (no_more_than most) (result_ok (decode_of text))
 
--- the value that a text writes, if it is one of the form
+-- the value of this form that a text writes
 abbrev pub value_in : Form → List ℕ → Option Value
 value_in (form.Number most) text = option_map value.Number (number_in 0 most text)
 value_in (form.Bytes most) text = option_map value.Bytes (bytes_in most text)

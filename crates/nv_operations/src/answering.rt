@@ -1,4 +1,4 @@
-//! The line that answers a line.
+//! Reads a line and answers it with a line.
 
 ghost use Rattle.std.specs.Prelude.{◌≡◌, IfOk, map, option_map, slice_index_or, string_bytes, []};
 ghost use Rattle.nv_operations.specs.Answers.{Answers, outcome_text, reading, request_in};
@@ -13,14 +13,14 @@ use crate::slip::Fault;
 use nv_line::{is_skipped_line, split_words};
 use std::alloc::{AllocError, Global};
 
-/// What a line asks for.
+/// An operation that a line asks for, with its fields.
 #[derive(Drop)]
 pub struct Request {
     pub operation: Operation,
     pub fields: Fields,
 }
 
-/// The word at a place, or none where there are fewer.
+/// Returns the word at a place, or an empty word if there are too few.
 fn word_at<'a>(words: &[&'a str], place: usize) -> &'a str
     ensures { result.now ≡ slice_index_or (map (λ w. w.now) words.now) place [] }
 {
@@ -31,7 +31,7 @@ fn word_at<'a>(words: &[&'a str], place: usize) -> &'a str
     }
 }
 
-/// What words ask for.
+/// Reads an operation and its fields from words.
 fn read_request(alloc: Global, words: &[&str]) -> Result<Result<Request, Fault>, AllocError>
     ensures { IfOk result (λ read. read ≡ request_in (map (λ w. w.now) words.now)) }
 {
@@ -45,7 +45,7 @@ fn read_request(alloc: Global, words: &[&str]) -> Result<Result<Request, Fault>,
     }
 }
 
-/// What a line asks for: nothing, where it is blank or a comment.
+/// Reads what a line asks for. A blank line or a comment asks for nothing.
 pub fn read_line(alloc: Global, line: &[u8]) -> Result<Result<Option<Request>, Fault>, AllocError>
     ensures { IfOk result (λ read. read ≡ reading line.now) }
 {
@@ -62,7 +62,7 @@ pub fn read_line(alloc: Global, line: &[u8]) -> Result<Result<Option<Request>, F
     }
 }
 
-/// The line that tells the fields of an answer, or a refusal.
+/// Writes the line for the fields of an answer, or for a refusal.
 fn outcome_text(alloc: Global, outcome: &Result<Fields, Refusal>) -> Result<String, AllocError>
     ensures { IfOk result (λ text. string_bytes text ≡ outcome_text outcome.now) }
 {
@@ -78,7 +78,8 @@ fn outcome_text(alloc: Global, outcome: &Result<Fields, Refusal>) -> Result<Stri
 }
 
 impl Session {
-    /// Does what a line asks for. The line that answers it, or none where it is blank or a comment.
+    /// Performs what a line asks for, and returns the line that answers it. A blank line or a
+    /// comment has no answer.
     pub fn answer(&mut self, alloc: Global, line: &[u8]) -> Result<Option<String>, AllocError>
         ensures { IfOk result
             (λ reply. Answers line.now self.old (option_map string_bytes reply) self.new) }

@@ -1,4 +1,4 @@
-//! The fields that the lines of an operation may have.
+//! The fields that the lines of each operation may have.
 
 ghost use Rattle.std.specs.Prelude.{◌≡◌, IfOk, map};
 ghost use Rattle.nv_operations.specs.Field.{fields_in};
@@ -22,7 +22,7 @@ use crate::row::Row;
 use crate::slip::Fault;
 use std::alloc::{AllocError, Global};
 
-/// The greatest number of bytes that are moved at once.
+/// The most bytes that one operation moves.
 const MOST_MOVED: usize = 1_048_576;
 
 #[tactic(auto, unfolding(crate::specs::Operations::memory_rows))]
@@ -105,7 +105,7 @@ fn copy_rows() -> [Row; 1]
     [Row::bytes("bytes", MOST_MOVED).needed()]
 }
 
-/// The greatest number of bytes of a subsystem file.
+/// The most bytes that a subsystem file may have.
 const MOST_OF_FILE: usize = 4_194_304;
 
 #[tactic(auto, unfolding(crate::specs::Operations::subsystem_rows))]
@@ -115,7 +115,7 @@ fn subsystem_rows() -> [Row; 1]
     [Row::bytes("file", MOST_OF_FILE)]
 }
 
-/// The fields of a record that is put.
+/// Reads the fields from which a record is encoded.
 fn read_record(
     alloc: Global,
     kind: RecordKind,
@@ -138,7 +138,8 @@ fn read_record(
     }
 }
 
-/// What a record is read from.
+/// Reads the field from which a record is decoded: `status` for a status field, and `bytes` for any
+/// other record.
 fn read_source(
     alloc: Global,
     kind: RecordKind,
@@ -153,7 +154,7 @@ fn read_source(
     }
 }
 
-/// The fields that the words behind an operation give.
+/// Reads the fields from the words after an operation's name.
 pub(crate) fn read_arguments(
     alloc: Global,
     operation: Operation,

@@ -1,4 +1,4 @@
-//! Commands by their fields.
+//! The fields of commands.
 
 ghost use Rattle.std.specs.Prelude.{◌≡◌, ◌∷◌, [], IfOk};
 ghost use Rattle.nv_operations.specs.CommandFields.{fields_of_attachment, fields_of_command};
@@ -15,7 +15,7 @@ use nv_command::{Command, FeatureQuery, FeatureSetting, LogQuery, NewFormat, New
 use nv_layout::ControllerIds;
 use std::alloc::{AllocError, Global};
 
-/// What is asked of a feature. Section "Get Features command".
+/// Returns the fields of a query of a feature. Section "Get Features command".
 fn query_fields(asked: FeatureQuery) -> [Field; 4]
     ensures { result ≡ fields_of_query asked }
 {
@@ -27,7 +27,7 @@ fn query_fields(asked: FeatureQuery) -> [Field; 4]
     ]
 }
 
-/// What a feature gets. Section "Set Features command".
+/// Returns the fields of a setting of a feature. Section "Set Features command".
 fn setting_fields(asked: FeatureSetting) -> [Field; 4]
     ensures { result ≡ fields_of_setting asked }
 {
@@ -39,7 +39,7 @@ fn setting_fields(asked: FeatureSetting) -> [Field; 4]
     ]
 }
 
-/// What is asked of a log. Section "Get Log Page command".
+/// Returns the fields of a query of a log. Section "Get Log Page command".
 fn log_fields(asked: LogQuery) -> [Field; 4]
     ensures { result ≡ fields_of_log_query asked }
 {
@@ -51,7 +51,7 @@ fn log_fields(asked: LogQuery) -> [Field; 4]
     ]
 }
 
-/// What is chosen of a namespace to create. Section "Namespace Management command".
+/// Returns the fields of a namespace to create. Section "Namespace Management command".
 fn creation_fields(wanted: NewNamespace) -> [Field; 6]
     ensures { result ≡ fields_of_creation wanted }
 {
@@ -65,7 +65,7 @@ fn creation_fields(wanted: NewNamespace) -> [Field; 6]
     ]
 }
 
-/// How a namespace is to be formatted. Section "Format NVM command".
+/// Returns the fields of a format to apply. Section "Format NVM command".
 fn format_fields(asked: NewFormat) -> [Field; 6]
     ensures { result ≡ fields_of_format asked }
 {
@@ -79,14 +79,14 @@ fn format_fields(asked: NewFormat) -> [Field; 6]
     ]
 }
 
-/// A command that is told by its name and an NSID alone.
+/// Returns the field of a command that has only a name and an NSID.
 fn name_alone(alloc: Global, name: &'static str, nsid: u32) -> Result<Fields, AllocError>
     ensures { IfOk result (λ fields. fields ≡ number name.now nsid ∷ []) }
 {
     Fields::of_number(alloc, name, u64::from(nsid))
 }
 
-/// The controllers of an attachment. Section "Namespace Attachment command".
+/// Returns the fields of an attachment or detachment. Section "Namespace Attachment command".
 fn attachment_fields(
     alloc: Global,
     nsid: u32,
@@ -103,7 +103,8 @@ fn attachment_fields(
     Ok(fields)
 }
 
-/// The name of a command with its NSID, and its own fields behind it. Section "Admin Command Set".
+/// Returns the name of a command with its NSID, and then the command's other fields. Section "Admin
+/// Command Set".
 pub(crate) fn command_fields(alloc: Global, command: &Command) -> Result<Fields, AllocError>
     ensures { IfOk result (λ fields. fields ≡ fields_of_command command.now) }
 {

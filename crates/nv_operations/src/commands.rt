@@ -18,21 +18,21 @@ use nv_command::{Command, StatusCode, Transfer};
 use nv_layout::{CtrlList, Sqe, Status};
 use std::alloc::{AllocError, Global};
 
-/// What a line asks of a command's entry.
+/// An operation on a command's entry.
 #[derive(Clone, Copy, Debug, PartialEq, Eq)]
 pub enum CommandOperation {
-    /// Which command it is, with its fields and the entry that it has.
+    /// Returns the command with its fields, and the entry that encodes it.
     Read,
-    /// Which way its data goes, and how many bytes.
+    /// Returns the direction of the command's data and the number of its bytes.
     Transfer,
-    /// The data that the host sends with it.
+    /// Returns the data that the host sends with the command.
     HostData,
-    /// The name of a status.
+    /// Returns the name of a status.
     StatusName,
 }
 
 impl CommandOperation {
-    /// The first word of its lines.
+    /// Returns the first word of the operation's lines.
     pub(crate) fn word<'a>(self) -> &'a str
         ensures { result.now ≡ command_word self }
     {
@@ -45,7 +45,7 @@ impl CommandOperation {
     }
 }
 
-/// The fields that the words behind such an operation give.
+/// Reads the fields from the words after the operation's name.
 pub(crate) fn read_command_arguments(
     alloc: Global,
     operation: CommandOperation,
@@ -64,7 +64,8 @@ pub(crate) fn read_command_arguments(
     }
 }
 
-/// Which way data goes, and how many bytes: no field where there is none.
+/// Appends the direction of a command's data with the number of its bytes, or no field if it has no
+/// data.
 fn push_transfer(fields: &mut Fields, transfer: Transfer) -> Result<(), AllocError>
     ensures { IfOk result (λ _. fields.new ≡ fields.old ++ fields_of_transfer transfer) }
 {
@@ -75,7 +76,7 @@ fn push_transfer(fields: &mut Fields, transfer: Transfer) -> Result<(), AllocErr
     }
 }
 
-/// A command with its fields, its data, and the entry that it has under a command identifier.
+/// Returns a command's fields, its data transfer, and its entry with a command identifier.
 fn describe(alloc: Global, command: &Command, cid: u16) -> Result<Fields, AllocError>
     ensures { IfOk result (λ answer. answer ≡ command_answer command.now cid) }
 {
@@ -87,7 +88,7 @@ fn describe(alloc: Global, command: &Command, cid: u16) -> Result<Fields, AllocE
     Ok(fields)
 }
 
-/// The data that the host sends with a command, at the front of a page of bytes FFh.
+/// Returns the data that the host sends with a command, at the start of a page of bytes FFh.
 fn send(alloc: Global, command: &Command) -> Result<Fields, AllocError>
     ensures { IfOk result (λ answer. answer ≡ data_answer command.now) }
 {
@@ -96,7 +97,7 @@ fn send(alloc: Global, command: &Command) -> Result<Fields, AllocError>
     Fields::copied(alloc, &page)
 }
 
-/// Which command an entry and the data sent with it are.
+/// Reads a command from its entry and the data sent with it, and returns its fields.
 fn read_command(
     alloc: Global,
     entry: &Sqe,
@@ -112,7 +113,7 @@ fn read_command(
     }
 }
 
-/// The data that the host sends with the command of an entry.
+/// Returns the data that the host sends with the command of an entry.
 fn read_data(alloc: Global, entry: &Sqe, sent: &[u8]) -> Result<Result<Fields, Refusal>, AllocError>
     ensures { IfOk result (λ outcome. outcome ≡ data_read (command_of entry.now sent.now)) }
 {
@@ -123,7 +124,7 @@ fn read_data(alloc: Global, entry: &Sqe, sent: &[u8]) -> Result<Result<Fields, R
     }
 }
 
-/// Which way the data of an entry's command goes.
+/// Returns the direction of the data of an entry's command.
 fn read_transfer(alloc: Global, entry: &Sqe) -> Result<Result<Fields, Refusal>, AllocError>
     ensures { IfOk result (λ outcome. outcome ≡ transfer_read (transfer_of entry.now)) }
 {
@@ -137,7 +138,7 @@ fn read_transfer(alloc: Global, entry: &Sqe) -> Result<Result<Fields, Refusal>, 
     }
 }
 
-/// The name of a status, as the field `name`.
+/// Returns the name of a status, as the field `name`.
 fn name_status(alloc: Global, status: Status) -> Result<Fields, AllocError>
     ensures { IfOk result (λ answer. answer ≡ name_answer status) }
 {
@@ -146,7 +147,8 @@ fn name_status(alloc: Global, status: Status) -> Result<Fields, AllocError>
     Ok(fields)
 }
 
-/// What an operation on an entry is answered, or the status that refuses the entry.
+/// Performs an operation on an entry, and returns the fields that answer it, or the status that
+/// refuses the entry.
 pub fn perform_command(
     alloc: Global,
     operation: CommandOperation,

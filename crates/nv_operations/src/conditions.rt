@@ -1,4 +1,4 @@
-//! What the conditions of calls ask for, as tests.
+//! Tests for the conditions of the calls that operations make.
 
 ghost use Rattle.std.specs.Prelude.{◌≡◌, ◌≢◌, ◌+◌, ◌*◌, ◌%◌, ◌<◌, ◌≤◌, ◌↔◌, ◌∷◌, All, IsTrue, length};
 ghost use Rattle.nv_host.specs.Pages.{HasPage};
@@ -8,21 +8,21 @@ ghost use Rattle.nv_operations.specs.Transfers.{IsLength};
 use nv_host::{HostMemory, PageNo, size_of_memory};
 use nv_prp::{Span, Spans};
 
-/// Whether a transfer may have this many bytes.
+/// Returns whether a transfer may have this many bytes.
 pub(crate) fn is_length(len: u32) -> bool
     ensures { IsTrue result ↔ IsLength len }
 {
     0 < len && len <= 1_048_576
 }
 
-/// Whether the memory has the page.
+/// Returns whether the memory has this page.
 pub(crate) fn has_page<M: HostMemory>(memory: &M, number: PageNo) -> bool
     ensures { IsTrue result ↔ HasPage (M.bytes memory.now) (M.page_len memory.now) number }
 {
     (u64::from(number) + 1) * u64::from(memory.page_size()) <= size_of_memory(memory)
 }
 
-/// Whether the memory has all of the pages.
+/// Returns whether the memory has all of these pages.
 pub(crate) fn has_pages<M: HostMemory>(memory: &M, pages: &[PageNo]) -> bool
     ensures { IsTrue result
         ↔ All (λ page. HasPage (M.bytes memory.now) (M.page_len memory.now) page) pages.now }
@@ -30,7 +30,7 @@ pub(crate) fn has_pages<M: HostMemory>(memory: &M, pages: &[PageNo]) -> bool
     pages.iter().all(|page| has_page(memory, *page))
 }
 
-/// Whether an offset is below a page size, and a multiple of 4 or of 8.
+/// Returns whether an offset is below the page size and a multiple of `alignment`.
 pub(crate) fn is_offset(offset: u32, page_size: u32, alignment: u32) -> bool
     requires { 0 < alignment }
     ensures { IsTrue result ↔ ((offset < page_size) × (offset % alignment ≡ 0)) }
@@ -38,21 +38,21 @@ pub(crate) fn is_offset(offset: u32, page_size: u32, alignment: u32) -> bool
     offset < page_size && offset % alignment == 0
 }
 
-/// Whether the pages hold so many bytes from an offset on.
+/// Returns whether the pages hold `len` bytes from an offset on.
 pub(crate) fn holds_all(pages: &[PageNo], page_size: u32, offset: u32, len: u32) -> bool
     ensures { IsTrue result ↔ (offset + len ≤ length pages.now * page_size) }
 {
     u128::from(offset) + u128::from(len) <= pages.len() as u128 * u128::from(page_size)
 }
 
-/// Whether none of the pages is this one.
+/// Returns whether none of the pages is this one.
 fn is_apart(page: PageNo, pages: &[PageNo]) -> bool
     ensures { IsTrue result ↔ All (λ other. page ≢ other) pages.now }
 {
     pages.iter().all(|other| page != *other)
 }
 
-/// Whether no two pages are one.
+/// Returns whether no two pages are the same.
 #[tactic(auto, using(crate::proofs::TransferLaws::one_again, crate::proofs::TransferLaws::one_more_apart))]
 pub(crate) fn are_distinct(pages: &[PageNo]) -> bool
     ensures { IsTrue result ↔ AreDistinct pages.now }
@@ -65,7 +65,7 @@ pub(crate) fn are_distinct(pages: &[PageNo]) -> bool
     true
 }
 
-/// Whether all spans lie in a memory of this size.
+/// Returns whether all spans lie in a memory of this size.
 #[tactic(auto, unfolding(nv_prp::specs::Place::LieIn))]
 pub(crate) fn lie_in(spans: &[Span], size: u64) -> bool
     ensures { IsTrue result ↔ LieIn size spans.now }
@@ -73,7 +73,7 @@ pub(crate) fn lie_in(spans: &[Span], size: u64) -> bool
     spans.iter().all(|span| u128::from(span.address) + u128::from(span.len) <= u128::from(size))
 }
 
-/// How many bytes spans have.
+/// Returns how many bytes the spans have together.
 #[tactic(auto, using(crate::proofs::TransferLaws::one_more_span), unfolding(nv_prp::specs::Place::places))]
 pub(crate) fn bytes_in(spans: &Spans) -> u64
     ensures { result ≡ length (places spans.now) }

@@ -1,4 +1,4 @@
-//! The operations on a controller of the subsystem: their words, and the fields of their lines.
+//! Operations on a controller of the subsystem: their words, and the fields of their lines.
 
 ghost use Rattle.std.specs.Prelude.{◌≡◌, IfOk, map};
 ghost use Rattle.nv_operations.specs.Field.{fields_in};
@@ -11,18 +11,19 @@ use crate::row::Row;
 use crate::slip::Fault;
 use std::alloc::{AllocError, Global};
 
-/// What is asked of a controller.
+/// An operation on a controller.
 #[derive(Clone, Copy, Debug, PartialEq, Eq)]
 pub enum ControllerOperation {
-    /// A register is read.
+    /// Reads a register.
     Read,
-    /// A register is written.
+    /// Writes a register.
     Write,
-    /// Entries are taken of its submission ring, over the host's memory.
+    /// Gives the controller a turn, in which it takes entries from its submission ring in the
+    /// host's memory.
     Turn,
-    /// How many commands it refused, and how many it took.
+    /// Returns how many commands it has refused, and how many it has taken.
     Counts,
-    /// An entry of its error log.
+    /// Reads an entry of its error log.
     LogEntry,
 }
 
@@ -66,7 +67,7 @@ fn log_entry_rows() -> [Row; 2]
 }
 
 impl ControllerOperation {
-    /// The first word of its lines.
+    /// Returns the first word of the operation's lines.
     pub(crate) fn word<'a>(self) -> &'a str
         ensures { result.now ≡ controller_word self }
     {
@@ -79,7 +80,7 @@ impl ControllerOperation {
         }
     }
 
-    /// Whether it may change the controllers.
+    /// Returns whether the operation may change the controllers.
     pub(crate) fn is_by_hand(self) -> bool
         ensures { result ≡ is_by_hand self }
     {
@@ -89,7 +90,7 @@ impl ControllerOperation {
         }
     }
 
-    /// The fields that the words behind it give.
+    /// Reads the fields from the words after the operation's name.
     pub(crate) fn read_arguments(
         self,
         alloc: Global,

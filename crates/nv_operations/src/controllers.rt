@@ -1,4 +1,4 @@
-//! The controllers of a subsystem: how they are made, and what is asked of one.
+//! The controllers of a subsystem: creating them, and the operations on one.
 
 ghost use Rattle.std.specs.Prelude.{◌≡◌, ◌<◌, IfOk, false, length};
 ghost use Rattle.nv_bus.specs.Bus.{IsBus};
@@ -16,7 +16,7 @@ use nv_host::FlatMemory;
 use nv_subsystem::{Subsystem, SubsystemError};
 use std::alloc::{AllocError, Global};
 
-/// The subsystem of a file.
+/// Reads a subsystem from a file.
 #[tactic(auto, using(crate::proofs::DeviceLaws::other_fault))]
 fn subsystem_of(alloc: Global, file: &[u8]) -> Result<Result<Subsystem, Refusal>, AllocError>
     ensures exact { IfOk result (λ read. read ≡ subsystem_in file.now) }
@@ -29,7 +29,7 @@ fn subsystem_of(alloc: Global, file: &[u8]) -> Result<Result<Subsystem, Refusal>
     }
 }
 
-/// The controllers of a file's subsystem after power on, or the file's first fault.
+/// Powers on the controllers of a file's subsystem, or returns the file's first fault.
 pub(crate) fn power_on(alloc: Global, file: &[u8]) -> Result<Result<Machine, Refusal>, AllocError>
     ensures value { IfOk result (λ made. made ≡ powered_in file.now) }
     ensures bus { IfOk result (λ made. IfOk made IsBus) }
@@ -43,7 +43,7 @@ pub(crate) fn power_on(alloc: Global, file: &[u8]) -> Result<Result<Machine, Ref
     }
 }
 
-/// What a register of a controller reads, as the field `value`.
+/// Reads a register of a controller, as the field `value`.
 fn read(alloc: Global, machine: &Machine, ctrl: u16, offset: u32) -> Result<Fields, AllocError>
     requires { ctrl < length machine.now.banks }
     ensures { IfOk result (λ fields. fields ≡ value_read machine.now ctrl offset) }
@@ -53,7 +53,8 @@ fn read(alloc: Global, machine: &Machine, ctrl: u16, offset: u32) -> Result<Fiel
     Ok(fields)
 }
 
-/// Takes entries of a controller, at most so many: how many it was, as the field `taken`.
+/// Gives a controller a turn of at most `most` entries, and returns how many it took, as the field
+/// `taken`.
 fn take(
     alloc: Global,
     machine: &mut Machine,
@@ -73,7 +74,8 @@ fn take(
     Ok(fields)
 }
 
-/// How many commands a controller refused and took, as the fields `refusals` and `commands`.
+/// Returns how many commands a controller has refused and taken, as the fields `refusals` and
+/// `commands`.
 #[tactic(auto, using(crate::proofs::DeviceLaws::controller_within, crate::proofs::DeviceLaws::counts_untagged))]
 fn counts(alloc: Global, machine: &Machine, ctrl: u16) -> Result<Fields, AllocError>
     requires ctrl { ctrl < length machine.now.banks }
@@ -87,7 +89,8 @@ fn counts(alloc: Global, machine: &Machine, ctrl: u16) -> Result<Fields, AllocEr
     Ok(fields)
 }
 
-/// The bytes of an entry of a controller's error log, from the newest on, if there is one.
+/// Returns the bytes of an entry of a controller's error log, if there is one. Entry 0 is the
+/// newest.
 #[tactic(auto, using(crate::proofs::DeviceLaws::controller_within, crate::proofs::DeviceLaws::entry_untagged))]
 fn log_entry(
     alloc: Global,
@@ -110,7 +113,7 @@ fn log_entry(
     }
 }
 
-/// Does what is asked of a controller, over the host's memory.
+/// Performs an operation on a controller, over the host's memory.
 pub(crate) fn ask(
     alloc: Global,
     machine: &mut Machine,

@@ -1,9 +1,11 @@
 //! The controllers of a subsystem with their driver.
 
 ghost use Rattle.std.specs.Prelude.{◌≡◌, ◌<◌, IfOk, Some, length};
+ghost use Rattle.nv_command.specs.Logs.{IsSendable};
 ghost use Rattle.nv_layout.specs.Sqe.{SqeFits};
 ghost use Rattle.nv_driver.specs.Geometry.{fault_of};
-ghost use Rattle.nv_operations.specs.Device.{BringsUp, Drives, IsDevice, PerformsOn, Resets, Sends, SendsBy};
+ghost use Rattle.nv_operations.specs.Device.{Administers, BringsUp, Drives, IsAnswered, IsDevice};
+ghost use Rattle.nv_operations.specs.Device.{PerformsOn, Resets, Sends, SendsBy};
 ghost use Rattle.nv_operations.specs.Device.{device_of};
 ghost use Rattle.nv_operations.specs.Device.{controller_in, dword_or, entry_in, geometry_in, told_fields};
 
@@ -11,19 +13,21 @@ use crate::controller_operation::ControllerOperation;
 use crate::controllers::{ask, power_on};
 use crate::driver_operation::DriverOperation;
 use crate::field::Field;
-use crate::fields::Fields;
+use crate::fields::{Fields, array_of};
 use crate::items::Items;
 use crate::refusal::Refusal;
+use crate::replies::{answer_fields, is_sendable};
 use crate::value::Value;
+use nv_command::Command;
 use nv_controller::{Bus, Machine};
-use nv_driver::{Driver, DriverError, Geometry, Told};
+use nv_driver::{AnswerSlot, Driver, DriverError, Geometry, Told};
 use nv_host::FlatMemory;
-use nv_layout::Sqe;
+use nv_layout::{CtrlList, Sqe};
 use std::alloc::{AllocError, Global};
 use std::marker::Model;
 
-/// The controllers of a subsystem, and their driver where one was brought up and nobody has touched
-/// them by hand since.
+/// The controllers of a subsystem, and their driver if one was brought up and nothing has changed
+/// the controllers directly since.
 #[derive(Drop)]
 pub struct Device {
     machine: Machine,
@@ -44,7 +48,7 @@ impl Model for Device {
     ghost invariant = { λ d. IsDevice d.machine d.driver };
 }
 
-/// A number that a line may leave out.
+/// Returns the number of an optional field, or else `otherwise`.
 fn dword_or(fields: &Fields, key: &str, otherwise: u32) -> u32
     ensures { result ≡ dword_or key.now otherwise fields.now }
 {
@@ -55,7 +59,7 @@ fn dword_or(fields: &Fields, key: &str, otherwise: u32) -> u32
     }
 }
 
-/// The geometry that fields give.
+/// Returns the geometry that the fields describe.
 fn geometry_in(fields: &Fields) -> Geometry
     ensures { result ≡ geometry_in fields.now }
 {
@@ -69,7 +73,7 @@ fn geometry_in(fields: &Fields) -> Geometry
     }
 }
 
-/// The entry that fields give.
+/// Returns the entry that the fields describe.
 #[tactic(auto, unfolding(crate::specs::Device::entry_in))]
 fn entry_in(fields: &Fields) -> Sqe
     ensures value { result ≡ entry_in fields.now }
@@ -88,7 +92,8 @@ fn entry_in(fields: &Fields) -> Sqe
     }
 }
 
-/// What a completion tells, and the bytes that came, as the fields `status`, `dword0` and `bytes`.
+/// Returns the fields of a completion, `status` and `dword0`, and the bytes that came, as the field
+/// `bytes`.
 fn told_fields(alloc: Global, told: Told, came: Vec<u8>) -> Result<Fields, AllocError>
     ensures { IfOk result (λ fields. fields ≡ told_fields told came.items) }
 {
@@ -99,7 +104,8 @@ fn told_fields(alloc: Global, told: Told, came: Vec<u8>) -> Result<Fields, Alloc
     Ok(fields)
 }
 
-/// Sends the entry that fields give to a controller, and answers what came.
+/// Sends the entry that the fields describe to a controller, and returns the completion and the
+/// bytes that came.
 fn pass_through(
     alloc: Global,
     machine: &mut Machine,
@@ -125,9 +131,31 @@ fn pass_through(
     Ok(fields)
 }
 
+/// Sends a command to a controller, and returns the fields of its reply.
+#[tactic(auto, using(nv_driver::proofs::PassthroughLaws::room_stays))]
+fn send_command(
+    alloc: Global,
+    machine: &mut Machine,
+    driver: &mut Driver,
+    ctrl: u16,
+    command: &Command,
+) -> Result<Fields, AllocError>
+    requires ctrl { ctrl < length driver.old.pairs }
+    requires device { IsDevice machine.old (Some driver.old) }
+    requires sends { IsSendable command.now }
+    ensures answered { IfOk result (λ told. IsAnswered
+        ctrl command.now told machine.old driver.old machine.new driver.new) }
+    ensures device { IsDevice machine.new (Some driver.new) }
+{
+    command.fits();
+    let mut slot = AnswerSlot::new();
+    let answer = driver.admin(machine, ctrl, command, &mut slot);
+    answer_fields(alloc, &answer)
+}
+
 impl Device {
-    /// The controllers of a file's subsystem after power on, without a driver, or the file's first
-    /// fault.
+    /// Powers on the controllers of a file's subsystem, without a driver, or returns the file's
+    /// first fault.
     pub(crate) fn new(alloc: Global, file: &[u8]) -> Result<Result<Device, Refusal>, AllocError>
         ensures { IfOk result (λ made. made ≡ device_of file.now) }
     {
@@ -140,14 +168,14 @@ impl Device {
         }
     }
 
-    /// How many controllers there are.
+    /// Returns the number of controllers.
     pub(crate) fn controllers(&self) -> u16
         ensures { result ≡ length self.now.bus.banks }
     {
         self.machine.controllers()
     }
 
-    /// The controller with this number, if there is one.
+    /// Returns the number of a controller, if there is such a controller.
     fn controller(&self, ctrl: u16) -> Result<u16, Refusal>
         ensures value { result ≡ controller_in self.now.bus ctrl }
         ensures within { IfOk result (λ c. c < length self.now.bus.banks) }
@@ -159,8 +187,8 @@ impl Device {
         }
     }
 
-    /// Does what is asked of a controller, over the host's memory, where there is the controller.
-    /// Whoever writes a register or gives a turn by hand lets the driver go.
+    /// Performs an operation on a controller, if it exists, over the host's memory. Writing a
+    /// register or giving a turn drops the driver.
     pub(crate) fn ask(
         &mut self,
         alloc: Global,
@@ -184,8 +212,9 @@ impl Device {
         }
     }
 
-    /// Brings up a driver with room for the data of any entry: how many pages its memory has, as the
-    /// field `pages`, or the first field of the geometry that is out of its limits. Then all stays.
+    /// Brings up a driver with pages for the data of any entry, and returns how many pages its
+    /// memory has, as the field `pages`. If the geometry is out of its limits, returns its first
+    /// such field, and nothing changes.
     pub(crate) fn bring_up(
         &mut self,
         alloc: Global,
@@ -212,7 +241,7 @@ impl Device {
         }
     }
 
-    /// Sends an entry to a controller, and answers what came.
+    /// Sends an entry to a controller, and returns the completion and the bytes that came.
     fn send(
         &mut self,
         alloc: Global,
@@ -228,6 +257,33 @@ impl Device {
             return Ok(Err(Refusal::NoController));
         }
         Ok(Ok(pass_through(alloc, &mut self.machine, driver, ctrl, fields)?))
+    }
+
+    /// Sends the command of an entry to a controller, and returns the fields of its reply.
+    fn administer(
+        &mut self,
+        alloc: Global,
+        fields: &Fields,
+    ) -> Result<Result<Fields, Refusal>, AllocError>
+        ensures { IfOk result (λ outcome. Administers fields.now self.old outcome self.new) }
+    {
+        let ctrl = fields.word("ctrl");
+        let Some(driver) = &mut self.driver else {
+            return Ok(Err(Refusal::NoDriver));
+        };
+        if usize::from(ctrl) >= driver.controllers() {
+            return Ok(Err(Refusal::NoController));
+        }
+        let entry = Sqe::get(&array_of(fields.bytes("entry")));
+        let mut place = CtrlList::new();
+        let command = match Command::of(&entry, fields.bytes("sent"), &mut place) {
+            Ok(command) => command,
+            Err(code) => return Ok(Err(Refusal::Status(code))),
+        };
+        if !is_sendable(&command) {
+            return Ok(Err(Refusal::PartOfLog));
+        }
+        Ok(Ok(send_command(alloc, &mut self.machine, driver, ctrl, &command)?))
     }
 
     /// Resets a controller.
@@ -247,7 +303,7 @@ impl Device {
         }
     }
 
-    /// Does what is asked of the driver, where there is one and it has the controller.
+    /// Performs an operation on the driver, if there is one and it has the controller.
     pub(crate) fn drive(
         &mut self,
         alloc: Global,
@@ -258,6 +314,7 @@ impl Device {
             (λ outcome. Drives operation fields.now self.old outcome self.new) }
     {
         match operation {
+            DriverOperation::Admin => self.administer(alloc, fields),
             DriverOperation::Passthrough => self.send(alloc, fields),
             DriverOperation::Reset => Ok(self.reset(alloc, fields)),
         }

@@ -15,7 +15,7 @@ use nv_layout::Cqe;
 use nv_queue::{CqFull, Fetch, Post};
 use std::alloc::{AllocError, Global};
 
-/// Takes the next submission, if there is one: its fields.
+/// Takes the next submission, if there is one, and returns its fields.
 pub(crate) fn take(
     alloc: Global,
     memory: &FlatMemory,
@@ -32,7 +32,7 @@ pub(crate) fn take(
     }
 }
 
-/// Posts a completion with the phase tag that is due.
+/// Posts a completion with the current phase tag.
 pub(crate) fn post(
     alloc: Global,
     memory: &mut FlatMemory,
@@ -50,7 +50,7 @@ pub(crate) fn post(
     }
 }
 
-/// Whether no submission is left to take.
+/// Returns whether no submission is left to take.
 #[tactic(auto, using(std::proofs::lemmas::Bool::Decides::nat_tests))]
 fn is_empty(ring: &Fetch) -> bool
     ensures { result ≡ is_empty ring.now }
@@ -58,7 +58,7 @@ fn is_empty(ring: &Fetch) -> bool
     ring.is_empty()
 }
 
-/// Whether no slot is free for a completion.
+/// Returns whether no slot is free for a completion.
 #[tactic(auto, using(std::proofs::lemmas::Bool::Decides::nat_tests))]
 fn is_full(ring: &Post) -> bool
     ensures { result ≡ is_full ring.now }
@@ -66,7 +66,7 @@ fn is_full(ring: &Post) -> bool
     ring.is_full()
 }
 
-/// The SQ head.
+/// Appends the SQ head.
 fn push_head(fields: &mut Fields, ring: &Fetch) -> Result<(), AllocError>
     ensures { IfOk result (λ _. fields.new ≡ fields.old
         ++ number (codes "sq_head") (slot_of ring.now.depth ring.now.fetched) ∷ []) }
@@ -74,7 +74,7 @@ fn push_head(fields: &mut Fields, ring: &Fetch) -> Result<(), AllocError>
     fields.push_number("sq_head", u64::from(ring.head()))
 }
 
-/// Whether no submission is left to take.
+/// Appends whether no submission is left to take.
 fn push_empty(fields: &mut Fields, ring: &Fetch) -> Result<(), AllocError>
     ensures { IfOk result (λ _. fields.new ≡ fields.old
         ++ number (codes "sq_empty") (bit (is_empty ring.now)) ∷ []) }
@@ -82,7 +82,7 @@ fn push_empty(fields: &mut Fields, ring: &Fetch) -> Result<(), AllocError>
     fields.push_number("sq_empty", u64::from(is_empty(ring)))
 }
 
-/// The SQ head, and whether no submission is left to take.
+/// Appends the SQ head, and whether no submission is left to take.
 pub(crate) fn push_fetch(fields: &mut Fields, ring: &Fetch) -> Result<(), AllocError>
     ensures { IfOk result (λ _. fields.new ≡ fields.old ++ fields_of_fetch ring.now) }
 {
@@ -90,7 +90,7 @@ pub(crate) fn push_fetch(fields: &mut Fields, ring: &Fetch) -> Result<(), AllocE
     push_empty(fields, ring)
 }
 
-/// The phase tag that is due, and whether no slot is free.
+/// Appends the current phase tag, and whether no slot is free for a completion.
 pub(crate) fn push_post(fields: &mut Fields, ring: &Post) -> Result<(), AllocError>
     ensures { IfOk result (λ _. fields.new ≡ fields.old ++ fields_of_post ring.now) }
 {

@@ -1,8 +1,8 @@
-//! The operations on a driver of the controllers: their words, and the fields of their lines.
+//! Operations on a driver of the controllers: their words, and the fields of their lines.
 
 ghost use Rattle.std.specs.Prelude.{◌≡◌, IfOk, map};
 ghost use Rattle.nv_operations.specs.Field.{fields_in};
-ghost use Rattle.nv_operations.specs.DriverOperations.{bring_up_rows, driver_rows, driver_word};
+ghost use Rattle.nv_operations.specs.DriverOperations.{admin_rows, bring_up_rows, driver_rows, driver_word};
 ghost use Rattle.nv_operations.specs.DriverOperations.{passthrough_rows, reset_rows};
 
 use crate::fields::Fields;
@@ -11,16 +11,18 @@ use crate::row::Row;
 use crate::slip::Fault;
 use std::alloc::{AllocError, Global};
 
-/// What is asked of a driver.
+/// An operation on a driver.
 #[derive(Clone, Copy, Debug, PartialEq, Eq)]
 pub enum DriverOperation {
-    /// It sends an entry to a controller.
+    /// Sends a command to a controller.
+    Admin,
+    /// Sends an entry to a controller.
     Passthrough,
-    /// It resets a controller.
+    /// Resets a controller.
     Reset,
 }
 
-/// The fields of a geometry.
+/// Returns the rows of a geometry's fields.
 #[tactic(auto, unfolding(crate::specs::DriverOperations::bring_up_rows))]
 pub(crate) fn bring_up_rows() -> [Row; 6]
     ensures { result ≡ bring_up_rows }
@@ -35,8 +37,20 @@ pub(crate) fn bring_up_rows() -> [Row; 6]
     ]
 }
 
-/// The fields of an entry that are sent as they are, with the data that the host sends and the room
-/// for what comes.
+/// Returns the rows for the entry of a command and the data that the host sends with it.
+#[tactic(auto, unfolding(crate::specs::DriverOperations::admin_rows))]
+fn admin_rows() -> [Row; 3]
+    ensures { result ≡ admin_rows }
+{
+    [
+        Row::word("ctrl").needed(),
+        Row::bytes("entry", 64).needed(),
+        Row::bytes("sent", 8192),
+    ]
+}
+
+/// Returns the rows for the fields of an entry that is sent as it is, for the data that the host
+/// sends, and for the size of the buffer that receives data.
 #[tactic(auto, unfolding(crate::specs::DriverOperations::passthrough_rows))]
 fn passthrough_rows() -> [Row; 11]
     ensures { result ≡ passthrough_rows }
@@ -64,17 +78,18 @@ fn reset_rows() -> [Row; 1]
 }
 
 impl DriverOperation {
-    /// The first word of its lines.
+    /// Returns the first word of the operation's lines.
     pub(crate) fn word<'a>(self) -> &'a str
         ensures { result.now ≡ driver_word self }
     {
         match self {
+            DriverOperation::Admin => "admin",
             DriverOperation::Passthrough => "passthrough",
             DriverOperation::Reset => "reset",
         }
     }
 
-    /// The fields that the words behind it give.
+    /// Reads the fields from the words after the operation's name.
     pub(crate) fn read_arguments(
         self,
         alloc: Global,
@@ -84,6 +99,7 @@ impl DriverOperation {
             (λ read. read ≡ fields_in (driver_rows self) (map (λ w. w.now) words.now)) }
     {
         match self {
+            DriverOperation::Admin => read_fields(alloc, &admin_rows(), words),
             DriverOperation::Passthrough => read_fields(alloc, &passthrough_rows(), words),
             DriverOperation::Reset => read_fields(alloc, &reset_rows(), words),
         }

@@ -31,14 +31,14 @@ impl Field {
         Field { key, value }
     }
 
-    /// Copies of bytes.
+    /// Creates a field with copies of bytes.
     pub(crate) fn bytes(alloc: Global, key: &'static str, from: &[u8]) -> Result<Field, AllocError>
         ensures { IfOk result (λ f. f ≡ bytes key.now from.now) }
     {
         Ok(Field::new(key, Value::Bytes(Items::copied(alloc, from)?)))
     }
 
-    /// A number.
+    /// Creates a field with a number.
     pub(crate) fn number(key: &'static str, number: u64) -> Field
         ensures { result ≡ field key.now (Number number) }
     {

@@ -14,7 +14,7 @@ use crate::value::Value;
 use std::alloc::{AllocError, Global};
 use std::marker::Model;
 
-/// Fields in order.
+/// A list of fields, in order.
 #[derive(Debug, Drop)]
 pub struct Fields {
     fields: Vec<Field>,
@@ -30,7 +30,7 @@ impl Model for Fields {
 }
 
 impl Fields {
-    /// None.
+    /// Creates an empty list of fields.
     pub(crate) fn new(alloc: Global) -> Fields
         ensures { result ≡ [] }
     {
@@ -39,14 +39,14 @@ impl Fields {
         }
     }
 
-    /// These.
+    /// Creates a list of these fields.
     pub(crate) fn of(fields: Vec<Field>) -> Fields
         ensures { result ≡ fields.items }
     {
         Fields { fields }
     }
 
-    /// Bytes alone, as the field `bytes`.
+    /// Creates a list of one field `bytes`.
     pub(crate) fn of_bytes(alloc: Global, bytes: Vec<u8>) -> Result<Fields, AllocError>
         ensures { IfOk result (λ fields. fields ≡ bytes_alone bytes.items) }
     {
@@ -55,7 +55,7 @@ impl Fields {
         Ok(fields)
     }
 
-    /// A number alone.
+    /// Creates a list of one field with a number.
     pub(crate) fn of_number(
         alloc: Global,
         key: &'static str,
@@ -68,14 +68,14 @@ impl Fields {
         Ok(fields)
     }
 
-    /// Copies of bytes alone, as the field `bytes`.
+    /// Creates a list of one field `bytes`, with copies of the bytes.
     pub(crate) fn copied(alloc: Global, bytes: &[u8]) -> Result<Fields, AllocError>
         ensures { IfOk result (λ fields. fields ≡ bytes_alone bytes.now) }
     {
         Fields::of_bytes(alloc, Vec::from_slice(alloc, bytes)?)
     }
 
-    /// Adds copies of bytes at the end.
+    /// Appends copies of bytes.
     pub(crate) fn push_bytes(
         &mut self,
         alloc: Global,
@@ -87,7 +87,7 @@ impl Fields {
         self.push(Field::bytes(alloc, key, from)?)
     }
 
-    /// Adds the bytes of a number of sixteen bytes at the end, the lowest one first.
+    /// Appends the bytes of a number of sixteen bytes, the lowest one first.
     pub(crate) fn push_wide(
         &mut self,
         alloc: Global,
@@ -100,14 +100,14 @@ impl Fields {
         self.push_bytes(alloc, key, &number.to_le_bytes())
     }
 
-    /// Adds a number at the end.
+    /// Appends a number.
     pub(crate) fn push_number(&mut self, key: &'static str, value: u64) -> Result<(), AllocError>
         ensures { IfOk result (λ _. self.new ≡ self.old ++ number key.now value ∷ []) }
     {
         self.push(Field::number(key, value))
     }
 
-    /// Adds a field at the end.
+    /// Appends a field.
     pub(crate) fn push(&mut self, field: Field) -> Result<(), AllocError>
         ensures { IfOk result (λ _. self.new ≡ self.old ++ field ∷ []) }
     {
@@ -115,28 +115,28 @@ impl Fields {
         Ok(())
     }
 
-    /// The fields in order.
+    /// Returns the fields as a slice.
     pub fn as_slice(&self) -> &[Field]
         ensures { result.now ≡ self.now }
     {
         self.fields.as_slice()
     }
 
-    /// Whether there is a field with the key.
+    /// Returns whether there is a field with this key.
     pub(crate) fn has(&self, key: &str) -> bool
         ensures { result ≡ has_field key.now self.now }
     {
         has_field(self.as_slice(), key)
     }
 
-    /// The value of the field with the key.
+    /// Returns the value of the first field with this key.
     fn value(&self, key: &str) -> Option<&Value>
         ensures { option_copied result ≡ value_of key.now self.now }
     {
         value_in(self.as_slice(), key)
     }
 
-    /// The number of the field with the key, or 0 where there is none.
+    /// Returns the number of the field with this key, or 0 if there is no such number.
     #[tactic(auto, unfolding(crate::specs::Field::number_of))]
     pub(crate) fn qword(&self, key: &str) -> u64
         ensures { result ≡ number_of key.now self.now }
@@ -147,35 +147,35 @@ impl Fields {
         }
     }
 
-    /// The lowest 32 bits of that number.
+    /// Returns the lowest 32 bits of the number of the field with this key.
     pub(crate) fn dword(&self, key: &str) -> u32
         ensures { result ≡ dword_of key.now self.now }
     {
         (self.qword(key) % 0x1_0000_0000) as u32
     }
 
-    /// The lowest 16 bits of that number.
+    /// Returns the lowest 16 bits of the number of the field with this key.
     pub(crate) fn word(&self, key: &str) -> u16
         ensures { result ≡ word_of key.now self.now }
     {
         (self.qword(key) % 0x1_0000) as u16
     }
 
-    /// The lowest 8 bits of that number.
+    /// Returns the lowest 8 bits of the number of the field with this key.
     pub(crate) fn byte(&self, key: &str) -> u8
         ensures { result ≡ byte_of key.now self.now }
     {
         (self.qword(key) % 0x100) as u8
     }
 
-    /// Whether that number is 1.
+    /// Returns whether the number of the field with this key is 1.
     pub(crate) fn flag(&self, key: &str) -> bool
         ensures { result ≡ flag_of key.now self.now }
     {
         self.qword(key) == 1
     }
 
-    /// The bytes of the field with the key, or none where there is no such field.
+    /// Returns the bytes of the field with this key, or an empty slice if there are none.
     #[tactic(auto, unfolding(crate::specs::Field::bytes_of))]
     pub(crate) fn bytes(&self, key: &str) -> &[u8]
         ensures { result.now ≡ bytes_of key.now self.now }
@@ -186,21 +186,21 @@ impl Fields {
         }
     }
 
-    /// As many of these bytes, and zeros behind them, as there is room for.
+    /// Returns the first `N` bytes of the field with this key, filled up with zeros.
     pub(crate) fn array<const N: usize>(&self, key: &str) -> [u8; N]
         ensures { result ≡ array_of N key.now self.now }
     {
         array_of(self.bytes(key))
     }
 
-    /// The number of sixteen bytes that these bytes are, the lowest one first.
+    /// Returns the number in the first sixteen bytes of the field with this key, the lowest first.
     pub(crate) fn wide(&self, key: &str) -> u128
         ensures { result ≡ wide_of key.now self.now }
     {
         u128::from_le_bytes(self.array(key))
     }
 
-    /// The numbers of the field with the key, or none where there is no such field.
+    /// Returns the numbers of the field with this key, or an empty slice if there are none.
     #[tactic(auto, unfolding(crate::specs::Field::numbers_of))]
     pub(crate) fn numbers(&self, key: &str) -> &[u64]
         ensures { result.now ≡ numbers_of key.now self.now }
@@ -212,14 +212,14 @@ impl Fields {
     }
 }
 
-/// Whether there is a field with the key.
+/// Returns whether there is a field with this key.
 fn has_field(fields: &[Field], key: &str) -> bool
     ensures { result ≡ has_field key.now fields.now }
 {
     fields.iter().any(|field| field.key == key)
 }
 
-/// The value of the first field with the key.
+/// Returns the value of the first field with this key.
 fn value_in<'a>(fields: &'a [Field], key: &str) -> Option<&'a Value>
     ensures { option_copied result ≡ value_of key.now fields.now }
 {
@@ -231,7 +231,7 @@ fn value_in<'a>(fields: &'a [Field], key: &str) -> Option<&'a Value>
     None
 }
 
-/// As many of the bytes, and zeros behind them, as there is room for.
+/// Returns the first `N` of the bytes, filled up with zeros.
 #[tactic(auto, unfolding(nv_layout::specs::Parts::part))]
 pub(crate) fn array_of<const N: usize>(bytes: &[u8]) -> [u8; N]
     ensures { result ≡ part bytes.now 0 N }

@@ -1,4 +1,4 @@
-//! The formats of a namespace's logical blocks as bytes.
+//! The LBA formats of a namespace as bytes.
 
 ghost use Rattle.std.specs.Prelude.{◌≡◌, ◌++◌, IfOk, flat_map};
 ghost use Rattle.nv_layout.specs.IdNs.{bytes_of_lbaf, lbaf_of_bytes};
@@ -11,7 +11,7 @@ use byteorder::{ByteOrder, LittleEndian};
 use nv_layout::Lbaf;
 use std::alloc::{AllocError, Global};
 
-/// Sixteen numbers of four bytes each.
+/// Reads sixteen numbers of four bytes each, the lowest byte first.
 fn dwords_in(bytes: &[u8; 64]) -> [u32; 16]
     ensures { result ≡ numbers_at 0 4 16 bytes.now }
 {
@@ -20,14 +20,14 @@ fn dwords_in(bytes: &[u8; 64]) -> [u32; 16]
     dwords
 }
 
-/// The format of which a number is the four bytes.
+/// Decodes an LBA format from a number of four bytes.
 fn lbaf_in(dword: u32) -> Lbaf
     ensures { result ≡ lbaf_of_bytes (to_le_bytes w32 dword) }
 {
     Lbaf::get(&dword.to_le_bytes())
 }
 
-/// Sixteen formats from their bytes.
+/// Decodes sixteen LBA formats.
 #[tactic(auto, unfolding(crate::specs::Formats::lbafs_in))]
 pub(crate) fn lbafs_in(bytes: &[u8; 64]) -> [Lbaf; 16]
     ensures { result ≡ lbafs_in bytes.now }
@@ -35,7 +35,7 @@ pub(crate) fn lbafs_in(bytes: &[u8; 64]) -> [Lbaf; 16]
     dwords_in(bytes).map(lbaf_in)
 }
 
-/// The bytes of a format.
+/// Encodes an LBA format.
 fn bytes_of_lbaf(lbaf: &Lbaf) -> [u8; 4]
     ensures { result ≡ bytes_of_lbaf lbaf.now }
 {
@@ -44,7 +44,7 @@ fn bytes_of_lbaf(lbaf: &Lbaf) -> [u8; 4]
     bytes
 }
 
-/// The bytes of formats, one after the other.
+/// Appends the bytes of LBA formats, one after the other.
 #[tactic(auto, using(crate::proofs::ShownLaws::flat_map_next))]
 fn push_lbafs(bytes: &mut Items<u8>, lbafs: &[Lbaf]) -> Result<(), AllocError>
     ensures { IfOk result (λ _. bytes.new ≡ bytes.old ++ flat_map bytes_of_lbaf lbafs.now) }
@@ -55,7 +55,7 @@ fn push_lbafs(bytes: &mut Items<u8>, lbafs: &[Lbaf]) -> Result<(), AllocError>
     Ok(())
 }
 
-/// The bytes of formats, one after the other.
+/// Encodes LBA formats, one after the other.
 pub(crate) fn bytes_of_lbafs(alloc: Global, lbafs: &[Lbaf]) -> Result<Items<u8>, AllocError>
     ensures { IfOk result (λ bytes. bytes ≡ flat_map bytes_of_lbaf lbafs.now) }
 {

@@ -1,4 +1,4 @@
-//! Records read from bytes, as fields.
+//! Decodes records from bytes into fields.
 
 ghost use Rattle.std.specs.Prelude.{◌≡◌, IfOk};
 ghost use Rattle.nv_layout.specs.Sqe.{sqe_of_bytes};
@@ -21,7 +21,7 @@ ghost use Rattle.nv_operations.specs.Records.{cntlids_outcome, get_outcome, nsid
 use crate::field::Field;
 use crate::fields::{Fields, array_of};
 use crate::identity_records::{id_ctrl_fields, id_ns_fields, lbaf_fields};
-use crate::list_records::{wide_cntlids, wide_nsids};
+use crate::list_records::{nsids_fields, wide_cntlids};
 use crate::log_records::{error_entry_fields, smart_fields};
 use crate::queue_records::{cqe_fields, sqe_fields, status_fields};
 use crate::record::RecordKind;
@@ -32,7 +32,7 @@ use nv_layout::{
 };
 use std::alloc::{AllocError, Global};
 
-/// The fields of a submission queue entry.
+/// Decodes the fields of a submission queue entry.
 fn get_sqe(alloc: Global, bytes: &[u8]) -> Result<Fields, AllocError>
     ensures { IfOk result
         (λ fields. fields ≡ fields_of_sqe (sqe_of_bytes (part bytes.now 0 64))) }
@@ -41,7 +41,7 @@ fn get_sqe(alloc: Global, bytes: &[u8]) -> Result<Fields, AllocError>
     Ok(Fields::of(Vec::from_array(alloc, sqe_fields(&sqe))?))
 }
 
-/// The fields of a completion.
+/// Decodes the fields of a completion.
 fn get_cqe(alloc: Global, bytes: &[u8]) -> Result<Fields, AllocError>
     ensures { IfOk result
         (λ fields. fields ≡ fields_of_cqe (cqe_of_bytes (part bytes.now 0 16))) }
@@ -50,7 +50,7 @@ fn get_cqe(alloc: Global, bytes: &[u8]) -> Result<Fields, AllocError>
     Ok(Fields::of(Vec::from_array(alloc, cqe_fields(&cqe))?))
 }
 
-/// The fields of a format of logical blocks.
+/// Decodes the fields of an LBA format.
 fn get_lbaf(alloc: Global, bytes: &[u8]) -> Result<Fields, AllocError>
     ensures { IfOk result
         (λ fields. fields ≡ fields_of_lbaf (lbaf_of_bytes (part bytes.now 0 4))) }
@@ -59,7 +59,7 @@ fn get_lbaf(alloc: Global, bytes: &[u8]) -> Result<Fields, AllocError>
     Ok(Fields::of(Vec::from_array(alloc, lbaf_fields(&lbaf))?))
 }
 
-/// The fields of a namespace.
+/// Decodes the fields of the Identify Namespace data structure.
 fn get_id_ns(alloc: Global, bytes: &[u8]) -> Result<Fields, AllocError>
     ensures { IfOk result
         (λ fields. fields ≡ fields_of_id_ns (id_ns_of_bytes (part bytes.now 0 4096))) }
@@ -68,7 +68,7 @@ fn get_id_ns(alloc: Global, bytes: &[u8]) -> Result<Fields, AllocError>
     id_ns_fields(alloc, &id_ns)
 }
 
-/// The fields of a controller.
+/// Decodes the fields of the Identify Controller data structure.
 fn get_id_ctrl(alloc: Global, bytes: &[u8]) -> Result<Fields, AllocError>
     ensures { IfOk result
         (λ fields. fields ≡ fields_of_id_ctrl (id_ctrl_of_bytes (part bytes.now 0 4096))) }
@@ -77,7 +77,7 @@ fn get_id_ctrl(alloc: Global, bytes: &[u8]) -> Result<Fields, AllocError>
     id_ctrl_fields(alloc, &id_ctrl)
 }
 
-/// The fields of the health log.
+/// Decodes the fields of the health log.
 fn get_smart(alloc: Global, bytes: &[u8]) -> Result<Fields, AllocError>
     ensures { IfOk result
         (λ fields. fields ≡ fields_of_smart (smart_of_bytes (part bytes.now 0 512))) }
@@ -86,7 +86,7 @@ fn get_smart(alloc: Global, bytes: &[u8]) -> Result<Fields, AllocError>
     smart_fields(alloc, &smart)
 }
 
-/// The fields of an entry of the error log.
+/// Decodes the fields of an error log entry.
 fn get_error_entry(alloc: Global, bytes: &[u8]) -> Result<Fields, AllocError>
     ensures { IfOk result
         (λ fields. fields ≡ fields_of_error_entry (error_entry_of_bytes (part bytes.now 0 64))) }
@@ -95,7 +95,7 @@ fn get_error_entry(alloc: Global, bytes: &[u8]) -> Result<Fields, AllocError>
     Ok(Fields::of(Vec::from_array(alloc, error_entry_fields(&error_entry))?))
 }
 
-/// The fields of a status field.
+/// Decodes the fields of a status field.
 fn get_status(alloc: Global, number: u16) -> Result<Fields, AllocError>
     ensures { IfOk result (λ fields. fields ≡ fields_of_status (status_of_number number)) }
 {
@@ -103,18 +103,16 @@ fn get_status(alloc: Global, number: u16) -> Result<Fields, AllocError>
     Ok(Fields::of(Vec::from_array(alloc, status_fields(&status))?))
 }
 
-/// The fields of a list of namespaces.
+/// Decodes the fields of a namespace list.
 fn get_ns_list(alloc: Global, bytes: &[u8]) -> Result<Fields, AllocError>
     ensures { IfOk result
         (λ fields. fields ≡ nsids_alone (ns_list_of_bytes (part bytes.now 0 4096))) }
 {
     let list = NsList::get(&array_of(bytes));
-    let mut fields = Fields::new(alloc);
-    fields.push(Field::new("nsids", Value::Numbers(wide_nsids(alloc, &list)?)))?;
-    Ok(fields)
+    nsids_fields(alloc, list.as_slice())
 }
 
-/// The fields of a list of controllers, which may have too many.
+/// Decodes the fields of a controller list. It is refused if its count is too large.
 fn get_ctrl_list(alloc: Global, bytes: &[u8]) -> Result<Result<Fields, Refusal>, AllocError>
     ensures { IfOk result
         (λ outcome. outcome ≡ cntlids_outcome (ctrl_list_of_bytes (part bytes.now 0 4096))) }
@@ -132,8 +130,8 @@ fn get_ctrl_list(alloc: Global, bytes: &[u8]) -> Result<Result<Fields, Refusal>,
     }
 }
 
-/// The fields of the record whose bytes the field `bytes` has, with zeros behind them; a status field is
-/// read from the field `status`.
+/// Decodes the fields of a record from the first bytes of the field `bytes`, filled up with zeros.
+/// A status field is decoded from the field `status`.
 pub fn get_record(
     alloc: Global,
     kind: RecordKind,

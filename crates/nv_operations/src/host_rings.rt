@@ -1,4 +1,4 @@
-//! The host's side of rings, of which it is known where they lie.
+//! The host's side of rings, with the place of each ring in memory.
 
 ghost use Rattle.std.specs.Prelude.{◌≡◌, ◌+◌, ◌*◌, ◌≤◌, ◌↔◌, IfOk, IsTrue, false, length};
 ghost use Rattle.nv_queue.specs.Numbers.{IsDepth};
@@ -52,7 +52,7 @@ impl Model for Completions {
     ghost invariant = { λ s. (s.ring.base ≡ s.base) × (s.ring.depth ≡ s.depth) };
 }
 
-/// Whether so many slots lie in the memory from an address on.
+/// Returns whether `depth` slots of `size` bytes lie in the memory from an address on.
 fn lies_in(memory: &FlatMemory, base: u64, size: u16, depth: u16) -> bool
     ensures { IsTrue result ↔ (base + size * depth ≤ length memory.now.bytes) }
 {
@@ -61,7 +61,7 @@ fn lies_in(memory: &FlatMemory, base: u64, size: u16, depth: u16) -> bool
 }
 
 impl Submissions {
-    /// A new ring.
+    /// Creates the ring. The next submission is number 0.
     pub(crate) fn new(base: u64, depth: u16) -> Submissions
         requires { IsDepth depth }
         ensures { result ≡ record { base = base; depth = depth; submitted = 0; known = 0 } }
@@ -73,14 +73,14 @@ impl Submissions {
         }
     }
 
-    /// Begins anew.
+    /// Begins anew: the next submission is number 0, and none is outstanding.
     pub(crate) fn renew(&mut self)
         ensures { self.new ≡ renewed_submit self.old }
     {
         self.ring.renew();
     }
 
-    /// Submits a command: the new tail, as the field `tail`.
+    /// Submits a command, and returns the new tail, as the field `tail`.
     pub(crate) fn submit(
         &mut self,
         alloc: Global,
@@ -99,7 +99,8 @@ impl Submissions {
         }
     }
 
-    /// Takes the SQ head of a completion: the submissions below it were taken.
+    /// Takes over the SQ head of a completion: the submissions before it have been taken, so their
+    /// slots are free.
     pub(crate) fn free(&mut self, alloc: Global, head: u16) -> Result<Fields, Refusal>
         ensures { Frees head self.old result self.new }
     {
@@ -112,7 +113,7 @@ impl Submissions {
 }
 
 impl Completions {
-    /// A new ring.
+    /// Creates the ring. Completion number 0 is awaited.
     pub(crate) fn new(base: u64, depth: u16) -> Completions
         requires { IsDepth depth }
         ensures { result
@@ -125,7 +126,7 @@ impl Completions {
         }
     }
 
-    /// Begins anew.
+    /// Begins anew: completion number 0 is awaited, and there is no head to write to the doorbell.
     pub(crate) fn renew(&mut self)
         ensures { self.new ≡ renewed_collect self.old }
     {
@@ -143,7 +144,7 @@ impl Completions {
         Ok(Fields::new(alloc))
     }
 
-    /// Collects the awaited completion, if it was posted: its fields.
+    /// Collects the awaited completion, if it has been posted, and returns its fields.
     pub(crate) fn collect(
         &mut self,
         alloc: Global,
@@ -163,7 +164,7 @@ impl Completions {
         }
     }
 
-    /// The head to write to the head doorbell, if one is to be told, as the field `head`.
+    /// Returns the head to write to the head doorbell, as the field `head`, if there is a new one.
     pub(crate) fn tell(&mut self, alloc: Global) -> Result<Result<Fields, Refusal>, AllocError>
         ensures { IfOk result (λ outcome. Tells self.old outcome self.new) }
     {

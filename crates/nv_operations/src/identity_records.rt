@@ -1,4 +1,4 @@
-//! What Identify tells of a namespace and of a controller, by its fields.
+//! The data structures that Identify returns for a namespace and a controller, by their fields.
 
 ghost use Rattle.std.specs.Prelude.{◌≡◌, ◌++◌, IfOk};
 ghost use Rattle.nv_operations.specs.IdentityRecords.{fields_of_id_ctrl, fields_of_id_ns};
@@ -15,7 +15,7 @@ use crate::row::Row;
 use nv_layout::{IdCtrl, IdNs, Lbaf};
 use std::alloc::{AllocError, Global};
 
-/// The fields of a format of logical blocks. Section "Identify Namespace data structure (CNS 00h)".
+/// Returns the rows of an LBA format. Section "Identify Namespace data structure (CNS 00h)".
 #[tactic(auto, unfolding(crate::specs::IdentityRecords::lbaf_rows))]
 pub(crate) fn lbaf_rows() -> [Row; 3]
     ensures { result ≡ lbaf_rows }
@@ -23,7 +23,7 @@ pub(crate) fn lbaf_rows() -> [Row; 3]
     [Row::word("ms"), Row::byte("lbads"), Row::number("rp", 0x3)]
 }
 
-/// The one that fields give.
+/// Creates the LBA format that the fields describe.
 #[tactic(auto, unfolding(crate::specs::IdentityRecords::lbaf_of))]
 pub(crate) fn lbaf_of(fields: &Fields) -> Lbaf
     ensures { result ≡ lbaf_of fields.now }
@@ -35,7 +35,7 @@ pub(crate) fn lbaf_of(fields: &Fields) -> Lbaf
     }
 }
 
-/// Its fields.
+/// Returns the fields of an LBA format.
 #[tactic(auto, unfolding(crate::specs::IdentityRecords::fields_of_lbaf))]
 pub(crate) fn lbaf_fields(lbaf: &Lbaf) -> [Field; 3]
     ensures { result ≡ fields_of_lbaf lbaf.now }
@@ -47,7 +47,7 @@ pub(crate) fn lbaf_fields(lbaf: &Lbaf) -> [Field; 3]
     ]
 }
 
-/// The fields of a namespace. Section "Identify Namespace data structure (CNS 00h)".
+/// Returns the rows of a namespace. Section "Identify Namespace data structure (CNS 00h)".
 #[tactic(auto, unfolding(crate::specs::IdentityRecords::id_ns_rows))]
 pub(crate) fn id_ns_rows() -> [Row; 12]
     ensures { result ≡ id_ns_rows }
@@ -68,7 +68,7 @@ pub(crate) fn id_ns_rows() -> [Row; 12]
     ]
 }
 
-/// The one that fields give.
+/// Creates the data structure of the namespace that the fields describe.
 #[tactic(auto, unfolding(crate::specs::IdentityRecords::id_ns_of))]
 pub(crate) fn id_ns_of(fields: &Fields) -> IdNs
     ensures { result ≡ id_ns_of fields.now }
@@ -89,7 +89,7 @@ pub(crate) fn id_ns_of(fields: &Fields) -> IdNs
     }
 }
 
-/// The fields of a controller. Section "Identify Controller data structure (CNS 01h)".
+/// Returns the rows of a controller. Section "Identify Controller data structure (CNS 01h)".
 pub(crate) fn id_ctrl_rows() -> [Row; 27]
     ensures { result ≡ id_ctrl_rows }
 {
@@ -124,7 +124,7 @@ pub(crate) fn id_ctrl_rows() -> [Row; 27]
     ]
 }
 
-/// The one that fields give.
+/// Creates the data structure of the controller that the fields describe.
 #[tactic(auto, unfolding(crate::specs::IdentityRecords::id_ctrl_of))]
 pub(crate) fn id_ctrl_of(fields: &Fields) -> IdCtrl
     ensures { result ≡ id_ctrl_of fields.now }
@@ -160,7 +160,7 @@ pub(crate) fn id_ctrl_of(fields: &Fields) -> IdCtrl
     }
 }
 
-/// Adds some of its fields.
+/// Appends NSZE, NCAP and NUSE of a namespace.
 #[tactic(auto, using(crate::proofs::ListLaws::after_more))]
 fn push_sizes_of(fields: &mut Fields, id_ns: &IdNs) -> Result<(), AllocError>
     ensures { IfOk result (λ _. fields.new ≡ fields.old ++ sizes_of id_ns.now) }
@@ -171,7 +171,7 @@ fn push_sizes_of(fields: &mut Fields, id_ns: &IdNs) -> Result<(), AllocError>
     Ok(())
 }
 
-/// Adds some of its fields.
+/// Appends NSFEAT to NMIC of a namespace.
 #[tactic(auto, using(crate::proofs::ListLaws::after_more))]
 fn push_capabilities_of(fields: &mut Fields, id_ns: &IdNs) -> Result<(), AllocError>
     ensures { IfOk result (λ _. fields.new ≡ fields.old ++ capabilities_of id_ns.now) }
@@ -186,7 +186,7 @@ fn push_capabilities_of(fields: &mut Fields, id_ns: &IdNs) -> Result<(), AllocEr
     Ok(())
 }
 
-/// Adds some of its fields.
+/// Appends NVMCAP and the LBA formats of a namespace.
 #[tactic(auto, using(crate::proofs::ListLaws::after_more))]
 fn push_capacity_and_formats(
     alloc: Global,
@@ -204,7 +204,7 @@ fn push_capacity_and_formats(
     Ok(())
 }
 
-/// Its fields.
+/// Returns the fields of a namespace.
 #[tactic(auto, using(crate::proofs::ListLaws::after_more))]
 pub(crate) fn id_ns_fields(alloc: Global, id_ns: &IdNs) -> Result<Fields, AllocError>
     ensures { IfOk result (λ fields. fields ≡ fields_of_id_ns id_ns.now) }
@@ -216,7 +216,7 @@ pub(crate) fn id_ns_fields(alloc: Global, id_ns: &IdNs) -> Result<Fields, AllocE
     Ok(fields)
 }
 
-/// Adds some of its fields.
+/// Appends VID to RAB of a controller.
 #[tactic(auto, using(crate::proofs::ListLaws::after_more))]
 fn push_names_of(alloc: Global, fields: &mut Fields, id_ctrl: &IdCtrl) -> Result<(), AllocError>
     ensures { IfOk result (λ _. fields.new ≡ fields.old ++ names_of id_ctrl.now) }
@@ -230,7 +230,7 @@ fn push_names_of(alloc: Global, fields: &mut Fields, id_ctrl: &IdCtrl) -> Result
     Ok(())
 }
 
-/// Adds some of its fields.
+/// Appends IEEE to ELPE of a controller.
 #[tactic(auto, using(crate::proofs::ListLaws::after_more))]
 fn push_limits_of(fields: &mut Fields, id_ctrl: &IdCtrl) -> Result<(), AllocError>
     ensures { IfOk result (λ _. fields.new ≡ fields.old ++ limits_of id_ctrl.now) }
@@ -247,7 +247,7 @@ fn push_limits_of(fields: &mut Fields, id_ctrl: &IdCtrl) -> Result<(), AllocErro
     Ok(())
 }
 
-/// Adds some of its fields.
+/// Appends NPSS to UNVMCAP of a controller.
 #[tactic(auto, using(crate::proofs::ListLaws::after_more))]
 fn push_capacities_of(
     alloc: Global,
@@ -264,7 +264,7 @@ fn push_capacities_of(
     Ok(())
 }
 
-/// Adds some of its fields.
+/// Appends SQES to SUBNQN of a controller.
 #[tactic(auto, using(crate::proofs::ListLaws::after_more))]
 fn push_supports_of(alloc: Global, fields: &mut Fields, id_ctrl: &IdCtrl) -> Result<(), AllocError>
     ensures { IfOk result (λ _. fields.new ≡ fields.old ++ supports_of id_ctrl.now) }
@@ -279,7 +279,7 @@ fn push_supports_of(alloc: Global, fields: &mut Fields, id_ctrl: &IdCtrl) -> Res
     Ok(())
 }
 
-/// Its fields.
+/// Returns the fields of a controller.
 #[tactic(auto, using(crate::proofs::ListLaws::after_more))]
 pub(crate) fn id_ctrl_fields(alloc: Global, id_ctrl: &IdCtrl) -> Result<Fields, AllocError>
     ensures { IfOk result (λ fields. fields ≡ fields_of_id_ctrl id_ctrl.now) }

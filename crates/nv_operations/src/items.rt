@@ -1,11 +1,11 @@
-//! Items in order.
+//! Lists of items.
 
 ghost use Rattle.std.specs.Prelude.{◌≡◌, ◌++◌, ◌∷◌, [], IfOk, List, OnErr, length};
 
 use std::alloc::{AllocError, Global};
 use std::marker::Model;
 
-/// Items in order, in room of their own. A contract sees them as a list.
+/// A list of items with memory of its own. A contract sees it as a list.
 #[derive(Debug, Drop)]
 pub struct Items<T> {
     items: Vec<T>,
@@ -18,7 +18,7 @@ impl<T> Model for Items<T> {
 }
 
 impl<T> Items<T> {
-    /// None.
+    /// Creates an empty list.
     pub fn new(alloc: Global) -> Items<T>
         ensures { result ≡ [] }
     {
@@ -27,14 +27,14 @@ impl<T> Items<T> {
         }
     }
 
-    /// Those of a vector.
+    /// Creates a list from the items of a vector.
     pub fn of(items: Vec<T>) -> Items<T>
         ensures { result ≡ items.items }
     {
         Items { items }
     }
 
-    /// The items in order.
+    /// Returns the items as a slice.
     pub fn as_slice(&self) -> &[T]
         ensures { result.now ≡ self.now }
     {
@@ -43,7 +43,7 @@ impl<T> Items<T> {
 }
 
 impl<T: Drop> Items<T> {
-    /// Adds an item at the end.
+    /// Appends an item.
     pub fn push(&mut self, item: T) -> Result<(), AllocError>
         ensures { IfOk result (λ _. self.new ≡ self.old ++ item ∷ []) }
     {
@@ -53,14 +53,14 @@ impl<T: Drop> Items<T> {
 }
 
 impl<T: Copy> Items<T> {
-    /// Adds copies of items at the end.
+    /// Appends copies of items.
     pub fn extend(&mut self, items: &[T]) -> Result<(), AllocError>
         ensures { IfOk result (λ _. self.new ≡ self.old ++ items.now) }
     {
         self.items.extend_from_slice(items)
     }
 
-    /// Copies of these items.
+    /// Creates a list with copies of items.
     pub fn copied(alloc: Global, items: &[T]) -> Result<Items<T>, AllocError>
         ensures { IfOk result (λ copy. copy ≡ items.now) }
     {

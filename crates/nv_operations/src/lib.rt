@@ -1,5 +1,5 @@
-//! Operations on the parts of a host and a controller, a line each: what a line says, what is done,
-//! and the line that answers it.
+//! Operations on the parts of a host and a controller. Each line of input names one operation, and
+//! one line answers it.
 #![tactic(auto)]
 
 mod answering;
@@ -31,6 +31,7 @@ mod reading;
 mod record;
 mod refusal;
 mod registers;
+mod replies;
 mod rings;
 mod row;
 mod session;

@@ -1,4 +1,4 @@
-//! The records of logs by their fields.
+//! The records of logs, by their fields.
 
 ghost use Rattle.std.specs.Prelude.{◌≡◌, ◌++◌, IfOk};
 ghost use Rattle.nv_operations.specs.LogRecords.{error_entry_of, error_entry_rows};
@@ -13,7 +13,7 @@ use crate::words::{bytes_of_words, words_in};
 use nv_layout::{ErrorEntry, Smart, Status};
 use std::alloc::{AllocError, Global};
 
-/// The fields of an entry of the error log. Section "Error Information (Log Identifier 01h)".
+/// Returns the rows of an error log entry. Section "Error Information (Log Identifier 01h)".
 #[tactic(auto, unfolding(crate::specs::LogRecords::error_entry_rows))]
 pub(crate) fn error_entry_rows() -> [Row; 10]
     ensures { result ≡ error_entry_rows }
@@ -32,7 +32,7 @@ pub(crate) fn error_entry_rows() -> [Row; 10]
     ]
 }
 
-/// The one that fields give.
+/// Creates the error log entry that the fields describe.
 #[tactic(auto, unfolding(crate::specs::LogRecords::error_entry_of))]
 pub(crate) fn error_entry_of(fields: &Fields) -> ErrorEntry
     ensures { result ≡ error_entry_of fields.now }
@@ -51,7 +51,7 @@ pub(crate) fn error_entry_of(fields: &Fields) -> ErrorEntry
     }
 }
 
-/// Its fields.
+/// Returns the fields of an error log entry.
 #[tactic(auto, unfolding(crate::specs::LogRecords::fields_of_error_entry))]
 pub(crate) fn error_entry_fields(error_entry: &ErrorEntry) -> [Field; 10]
     ensures { result ≡ fields_of_error_entry error_entry.now }
@@ -70,7 +70,7 @@ pub(crate) fn error_entry_fields(error_entry: &ErrorEntry) -> [Field; 10]
     ]
 }
 
-/// The fields of the health log. Section "SMART / Health Information (Log Identifier 02h)".
+/// Returns the rows of the health log. Section "SMART / Health Information (Log Identifier 02h)".
 pub(crate) fn smart_rows() -> [Row; 18]
     ensures { result ≡ smart_rows }
 {
@@ -96,7 +96,7 @@ pub(crate) fn smart_rows() -> [Row; 18]
     ]
 }
 
-/// The one that fields give.
+/// Creates the health log that the fields describe.
 pub(crate) fn smart_of(fields: &Fields) -> Smart
     ensures { result ≡ smart_of fields.now }
 {
@@ -122,7 +122,7 @@ pub(crate) fn smart_of(fields: &Fields) -> Smart
     }
 }
 
-/// Adds some of its fields.
+/// Appends the fields from the critical warning to the percentage used.
 #[tactic(auto, using(crate::proofs::ListLaws::after_more))]
 fn push_health_values(fields: &mut Fields, smart: &Smart) -> Result<(), AllocError>
     ensures { IfOk result (λ _. fields.new ≡ fields.old ++ health_values smart.now) }
@@ -135,7 +135,7 @@ fn push_health_values(fields: &mut Fields, smart: &Smart) -> Result<(), AllocErr
     Ok(())
 }
 
-/// Adds some of its fields.
+/// Appends the fields of the data moved, the commands and the busy time.
 #[tactic(auto, using(crate::proofs::ListLaws::after_more))]
 fn push_data_counts(alloc: Global, fields: &mut Fields, smart: &Smart) -> Result<(), AllocError>
     ensures { IfOk result (λ _. fields.new ≡ fields.old ++ data_counts smart.now) }
@@ -148,7 +148,7 @@ fn push_data_counts(alloc: Global, fields: &mut Fields, smart: &Smart) -> Result
     Ok(())
 }
 
-/// Adds some of its fields.
+/// Appends the fields from the power cycles to the number of error log entries.
 #[tactic(auto, using(crate::proofs::ListLaws::after_more))]
 fn push_life_counts(alloc: Global, fields: &mut Fields, smart: &Smart) -> Result<(), AllocError>
     ensures { IfOk result (λ _. fields.new ≡ fields.old ++ life_counts smart.now) }
@@ -161,7 +161,7 @@ fn push_life_counts(alloc: Global, fields: &mut Fields, smart: &Smart) -> Result
     Ok(())
 }
 
-/// Adds some of its fields.
+/// Appends the fields of the temperatures.
 #[tactic(auto, using(crate::proofs::ListLaws::after_more))]
 fn push_temperatures(alloc: Global, fields: &mut Fields, smart: &Smart) -> Result<(), AllocError>
     ensures { IfOk result (λ _. fields.new ≡ fields.old ++ temperatures smart.now) }
@@ -172,7 +172,7 @@ fn push_temperatures(alloc: Global, fields: &mut Fields, smart: &Smart) -> Resul
     Ok(())
 }
 
-/// Its fields.
+/// Returns the fields of the health log.
 #[tactic(auto, using(crate::proofs::ListLaws::after_more))]
 pub(crate) fn smart_fields(alloc: Global, smart: &Smart) -> Result<Fields, AllocError>
     ensures { IfOk result (λ fields. fields ≡ fields_of_smart smart.now) }

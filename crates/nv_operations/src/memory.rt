@@ -1,4 +1,4 @@
-//! The host's memory.
+//! Operations on the host's memory.
 
 ghost use Rattle.std.specs.Prelude.{◌≡◌, IfOk, OnErr, OnOk};
 ghost use Rattle.nv_operations.specs.Memory.{AreSizes, loaded, new_memory, page_of, store_outcome};
@@ -10,7 +10,7 @@ use crate::refusal::Refusal;
 use nv_host::{FlatMemory, HostMemory, is_page_size};
 use std::alloc::{AllocError, Global};
 
-/// The bytes from an address on, as the field `bytes`.
+/// Reads `len` bytes from an address on, as the field `bytes`.
 pub fn load(
     alloc: Global,
     memory: &FlatMemory,
@@ -26,7 +26,7 @@ pub fn load(
     }
 }
 
-/// Writes bytes from an address on. After a refusal the memory is as it was.
+/// Writes bytes from an address on. After a refusal, the memory is unchanged.
 pub fn store(memory: &mut FlatMemory, address: u64, bytes: &[u8]) -> Result<(), Refusal>
     ensures outcome { result ≡ store_outcome memory.old address bytes.now }
     ensures memory { OnOk result (memory.new ≡ stored memory.old address bytes.now) }
@@ -38,7 +38,7 @@ pub fn store(memory: &mut FlatMemory, address: u64, bytes: &[u8]) -> Result<(), 
     }
 }
 
-/// A memory of this many pages of zeros, where pages can have this size.
+/// Creates a memory of pages of zeros, if pages can have this size.
 pub fn new_memory(
     alloc: Global,
     page_size: u32,
@@ -55,7 +55,7 @@ pub fn new_memory(
     }
 }
 
-/// The bytes of a page, as the field `bytes`, where there is the page.
+/// Reads a page, as the field `bytes`, if the memory has it.
 pub fn page(
     alloc: Global,
     memory: &FlatMemory,
@@ -70,7 +70,7 @@ pub fn page(
     Ok(Ok(Fields::of_bytes(alloc, bytes)?))
 }
 
-/// The page size and the number of pages, as the fields `page_size` and `pages`.
+/// Returns the page size and the number of pages, as the fields `page_size` and `pages`.
 pub fn sizes(alloc: Global, memory: &FlatMemory) -> Result<Fields, AllocError>
     ensures { IfOk result (AreSizes memory.now) }
 {

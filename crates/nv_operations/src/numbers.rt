@@ -7,8 +7,8 @@ use crate::items::Items;
 use nv_line::parse_number;
 use std::alloc::{AllocError, Global};
 
-/// The numbers that a text lists, each at most `each`: at most `most` of them, with commas between
-/// them.
+/// Reads the numbers that a text lists with commas between them: at most `most` of them, each at
+/// most `each`.
 pub(crate) fn read_numbers(
     alloc: Global,
     each: u64,

@@ -1,4 +1,4 @@
-//! The operations.
+//! The operations and the words that name them.
 
 ghost use Rattle.std.specs.Prelude.{◌≡◌};
 ghost use Rattle.nv_operations.specs.Operations.{is_for, is_named, operation_named, word_of, words_used};
@@ -10,53 +10,53 @@ use crate::record::RecordKind;
 use crate::registers::RegisterOperation;
 use crate::rings::RingOperation;
 
-/// What a line asks for.
+/// An operation that a line asks for.
 #[derive(Clone, Copy, Debug, PartialEq, Eq)]
 pub enum Operation {
-    /// A record is made of its fields.
+    /// Encodes a record from its fields.
     Put(RecordKind),
-    /// A record is read from its bytes.
+    /// Decodes a record from its bytes.
     Get(RecordKind),
-    /// A new memory of pages of zeros.
+    /// Replaces the memory with new pages of zeros.
     Memory,
-    /// The page size and the number of pages.
+    /// Returns the page size and the number of pages.
     Sizes,
-    /// Bytes of the memory.
+    /// Reads bytes from the memory.
     Load,
-    /// Bytes are written to the memory.
+    /// Writes bytes to the memory.
     Store,
-    /// The bytes of a page.
+    /// Reads a page.
     Page,
-    /// The PRP entries of a transfer are built.
+    /// Builds the PRP entries of a transfer.
     Build,
-    /// PRP entries are walked.
+    /// Walks the PRP entries of a transfer.
     Walk,
-    /// A buffer's spans are found.
+    /// Finds the spans of a buffer.
     Spread,
-    /// Bytes are written to the spans.
+    /// Writes bytes to the spans.
     CopyOut,
-    /// The bytes of the spans.
+    /// Reads the bytes of the spans.
     CopyIn,
-    /// Of a command's entry.
+    /// An operation on a command's entry.
     Command(CommandOperation),
-    /// Of a controller's registers.
+    /// An operation on a controller's registers.
     Register(RegisterOperation),
-    /// Of a queue pair's rings.
+    /// An operation on a queue pair's rings.
     Ring(RingOperation),
-    /// The controllers of another subsystem, after power on.
+    /// Powers on the controllers of another subsystem.
     Subsystem,
-    /// How many controllers there are.
+    /// Returns the number of controllers.
     Controllers,
-    /// Something is asked of a controller.
+    /// An operation on one of the controllers.
     Controller(ControllerOperation),
-    /// A driver of the controllers is brought up.
+    /// Brings up a driver of the controllers.
     BringUp,
-    /// Something is asked of the driver.
+    /// An operation on the driver.
     Driver(DriverOperation),
 }
 
-/// Every operation.
-const OPERATIONS: [Operation; 61] = [
+/// All operations.
+const OPERATIONS: [Operation; 62] = [
     Operation::Put(RecordKind::Sqe),
     Operation::Put(RecordKind::Cqe),
     Operation::Put(RecordKind::Status),
@@ -116,12 +116,13 @@ const OPERATIONS: [Operation; 61] = [
     Operation::Controller(ControllerOperation::Counts),
     Operation::Controller(ControllerOperation::LogEntry),
     Operation::BringUp,
+    Operation::Driver(DriverOperation::Admin),
     Operation::Driver(DriverOperation::Passthrough),
     Operation::Driver(DriverOperation::Reset),
 ];
 
 impl Operation {
-    /// The first word of its lines.
+    /// Returns the first word of the operation's lines.
     fn word<'a>(self) -> &'a str
         ensures { result.now ≡ word_of self }
     {
@@ -149,7 +150,7 @@ impl Operation {
         }
     }
 
-    /// Whether the second word of a line names its record, if it has one.
+    /// Returns whether the second word of a line names the operation's record, if it has one.
     fn is_for(self, second: &str) -> bool
         ensures { result ≡ is_for second.now self }
     {
@@ -159,14 +160,14 @@ impl Operation {
         }
     }
 
-    /// Whether the first words of a line name it.
+    /// Returns whether the first two words of a line name this operation.
     fn is_named(self, first: &str, second: &str) -> bool
         ensures { result ≡ is_named first.now second.now self }
     {
         first == self.word() && self.is_for(second)
     }
 
-    /// The operation that the first words of a line name.
+    /// Returns the operation that the first two words of a line name.
     pub fn named(first: &str, second: &str) -> Option<Operation>
         ensures { result ≡ operation_named first.now second.now }
     {
@@ -176,7 +177,7 @@ impl Operation {
             .find(|operation| operation.is_named(first, second))
     }
 
-    /// How many words name it.
+    /// Returns how many words name the operation.
     pub fn words_used(self) -> usize
         ensures { result ≡ words_used self }
     {

@@ -1,4 +1,4 @@
-//! Records made of fields, as bytes.
+//! Encodes records from fields into bytes.
 
 ghost use Rattle.std.specs.Prelude.{◌≡◌, IfOk};
 ghost use Rattle.nv_layout.specs.Sqe.{bytes_of_sqe};
@@ -26,7 +26,7 @@ use crate::queue_records::{cqe_of, sqe_of, status_of};
 use crate::record::RecordKind;
 use std::alloc::{AllocError, Global};
 
-/// The bytes of a submission queue entry, as the field `bytes`.
+/// Encodes a submission queue entry, as the field `bytes`.
 fn put_sqe(alloc: Global, fields: &Fields) -> Result<Fields, AllocError>
     ensures { IfOk result (λ answer. answer ≡ bytes_alone (bytes_of_sqe (sqe_of fields.now))) }
 {
@@ -35,7 +35,7 @@ fn put_sqe(alloc: Global, fields: &Fields) -> Result<Fields, AllocError>
     Fields::copied(alloc, &bytes)
 }
 
-/// The bytes of a completion, as the field `bytes`.
+/// Encodes a completion, as the field `bytes`.
 fn put_cqe(alloc: Global, fields: &Fields) -> Result<Fields, AllocError>
     ensures { IfOk result (λ answer. answer ≡ bytes_alone (bytes_of_cqe (cqe_of fields.now))) }
 {
@@ -44,7 +44,7 @@ fn put_cqe(alloc: Global, fields: &Fields) -> Result<Fields, AllocError>
     Fields::copied(alloc, &bytes)
 }
 
-/// The bytes of a format of logical blocks, as the field `bytes`.
+/// Encodes an LBA format, as the field `bytes`.
 fn put_lbaf(alloc: Global, fields: &Fields) -> Result<Fields, AllocError>
     ensures { IfOk result (λ answer. answer ≡ bytes_alone (bytes_of_lbaf (lbaf_of fields.now))) }
 {
@@ -53,7 +53,7 @@ fn put_lbaf(alloc: Global, fields: &Fields) -> Result<Fields, AllocError>
     Fields::copied(alloc, &bytes)
 }
 
-/// The bytes of a namespace, as the field `bytes`.
+/// Encodes the Identify Namespace data structure, as the field `bytes`.
 fn put_id_ns(alloc: Global, fields: &Fields) -> Result<Fields, AllocError>
     ensures { IfOk result (λ answer. answer ≡ bytes_alone (bytes_of_id_ns (id_ns_of fields.now))) }
 {
@@ -62,7 +62,7 @@ fn put_id_ns(alloc: Global, fields: &Fields) -> Result<Fields, AllocError>
     Fields::copied(alloc, &bytes)
 }
 
-/// The bytes of a controller, as the field `bytes`.
+/// Encodes the Identify Controller data structure, as the field `bytes`.
 fn put_id_ctrl(alloc: Global, fields: &Fields) -> Result<Fields, AllocError>
     ensures { IfOk result (λ answer. answer ≡ bytes_alone (bytes_of_id_ctrl (id_ctrl_of fields.now))) }
 {
@@ -71,7 +71,7 @@ fn put_id_ctrl(alloc: Global, fields: &Fields) -> Result<Fields, AllocError>
     Fields::copied(alloc, &bytes)
 }
 
-/// The bytes of a list of namespaces, as the field `bytes`.
+/// Encodes a namespace list, as the field `bytes`.
 fn put_ns_list(alloc: Global, fields: &Fields) -> Result<Fields, AllocError>
     ensures { IfOk result (λ answer. answer ≡ bytes_alone (bytes_of_ns_list (nsids_of fields.now))) }
 {
@@ -80,7 +80,7 @@ fn put_ns_list(alloc: Global, fields: &Fields) -> Result<Fields, AllocError>
     Fields::copied(alloc, &bytes)
 }
 
-/// The bytes of a list of controllers, as the field `bytes`.
+/// Encodes a controller list, as the field `bytes`.
 fn put_ctrl_list(alloc: Global, fields: &Fields) -> Result<Fields, AllocError>
     ensures { IfOk result (λ answer. answer ≡ bytes_alone (bytes_of_ctrl_list (cntlids_of fields.now))) }
 {
@@ -89,7 +89,7 @@ fn put_ctrl_list(alloc: Global, fields: &Fields) -> Result<Fields, AllocError>
     Fields::copied(alloc, &bytes)
 }
 
-/// The bytes of the health log, as the field `bytes`.
+/// Encodes the health log, as the field `bytes`.
 fn put_smart(alloc: Global, fields: &Fields) -> Result<Fields, AllocError>
     ensures { IfOk result (λ answer. answer ≡ bytes_alone (bytes_of_smart (smart_of fields.now))) }
 {
@@ -98,7 +98,7 @@ fn put_smart(alloc: Global, fields: &Fields) -> Result<Fields, AllocError>
     Fields::copied(alloc, &bytes)
 }
 
-/// The bytes of an entry of the error log, as the field `bytes`.
+/// Encodes an error log entry, as the field `bytes`.
 fn put_error_entry(alloc: Global, fields: &Fields) -> Result<Fields, AllocError>
     ensures { IfOk result (λ answer. answer ≡ bytes_alone (bytes_of_error_entry (error_entry_of fields.now))) }
 {
@@ -107,7 +107,7 @@ fn put_error_entry(alloc: Global, fields: &Fields) -> Result<Fields, AllocError>
     Fields::copied(alloc, &bytes)
 }
 
-/// The number of a status field, as the field `status`.
+/// Encodes a status field as a number, the field `status`.
 fn put_status(alloc: Global, fields: &Fields) -> Result<Fields, AllocError>
     ensures { IfOk result
         (λ answer. answer ≡ status_alone (number_of_status (status_of fields.now))) }
@@ -117,7 +117,8 @@ fn put_status(alloc: Global, fields: &Fields) -> Result<Fields, AllocError>
     Ok(answer)
 }
 
-/// The bytes of the record that fields give, as the field `bytes`; of a status field its number.
+/// Encodes the record that the fields describe, as the field `bytes`, or a status field as the
+/// field `status`.
 pub fn put_record(alloc: Global, kind: RecordKind, fields: &Fields) -> Result<Fields, AllocError>
     ensures { IfOk result (λ answer. answer ≡ put_answer kind fields.now) }
 {

@@ -1,4 +1,4 @@
-//! The records of queues by their fields: entries, completions, and the status field.
+//! The records of queues, by their fields: submission queue entries, completions and status fields.
 
 ghost use Rattle.std.specs.Prelude.{◌≡◌};
 ghost use Rattle.nv_operations.specs.QueueRecords.{cqe_of, cqe_rows, fields_of_cqe, fields_of_sqe};
@@ -10,7 +10,7 @@ use crate::fields::Fields;
 use crate::row::Row;
 use nv_layout::{Cqe, Sqe, Status};
 
-/// The fields of a submission queue entry. Section "Submission Queue Entry - Command Format".
+/// Returns the rows of a submission queue entry. Section "Submission Queue Entry - Command Format".
 #[tactic(auto, unfolding(crate::specs::QueueRecords::sqe_rows))]
 pub(crate) fn sqe_rows() -> [Row; 14]
     ensures { result ≡ sqe_rows }
@@ -33,7 +33,7 @@ pub(crate) fn sqe_rows() -> [Row; 14]
     ]
 }
 
-/// The one that fields give.
+/// Creates the submission queue entry that the fields describe.
 #[tactic(auto, unfolding(crate::specs::QueueRecords::sqe_of))]
 pub(crate) fn sqe_of(fields: &Fields) -> Sqe
     ensures { result ≡ sqe_of fields.now }
@@ -56,7 +56,7 @@ pub(crate) fn sqe_of(fields: &Fields) -> Sqe
     }
 }
 
-/// Its fields.
+/// Returns the fields of a submission queue entry.
 #[tactic(auto, unfolding(crate::specs::QueueRecords::fields_of_sqe))]
 pub(crate) fn sqe_fields(sqe: &Sqe) -> [Field; 14]
     ensures { result ≡ fields_of_sqe sqe.now }
@@ -79,7 +79,7 @@ pub(crate) fn sqe_fields(sqe: &Sqe) -> [Field; 14]
     ]
 }
 
-/// The fields of a completion. Section "Completion Queue Entry".
+/// Returns the rows of a completion. Section "Completion Queue Entry".
 #[tactic(auto, unfolding(crate::specs::QueueRecords::cqe_rows))]
 pub(crate) fn cqe_rows() -> [Row; 6]
     ensures { result ≡ cqe_rows }
@@ -94,7 +94,7 @@ pub(crate) fn cqe_rows() -> [Row; 6]
     ]
 }
 
-/// The one that fields give.
+/// Creates the completion that the fields describe.
 #[tactic(auto, unfolding(crate::specs::QueueRecords::cqe_of))]
 pub(crate) fn cqe_of(fields: &Fields) -> Cqe
     ensures { result ≡ cqe_of fields.now }
@@ -109,7 +109,7 @@ pub(crate) fn cqe_of(fields: &Fields) -> Cqe
     }
 }
 
-/// Its fields.
+/// Returns the fields of a completion.
 #[tactic(auto, unfolding(crate::specs::QueueRecords::fields_of_cqe))]
 pub(crate) fn cqe_fields(cqe: &Cqe) -> [Field; 6]
     ensures { result ≡ fields_of_cqe cqe.now }
@@ -124,7 +124,7 @@ pub(crate) fn cqe_fields(cqe: &Cqe) -> [Field; 6]
     ]
 }
 
-/// The fields of the status field of a completion. Section "Status Field Definition".
+/// Returns the rows of a completion's status field. Section "Status Field Definition".
 #[tactic(auto, unfolding(crate::specs::QueueRecords::status_rows))]
 pub(crate) fn status_rows() -> [Row; 5]
     ensures { result ≡ status_rows }
@@ -138,7 +138,7 @@ pub(crate) fn status_rows() -> [Row; 5]
     ]
 }
 
-/// The one that fields give.
+/// Creates the status field that the fields describe.
 #[tactic(auto, unfolding(crate::specs::QueueRecords::status_of))]
 pub(crate) fn status_of(fields: &Fields) -> Status
     ensures { result ≡ status_of fields.now }
@@ -152,7 +152,7 @@ pub(crate) fn status_of(fields: &Fields) -> Status
     }
 }
 
-/// Its fields.
+/// Returns the fields of a status field.
 #[tactic(auto, unfolding(crate::specs::QueueRecords::fields_of_status))]
 pub(crate) fn status_fields(status: &Status) -> [Field; 5]
     ensures { result ≡ fields_of_status status.now }

@@ -1,4 +1,4 @@
-//! The fields that words give.
+//! Reads fields from words.
 
 ghost use Rattle.std.specs.Prelude.{◌≡◌, ◌+◌, IfOk, map};
 ghost use Rattle.std.specs.Option.{option_copied};
@@ -12,7 +12,7 @@ use crate::slip::{Fault, Slip};
 use crate::value::read_value;
 use std::alloc::{AllocError, Global};
 
-/// The row with the key.
+/// Returns the row with this key.
 fn row_named<'a>(rows: &'a [Row], key: &str) -> Option<&'a Row>
     ensures { option_copied result ≡ row_named rows.now key.now }
 {
@@ -24,7 +24,7 @@ fn row_named<'a>(rows: &'a [Row], key: &str) -> Option<&'a Row>
     None
 }
 
-/// The field that a text gives a row, behind other fields.
+/// Reads the field of a row from a text, after the fields that were read before it.
 fn read_field(
     alloc: Global,
     fields: &Fields,
@@ -42,7 +42,7 @@ fn read_field(
     }
 }
 
-/// The field that a text gives a row, if there is the row.
+/// Reads the field of a row from a text. Without a row, the field is unknown.
 fn read_if(
     alloc: Global,
     fields: &Fields,
@@ -58,7 +58,7 @@ fn read_if(
     }
 }
 
-/// The field that the word at a place gives, behind other fields.
+/// Reads the field that the word at a place gives, after the fields that were read before it.
 #[tactic(auto, unfolding(crate::specs::Field::field_in))]
 fn read_word(
     alloc: Global,
@@ -75,7 +75,7 @@ fn read_word(
     }
 }
 
-/// The place of the first row that a line needs and that has no field.
+/// Returns the place of the first required row that has no field.
 fn missing(rows: &[Row], fields: &Fields) -> Option<usize>
     ensures { result ≡ missing_in rows.now fields.now }
 {
@@ -83,8 +83,8 @@ fn missing(rows: &[Row], fields: &Fields) -> Option<usize>
         .position(|row| row.is_needed && !fields.has(row.key))
 }
 
-/// The fields that words give, by a table of those that there may be. A word is KEY=VALUE, or the
-/// value of the row at its own place.
+/// Reads fields from words, by a table of the fields that are allowed. A word is KEY=VALUE, or else
+/// the value for the row at the word's place.
 #[tactic(auto, unfolding(crate::specs::Field::fields_in))]
 pub fn read_fields(
     alloc: Global,

@@ -30,7 +30,7 @@ pub enum RecordKind {
 }
 
 impl RecordKind {
-    /// The word by which a line names it.
+    /// Returns the word by which a line names the record.
     pub(crate) fn word<'a>(self) -> &'a str
         ensures { result.now ≡ record_word self }
     {
@@ -48,7 +48,7 @@ impl RecordKind {
         }
     }
 
-    /// Whether a word names it.
+    /// Returns whether a word names the record.
     pub(crate) fn is_named(self, word: &str) -> bool
         ensures { result ≡ bytes_eq word.now (record_word self) }
     {

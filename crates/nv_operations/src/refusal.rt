@@ -1,44 +1,44 @@
-//! Why an operation is refused.
+//! The reasons for which an operation is refused.
 
 use nv_command::StatusCode;
 use nv_driver::GeometryField;
 use nv_subsystem::SubsystemError;
 use std::fmt;
 
-/// Why a call isn't made, or what it answers in place of a value.
+/// The reason for which an operation was refused.
 #[derive(Clone, Copy, Debug, PartialEq, Eq)]
 pub enum Refusal {
-    /// A range leaves the memory.
+    /// A range doesn't lie within the memory.
     OutsideMemory,
     /// There is no page with this number.
     NoPage,
-    /// No page has so many bytes.
+    /// Pages can't have this size.
     PageSize,
-    /// A controller list says that it has more than 2,047 identifiers.
+    /// A controller list claims to have more than 2,047 identifiers.
     CountTooLarge,
-    /// An entry has an offset that it may not have.
+    /// A PRP entry has an offset that isn't allowed.
     PrpOffset,
-    /// An entry's page, or a Qword of a list, lies outside the memory.
+    /// The page of a PRP entry, or a Qword of a PRP List, lies outside the memory.
     PrpOutside,
-    /// A transfer has from 1 to 1,048,576 bytes.
+    /// A transfer doesn't have 1 to 1,048,576 bytes.
     Length,
-    /// An offset isn't below the page size, or no multiple of 4, in a list of 8.
+    /// An offset isn't below the page size, or isn't a multiple of 4, or of 8 in a list.
     Offset,
-    /// The pages hold fewer bytes.
+    /// The pages hold fewer bytes than the transfer has.
     TooFewPages,
-    /// Two pages are one.
+    /// Two pages are the same.
     SamePages,
-    /// The spans leave the memory.
+    /// The spans don't lie within the memory.
     SpansOutside,
-    /// The spans have another number of bytes.
+    /// The spans don't have as many bytes as are written.
     SpansLength,
-    /// An entry breaks a rule: the status that refuses it.
+    /// An entry breaks a rule, and is refused with this status.
     Status(StatusCode),
-    /// A ring has from 2 to 4,096 slots.
+    /// A ring doesn't have 2 to 4,096 slots.
     Depth,
-    /// A ring leaves the memory.
+    /// A ring doesn't lie within the memory.
     RingOutside,
-    /// The next slot of a ring leaves the memory.
+    /// The next slot of a ring doesn't lie within the memory.
     SlotOutside,
     /// The submission ring has no free slot.
     SubmissionsFull,
@@ -46,22 +46,24 @@ pub enum Refusal {
     CompletionsFull,
     /// No submission is left to take.
     NoSubmission,
-    /// The awaited completion was not posted.
+    /// The awaited completion hasn't been posted.
     NoCompletion,
-    /// A head doesn't lie from the known one to the tail.
+    /// A head doesn't lie between the known head and the tail.
     Head,
-    /// Nothing was collected since the last head was told.
+    /// No completion has been collected since the last head was returned.
     NoHead,
-    /// The first fault of a subsystem file.
+    /// A subsystem file has faults. This is the first one.
     File(SubsystemError),
     /// There is no controller with this number.
     NoController,
     /// The error log has no such entry.
     NoEntry,
-    /// The first field of a geometry that is out of its limits.
+    /// A geometry is out of its limits. This is its first such field.
     Geometry(GeometryField),
     /// There is no driver.
     NoDriver,
+    /// A command asks for a part of a log, which no driver can decode.
+    PartOfLog,
 }
 
 impl fmt::Display for Refusal {
@@ -99,6 +101,7 @@ impl fmt::Display for Refusal {
             Refusal::NoEntry => write!(f, "no such entry"),
             Refusal::Geometry(field) => write!(f, "geometry: {field}"),
             Refusal::NoDriver => write!(f, "no driver"),
+            Refusal::PartOfLog => write!(f, "part of a log"),
         }
     }
 }

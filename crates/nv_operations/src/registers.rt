@@ -1,4 +1,4 @@
-//! Operations on the registers of a controller that has no other part.
+//! Operations on the registers of a controller that has no other parts.
 
 ghost use Rattle.std.specs.Prelude.{◌≡◌, ◌++◌, IfOk, map};
 ghost use Rattle.nv_operations.specs.Field.{fields_in};
@@ -14,23 +14,23 @@ use crate::slip::Fault;
 use nv_register::{Readiness, RegisterBank, Rings};
 use std::alloc::{AllocError, Global};
 
-/// What a line asks of the registers.
+/// An operation on the registers.
 #[derive(Clone, Copy, Debug, PartialEq, Eq)]
 pub enum RegisterOperation {
-    /// The registers are those after power on.
+    /// Sets the registers to what they are after power on.
     PowerOn,
-    /// The dword at an offset.
+    /// Reads the dword at an offset.
     Read,
-    /// A dword is written at an offset.
+    /// Writes a dword at an offset.
     Write,
-    /// What EN, RDY and CFS say, and the numbers of the rings.
+    /// Returns EN, RDY and CFS, and the numbers of the rings.
     State,
-    /// A turn sets the fatal status.
+    /// Sets the fatal status, as a turn does.
     Fail,
 }
 
 impl RegisterOperation {
-    /// The first word of its lines.
+    /// Returns the first word of the operation's lines.
     pub(crate) fn word<'a>(self) -> &'a str
         ensures { result.now ≡ register_word self }
     {
@@ -44,7 +44,7 @@ impl RegisterOperation {
     }
 }
 
-/// The fields that the words behind such an operation give.
+/// Reads the fields from the words after the operation's name.
 pub(crate) fn read_register_arguments(
     alloc: Global,
     operation: RegisterOperation,
@@ -63,7 +63,7 @@ pub(crate) fn read_register_arguments(
     }
 }
 
-/// What EN, RDY and CFS say.
+/// Appends the fields for EN, RDY and CFS.
 fn push_bits(fields: &mut Fields, readiness: &Readiness) -> Result<(), AllocError>
     ensures { IfOk result (λ _. fields.new ≡ fields.old ++ bits_of_readiness readiness.now) }
 {
@@ -72,7 +72,7 @@ fn push_bits(fields: &mut Fields, readiness: &Readiness) -> Result<(), AllocErro
     fields.push_number("fatal", u64::from(readiness.is_fatal()))
 }
 
-/// The page size and the numbers of the rings.
+/// Appends the page size and the numbers of the rings.
 fn push_rings(fields: &mut Fields, rings: &Rings) -> Result<(), AllocError>
     ensures { IfOk result (λ _. fields.new ≡ fields.old ++ fields_of_rings rings.now) }
 {
@@ -81,7 +81,7 @@ fn push_rings(fields: &mut Fields, rings: &Rings) -> Result<(), AllocError>
     push_post(fields, &rings.completion)
 }
 
-/// What EN, RDY and CFS say, and the numbers of the rings where there are some.
+/// Returns EN, RDY and CFS, and the numbers of the rings if there are any.
 fn state_of(alloc: Global, readiness: &Readiness) -> Result<Fields, AllocError>
     ensures { IfOk result (λ fields. fields ≡ state_of readiness.now) }
 {
@@ -93,7 +93,7 @@ fn state_of(alloc: Global, readiness: &Readiness) -> Result<Fields, AllocError>
     Ok(fields)
 }
 
-/// Sets the fatal status of a turn, where the controller is ready.
+/// Sets the fatal status, as a turn does, if the controller is ready.
 fn fail(readiness: &mut Readiness)
     ensures { readiness.new ≡ failed readiness.old }
 {
@@ -102,7 +102,7 @@ fn fail(readiness: &mut Readiness)
     }
 }
 
-/// Does what an operation asks of the registers: the fields that answer it.
+/// Performs an operation on the registers, and returns the fields that answer it.
 pub fn perform_register(
     alloc: Global,
     operation: RegisterOperation,

@@ -18,37 +18,37 @@ use nv_host::FlatMemory;
 use nv_queue::{Fetch, Post};
 use std::alloc::{AllocError, Global};
 
-/// What a line asks of the rings.
+/// An operation on the rings.
 #[derive(Clone, Copy, Debug, PartialEq, Eq)]
 pub enum RingOperation {
-    /// New rings.
+    /// Creates new rings.
     Begin,
-    /// All four sides begin anew.
+    /// Makes both sides of both rings begin anew.
     Renew,
-    /// The slots of the completions are zeroed.
+    /// Zeroes the slots of the completion ring.
     Zero,
-    /// The host submits a command.
+    /// Submits a command, as the host.
     Submit,
-    /// A tail is written to the tail doorbell.
+    /// Writes a tail to the tail doorbell.
     Tail,
-    /// The device takes a submission.
+    /// Takes a submission, as the device.
     Take,
-    /// The device posts a completion.
+    /// Posts a completion, as the device.
     Post,
-    /// The host collects a completion.
+    /// Collects a completion, as the host.
     Collect,
-    /// The host takes the SQ head of a completion.
+    /// Takes over the SQ head of a completion, as the host.
     Free,
-    /// The head that the host has to tell.
+    /// Returns the head that the host has to write to the head doorbell.
     Tell,
-    /// A head is written to the head doorbell.
+    /// Writes a head to the head doorbell.
     Head,
-    /// The numbers of the device's rings.
+    /// Returns the numbers of the device's sides of the rings.
     State,
 }
 
 impl RingOperation {
-    /// The first word of its lines.
+    /// Returns the first word of the operation's lines.
     pub(crate) fn word<'a>(self) -> &'a str
         ensures { result.now ≡ ring_word self }
     {
@@ -69,7 +69,7 @@ impl RingOperation {
     }
 }
 
-/// The fields that the words behind such an operation give.
+/// Reads the fields from the words after the operation's name.
 pub(crate) fn read_ring_arguments(
     alloc: Global,
     operation: RingOperation,
@@ -107,7 +107,7 @@ pub struct QueuePair {
 }
 
 impl QueuePair {
-    /// New rings of so many slots, from these addresses on.
+    /// Creates rings of `depth` slots at these addresses.
     pub fn new(depth: u16, submissions: u64, completions: u64) -> QueuePair
         requires { IsDepth depth }
         ensures { result ≡ new_pair depth submissions completions }
@@ -120,7 +120,7 @@ impl QueuePair {
         }
     }
 
-    /// All four sides begin anew.
+    /// Makes both sides of both rings begin anew.
     fn renew(&mut self)
         ensures { self.new ≡ renewed_pair self.old }
     {
@@ -130,7 +130,7 @@ impl QueuePair {
         self.completions.renew();
     }
 
-    /// New rings in place of these, where rings can have so many slots.
+    /// Replaces the rings with new ones, if rings can have this many slots.
     fn begin(&mut self, alloc: Global, fields: &Fields) -> Result<Fields, Refusal>
         ensures { Begins fields.now self.old result self.new }
     {
@@ -143,7 +143,7 @@ impl QueuePair {
         Ok(Fields::new(alloc))
     }
 
-    /// The numbers of the device's rings.
+    /// Returns the numbers of the device's sides of the rings.
     fn state(&self, alloc: Global) -> Result<Fields, AllocError>
         ensures { IfOk result (λ fields. fields ≡ fields_of_pair self.now) }
     {
@@ -154,7 +154,8 @@ impl QueuePair {
     }
 }
 
-/// Does what an operation asks of the rings: the fields that answer it, or why it was refused.
+/// Performs an operation on the rings, and returns the fields that answer it, or why it was
+/// refused.
 pub fn perform_ring(
     alloc: Global,
     operation: RingOperation,

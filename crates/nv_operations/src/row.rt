@@ -1,4 +1,4 @@
-//! The rows of tables of fields.
+//! The rows of a table of fields.
 
 ghost use Rattle.std.specs.Prelude.{◌≡◌};
 ghost use Rattle.nv_operations.specs.Rows.{byte_row, bytes_row, dword_row, flag_row, number_row};
@@ -7,7 +7,7 @@ ghost use Rattle.nv_operations.specs.Rows.{numbers_row, needed, qword_row, word_
 use crate::form::Form;
 use std::marker::Model;
 
-/// A field that a line may have: its key, what its value may be, and whether the line needs it.
+/// A field that a line may have: its key, the form of its value, and whether it is required.
 #[derive(Drop)]
 pub struct Row {
     pub(crate) key: &'static str,
@@ -24,7 +24,7 @@ impl Model for Row {
 }
 
 impl Row {
-    /// A number from 0 to this one, which a line may leave out.
+    /// Creates the row of an optional number from 0 to `most`.
     pub(crate) fn number(key: &'static str, most: u64) -> Row
         ensures { result ≡ number_row key.now most }
     {
@@ -35,42 +35,42 @@ impl Row {
         }
     }
 
-    /// A number of one byte.
+    /// Creates the row of an optional number of one byte.
     pub(crate) fn byte(key: &'static str) -> Row
         ensures { result ≡ byte_row key.now }
     {
         Row::number(key, 0xff)
     }
 
-    /// A number of a word, two bytes.
+    /// Creates the row of an optional number of a word, which has two bytes.
     pub(crate) fn word(key: &'static str) -> Row
         ensures { result ≡ word_row key.now }
     {
         Row::number(key, 0xffff)
     }
 
-    /// A number of a dword, four bytes.
+    /// Creates the row of an optional number of a dword, which has four bytes.
     pub(crate) fn dword(key: &'static str) -> Row
         ensures { result ≡ dword_row key.now }
     {
         Row::number(key, 0xffff_ffff)
     }
 
-    /// A number of a qword, eight bytes.
+    /// Creates the row of an optional number of a qword, which has eight bytes.
     pub(crate) fn qword(key: &'static str) -> Row
         ensures { result ≡ qword_row key.now }
     {
         Row::number(key, u64::MAX)
     }
 
-    /// A number of one bit.
+    /// Creates the row of an optional number of one bit.
     pub(crate) fn flag(key: &'static str) -> Row
         ensures { result ≡ flag_row key.now }
     {
         Row::number(key, 1)
     }
 
-    /// At most so many bytes, which a line may leave out.
+    /// Creates the row of an optional value of at most `most` bytes.
     pub(crate) fn bytes(key: &'static str, most: usize) -> Row
         ensures { result ≡ bytes_row key.now most }
     {
@@ -81,7 +81,7 @@ impl Row {
         }
     }
 
-    /// At most so many numbers from 0 to `each`, which a line may leave out.
+    /// Creates the row of an optional list of at most `most` numbers from 0 to `each`.
     pub(crate) fn numbers(key: &'static str, each: u64, most: usize) -> Row
         ensures { result ≡ numbers_row key.now each most }
     {
@@ -92,7 +92,7 @@ impl Row {
         }
     }
 
-    /// The same, which a line needs.
+    /// Makes the field of this row required.
     pub(crate) fn needed(self) -> Row
         ensures { result ≡ needed self }
     {

@@ -1,4 +1,4 @@
-//! What operations work on.
+//! The state that operations work on.
 
 ghost use Rattle.std.specs.Prelude.{◌≡◌, ◌∷◌, ◌%◌, ◌^◌, [], IfOk, codes, map};
 ghost use Rattle.nv_operations.specs.Controllers.{file_in};
@@ -26,8 +26,8 @@ use nv_register::RegisterBank;
 use nv_subsystem::DEMO;
 use std::alloc::{AllocError, Global};
 
-/// What operations work on: the host's memory, the spans of the last walk, the registers of a
-/// controller, rings, and the controllers of the last subsystem.
+/// The state that operations work on: the host's memory, the spans of the last walk, the registers
+/// of a controller, a pair of rings, and the controllers of the last subsystem.
 #[derive(Drop)]
 pub struct Session {
     pub memory: FlatMemory,
@@ -37,7 +37,7 @@ pub struct Session {
     pub device: Option<Device>,
 }
 
-/// What was done without a value.
+/// Turns the outcome of an operation that returns no value into an answer without fields.
 fn done(alloc: Global, outcome: Result<(), Refusal>) -> Result<Fields, Refusal>
     ensures { result ≡ done outcome }
 {
@@ -47,7 +47,7 @@ fn done(alloc: Global, outcome: Result<(), Refusal>) -> Result<Fields, Refusal>
     }
 }
 
-/// Page numbers of 32 bits.
+/// Cuts numbers down to page numbers of 32 bits.
 #[tactic(auto, using(std::proofs::lemmas::List::map_more))]
 fn pages_of(alloc: Global, numbers: &[u64]) -> Result<Items<PageNo>, AllocError>
     ensures { IfOk result (λ pages. pages ≡ pages_of numbers.now) }
@@ -59,7 +59,7 @@ fn pages_of(alloc: Global, numbers: &[u64]) -> Result<Items<PageNo>, AllocError>
     Ok(pages)
 }
 
-/// The file that fields have, or else the demonstration file.
+/// Returns the field `file`, or the demonstration file if there is no such field.
 fn file_in(fields: &Fields) -> &[u8]
     ensures { result.now ≡ file_in fields.now }
 {
@@ -70,7 +70,7 @@ fn file_in(fields: &Fields) -> &[u8]
     }
 }
 
-/// Builds the entries of the transfer that fields ask for.
+/// Builds the entries of the transfer that the fields describe.
 fn build_asked(
     alloc: Global,
     memory: &mut FlatMemory,
@@ -97,8 +97,8 @@ impl Session {
     ghost use Rattle.nv_operations.specs.Session.{IsNew, Performs, Renews, SetsUp, SpreadsIn, StoresIn};
     ghost use Rattle.nv_operations.specs.Session.{WalksIn, count_of};
 
-    /// A memory of 16 pages of 4,096 bytes, all zeros, no spans, the registers after power on, rings of
-    /// 16 slots in the first two pages, and no controllers.
+    /// Creates a session with a memory of 16 pages of 4,096 zero bytes, no spans, the registers
+    /// after power on, rings of 16 slots in the first two pages, and no controllers.
     #[tactic(auto, unfolding(nv_host::specs::Pages::IsPageSize))]
     pub fn new(alloc: Global) -> Result<Session, AllocError>
         ensures { IfOk result IsNew }
@@ -115,7 +115,7 @@ impl Session {
         }
     }
 
-    /// A new memory. After a refusal the old one stays.
+    /// Replaces the memory with a new one. After a refusal, the old one stays.
     fn renew(
         &mut self,
         alloc: Global,
@@ -198,7 +198,7 @@ impl Session {
         done(alloc, outcome)
     }
 
-    /// Other controllers. After a refusal the old ones stay.
+    /// Replaces the controllers with those of a subsystem. After a refusal, the old ones stay.
     fn set_up(
         &mut self,
         alloc: Global,
@@ -215,7 +215,7 @@ impl Session {
         }
     }
 
-    /// How many controllers there are, as the field `controllers`.
+    /// Returns the number of controllers, as the field `controllers`.
     fn controllers(&self, alloc: Global) -> Result<Fields, AllocError>
         ensures { IfOk result (λ fields. fields
             ≡ number (codes "controllers") (count_of self.now.device) ∷ []) }
@@ -270,8 +270,8 @@ impl Session {
         }
     }
 
-    /// Does what an operation asks for, with the fields of its line: the fields that answer it, or why
-    /// it was refused.
+    /// Performs an operation with the fields of its line, and returns the fields that answer it, or
+    /// why it was refused.
     pub fn perform(
         &mut self,
         alloc: Global,

@@ -9,7 +9,7 @@ use crate::field::Field;
 use crate::value::Value;
 use std::alloc::{AllocError, Global};
 
-/// Adds a number in hexadecimal digits, after `0x`.
+/// Appends `0x` and a number in hexadecimal digits.
 pub(crate) fn push_hexadecimal(text: &mut String, number: u64) -> Result<(), AllocError>
     ensures { IfOk result
         (λ _. string_bytes text.new ≡ string_bytes text.old ++ hexadecimal number) }
@@ -17,7 +17,7 @@ pub(crate) fn push_hexadecimal(text: &mut String, number: u64) -> Result<(), All
     write!(text, "0x{number:x}")
 }
 
-/// Adds numbers, with a comma before each.
+/// Appends numbers, with a comma before each.
 #[tactic(auto, using(crate::proofs::ShownLaws::flat_map_next, crate::proofs::ShownLaws::two_more))]
 fn push_more_numbers(text: &mut String, numbers: &[u64]) -> Result<(), AllocError>
     ensures { IfOk result
@@ -30,7 +30,7 @@ fn push_more_numbers(text: &mut String, numbers: &[u64]) -> Result<(), AllocErro
     Ok(())
 }
 
-/// Adds numbers, with commas between them.
+/// Appends numbers, with commas between them.
 #[tactic(auto, using(crate::proofs::ShownLaws::two_more))]
 fn push_numbers(text: &mut String, numbers: &[u64]) -> Result<(), AllocError>
     ensures { IfOk result
@@ -45,7 +45,7 @@ fn push_numbers(text: &mut String, numbers: &[u64]) -> Result<(), AllocError>
     }
 }
 
-/// Adds bytes, each in two hexadecimal digits.
+/// Appends bytes, in two hexadecimal digits each.
 fn push_bytes(alloc: Global, text: &mut String, bytes: &[u8]) -> Result<(), AllocError>
     ensures { IfOk result
         (λ _. string_bytes text.new ≡ string_bytes text.old ++ encode_lower bytes.now) }
@@ -54,7 +54,7 @@ fn push_bytes(alloc: Global, text: &mut String, bytes: &[u8]) -> Result<(), Allo
     text.push_str(digits.as_str())
 }
 
-/// Adds a value.
+/// Appends a value.
 fn push_value(alloc: Global, text: &mut String, value: &Value) -> Result<(), AllocError>
     ensures { IfOk result
         (λ _. string_bytes text.new ≡ string_bytes text.old ++ value_text value.now) }
@@ -66,7 +66,7 @@ fn push_value(alloc: Global, text: &mut String, value: &Value) -> Result<(), All
     }
 }
 
-/// Adds a field, as KEY=VALUE.
+/// Appends a field, as KEY=VALUE.
 #[tactic(auto, using(crate::proofs::ShownLaws::three_more))]
 fn push_field(alloc: Global, text: &mut String, field: &Field) -> Result<(), AllocError>
     ensures { IfOk result
@@ -77,7 +77,7 @@ fn push_field(alloc: Global, text: &mut String, field: &Field) -> Result<(), All
     push_value(alloc, text, &field.value)
 }
 
-/// Adds fields, with a space before each.
+/// Appends fields, with a space before each.
 #[tactic(auto, using(crate::proofs::ShownLaws::flat_map_next, crate::proofs::ShownLaws::two_more))]
 fn push_more_fields(alloc: Global, text: &mut String, fields: &[Field]) -> Result<(), AllocError>
     ensures { IfOk result
@@ -90,7 +90,7 @@ fn push_more_fields(alloc: Global, text: &mut String, fields: &[Field]) -> Resul
     Ok(())
 }
 
-/// Adds fields with spaces between them, or `done` where there are none.
+/// Appends fields with spaces between them, or `done` if there are none.
 #[tactic(auto, using(crate::proofs::ShownLaws::two_more))]
 pub(crate) fn push_fields(
     alloc: Global,

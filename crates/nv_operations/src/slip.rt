@@ -1,29 +1,29 @@
-//! What can be wrong with a line.
+//! The mistakes that a line can have.
 
 use std::fmt;
 
-/// What is wrong with one of a line's arguments.
+/// What is wrong with an argument of a line.
 #[derive(Clone, Copy, Debug, PartialEq, Eq)]
 pub enum Slip {
-    /// No field has its key, or its place.
+    /// There is no field with this key, or at this place.
     Unknown,
-    /// Its field stands in the line before.
+    /// The field occurs earlier in the line.
     Repeated,
-    /// Its value is none that the field may have.
+    /// The field can't have this value.
     Wrong,
-    /// The line needs it, and it isn't there.
+    /// A required field is absent.
     Missing,
 }
 
 /// What is wrong with a line.
 #[derive(Clone, Copy, Debug, PartialEq, Eq)]
 pub enum Fault {
-    /// It isn't UTF-8.
+    /// The line isn't UTF-8.
     NotText,
-    /// Its first words name no operation.
+    /// The first words name no operation.
     Operation,
-    /// Something is wrong with an argument: its place, from 1 on, and what. Of a missing one it is the
-    /// place in the table of the operation's fields.
+    /// An argument is wrong: its place, counted from 1, and what is wrong with it. The place of a
+    /// missing argument is that in the table of the operation's fields.
     Argument(usize, Slip),
 }
 

@@ -1,5 +1,5 @@
-//! Transfers between the host's memory and a controller: their entries built and walked, and their
-//! bytes copied.
+//! Transfers between the host's memory and a controller: building and walking their entries, and
+//! copying their bytes.
 
 ghost use Rattle.std.specs.Prelude.{◌≡◌, ◌∷◌, IfOk};
 ghost use Rattle.nv_prp.specs.Transfer.{transfer};
@@ -19,7 +19,7 @@ use nv_host::{FlatMemory, HostMemory, PageNo, size_of_memory};
 use nv_prp::{Buffer, ListPlace, PrpError, Span, Spans, build, copy_in, copy_out, walk};
 use std::alloc::{AllocError, Global};
 
-/// What a fault of an entry is as a refusal.
+/// Returns the refusal for a fault of a PRP entry.
 fn refusal_of(fault: PrpError) -> Refusal
     ensures { result ≡ refusal_of fault }
 {
@@ -29,7 +29,7 @@ fn refusal_of(fault: PrpError) -> Refusal
     }
 }
 
-/// Spans as the fields `addresses` and `lengths`.
+/// Returns spans as the fields `addresses` and `lengths`.
 fn fields_of_spans(alloc: Global, spans: &[Span]) -> Result<Fields, AllocError>
     ensures { IfOk result (λ fields. fields ≡ fields_of_spans spans.now) }
 {
@@ -41,8 +41,8 @@ fn fields_of_spans(alloc: Global, spans: &[Span]) -> Result<Fields, AllocError>
     Ok(fields)
 }
 
-/// Finds the spans of the transfer that two PRP entries describe, and keeps them. A fault leaves no
-/// spans; a length that no transfer has leaves those that were there.
+/// Finds and keeps the spans of the transfer that two PRP entries describe. If an entry has a
+/// fault, no spans are left. If no transfer can have this length, the old ones stay.
 pub fn walk_entries(
     alloc: Global,
     memory: &FlatMemory,
@@ -63,7 +63,7 @@ pub fn walk_entries(
     }
 }
 
-/// The pages of a list and of a buffer.
+/// Returns the pages of a list, and then those of a buffer.
 fn all_pages(alloc: Global, buffer: &Buffer, list: &ListPlace) -> Result<Items<PageNo>, AllocError>
     ensures { IfOk result
         (λ pages. pages ≡ list.now.first ∷ list.now.second ∷ buffer.now.pages.now) }
@@ -75,7 +75,7 @@ fn all_pages(alloc: Global, buffer: &Buffer, list: &ListPlace) -> Result<Items<P
     Ok(pages)
 }
 
-/// The first condition of a transfer's building that fails.
+/// Returns the first condition for building a transfer that fails.
 fn reason_against(
     alloc: Global,
     memory: &FlatMemory,
@@ -109,8 +109,8 @@ fn reason_against(
     Ok(None)
 }
 
-/// Builds the entries of a transfer to or from the first bytes of a buffer, as the fields `prp1` and
-/// `prp2`. After a refusal the memory is as it was.
+/// Builds the entries of a transfer to or from the first bytes of a buffer, as the fields `prp1`
+/// and `prp2`. After a refusal, the memory is unchanged.
 pub fn build_entries(
     alloc: Global,
     memory: &mut FlatMemory,
@@ -132,8 +132,7 @@ pub fn build_entries(
     Ok(Ok(fields))
 }
 
-/// Finds the spans of the first bytes of a buffer, and keeps them. After a refusal those that were
-/// there stay.
+/// Finds and keeps the spans of the first bytes of a buffer. After a refusal, the old ones stay.
 pub fn spread_buffer(
     alloc: Global,
     memory: &FlatMemory,
@@ -161,8 +160,8 @@ pub fn spread_buffer(
     Ok(Ok(fields_of_spans(alloc, spans.as_slice())?))
 }
 
-/// Writes bytes to the places of spans, in the order of the transfer. After a refusal the memory is
-/// as it was.
+/// Writes bytes to the places of spans, in the order of the transfer. After a refusal, the memory
+/// is unchanged.
 pub fn copy_to_host(memory: &mut FlatMemory, spans: &Spans, bytes: &[u8]) -> Result<(), Refusal>
     ensures { CopiesOut memory.old spans.now bytes.now result memory.new }
 {
@@ -176,7 +175,7 @@ pub fn copy_to_host(memory: &mut FlatMemory, spans: &Spans, bytes: &[u8]) -> Res
     Ok(())
 }
 
-/// The bytes at the places of spans, in the order of the transfer, as the field `bytes`.
+/// Reads the bytes at the places of spans, in the order of the transfer, as the field `bytes`.
 pub fn copy_from_host(
     alloc: Global,
     memory: &FlatMemory,

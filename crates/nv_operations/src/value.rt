@@ -18,7 +18,7 @@ pub enum Value {
     Numbers(Items<u64>),
 }
 
-/// At most so many bytes, from two hexadecimal digits each.
+/// Reads at most `most` bytes, from two hexadecimal digits each.
 fn read_bytes(alloc: Global, most: usize, text: &str) -> Result<Option<Items<u8>>, AllocError>
     ensures { IfOk result (λ read. read ≡ bytes_in most text.now) }
 {
@@ -35,7 +35,7 @@ fn read_bytes(alloc: Global, most: usize, text: &str) -> Result<Option<Items<u8>
     }
 }
 
-/// The value that a text writes, if it is one of the form.
+/// Reads a value of this form from a text.
 pub(crate) fn read_value(alloc: Global, form: Form, text: &str) -> Result<Option<Value>, AllocError>
     ensures { IfOk result (λ read. read ≡ value_in form text.now) }
 {

@@ -1,4 +1,4 @@
-//! Words of two bytes as bytes.
+//! Words of two bytes, as bytes.
 
 ghost use Rattle.std.specs.Prelude.{◌≡◌, flat_map};
 ghost use Rattle.byteorder.specs.Endian.{little_bytes};
@@ -6,7 +6,7 @@ ghost use Rattle.nv_layout.specs.Parts.{numbers_at};
 
 use byteorder::{ByteOrder, LittleEndian};
 
-/// Eight words from their bytes, the lowest byte of each first.
+/// Reads eight words from their bytes, the lowest byte of each first.
 pub(crate) fn words_in(bytes: &[u8; 16]) -> [u16; 8]
     ensures { result ≡ numbers_at 0 2 8 bytes.now }
 {
@@ -15,7 +15,7 @@ pub(crate) fn words_in(bytes: &[u8; 16]) -> [u16; 8]
     words
 }
 
-/// The bytes of eight words, one after the other.
+/// Returns the bytes of eight words, one after the other.
 pub(crate) fn bytes_of_words(words: &[u16; 8]) -> [u8; 16]
     ensures { result ≡ flat_map (little_bytes 2) words.now }
 {

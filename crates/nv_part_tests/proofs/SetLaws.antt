@@ -1,4 +1,4 @@
--- What a set of pages has after one was given back or taken.
+-- What a set of pages has after a page was given back or taken.
 use Rattle.std.proofs.Common.{◌≡◌, ℕ, ◌==◌, ◌||◌, ◌&&◌, not}
 use Rattle.std.specs.Ordering.{nat_cmp}
 use Rattle.std.specs.FinSet as set

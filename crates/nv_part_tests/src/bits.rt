@@ -6,7 +6,7 @@ ghost use Rattle.nv_bits.specs.Numbers.{IsOf};
 use nv_bits::*;
 use std::process::Abort;
 
-/// A call on a set, and what it returns.
+/// A call of a set, and what it should return.
 enum Step {
     Insert(u32, bool),
     Remove(u32, bool),
@@ -22,7 +22,8 @@ enum Step {
     Clear,
 }
 
-/// Makes the call. A number to insert has to be one of the range.
+/// Makes a call, and returns whether the result is the wanted one. A number to insert must be in
+/// the range.
 fn returns(set: &mut BitSet, step: &Step) -> bool {
     match step {
         Step::Insert(n, want) => is_in_range(set, *n) && set.insert(*n) == *want,
@@ -46,7 +47,7 @@ fn returns(set: &mut BitSet, step: &Step) -> bool {
     }
 }
 
-/// Makes these calls in turn.
+/// Makes calls one after the other, and checks their results.
 fn check_set(rt: &impl Abort, set: &mut BitSet, steps: &[Step]) {
     for (at, step) in steps.iter().enumerate() {
         assert!(rt; returns(set, step), "step {at}");
@@ -159,7 +160,7 @@ fn range_of_none(rt: HostRuntime) {
     );
 }
 
-/// A call on slots, and what it returns.
+/// A call of slots, and what it should return.
 enum SlotStep {
     Insert(u32, u16),
     Remove(u32, Option<u16>),
@@ -173,7 +174,8 @@ enum SlotStep {
     Clear,
 }
 
-/// Makes the call. A number to insert has to be one of the range.
+/// Makes a call, and returns whether the result is the wanted one. A number to insert must be in
+/// the range.
 fn slots_return(slots: &mut Slots<u16>, step: &SlotStep) -> bool {
     match step {
         SlotStep::Insert(n, value) => fill_slot(slots, *n, *value),
@@ -192,7 +194,7 @@ fn slots_return(slots: &mut Slots<u16>, step: &SlotStep) -> bool {
     }
 }
 
-/// Makes these calls in turn.
+/// Makes calls one after the other, and checks their results.
 fn check_slots(rt: &impl Abort, slots: &mut Slots<u16>, steps: &[SlotStep]) {
     for (at, step) in steps.iter().enumerate() {
         assert!(rt; slots_return(slots, step), "step {at}");
@@ -246,14 +248,14 @@ fn values_of_numbers(rt: HostRuntime) {
     );
 }
 
-/// The value goes to the lowest free number, as in the crate page's example.
+/// Inserts a value at the lowest free number, as in the crate page's example.
 fn insert_lowest(names: &mut Slots<char>, value: char) {
     if let Some(id) = names.lowest_free() {
         names.insert(id, value);
     }
 }
 
-/// The crate page's example.
+/// Runs the crate page's example.
 #[test]
 fn lowest_free_identifier(rt: HostRuntime) {
     let Ok(mut names) = Slots::new(rt.alloc(), 1, 1024) else {

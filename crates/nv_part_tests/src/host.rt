@@ -9,12 +9,12 @@ use std::alloc::Global;
 use std::marker::Brand;
 use std::process::Abort;
 
-/// A load into these bytes fits, or leaves the memory.
+/// Checks whether a load of this many bytes lies in the memory.
 fn check_load(rt: &impl Abort, mem: &FlatMemory, addr: u64, out: &mut [u8], fits: bool) {
     assert!(rt; mem.load(addr, out).is_ok() == fits, "at {addr}");
 }
 
-/// A store of these bytes fits, or leaves the memory.
+/// Checks whether a store of these bytes lies in the memory.
 #[tactic(auto, using(nv_host::proofs::BytesLaws::length_with_bytes))]
 fn check_store(rt: &impl Abort, mem: &mut FlatMemory, addr: u64, bytes: &[u8], fits: bool)
     ensures page { mem.new.page_size ≡ mem.old.page_size }
@@ -48,7 +48,7 @@ fn lowest_free_page_first(rt: HostRuntime) {
     check_take(&rt, &mut pages, None);
 }
 
-/// The lowest page of a set.
+/// Takes the lowest page of a set, and checks which page it is.
 fn check_take(rt: &impl Abort, pages: &mut PageSet, want: Option<PageNo>) {
     assert_eq!(rt; pages.take(), want);
 }
@@ -90,13 +90,13 @@ fn errors_as_text(rt: HostRuntime) {
     check_text(&rt, memory.as_str(), "out of memory", "an error");
 }
 
-/// A memory of sixteen pages.
+/// Creates a memory of sixteen pages.
 #[tactic(auto, unfolding(nv_host::specs::Pages::IsPageSize))]
 fn sixteen_pages(alloc: Global) -> Result<FlatMemory, Memory> {
     FlatMemory::new(alloc, 4096, 16)
 }
 
-/// The crate page's example.
+/// Runs the crate page's example.
 #[test]
 #[tactic(auto, using(crate::proofs::SetLaws::taken, crate::proofs::SetLaws::nat_tests))]
 fn page_taken_and_filled(rt: HostRuntime) {
@@ -117,13 +117,13 @@ fn page_taken_and_filled(rt: HostRuntime) {
     check_take(&rt, &mut free, Some(4));
 }
 
-/// Bytes that were lent to a memory.
+/// Bytes that were lent to a memory, and are returned.
 #[derive(Drop)]
 struct Returned<'a> {
     bytes: &'a mut [u8],
 }
 
-/// Lends two pages to a memory, stores across them, and loads it again.
+/// Lends two pages to a memory, stores bytes across them, and loads them again.
 fn lend<'a, L: Loan>(rt: &impl Abort, bytes: &'a mut [u8]) -> Returned<'a>
     requires pages { IsTrue (are_pages 4096 (length bytes.old)) }
     requires loan { bytes.ghost_name ≡ L.reference }
@@ -141,7 +141,7 @@ fn lend<'a, L: Loan>(rt: &impl Abort, bytes: &'a mut [u8]) -> Returned<'a>
     Returned { bytes }
 }
 
-/// The same, by whatever reference the bytes are lent.
+/// Does what `lend` does, with a loan of the reference to the bytes.
 fn lend_any<'a>(rt: &impl Abort, bytes: &'a mut [u8]) -> Returned<'a>
     requires pages { IsTrue (are_pages 4096 (length bytes.old)) }
 {

@@ -1,4 +1,4 @@
-//! Lists of namespaces and controllers, beside their bytes.
+//! Lists of namespaces and controllers: how they compare, and their text.
 
 use crate::checks::check_text;
 use nv_layout::*;

@@ -1,4 +1,4 @@
-//! Tests of the parts that controllers and drivers are made of: lists, logs, sets, pages, replies,
+//! Tests of the parts of which controllers and drivers are made: lists, logs, sets, pages, replies,
 //! and errors as text.
 #![tactic(auto)]
 

@@ -1,4 +1,4 @@
-//! Spans and faults of data pointers as text.
+//! Spans, and faults of data pointers, as text.
 
 use crate::checks::check_text;
 use nv_host::FlatMemory;

@@ -1,11 +1,11 @@
-//! Logs from any place, and lists where they stand.
+//! The bytes of a log from any place on, and lists that are read and written in place.
 
 use crate::checks::{check_bytes, check_number, check_text};
 use nv_layout::*;
 use std::process::Abort;
 use std::test::Fail;
 
-/// Writes pieces of a record's bytes at their places.
+/// Writes pieces of a record at their places.
 fn write_pieces(rt: &impl Abort, bytes: &mut [u8], pieces: &[(usize, &[u8])]) {
     for (at, piece) in pieces {
         assert!(rt; *at <= bytes.len() && piece.len() <= bytes.len() - *at);
@@ -13,7 +13,7 @@ fn write_pieces(rt: &impl Abort, bytes: &mut [u8], pieces: &[(usize, &[u8])]) {
     }
 }
 
-/// An error with this count.
+/// Returns an error with this count.
 fn error(count: u64) -> ErrorEntry {
     ErrorEntry {
         count,
@@ -51,7 +51,7 @@ fn entries_from_any_place(rt: HostRuntime) {
     check_fill(&rt, &entries, usize::MAX, &mut [0xff; 8], &[0; 8]);
 }
 
-/// Checks the bytes of errors from this place on.
+/// Checks the bytes of errors from a place on.
 fn check_fill(rt: &impl Abort, entries: &ErrorEntries, from: usize, out: &mut [u8], want: &[u8]) {
     entries.fill(from, out);
     check_bytes(rt, out, want, "errors");

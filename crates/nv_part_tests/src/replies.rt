@@ -1,4 +1,4 @@
-//! Replies by their data, and the room for them.
+//! Replies that are written as data, read from it, and kept in a room.
 
 ghost use Rattle.std.specs.Prelude.{◌≡◌, length};
 ghost use Rattle.nv_command.specs.Command.{bytes_to_host, transfer_by};
@@ -126,14 +126,14 @@ fn replies_of_management(rt: HostRuntime) {
     }
 }
 
-/// The reply of a number is all in Dword 0.
+/// Checks Dword 0 of a reply that is a number, and puts the data of the reply, which is empty.
 fn put_number(rt: &impl Abort, number: u32, page: &mut [u8; 4096]) {
     let reply = Reply::Number(number);
     check_number(rt, u64::from(reply.dword0()), u64::from(number), "a number");
     reply.put(page);
 }
 
-/// An error with this count.
+/// Returns an error with this count.
 fn error(count: u64) -> ErrorEntry {
     ErrorEntry {
         count,
@@ -168,7 +168,7 @@ fn errors_by_their_bytes(rt: HostRuntime) {
     check_errors(&rt, &room);
 }
 
-/// Checks that a reply is four errors, of which the first is of count 2 and the last is none.
+/// Checks that a reply has four errors, of which the first has count 2 and the last is empty.
 fn check_errors(rt: &impl Abort, room: &ReplyRoom) {
     match room.reply() {
         Reply::Errors(entries) => {

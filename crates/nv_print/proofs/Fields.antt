@@ -13,9 +13,45 @@ and_field e es = ap₂ (λ x xs. x ∷ xs) e es
 pub and_last : {x y : Field} → x ≡ y → x ∷ [] ≡ y ∷ []
 and_last e = ap (λ x. x ∷ []) e
 
--- a text that was added to three times
+-- a text that was added to twice, and more often
+pub two_more : (text a b : List ℕ) → (text ++ a) ++ b ≡ text ++ (a ++ b)
+two_more text a b = append_assoc text a b
+
 pub three_more : (text a b c : List ℕ) → ((text ++ a) ++ b) ++ c ≡ text ++ (a ++ (b ++ c))
 three_more text a b c = append_assoc (text ++ a) b c ∙ append_assoc text a (b ++ c)
+
+pub four_more : (text a b c d : List ℕ) → (((text ++ a) ++ b) ++ c) ++ d ≡ text ++ (a ++ (b ++ (c ++ d)))
+four_more text a b c d = three_more (text ++ a) b c d ∙ append_assoc text a (b ++ (c ++ d))
+
+pub five_more : (text a b c d e : List ℕ)
+    → ((((text ++ a) ++ b) ++ c) ++ d) ++ e ≡ text ++ (a ++ (b ++ (c ++ (d ++ e))))
+five_more text a b c d e = four_more (text ++ a) b c d e ∙ append_assoc text a (b ++ (c ++ (d ++ e)))
+
+pub six_more : (text a b c d e f : List ℕ)
+    → (((((text ++ a) ++ b) ++ c) ++ d) ++ e) ++ f ≡ text ++ (a ++ (b ++ (c ++ (d ++ (e ++ f)))))
+six_more text a b c d e f = five_more (text ++ a) b c d e f ∙ append_assoc text a (b ++ (c ++ (d ++ (e ++ f))))
+
+-- a text to which the parts of a format's line were added
+pub format_more : (text word number colon fields mark end : List ℕ)
+    → (((((text ++ word) ++ number) ++ colon) ++ fields) ++ mark) ++ end
+    ≡ text ++ ((word ++ (number ++ colon)) ++ (fields ++ (mark ++ end)))
+format_more text word number colon fields mark end =
+    three_more (((text ++ word) ++ number) ++ colon) fields mark end
+    ∙ ap (λ t. t ++ (fields ++ (mark ++ end))) (three_more text word number colon)
+    ∙ append_assoc text (word ++ (number ++ colon)) (fields ++ (mark ++ end))
+
+-- a text to which the columns of a device were added
+pub columns_more : (text a b c d e f : List ℕ)
+    → ((((((((text ++ (a ++ 32 ∷ [])) ++ (b ++ 32 ∷ [])) ++ (c ++ 32 ∷ [])) ++ d) ++ 32 ∷ []) ++ e) ++ 32 ∷ []) ++ f) ++ 10 ∷ []
+    ≡ text ++ (a ++ (32 ∷ b ++ (32 ∷ c ++ (32 ∷ d ++ (32 ∷ e ++ (32 ∷ f ++ 10 ∷ []))))))
+columns_more text a b c d e f =
+    six_more (((text ++ (a ++ 32 ∷ [])) ++ (b ++ 32 ∷ [])) ++ (c ++ 32 ∷ [])) d (32 ∷ []) e (32 ∷ []) f (10 ∷ [])
+    ∙ four_more text (a ++ 32 ∷ []) (b ++ 32 ∷ []) (c ++ 32 ∷ []) (d ++ (32 ∷ e ++ (32 ∷ f ++ 10 ∷ [])))
+    ∙ ap (λ t. text ++ t)
+    (append_assoc a (32 ∷ []) _
+    ∙ ap (λ t. a ++ 32 ∷ t)
+    (append_assoc b (32 ∷ []) _
+    ∙ ap (λ t. b ++ 32 ∷ t) (append_assoc c (32 ∷ []) (d ++ (32 ∷ e ++ (32 ∷ f ++ 10 ∷ []))))))
 
 -- a text to which the texts of a list's elements were added, and one more
 pub flat_map_next : {A : Type 0} (f : A → List ℕ) (text : List ℕ) (xs : List A) (i : ℕ) (d : A) → i < length xs

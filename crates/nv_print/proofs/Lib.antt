@@ -1,3 +1,4 @@
+pub mod HexadecimalDigits
 pub mod Padding
 pub mod Fields
 pub mod Items

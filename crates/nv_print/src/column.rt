@@ -1,43 +1,52 @@
 //! Texts in columns.
 
-use std::fmt;
+ghost use Rattle.std.specs.Prelude.{◌≡◌, ◌≤◌, ◌∷◌, ◌++◌, [], IfOk, replicate, string_bytes};
+ghost use Rattle.std.specs.Fmt.{decimal};
+ghost use Rattle.nv_print.specs.Text.{left, right};
 
-/// A text at the left of a column of `width` characters.
-#[derive(Clone, Copy)]
-pub(crate) struct Left<'a> {
-    pub(crate) text: &'a str,
-    pub(crate) width: usize,
+use itoa::Buffer;
+use std::alloc::AllocError;
+
+/// Adds spaces to a text.
+#[tactic(auto, using(crate::proofs::Padding::spaces_cut, crate::proofs::Padding::spaces_are))]
+pub(crate) fn push_spaces(text: &mut String, count: usize) -> Result<(), AllocError>
+    requires { count ≤ 41 }
+    ensures { IfOk result
+        (λ _. string_bytes text.new ≡ string_bytes text.old ++ replicate count 32) }
+{
+    let (spaces, _) = "                                         ".split_at(count);
+    text.push_str(spaces)
 }
 
-impl<'a> fmt::Display for Left<'a> {
-    ghost use Rattle.std.specs.Prelude.{Some};
-    ghost use Rattle.nv_print.specs.Text.{left};
-
-    ghost output = { λ column. Some (left column.width column.text.now) };
-
-    fn fmt<W: fmt::Write>(&self, f: &mut fmt::Formatter<W>) -> fmt::Result {
-        let Left { text, width } = *self;
-        let room = width.saturating_sub(text.len());
-        write!(f, "{text}{:room$}", "")
-    }
+/// Adds a text at the left of a column of `width` characters, and a space.
+#[tactic(auto, using(crate::proofs::Padding::left_more))]
+pub(crate) fn push_left(text: &mut String, shown: &str, width: usize) -> Result<(), AllocError>
+    requires { width ≤ 40 }
+    ensures { IfOk result
+        (λ _. string_bytes text.new ≡ string_bytes text.old ++ (left width shown.now ++ 32 ∷ [])) }
+{
+    text.push_str(shown)?;
+    push_spaces(text, width.saturating_sub(shown.len()) + 1)
 }
 
-/// A number at the right of a column of `width` characters.
-#[derive(Clone, Copy)]
-pub(crate) struct Right {
-    pub(crate) number: u64,
-    pub(crate) width: usize,
+/// Adds a number in decimal to a text.
+pub(crate) fn push_decimal(text: &mut String, number: u64) -> Result<(), AllocError>
+    ensures { IfOk result
+        (λ _. string_bytes text.new ≡ string_bytes text.old ++ decimal number) }
+{
+    let mut digits = Buffer::new();
+    text.push_str(digits.format(number))
 }
 
-impl fmt::Display for Right {
-    ghost use Rattle.std.specs.Prelude.{Some};
-    ghost use Rattle.std.specs.Fmt.{decimal};
-    ghost use Rattle.nv_print.specs.Text.{right};
-
-    ghost output = { λ column. Some (right column.width (decimal column.number)) };
-
-    fn fmt<W: fmt::Write>(&self, f: &mut fmt::Formatter<W>) -> fmt::Result {
-        let Right { number, width } = *self;
-        write!(f, "{number:>width$}")
-    }
+/// Adds a number at the right of a column of `width` characters.
+#[tactic(auto, using(crate::proofs::Fields::two_more))]
+pub(crate) fn push_right(text: &mut String, number: u64, width: usize) -> Result<(), AllocError>
+    requires { width ≤ 40 }
+    ensures { IfOk result
+        (λ _. string_bytes text.new ≡ string_bytes text.old ++ right width (decimal number)) }
+{
+    let mut buffer = Buffer::new();
+    let digits = buffer.format(number);
+    push_spaces(text, width.saturating_sub(digits.len()))?;
+    text.push_str(digits)
 }

@@ -1,22 +1,35 @@
 //! What is shown of devices: a line in columns for each, or an object.
 
-ghost use Rattle.std.specs.Prelude.{◌≡◌, ◌≤◌, ◌+◌, ◌*◌, ◌++◌, IfOk, OnOk, length, string_bytes};
+ghost use Rattle.std.specs.Prelude.{◌≡◌, ◌≤◌, ◌+◌, ◌*◌, ◌∷◌, ◌++◌, [], IfOk, OnOk, length, string_bytes};
 ghost use Rattle.serde_json.specs.Data.{no_members};
 ghost use Rattle.serde_json.specs.Events.{SendsValue};
 ghost use Rattle.serde_json.specs.Written.{compact_text};
 ghost use Rattle.nv_print.specs.Devices.{device_line, devices_data, devices_text, fields_of_device};
 ghost use Rattle.nv_print.specs.Devices.{node_of};
 ghost use Rattle.nv_print.specs.Field.{members_of, object_of};
+ghost use Rattle.nv_print.specs.Text.{left};
 ghost use Rattle.nv_print.specs.inner.Sends.{before};
 
-use crate::column::{Left, Right};
+use crate::column::{push_decimal, push_left, push_right, push_spaces};
 use crate::device::Device;
 use crate::field::{Field, send_object};
 use crate::printable::printable;
 use serde::Serializer;
 use std::alloc::{AllocError, Global};
 
-/// The name of the node of a controller's namespace.
+/// Adds the name of the node of a controller's namespace to a text.
+#[tactic(auto, using(crate::proofs::Fields::four_more))]
+fn push_node(text: &mut String, controller: u16, nsid: u32) -> Result<(), AllocError>
+    ensures { IfOk result
+        (λ _. string_bytes text.new ≡ string_bytes text.old ++ node_of controller nsid) }
+{
+    text.push_str("/dev/nvme")?;
+    push_decimal(text, u64::from(controller))?;
+    text.push_str("n")?;
+    push_decimal(text, u64::from(nsid))
+}
+
+/// Returns the name of the node of a controller's namespace.
 #[tactic(auto, using(crate::proofs::DeviceLengths::node_short))]
 fn node_of(alloc: Global, controller: u16, nsid: u32) -> Result<String, AllocError>
     ensures value { IfOk result (λ node. string_bytes node ≡ node_of controller nsid) }
@@ -24,13 +37,26 @@ fn node_of(alloc: Global, controller: u16, nsid: u32) -> Result<String, AllocErr
 {
     // Room for the longest.
     let mut node = String::with_capacity(alloc, 25)?;
-    write!(node, "/dev/nvme{controller}n{nsid}")?;
+    push_node(&mut node, controller, nsid)?;
     Ok(node)
+}
+
+/// Adds the name of the node at the left of a column of 18 characters, and a space.
+#[tactic(auto, using(crate::proofs::Padding::node_more))]
+fn push_node_column(text: &mut String, controller: u16, nsid: u32) -> Result<(), AllocError>
+    ensures { IfOk result
+        (λ _. string_bytes text.new ≡ string_bytes text.old
+        ++ (left 18 (node_of controller nsid) ++ 32 ∷ [])) }
+{
+    let start = text.len();
+    push_node(text, controller, nsid)?;
+    let len = text.len() - start;
+    push_spaces(text, 18usize.saturating_sub(len) + 1)
 }
 
 /// Adds the line of a device to a text.
 #[tactic(auto, using(crate::proofs::DeviceLengths::device_line_length))]
-fn push_device(text: &mut String, alloc: Global, device: &Device) -> Result<(), AllocError>
+fn push_device(text: &mut String, device: &Device) -> Result<(), AllocError>
     ensures value { IfOk result
         (λ _. string_bytes text.new ≡ string_bytes text.old ++ device_line device.now) }
     ensures bound { OnOk result (length (device_line device.now) ≤ 512) }
@@ -42,35 +68,16 @@ fn push_device(text: &mut String, alloc: Global, device: &Device) -> Result<(), 
         block_size,
         ..
     } = *device;
-    let node = node_of(alloc, controller, nsid)?;
-    let node = Left {
-        text: node.as_str(),
-        width: 18,
-    };
-    let serial = Left {
-        text: printable(&device.serial),
-        width: 20,
-    };
-    let model = Left {
-        text: printable(&device.model),
-        width: 40,
-    };
-    let nsid = Right {
-        number: u64::from(nsid),
-        width: 10,
-    };
-    let bytes = Right {
-        number: bytes,
-        width: 20,
-    };
-    let block_size = Right {
-        number: block_size,
-        width: 6,
-    };
-    write!(
-        text,
-        "{node} {serial} {model} {nsid} {bytes} {block_size}\n"
-    )
+    push_node_column(text, controller, nsid)?;
+    push_left(text, printable(&device.serial), 20)?;
+    push_left(text, printable(&device.model), 40)?;
+    push_right(text, u64::from(nsid), 10)?;
+    text.push_str(" ")?;
+    push_right(text, bytes, 20)?;
+    text.push_str(" ")?;
+    push_right(text, block_size, 6)?;
+    text.push_str("\n")?;
+    Ok(())
 }
 
 /// The text of devices.
@@ -82,7 +89,7 @@ pub(crate) fn devices_text(alloc: Global, devices: &[Device]) -> Result<String, 
     // Room for what most lines take.
     let mut text = String::with_capacity(alloc, devices.len().saturating_mul(128))?;
     for device in devices {
-        push_device(&mut text, alloc, device)?;
+        push_device(&mut text, device)?;
     }
     Ok(text)
 }

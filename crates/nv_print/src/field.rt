@@ -12,7 +12,7 @@ ghost use Rattle.nv_print.specs.Records.{field_within};
 ghost use Rattle.nv_print.specs.Text.{printable};
 ghost use Rattle.nv_print.specs.inner.Sends.{SendsField, before};
 
-use crate::hexadecimal::SixDigits;
+use crate::hexadecimal::{SixDigits, push_hexadecimal};
 use crate::printable::printable;
 use itoa::Buffer;
 use serde::Serializer;
@@ -40,7 +40,7 @@ impl<'a> FieldValue<'a> {
         let mut digits = Buffer::new();
         match *self {
             FieldValue::Decimal(number) => text.push_str(digits.format(number)),
-            FieldValue::Hexadecimal(number) => write!(text, "0x{number:x}"),
+            FieldValue::Hexadecimal(number) => push_hexadecimal(text, number),
             FieldValue::Wide(number) => text.push_str(digits.format(number)),
             FieldValue::SixDigits(number) => {
                 let number = SixDigits(number);

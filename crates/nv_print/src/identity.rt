@@ -1,19 +1,19 @@
 //! What Identify tells, as fields: of a controller, and of a namespace.
 
-ghost use Rattle.std.specs.Prelude.{◌≡◌, OnOk};
+ghost use Rattle.std.specs.Prelude.{◌≡◌, IfOk, OnOk, string_bytes};
 ghost use Rattle.serde_json.specs.Events.{SendsValue};
-ghost use Rattle.nv_print.specs.Field.{object_of};
+ghost use Rattle.nv_print.specs.Field.{fields_text, object_of};
 ghost use Rattle.nv_print.specs.Records.{fields_of_id_ctrl, fields_of_id_ns, fields_of_lbaf};
 ghost use Rattle.nv_print.specs.inner.Records.{texts_length};
 
-use crate::field::{Field, send_object};
+use crate::field::{Field, fields_text, send_object};
 use crate::members::{id_ctrl_members, lbaf_members};
 use nv_layout::{IdCtrl, IdNs, Lbaf};
 use serde::Serializer;
-use std::alloc::Global;
+use std::alloc::{AllocError, Global};
 
 /// The fields of a controller ("Identify Controller data structure").
-pub(crate) fn id_ctrl_fields<'a>(identity: &'a IdCtrl) -> [Field<'a>; 27]
+fn id_ctrl_fields<'a>(identity: &'a IdCtrl) -> [Field<'a>; 27]
     ensures value { result ≡ fields_of_id_ctrl identity.now }
     ensures texts { texts_length identity.now ≡ 324 }
 {
@@ -46,6 +46,15 @@ pub(crate) fn id_ctrl_fields<'a>(identity: &'a IdCtrl) -> [Field<'a>; 27]
         Field::hexadecimal("vwc", identity.vwc as u64),
         Field::ascii("subnqn", &identity.subnqn),
     ]
+}
+
+/// Returns the text of a controller.
+pub(crate) fn id_ctrl_text(alloc: Global, identity: &IdCtrl) -> Result<String, AllocError>
+    ensures value { IfOk result
+        (λ t. string_bytes t ≡ fields_text (fields_of_id_ctrl identity.now)) }
+    ensures texts { texts_length identity.now ≡ 324 }
+{
+    fields_text(alloc, &id_ctrl_fields(identity))
 }
 
 /// Sends the object of a controller to a writer of JSON.

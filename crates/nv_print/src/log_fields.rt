@@ -1,19 +1,19 @@
 //! What logs hold, as fields.
 
-ghost use Rattle.std.specs.Prelude.{◌≡◌, OnOk};
+ghost use Rattle.std.specs.Prelude.{◌≡◌, IfOk, OnOk, string_bytes};
 ghost use Rattle.serde_json.specs.Events.{SendsValue};
-ghost use Rattle.nv_print.specs.Field.{object_of};
+ghost use Rattle.nv_print.specs.Field.{fields_text, object_of};
 ghost use Rattle.nv_print.specs.Records.{fields_of_entry, fields_of_smart};
 
-use crate::field::{Field, send_object};
+use crate::field::{Field, fields_text, send_object};
 use crate::members::{entry_members, smart_members};
 use nv_layout::{ErrorEntry, Smart};
 use serde::Serializer;
-use std::alloc::Global;
+use std::alloc::{AllocError, Global};
 
 /// The fields of a health log ("SMART / Health Information"): how a controller is, what it has done
 /// and what has happened to it, how warm it was and is.
-pub(crate) fn smart_fields<'a>(smart: &Smart) -> [Field<'a>; 25]
+fn smart_fields<'a>(smart: &Smart) -> [Field<'a>; 25]
     ensures { result ≡ fields_of_smart smart.now }
 {
     [
@@ -43,6 +43,13 @@ pub(crate) fn smart_fields<'a>(smart: &Smart) -> [Field<'a>; 25]
         Field::decimal("temperature_sensor_7", smart.sensors[6] as u64),
         Field::decimal("temperature_sensor_8", smart.sensors[7] as u64),
     ]
+}
+
+/// Returns the text of a health log.
+pub(crate) fn smart_text(alloc: Global, smart: &Smart) -> Result<String, AllocError>
+    ensures { IfOk result (λ t. string_bytes t ≡ fields_text (fields_of_smart smart.now)) }
+{
+    fields_text(alloc, &smart_fields(smart))
 }
 
 /// Sends the object of a health log to a writer of JSON.

@@ -9,7 +9,7 @@ ghost use Rattle.nv_print.specs.Records.{fields_of_lbaf, formats_of, lbaf_line, 
 ghost use Rattle.nv_print.specs.Records.{namespace_data, namespace_text};
 ghost use Rattle.nv_print.specs.Text.{lines_of};
 
-use crate::column::Right;
+use crate::column::push_right;
 use crate::field::{push_fields, push_within, send_fields};
 use crate::identity::{id_ns_fields, lbaf_fields, send_lbaf};
 use crate::members::id_ns_members;
@@ -34,7 +34,7 @@ fn mark_of<'a>(in_use: usize, index: usize) -> &'a str
 }
 
 /// Adds the line of a format with its index to a text. It marks the format in use.
-#[tactic(auto, using(crate::proofs::Fields::three_more))]
+#[tactic(auto, using(crate::proofs::Fields::format_more))]
 fn push_format(
     text: &mut String,
     in_use: usize,
@@ -44,15 +44,12 @@ fn push_format(
     ensures { IfOk result (λ _. string_bytes text.new
         ≡ string_bytes text.old ++ lbaf_line in_use index format.now) }
 {
-    let number = Right {
-        number: index as u64,
-        width: 2,
-    };
-    let mark = mark_of(in_use, index);
-    write!(text, "lbaf {number}             :")?;
+    text.push_str("lbaf ")?;
+    push_right(text, index as u64, 2)?;
+    text.push_str("             :")?;
     push_within(text, &lbaf_fields(format))?;
-    write!(text, "{mark}\n")?;
-    Ok(())
+    text.push_str(mark_of(in_use, index))?;
+    text.push_str("\n")
 }
 
 /// Adds the lines of formats to a text. They mark the format in use.

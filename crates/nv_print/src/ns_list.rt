@@ -1,37 +1,26 @@
 //! How a list of namespaces is shown.
 
-ghost use Rattle.std.specs.Prelude.{◌≡◌, ◌<◌, ◌^◌, IfOk, OnOk, string_bytes};
+ghost use Rattle.std.specs.Prelude.{◌≡◌, ◌<◌, ◌^◌, ◌++◌, IfOk, OnOk, string_bytes};
 ghost use Rattle.std.specs.List.{All};
 ghost use Rattle.serde_json.specs.Events.{SendsValue};
-ghost use Rattle.nv_print.specs.Records.{nsids_data, nsids_text};
+ghost use Rattle.nv_print.specs.Records.{nsid_line, nsids_data, nsids_text};
 
-use crate::column::Right;
-use crate::hexadecimal::Hexadecimal;
+use crate::column::push_right;
+use crate::hexadecimal::push_hexadecimal;
 use serde::{Serialize, Serializer};
 use std::alloc::{AllocError, Global};
-use std::fmt;
 
-/// An NSID with its index in a list.
-#[derive(Clone, Copy)]
-struct NsidLine {
-    index: usize,
-    nsid: u32,
-}
-
-impl fmt::Display for NsidLine {
-    ghost use Rattle.std.specs.Prelude.{Some};
-    ghost use Rattle.nv_print.specs.Records.{nsid_line};
-
-    ghost output = { λ line. Some (nsid_line line.index line.nsid) };
-
-    fn fmt<W: fmt::Write>(&self, f: &mut fmt::Formatter<W>) -> fmt::Result {
-        let index = Right {
-            number: self.index as u64,
-            width: 4,
-        };
-        let nsid = Hexadecimal(u64::from(self.nsid));
-        write!(f, "[{index}]:{nsid}\n")
-    }
+/// Adds the line of an NSID with its index in a list to a text.
+#[tactic(auto, using(crate::proofs::Fields::five_more))]
+fn push_nsid(text: &mut String, index: usize, nsid: u32) -> Result<(), AllocError>
+    ensures { IfOk result
+        (λ _. string_bytes text.new ≡ string_bytes text.old ++ nsid_line index nsid) }
+{
+    text.push_str("[")?;
+    push_right(text, index as u64, 4)?;
+    text.push_str("]:")?;
+    push_hexadecimal(text, u64::from(nsid))?;
+    text.push_str("\n")
 }
 
 /// Returns the text of a list of NSIDs.
@@ -42,11 +31,7 @@ pub(crate) fn nsids_text(alloc: Global, nsids: &[u32]) -> Result<String, AllocEr
     // Room for most lines.
     let mut text = String::with_capacity(alloc, nsids.len().saturating_mul(16))?;
     for index in 0..nsids.len() {
-        let line = NsidLine {
-            index,
-            nsid: nsids[index],
-        };
-        write!(text, "{line}")?;
+        push_nsid(&mut text, index, nsids[index])?;
     }
     Ok(text)
 }

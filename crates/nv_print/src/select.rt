@@ -1,7 +1,7 @@
 //! Which value of a feature is shown.
 
 ghost use Rattle.std.specs.Prelude.{◌≡◌};
-ghost use Rattle.nv_print.specs.Message.{select_of};
+ghost use Rattle.nv_print.specs.Message.{select_of, select_text};
 
 use nv_layout::ThreeBits;
 use std::fmt;
@@ -29,6 +29,18 @@ impl Select {
             _ => None,
         }
     }
+
+    /// Returns its name.
+    pub(crate) fn text(self) -> &'static str
+        ensures { result.now ≡ select_text self }
+    {
+        match self {
+            Select::Current => "Current",
+            Select::Default => "Default",
+            Select::Saved => "Saved",
+            Select::Capabilities => "Supported capabilities",
+        }
+    }
 }
 
 impl fmt::Display for Select {
@@ -38,11 +50,6 @@ impl fmt::Display for Select {
     ghost output = { λ select. Some (select_text select) };
 
     fn fmt<W: fmt::Write>(&self, f: &mut fmt::Formatter<W>) -> fmt::Result {
-        match self {
-            Select::Current => write!(f, "Current"),
-            Select::Default => write!(f, "Default"),
-            Select::Saved => write!(f, "Saved"),
-            Select::Capabilities => write!(f, "Supported capabilities"),
-        }
+        f.write_str(self.text())
     }
 }

@@ -7,9 +7,8 @@ ghost use Rattle.nv_print.specs.Shown.{data_of, has_json, json_of, text_limit, t
 
 use crate::device_list::DeviceList;
 use crate::devices::{devices_text, send_devices};
-use crate::field::fields_text;
-use crate::identity::{id_ctrl_fields, send_id_ctrl};
-use crate::log_fields::{send_smart, smart_fields};
+use crate::identity::{id_ctrl_text, send_id_ctrl};
+use crate::log_fields::{send_smart, smart_text};
 use crate::logs::{entries_text, send_entries};
 use crate::namespace::{namespace_text, send_namespace};
 use crate::ns_list::{nsids_text, send_nsids};
@@ -94,10 +93,10 @@ fn string_of(alloc: Global, shown: &Shown) -> Result<String, AllocError>
     ensures bound { IfOk result (λ t. length (string_bytes t) ≤ text_limit shown.now) }
 {
     match shown {
-        Shown::Controller(identity) => fields_text(alloc, &id_ctrl_fields(identity)),
+        Shown::Controller(identity) => id_ctrl_text(alloc, identity),
         Shown::Namespace(namespace) => namespace_text(alloc, namespace),
         Shown::NsList(nsids) => nsids_text(alloc, nsids.as_slice()),
-        Shown::Smart(smart) => fields_text(alloc, &smart_fields(smart)),
+        Shown::Smart(smart) => smart_text(alloc, smart),
         Shown::Errors(entries) => entries_text(alloc, entries),
         Shown::Devices(devices) => devices_text(alloc, devices.as_slice()),
         Shown::Created { nsid } => success(alloc, "create-ns: Success, created nsid:", *nsid),

@@ -1,11 +1,10 @@
 -- The results for the bytes of a file.
-use Rattle.std.proofs.Common.{◌≡◌, ◌∙◌, ℕ, ◌+◌, ◌≤◌, List, [], ◌++◌, length, take, ap, subst, arith, refl, IsTrue}
-use Rattle.std.proofs.Common.{Option, None, Some, Result, Ok, Err, IfSome}
+use Rattle.std.proofs.Common.{◌≡◌, ◌⊎◌, ◌∙◌, ℕ, ◌+◌, ◌≤◌, List, [], ◌++◌, length, take, ap, subst, sym, arith, refl}
+use Rattle.std.proofs.Common.{IsTrue, inl, inr, Option, None, Some, Result, Ok, Err, IfSome}
 use Rattle.std.proofs.lemmas.List.{length-take, take_all}
 use Rattle.std.specs.Option.{option_map}
 use Rattle.std.specs.Io.Take.{take_inner, take_limit, take_remaining}
 use Rattle.std.specs.declared.io.traits.Take.{Take}
-use Rattle.nv_file.specs.Fault.{IsUnlessMemory}
 use Rattle.nv_file.specs.declared.error.SubsystemError.{SubsystemError}
 use Rattle.nv_file.specs.declared.error.SubsystemError.TheVariants as error
 use Rattle.nv_model.specs.State.{State}
@@ -55,9 +54,10 @@ unread_in (Some all) _ is = absurd (cc)
 
 -- a refusal of a file's bytes
 pub refused_in : (bytes : List ℕ) (e : SubsystemError) → length bytes ≤ most_bytes
-    → IsUnlessMemory (λ (s : State). s) (Err e) (subsystem bytes) → IsSubsystemIn bytes (Err (of_file e))
-refused_in bytes error.Memory few is = refl
-refused_in bytes e few is = (few, is)
+    → (e ≡ error.Memory) ⊎ (subsystem bytes ≡ Err e) → IsSubsystemIn bytes (Err (of_file e))
+refused_in bytes e few (inl memory) = subst (λ x. IsSubsystemIn bytes (Err (of_file x))) (sym memory) refl
+refused_in bytes error.Memory few (inr is) = refl
+refused_in bytes e few (inr is) = (few, is)
 
 -- the result for a file is that for some file
 pub of_some : {F : Type 0} (remaining : F → Option (List ℕ)) (file : F) (r : Result State Stop)

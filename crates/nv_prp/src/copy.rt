@@ -4,7 +4,7 @@
 ghost use Rattle.std.specs.Prelude.{◌≡◌, ◌<◌, ◌^◌, length};
 ghost use Rattle.nv_prp.specs.Place.{LieIn, places, read_at, written_at};
 
-use crate::range::{read_range, write_range};
+use crate::range::{Piece, read_range, write_range};
 use crate::{Payload, Spans};
 use nv_host::{HostMemory, store_inside};
 
@@ -22,10 +22,12 @@ pub fn write_out<M: HostMemory, P: Payload>(mem: &mut M, spans: &Spans, payload:
     ensures len { length (M.bytes mem.new) ≡ length (M.bytes mem.old) }
     ensures page { M.page_len mem.new ≡ M.page_len mem.old }
 {
+    let mut piece = Piece::new();
     let mut at = 0;
     for span in spans.as_slice() {
-        write_range(mem, span.address, payload, at, span.len as usize);
-        at += span.len as usize;
+        let len = span.len as usize;
+        write_range(mem, span.address, payload, at, len, &mut piece);
+        at += len;
     }
 }
 

@@ -12,11 +12,3 @@ pub trait Payload {
         requires { at + length out.old ≤ length (bytes self.now) }
         ensures { out.new ≡ take (length out.old) (drop at (bytes self.now)) };
 }
-
-impl<'a> Payload for &'a [u8] {
-    ghost bytes = { λ s. s.now };
-
-    fn fill(&self, at: usize, out: &mut [u8]) {
-        out.copy_from_slice(&self[at..at + out.len()]);
-    }
-}

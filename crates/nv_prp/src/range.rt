@@ -5,7 +5,7 @@ ghost use Rattle.nv_host.specs.Bytes.{bytes_at, with_bytes};
 ghost use Rattle.nv_host.specs.Pages.{HasPage};
 
 use crate::payload::Payload;
-use nv_host::{HostMemory, PageNo, store_inside};
+use nv_host::{HostMemory, PageNo, size_of_memory, store_inside};
 use std::cmp::min;
 
 /// Bytes of one page that follow one another.
@@ -60,27 +60,46 @@ pub(crate) fn read_range<M: HostMemory>(mem: &M, addr: u64, out: &mut [u8])
 /// How many bytes of a payload are filled in at once, at most.
 const PIECE: usize = 512;
 
-/// Writes so many bytes of a payload from an address on, all at once.
-#[tactic(auto, using(crate::proofs::CopyLaws::pieces))]
-fn write_piece<M: HostMemory, P: Payload>(
-    mem: &mut M,
-    addr: u64,
-    payload: &P,
-    from: usize,
-    len: usize,
-)
-    requires inside { addr + len ≤ length (M.bytes mem.old) }
-    requires has { from + len ≤ length (P.bytes payload.now) }
-    requires few { len ≤ PIECE }
-    ensures bytes { M.bytes mem.new
-        ≡ with_bytes (M.bytes mem.old) addr (take len (drop from (P.bytes payload.now))) }
-    ensures len { length (M.bytes mem.new) ≡ length (M.bytes mem.old) }
-    ensures page { M.page_len mem.new ≡ M.page_len mem.old }
+/// A place for a piece of a payload on its way to the memory. What it holds before doesn't matter.
+#[derive(Drop)]
+pub struct Piece {
+    bytes: [u8; PIECE],
+}
+
+impl Piece {
+    pub(crate) fn new() -> Piece {
+        Piece { bytes: [0; PIECE] }
+    }
+
+    /// Writes so many bytes of a payload from an address on, all at once.
+    #[tactic(auto, using(crate::proofs::CopyLaws::pieces))]
+    fn write<M: HostMemory, P: Payload>(
+        &mut self,
+        mem: &mut M,
+        addr: u64,
+        payload: &P,
+        from: usize,
+        len: usize,
+    )
+        requires inside { addr + len ≤ length (M.bytes mem.old) }
+        requires has { from + len ≤ length (P.bytes payload.now) }
+        requires few { len ≤ PIECE }
+        ensures bytes { M.bytes mem.new
+            ≡ with_bytes (M.bytes mem.old) addr (take len (drop from (P.bytes payload.now))) }
+        ensures len { length (M.bytes mem.new) ≡ length (M.bytes mem.old) }
+        ensures page { M.page_len mem.new ≡ M.page_len mem.old }
+    {
+        let bytes = &mut self.bytes[..len];
+        payload.fill(from, bytes);
+        store_inside(mem, addr, bytes);
+    }
+}
+
+/// States a law: each address in the memory is below 2^64. The call does nothing.
+fn addresses_fit<M: HostMemory>(mem: &M)
+    ensures { length (M.bytes mem.now) < 2 ^ 64 }
 {
-    let mut bytes = [0; PIECE];
-    let piece = &mut bytes[..len];
-    payload.fill(from, piece);
-    store_inside(mem, addr, piece);
+    size_of_memory(mem);
 }
 
 /// Writes so many bytes of a payload from an address on, piece by piece.
@@ -91,6 +110,7 @@ pub(crate) fn write_range<M: HostMemory, P: Payload>(
     payload: &P,
     from: usize,
     len: usize,
+    piece: &mut Piece,
 )
     requires inside { addr + len ≤ length (M.bytes mem.old) }
     requires has { from + len ≤ length (P.bytes payload.now) }
@@ -100,12 +120,13 @@ pub(crate) fn write_range<M: HostMemory, P: Payload>(
     ensures len { length (M.bytes mem.new) ≡ length (M.bytes mem.old) }
     ensures page { M.page_len mem.new ≡ M.page_len mem.old }
 {
+    addresses_fit(mem);
     let mut at = addr;
     let mut done = 0;
     while done < len {
-        let part = first_part(mem, at, min(len - done, PIECE));
-        write_piece(mem, at, payload, from + done, part.len);
-        at += part.len as u64;
-        done += part.len;
+        let count = min(len - done, PIECE);
+        piece.write(mem, at, payload, from + done, count);
+        at += count as u64;
+        done += count;
     }
 }

@@ -16,6 +16,7 @@ use Rattle.nv_model.proofs.LookupLaws.{controller}
 use Rattle.nv_model.specs.Conditions.{active_nsids}
 use Rattle.nv_model.specs.State.{State}
 use Rattle.nv_model.specs.Step.{step}
+use Rattle.nv_script.specs.Outcomes.{Send}
 use Rattle.nv_script.specs.Outcomes.{Exchange, Order, exchange_of, exchange_with, order_of}
 use Rattle.nv_driver.specs.inner.Linked.{serials_of}
 use Rattle.nv_script.specs.inner.Listing.{IsHandedOn, IsListed, ListLeaves, Standing, answers_to}
@@ -23,7 +24,6 @@ use Rattle.nv_script.specs.inner.Listing.{asked, nsids_told}
 use Rattle.nv_script.specs.Orders.{namespace_orders, orders_of_controller}
 use Rattle.nv_script.specs.Shown.{listing_told}
 use Rattle.nv_script.specs.declared.listing.Listing.{Listing}
-use Rattle.nv_line.specs.declared.request.Act.TheVariants.{Send}
 use Rattle.nv_script.specs.declared.performing.Stop.{Stop}
 use Rattle.nv_script.specs.declared.performing.Stop.TheVariants as stop
 use Rattle.nv_script.proofs.LinkLaws.{sent, still_known}

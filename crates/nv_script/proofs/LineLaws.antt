@@ -1,5 +1,5 @@
 -- What one line leaves behind, by how its text was printed.
-use Rattle.std.proofs.Common.{◌≡◌, ◌∙◌, ℕ, ◌+◌, List, [], ◌++◌, length, take, sym, ap, subst, refl, inl, inr}
+use Rattle.std.proofs.Common.{◌≡◌, ◌⊎◌, ◌∙◌, ℕ, ◌+◌, List, [], ◌++◌, length, take, sym, ap, subst, refl, inl, inr}
 use Rattle.std.proofs.Common.{append-nil, arith, Bool, Option, Result, Ok, Err}
 use Rattle.std.specs.Prelude.{IfOk, Vec, unwrap_or}
 use Rattle.std.specs.Io.KnownBytes.{Appends}
@@ -7,7 +7,6 @@ use Rattle.std.proofs.lemmas.List.{take_all}
 use Rattle.nv_model.specs.State.{State}
 use Rattle.nv_script.specs.Cuts.{IsCutIn, Holds, Left, left_at, state_amid}
 use Rattle.nv_script.specs.inner.Feeding.{LineLeaves, PrintLeaves}
-use Rattle.nv_line.specs.LineFault.{IsUnlessMemory}
 use Rattle.nv_script.specs.Orders.{orders_of}
 use Rattle.nv_script.specs.Outcomes.{outcome_of}
 use Rattle.nv_line.specs.Line.{reading}
@@ -118,14 +117,10 @@ module _ {A E Z : Type 0} (p : Progress) (text : List ℕ) (lr : LineResult) (k 
 abbrev Said : Type 0
 Said = Result Line LineFault
 
-pub line_said : (line : Line) (said : Said) → IsUnlessMemory said (Ok line) → ◌≡◌ {A = Said} said (Ok line)
-line_said line said (inl e) = absurd (cc)
-line_said line said (inr e) = sym e
-
-pub fault_said : (f : LineFault) (said : Said) → (f ≡ fault.Memory → ⊥) → IsUnlessMemory {T = Line} said (Err f)
-    → ◌≡◌ {A = Said} said (Err f)
-fault_said f said other (inl e) = absurd (other (cc))
-fault_said f said other (inr e) = sym e
+pub fault_said : (f : LineFault) (said : Said) → (f ≡ fault.Memory → ⊥)
+    → (f ≡ fault.Memory) ⊎ (◌≡◌ {A = Said} said (Err f)) → ◌≡◌ {A = Said} said (Err f)
+fault_said f said other (inl memory) = absurd (other memory)
+fault_said f said other (inr is) = is
 
 -- its meaning at the place of the run
 pub said_here : (p : Progress) (text : List ℕ) (s : State) (controllers : ℕ) (said : Said) → s ≡ p.state

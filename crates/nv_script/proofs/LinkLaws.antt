@@ -17,7 +17,7 @@ use Rattle.nv_driver.specs.QueuePair.{QueuePair}
 use Rattle.nv_driver.specs.Settled.{DriverValue}
 use Rattle.nv_driver.specs.declared.geometry.Geometry.{Geometry}
 use Rattle.nv_driver.proofs.LinkedLaws.{first_serials, pair_count, same_pairs, serial_at, serials_after, serials_reset}
-use Rattle.nv_line.specs.declared.request.Act.TheVariants.{Reset}
+use Rattle.nv_script.specs.Outcomes.{Reset}
 use Rattle.nv_script.specs.Outcomes.{exchange_of, exchange_with, order_of}
 use Rattle.nv_script.specs.inner.Link.{IsFirst}
 use Rattle.nv_script.specs.declared.session.Session.{Session}

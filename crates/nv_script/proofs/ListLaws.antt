@@ -7,8 +7,8 @@ use Rattle.std.proofs.lemmas.List.Elements.{Contains-append_left, Contains-appen
 use Rattle.std.proofs.lemmas.List.Sums.{fold-append}
 use Rattle.nv_command.specs.declared.command.Command.{Command}
 use Rattle.nv_driver.specs.Answer.{Answer}
-use Rattle.nv_line.specs.declared.request.Act.TheVariants.{Send}
 use Rattle.nv_model.specs.State.{State}
+use Rattle.nv_script.specs.Outcomes.{Send}
 use Rattle.nv_script.specs.Outcomes.{Order, exchange_of, order_of}
 use Rattle.nv_script.specs.inner.Listing.{AreBegun, IsListed, ListLeaves, Standing, answers_to}
 use Rattle.nv_script.specs.inner.Listing.{asked, asked_all}

@@ -11,9 +11,8 @@ use Rattle.nv_layout.specs.declared.status.Status.{Status}
 use Rattle.nv_model.proofs.LookupLaws.{IsAlike, IsLookup, alike-join, alike-self, looked_alike, looked_received}
 use Rattle.nv_model.specs.Meaning.{reply_of}
 use Rattle.nv_model.specs.State.{State}
+use Rattle.nv_script.specs.Outcomes.{Act, Send}
 use Rattle.nv_script.specs.Outcomes.{Order, exchange_by}
-use Rattle.nv_line.specs.declared.request.Act.{Act}
-use Rattle.nv_line.specs.declared.request.Act.TheVariants.{Send}
 use Rattle.nv_script.specs.inner.Listing.{Standing, answers_to, asked, asked_all}
 use Rattle.nv_script.specs.Outcomes.{outcome_after, outcome_of}
 use Rattle.nv_script.proofs.OutcomeLaws.{accepted_with}

@@ -19,20 +19,19 @@ use Rattle.nv_line.specs.declared.request.Ask.{Ask}
 use Rattle.nv_line.specs.declared.request.Ask.TheVariants as ask
 use Rattle.nv_line.specs.declared.request.Query.{Query}
 use Rattle.nv_line.specs.declared.request.Query.TheVariants.{One}
-use Rattle.nv_line.specs.declared.request.Question.{Question}
-use Rattle.nv_script.specs.Outcomes.{Exchange, Order, exchange_by, exchange_of, exchange_with}
+use Rattle.nv_line.specs.declared.request.Request.{Request}
+use Rattle.nv_script.specs.Outcomes.{Exchange, Order, exchange_of, exchange_with}
 use Rattle.nv_script.specs.Outcomes.{order_of}
-use Rattle.nv_script.specs.Orders.{errors_command, first_act, later_orders, orders_of}
-use Rattle.nv_script.specs.Orders.{second_command}
-use Rattle.nv_script.specs.inner.Orders.{next_command}
+use Rattle.nv_script.specs.Orders.{errors_command, orders_of, orders_of_one}
+use Rattle.nv_script.specs.inner.Orders.{log_command}
 use Rattle.nv_script.specs.Outcomes.{Outcome, outcome_after, outcome_of}
-use Rattle.nv_script.specs.inner.Performing.{IsReached, OrderLeaves, QueryLeaves, StopLeaves}
-use Rattle.nv_script.specs.Shown.{shown_of}
+use Rattle.nv_script.specs.inner.Performing.{AskLeaves, IsReached, QueryLeaves, StopLeaves}
+use Rattle.nv_script.specs.Shown.{shown_by, shown_of}
 use Rattle.nv_script.specs.declared.performing.Stop.TheVariants as stop
 use Rattle.nv_print.specs.declared.shown.Shown.{Shown}
 use Rattle.nv_script.proofs.OutcomeLaws.{accepted_first, accepted_with, refused_at_once, refused_with}
 
--- ---- the second command is known from the first reply
+-- ---- the command for an error log is known from the first reply
 
 -- the reply in an answer, or any reply for a refusal
 reply_or_done : Result Reply Status → Reply
@@ -45,20 +44,19 @@ kept_told : (s : State) (o : Option Controller)
 kept_told s None = refl
 kept_told s (Some x) = refl
 
-module _ (s : State) (serials : List ℕ) (c : ℕ) where
-  errors_next : (entries : ℕ) (refusal : Option Refusal) (r : Reply)
+module _ (s : State) (serials : List ℕ) (c entries : ℕ) where
+  log_next : (refusal : Option Refusal) (r : Reply)
       → Ok r ≡ answer_received IdentifyController (step_by refusal s c IdentifyController (get_or serials c 0)).answer
-      → next_command (ask.ErrorLog entries) r ≡ second_command (entry_count s c) (ask.ErrorLog entries)
+      → log_command entries r ≡ errors_command entries (entry_count s c)
   unfolding reply_or_done
-  errors_next entries None r e =
-      ap (λ a. next_command (ask.ErrorLog entries) (reply_or_done a)) e
-      ∙ ap (λ n. Some (errors_command entries n)) (kept_told s (controller_at s c))
-  errors_next entries (Some refusal) r e = absurd (cc)
+  log_next None r e =
+      ap (λ a. log_command entries (reply_or_done a)) e
+      ∙ ap (λ n. errors_command entries n) (kept_told s (controller_at s c))
+  log_next (Some refusal) r e = absurd (cc)
 
-  pub second_is_next : (a : Ask) (reply : Reply) → Ok reply ≡ (exchange_by (first_act a) s serials c).answer
-      → next_command a reply ≡ second_command (entry_count s c) a
-  second_is_next (ask.Do act) reply e = refl
-  second_is_next (ask.ErrorLog entries) reply e = errors_next entries (refusal_of s c IdentifyController) reply e
+  log_is_next : (r : Reply) → Ok r ≡ (exchange_of s serials (order_of c IdentifyController)).answer
+      → log_command entries r ≡ errors_command entries (entry_count s c)
+  log_is_next r e = log_next (refusal_of s c IdentifyController) r e
 
 -- ---- the state after an outcome
 
@@ -93,49 +91,62 @@ module _ (s now : State) (serials next : List ℕ) (q : Query) where
             (is.next ∙ sym (ap (λ (x : Outcome). x.serials) all)),
       )
 
--- ---- the orders of a question
+-- ---- the orders of an ask
 
-module _ (s now : State) (serials next : List ℕ) (q : Question) where
+-- its only order
+module _ (s now : State) (serials next : List ℕ) (c : ℕ) (a : Ask) (o : Order)
+    (only : orders_of_one s c a ≡ o ∷ []) where
+  pub only_accepted : (reply : Reply) → exchange_with (Ok reply) now next ≡ exchange_of s serials o
+      → AskLeaves (Ok reply) c a s serials now next
+  only_accepted reply e =
+      left_shown s now serials next (One c a) (shown_by a reply) (reply ∷ [])
+      (ap (outcome_of s serials) only ∙ accepted_first s now serials next o [] reply e) refl
+
+  pub only_refused : (status : Status) → exchange_with (Err status) now next ≡ exchange_of s serials o
+      → StopLeaves (stop.Refused status) (One c a) s serials now next
+  only_refused status e =
+      left_refused s now serials next (One c a) [] status
+      (ap (outcome_of s serials) only ∙ refused_at_once s now serials next o [] status e)
+
+-- a controller says how many errors it keeps, and its error log is read
+module _ (s now : State) (serials next : List ℕ) (c entries : ℕ) where
   abbrev first : Order
-  first = record { controller = q.controller; act = first_act q.ask }
+  first = order_of c IdentifyController
 
-  module _ (reply : Reply) (e : exchange_with (Ok reply) now next ≡ exchange_of s serials first)
-      (later : Option Command)
-      (is : later ≡ next_command q.ask reply) where
-    begun : outcome_of s serials (orders_of s (One q))
-        ≡ outcome_after (Ok reply) now next (outcome_of now next (later_orders q.controller later))
+  abbrev log : Ask
+  log = ask.ErrorLog entries
+
+  abbrev later : List Order
+  later = order_of c (errors_command entries (entry_count s c)) ∷ []
+
+  module _ (last : State) (end : List ℕ) (told : Reply)
+      (e : exchange_with (Ok told) now next ≡ exchange_of s serials first) (k : Command)
+      (is : k ≡ log_command entries told) where
+    begun : outcome_of s serials (orders_of_one s c log)
+        ≡ outcome_after (Ok told) now next (outcome_of now next (order_of c k ∷ []))
     begun =
-        accepted_first s now serials next first
-        (later_orders q.controller (second_command (entry_count s q.controller) q.ask)) reply e
-        ∙ ap (λ x. outcome_after (Ok reply) now next (outcome_of now next (later_orders q.controller x)))
-        (sym (is ∙ second_is_next s serials q.controller q.ask reply (ap (λ (x : Exchange). x.answer) e)))
+        accepted_first s now serials next first later told e
+        ∙ ap (λ x. outcome_after (Ok told) now next (outcome_of now next (order_of c x ∷ [])))
+        (sym (is ∙ log_is_next s serials c entries told (ap (λ (x : Exchange). x.answer) e)))
 
-  -- the first order was the only one
-  pub one_accepted : (reply : Reply) → exchange_with (Ok reply) now next ≡ exchange_of s serials first
-      → None ≡ next_command q.ask reply
-      → outcome_of s serials (orders_of s (One q)) ≡ accepted_with (reply ∷ []) now next
-  one_accepted reply e is = begun reply e None is
-
-  module _ (last : State) (end : List ℕ) (reply : Reply)
-      (e : exchange_with (Ok reply) now next ≡ exchange_of s serials first) (k : Command)
-      (is : Some k ≡ next_command q.ask reply) where
-    second_refused : (status : Status)
-        → exchange_with (Err status) last end ≡ exchange_of now next (order_of q.controller k)
-        → outcome_of s serials (orders_of s (One q)) ≡ refused_with (reply ∷ []) status last end
+    pub second_refused : (status : Status)
+        → exchange_with (Err status) last end ≡ exchange_of now next (order_of c k)
+        → StopLeaves (stop.Refused status) (One c log) s serials last end
     second_refused status e2 =
-        begun reply e (Some k) is
-        ∙ ap (outcome_after (Ok reply) now next)
-        (refused_at_once now last next end (order_of q.controller k) [] status e2)
+        left_refused s last serials end (One c log) (told ∷ []) status
+        (begun ∙ ap (outcome_after (Ok told) now next) (refused_at_once now last next end (order_of c k) [] status e2))
 
-    pub second_stopped : (status : Status) → OrderLeaves (Err status) (order_of q.controller k) now next last end
-        → StopLeaves (stop.Refused status) (One q) s serials last end
-    second_stopped status h =
-        left_refused s last serials end (One q) (reply ∷ []) status (second_refused status h)
+    pub both_accepted : (reply : Reply) → exchange_with (Ok reply) last end ≡ exchange_of now next (order_of c k)
+        → AskLeaves (Ok reply) c log s serials last end
+    both_accepted reply e2 =
+        left_shown s last serials end (One c log) (shown_by log reply) (told ∷ reply ∷ [])
+        (begun ∙ ap (outcome_after (Ok told) now next) (accepted_first now last next end (order_of c k) [] reply e2))
+        refl
 
-    pub two_accepted : (second : Reply)
-        → exchange_with (Ok second) last end ≡ exchange_of now next (order_of q.controller k)
-        → outcome_of s serials (orders_of s (One q)) ≡ accepted_with (reply ∷ second ∷ []) last end
-    two_accepted second e2 =
-        begun reply e (Some k) is
-        ∙ ap (outcome_after (Ok reply) now next)
-        (accepted_first now last next end (order_of q.controller k) [] second e2)
+-- ---- a request
+
+module _ (s now : State) (serials next : List ℕ) (r : Request) (q : Query) (is : r.query ≡ q) where
+  -- memory was refused for its text
+  pub no_text : (shown : Option Shown) → QueryLeaves (Ok shown) q s serials now next
+      → StopLeaves stop.Memory r.query s serials now next
+  no_text shown h = rw is (left_memory s now serials next q h.2)

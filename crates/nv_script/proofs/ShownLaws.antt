@@ -22,8 +22,6 @@ use Rattle.nv_layout.specs.declared.error_entry.ErrorEntry.{ErrorEntry}
 use Rattle.nv_layout.specs.declared.feature.Feature.{Feature}
 use Rattle.nv_layout.specs.declared.smart.Smart.{Smart}
 use Rattle.nv_layout.specs.declared.status.Status.{Status}
-use Rattle.nv_line.specs.declared.request.Act.{Act}
-use Rattle.nv_line.specs.declared.request.Act.TheVariants.{Reset, Send}
 use Rattle.nv_line.specs.declared.request.Ask.{Ask}
 use Rattle.nv_line.specs.declared.request.Ask.TheVariants as ask
 use Rattle.nv_line.specs.declared.request.Query.{Query}
@@ -43,6 +41,7 @@ use Rattle.nv_model.specs.declared.row.Row.{Row}
 use Rattle.nv_print.specs.Message.{select_of}
 use Rattle.nv_print.specs.declared.select.Select.{Select}
 use Rattle.nv_print.specs.declared.shown.Shown.{Shown}
+use Rattle.nv_script.specs.Outcomes.{Act, Reset, Send}
 use Rattle.nv_script.specs.EachShown.{EachIsShown, IsListed, IsShown, place_of, places_of}
 use Rattle.nv_script.specs.Outcomes.{Exchange, Order, exchange_by, exchange_of, order_of}
 use Rattle.nv_script.specs.Orders.{errors_command, namespace_orders, orders_of_controller, orders_of_list}
@@ -134,7 +133,7 @@ module _ (s : State) (serials : List ℕ) (c : ℕ) where
   log_is_shown a room false es h = refl
 
   command_is_shown : (k : Command) → refusal_of s c k ≡ None
-      → IsSome (shown_by (ask.Do (Send k)) (received k (reply_of s c k)))
+      → IsSome (shown_by (ask.Send k) (received k (reply_of s c k)))
   command_is_shown (command.GetFeature q) e =
       let is = supported_is_feature s c q.fid (get_rows s c q) e in
       let selects = none_holds (get_rows s c q is.0) is.2 in
@@ -144,12 +143,12 @@ module _ (s : State) (serials : List ℕ) (c : ℕ) where
       let is = supported_is_feature s c x.fid (set_rows s c x) e in
       set_is_shown (feature_of x.fid) is.0 x.value x.save is.1
   command_is_shown (command.GetLog q) e =
-      log_is_shown (ask.Do (Send (command.GetLog q))) (q.dwords / 16) (is_error_log q.lid) _ _
+      log_is_shown (ask.Send (command.GetLog q)) (q.dwords / 16) (is_error_log q.lid) _ _
   command_is_shown k e = refl
 
-  one_is_shown : (a : Ask) → IsShown s serials (query.One (record { controller = c; ask = a }))
-  one_is_shown (ask.Do (Send k)) e = only_is_shown (ask.Do (Send k)) k (command_is_shown k) e
-  one_is_shown (ask.Do Reset) e = refl
+  one_is_shown : (a : Ask) → IsShown s serials (query.One c a)
+  one_is_shown (ask.Send k) e = only_is_shown (ask.Send k) k (command_is_shown k) e
+  one_is_shown ask.Reset e = refl
   one_is_shown (ask.ErrorLog entries) e =
       let first = exchange_by (Send command.IdentifyController) s serials c in
       last_is_shown first.state first.serials c
@@ -240,7 +239,7 @@ list_is_shown s serials e =
     ∙ asked_of_controllers s (range_with_len 0 (length s.controllers))
 
 is_shown : (s : State) (serials : List ℕ) (q : Query) → IsShown s serials q
-is_shown s serials (query.One q) e = one_is_shown s serials q.controller q.ask e
+is_shown s serials (query.One c a) e = one_is_shown s serials c a e
 is_shown s serials query.List e = refl
 
 pub each_is_shown : EachIsShown

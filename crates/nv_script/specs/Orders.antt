@@ -1,5 +1,5 @@
 -- What a query makes controllers do.
-use Rattle.std.specs.Prelude.{ℕ, ◌*◌, max, min, List, [], ◌∷◌, Option, Some, None, flat_map, length, map}
+use Rattle.std.specs.Prelude.{ℕ, ◌*◌, max, min, List, [], ◌∷◌, flat_map, length, map}
 use Rattle.std.specs.List.{range_with_len}
 use Rattle.nv_bits.specs.Above.{above}
 use Rattle.nv_model.specs.Logs.{entry_count}
@@ -8,21 +8,13 @@ use Rattle.nv_model.specs.State.{State}
 use Rattle.nv_command.specs.declared.command.Command.{Command}
 use Rattle.nv_command.specs.declared.command.Command.TheVariants.{IdentifyController, IdentifyNamespace}
 use Rattle.nv_command.specs.declared.command.Command.TheVariants.{ActiveList, GetLog}
-use Rattle.nv_script.specs.Outcomes.{Order, order_of}
-use Rattle.nv_line.specs.declared.request.Act.{Act}
-use Rattle.nv_line.specs.declared.request.Act.TheVariants.{Send}
+use Rattle.nv_script.specs.Outcomes.{Order, Reset, order_of}
 use Rattle.nv_line.specs.declared.request.Ask.{Ask}
 use Rattle.nv_line.specs.declared.request.Ask.TheVariants as ask
 use Rattle.nv_line.specs.declared.request.Query.{Query}
 use Rattle.nv_line.specs.declared.request.Query.TheVariants as query
-use Rattle.nv_line.specs.declared.request.Question.{Question}
 
 -- ---- one controller is asked
-
--- the first act for what a controller is asked
-abbrev pub first_act : Ask → Act
-first_act (ask.Do act) = act
-first_act (ask.ErrorLog entries) = Send IdentifyController
 
 -- the command for `entries` entries of an error log, 16 dwords each, but no more than a controller
 -- keeps, and at least one
@@ -34,19 +26,13 @@ errors_command entries kept = GetLog (record {
   dwords = 16 * max (min entries kept) 1;
 })
 
--- the command that follows the first act, if any, for a controller that keeps `kept` errors
-abbrev pub second_command : ℕ → Ask → Option Command
-second_command kept (ask.ErrorLog entries) = Some (errors_command entries kept)
-second_command kept _ = None
-
-abbrev pub later_orders : ℕ → Option Command → List Order
-later_orders c None = []
-later_orders c (Some k) = order_of c k ∷ []
-
-abbrev pub orders_of_one : State → Question → List Order
-orders_of_one s q =
-    record { controller = q.controller; act = first_act q.ask }
-    ∷ later_orders q.controller (second_command (entry_count s q.controller) q.ask)
+-- what a controller is asked makes it do one act; before its error log is read, it says how many
+-- errors it keeps
+abbrev pub orders_of_one : State → ℕ → Ask → List Order
+orders_of_one s c (ask.Send k) = order_of c k ∷ []
+orders_of_one s c (ask.ErrorLog entries) =
+    order_of c IdentifyController ∷ order_of c (errors_command entries (entry_count s c)) ∷ []
+orders_of_one s c ask.Reset = record { controller = c; act = Reset } ∷ []
 
 -- ---- each controller is asked for its namespaces
 
@@ -64,5 +50,5 @@ orders_of_list s = flat_map (orders_of_controller s) (range_with_len 0 (length s
 
 -- the orders of a query
 abbrev pub orders_of : State → Query → List Order
-orders_of s (query.One question) = orders_of_one s question
+orders_of s (query.One c a) = orders_of_one s c a
 orders_of s query.List = orders_of_list s

@@ -8,8 +8,11 @@ use Rattle.nv_command.specs.declared.reply.Reply.{Reply}
 use Rattle.nv_command.specs.declared.reply.Reply.TheVariants.{Done}
 use Rattle.nv_command.specs.Received.{answer_received}
 use Rattle.nv_command.specs.declared.command.Command.{Command}
-use Rattle.nv_line.specs.declared.request.Act.{Act}
-use Rattle.nv_line.specs.declared.request.Act.TheVariants.{Send, Reset}
+
+-- what is done at a controller: a command is sent to it, or it is reset
+pub data Act : Type 0 where
+  Send : Command → Act
+  Reset : Act
 
 -- an act at a controller, which is given by its place in the subsystem's file
 pub record Order : Type 0 where

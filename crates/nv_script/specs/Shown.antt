@@ -24,10 +24,8 @@ use Rattle.nv_print.specs.Shown.{has_json, json_of, text_of}
 use Rattle.nv_print.specs.declared.select.Select.{Select}
 use Rattle.nv_print.specs.declared.shown.Shown.{Shown}
 use Rattle.nv_print.specs.declared.shown.Shown.TheVariants as shown
-use Rattle.nv_script.specs.Outcomes.{Order}
+use Rattle.nv_script.specs.Outcomes.{Act, Order, Send}
 use Rattle.nv_script.specs.declared.listing.Listing.{Listing}
-use Rattle.nv_line.specs.declared.request.Act.{Act}
-use Rattle.nv_line.specs.declared.request.Act.TheVariants.{Send, Reset}
 
 -- ---- one controller was asked
 
@@ -40,19 +38,19 @@ feature_set f value save = option_map (λ f. shown.FeatureSet f value save) f
 
 -- what a number shows: the NSID of a new namespace, or the value of a feature
 abbrev pub shown_number : Ask → ℕ → Option Shown
-shown_number (ask.Do (Send (Create w))) nsid = Some (shown.Created nsid)
-shown_number (ask.Do (Send (GetFeature q))) value =
+shown_number (ask.Send (Create w)) nsid = Some (shown.Created nsid)
+shown_number (ask.Send (GetFeature q)) value =
     feature_value (feature_of q.fid) (select_of q.sel) value
 shown_number _ number = None
 
 -- what a success without a value shows
 abbrev pub shown_done : Ask → Option Shown
-shown_done (ask.Do (Send (Attachment nsid detach ids))) =
+shown_done (ask.Send (Attachment nsid detach ids)) =
     Some (if detach then shown.Detached nsid else shown.Attached nsid)
-shown_done (ask.Do (Send (Delete nsid))) = Some (shown.Deleted nsid)
-shown_done (ask.Do (Send (Format f))) = Some (shown.Formatted f.nsid)
-shown_done (ask.Do (Send (SetFeature x))) = feature_set (feature_of x.fid) x.value x.save
-shown_done (ask.Do Reset) = Some shown.Reset
+shown_done (ask.Send (Delete nsid)) = Some (shown.Deleted nsid)
+shown_done (ask.Send (Format f)) = Some (shown.Formatted f.nsid)
+shown_done (ask.Send (SetFeature x)) = feature_set (feature_of x.fid) x.value x.save
+shown_done ask.Reset = Some shown.Reset
 shown_done _ = None
 
 -- what an ask shows after the last reply to it
@@ -94,7 +92,7 @@ listing_of l _ _ = l
 
 -- what a query shows after the replies to these orders of it
 abbrev pub shown_of : List Order → Query → List Reply → Option Shown
-shown_of orders (query.One question) replies = shown_of_one question.ask replies
+shown_of orders (query.One c a) replies = shown_of_one a replies
 shown_of orders query.List replies =
     Some (shown.Devices (listing_of no_listing orders (map Ok replies)).devices)
 

@@ -4,7 +4,7 @@ ghost use Rattle.std.specs.Prelude.{◌≡◌, ◌+◌, ◌<◌, ◌^◌, ℕ, L
 ghost use Rattle.std.specs.Option.{option_copied};
 ghost use Rattle.nv_script.specs.Cuts.{left_at};
 ghost use Rattle.nv_script.specs.inner.Feeding.{IsFailureOf, LineLeaves, PrintLeaves, Stands};
-ghost use Rattle.nv_line.specs.LineFault.{IsUnlessMemory};
+ghost use Rattle.nv_layout.specs.UnlessMemory.{IsUnlessMemory};
 ghost use Rattle.nv_line.specs.Line.{IsKnown, reading};
 ghost use Rattle.nv_script.specs.Results.{Progress};
 ghost use Rattle.nv_script.specs.inner.ScriptLines.{buffer_of};
@@ -47,7 +47,7 @@ fn read_buffer<'a>(
     place: &'a mut CtrlList,
 ) -> Result<Line<'a>, LineFault>
     ensures said { (text : List ℕ) → option_copied line.entry ≡ buffer_of text
-        → IsUnlessMemory (reading text controllers) result }
+        → IsUnlessMemory LineFault.Memory (λ l. l) result (reading text controllers) }
     ensures known { IfOk result (IsKnown controllers) }
 {
     match line {

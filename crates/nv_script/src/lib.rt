@@ -15,8 +15,8 @@ mod shown;
 pub use ends::RunEnd;
 pub use nv_driver::{Geometry, GeometryField};
 pub use nv_line::{
-    Act, Ask, CtrlList, LINE_LIMIT, Line, LineFault, LineReader, OptionName, OutputFormat, Query,
-    Question, Request, parse_number, read_line,
+    Ask, CtrlList, LINE_LIMIT, Line, LineFault, LineReader, OptionName, OutputFormat, Query,
+    Request, parse_number, read_line,
 };
 pub use nv_stream::{
     Held, OverHeld, OverRead, OverWrite, READ_SIZE, Retrying, Sink, SinkAfter, Source, SourceAfter,

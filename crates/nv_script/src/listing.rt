@@ -5,7 +5,7 @@ ghost use Rattle.std.specs.Prelude.{slice_index, slice_index_or, [], ◌∷◌};
 ghost use Rattle.nv_command.specs.declared.command.Command.{Command};
 ghost use Rattle.nv_command.specs.declared.command.Command.TheVariants.{IdentifyNamespace};
 ghost use Rattle.nv_model.specs.IdentifyController.{no_controller};
-ghost use Rattle.nv_script.specs.Outcomes.{order_of};
+ghost use Rattle.nv_script.specs.Outcomes.{Send, order_of};
 ghost use Rattle.nv_driver.specs.Linked.{IsLinked};
 ghost use Rattle.nv_driver.specs.inner.Linked.{serials_of};
 ghost use Rattle.nv_script.specs.inner.Listing.{IsHandedOn, IsListed, ListLeaves, Standing};
@@ -13,7 +13,6 @@ ghost use Rattle.nv_script.specs.inner.Listing.{nsids_told};
 ghost use Rattle.nv_script.specs.Orders.{namespace_orders, orders_of_controller};
 ghost use Rattle.nv_script.specs.inner.Performing.{ListedAll};
 ghost use Rattle.nv_script.specs.Shown.{listing_of, listing_told, no_listing};
-ghost use Rattle.nv_line.specs.declared.request.Act.TheVariants.{Send};
 
 use crate::performing::Stop;
 use crate::session::{Answers, BATCH};
@@ -85,13 +84,14 @@ impl Listing {
             (self.new ≡ listing_told ctrl self.old (Send command.now) answer.entry) }
         ensures refused { IfErr result (λ stop. IsHandedOn stop (answer.entry ∷ [])) }
     {
-        match (command, answer?) {
+        let reply = answer?;
+        match (command, &reply) {
             (Command::IdentifyController, Reply::Controller(identity)) => {
-                self.identity = identity;
+                self.identity = *identity;
             }
             (Command::IdentifyNamespace { nsid }, Reply::Namespace(namespace)) => {
                 self.devices
-                    .push(Device::new(ctrl, *nsid, &self.identity, &namespace))?;
+                    .push(Device::new(ctrl, *nsid, &self.identity, namespace))?;
             }
             _ => {}
         }

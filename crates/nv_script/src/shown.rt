@@ -9,7 +9,7 @@ ghost use Rattle.nv_script.specs.Shown.{shown_done, shown_number};
 
 use nv_command::{Command, Reply};
 use nv_layout::{Feature, ThreeBits};
-use nv_line::{Act, Ask, OutputFormat};
+use nv_line::{Ask, OutputFormat};
 use nv_print::{Memory, Select, Shown, json, text};
 use std::alloc::Global;
 
@@ -43,10 +43,8 @@ fn shown_number<'a>(ask: &Ask, number: u32) -> Option<Shown<'a>>
     ensures { result ≡ shown_number ask.now number }
 {
     match ask {
-        Ask::Do(Act::Send(Command::Create(_))) => Some(Shown::Created { nsid: number }),
-        Ask::Do(Act::Send(Command::GetFeature(asked))) => {
-            feature_value(asked.fid, asked.sel, number)
-        }
+        Ask::Send(Command::Create(_)) => Some(Shown::Created { nsid: number }),
+        Ask::Send(Command::GetFeature(asked)) => { feature_value(asked.fid, asked.sel, number) }
         _ => None,
     }
 }
@@ -56,19 +54,17 @@ fn shown_done<'a>(ask: &Ask) -> Option<Shown<'a>>
     ensures { result ≡ shown_done ask.now }
 {
     match ask {
-        Ask::Do(Act::Send(Command::Attachment { nsid, detach, .. })) => {
+        Ask::Send(Command::Attachment { nsid, detach, .. }) => {
             if *detach {
                 Some(Shown::Detached { nsid: *nsid })
             } else {
                 Some(Shown::Attached { nsid: *nsid })
             }
         }
-        Ask::Do(Act::Send(Command::Delete { nsid })) => Some(Shown::Deleted { nsid: *nsid }),
-        Ask::Do(Act::Send(Command::Format(asked))) => Some(Shown::Formatted { nsid: asked.nsid }),
-        Ask::Do(Act::Send(Command::SetFeature(asked))) => {
-            feature_set(asked.fid, asked.value, asked.save)
-        }
-        Ask::Do(Act::Reset) => Some(Shown::Reset),
+        Ask::Send(Command::Delete { nsid }) => Some(Shown::Deleted { nsid: *nsid }),
+        Ask::Send(Command::Format(asked)) => Some(Shown::Formatted { nsid: asked.nsid }),
+        Ask::Send(Command::SetFeature(asked)) => { feature_set(asked.fid, asked.value, asked.save) }
+        Ask::Reset => Some(Shown::Reset),
         _ => None,
     }
 }
@@ -93,17 +89,17 @@ pub(crate) fn shown<'a>(ask: &Ask, reply: Reply<'a>) -> Option<Shown<'a>>
 pub(crate) fn write(
     alloc: Global,
     format: OutputFormat,
-    shown: Option<Shown>,
+    shown: &Option<Shown>,
 ) -> Result<Vec<u8>, Memory>
-    ensures { IfOk result (λ bytes. bytes.items ≡ output_of format shown.entry) }
+    ensures { IfOk result (λ bytes. bytes.items ≡ output_of format shown.now) }
 {
     let Some(shown) = shown else {
         return Ok(Vec::new(alloc));
     };
     if format == OutputFormat::Json && shown.has_json() {
-        json(alloc, &shown)
+        json(alloc, shown)
     } else {
-        text(alloc, &shown)
+        text(alloc, shown)
     }
 }
 

@@ -1,4 +1,5 @@
-//! The numbers of the program's arguments. Those that it refuses are rows of its own tests.
+//! The numbers in the program's arguments. `tests/test_program.py` has the arguments that the
+//! program refuses.
 
 use nv_arguments::Arguments;
 use nv_script::Geometry;

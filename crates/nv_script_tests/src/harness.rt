@@ -1,4 +1,4 @@
-//! Runs of scripts over the subsystem of a file.
+//! Runs scripts over the subsystem of a file.
 
 ghost use Rattle.std.specs.Prelude.{◌≡◌, false};
 ghost use Rattle.nv_stream.specs.Streams.{IsFresh};
@@ -9,7 +9,7 @@ use nv_subsystem::Subsystem;
 use std::alloc::{AllocError, Global};
 use std::test::Fail;
 
-/// Runs a script on the subsystem of a file after power on, by a driver of this geometry.
+/// Runs a script over the subsystem of a file after power on, with a driver of this geometry.
 pub(crate) fn run_over<R: Source, O: Sink, M: Sink>(
     alloc: Global,
     file: &str,
@@ -27,8 +27,8 @@ pub(crate) fn run_over<R: Source, O: Sink, M: Sink>(
     Ok(run(alloc, &mut machine, geometry, script, out, messages))
 }
 
-/// Geometries of every kind: the least and the greatest depth, each page size, and data from the
-/// first, the second and the last place of a page on.
+/// Returns geometries of every kind: the least and the greatest depth, each page size, and data
+/// that begins at the first, the second and the last dword of a page.
 pub(crate) fn geometries(alloc: Global) -> Result<Vec<Geometry>, AllocError> {
     let mut geometries = Vec::new(alloc);
     for page_size in [4096, 8192, 16384, 32768, 65536] {

@@ -1,13 +1,11 @@
-//! What a line says, as a value. What each command makes of its words is shown by scripts.
+//! What a line asks for, as a value. Scripts show what each command makes of its words.
 
 use nv_command::Command;
-use nv_script::{
-    Act, Ask, CtrlList, Line, LineFault, OutputFormat, Query, Question, Request, read_line,
-};
+use nv_script::{Ask, CtrlList, Line, LineFault, OutputFormat, Query, Request, read_line};
 use std::alloc::Global;
 use std::process::Abort;
 
-/// Whether a line was read, and says this.
+/// Returns whether a line was read without a fault and has this meaning.
 fn says(read: &Result<Line, LineFault>, want: &Line) -> bool {
     match read {
         Ok(line) => line == want,
@@ -15,7 +13,7 @@ fn says(read: &Result<Line, LineFault>, want: &Line) -> bool {
     }
 }
 
-/// Checks what a line says to a subsystem with two controllers.
+/// Checks what a line asks of a subsystem with two controllers.
 fn check_line(rt: &impl Abort, alloc: Global, line: &[u8], want: &Line) {
     let mut place = CtrlList::new();
     let read = read_line(alloc, line, 2, &mut place);
@@ -24,14 +22,14 @@ fn check_line(rt: &impl Abort, alloc: Global, line: &[u8], want: &Line) {
 
 #[test]
 fn reads_what_a_line_asks(rt: HostRuntime) {
-    let list = Question {
+    let list = Query::One {
         controller: 1,
-        ask: Ask::Do(Act::Send(Command::AllocatedList { after: 2 })),
+        ask: Ask::Send(Command::AllocatedList { after: 2 }),
     };
     for (line, query, format) in [
         (
             "nvme list-ns /dev/nvme1n2 -a --namespace-id=0x3",
-            Query::One(list),
+            list,
             OutputFormat::Normal,
         ),
         ("list -o json", Query::List, OutputFormat::Json),

@@ -1,4 +1,4 @@
-//! In how many turns `list` asks controllers.
+//! The number of turns in which `list` asks controllers.
 
 ghost use Rattle.std.specs.Prelude.{◌≡◌};
 
@@ -10,11 +10,11 @@ use std::alloc::{AllocError, Global};
 use std::process::Abort;
 use std::test::Fail;
 
-/// How many turns are kept.
+/// How many turns are recorded.
 const KEPT: usize = 16;
 
-/// The controllers of a subsystem, how many turns they had, and how many entries each of the first
-/// ones took.
+/// The controllers of a subsystem, the number of turns that they were given, and how many entries
+/// each of the first turns took.
 #[derive(Drop)]
 struct TurnCounts {
     machine: Machine,
@@ -23,7 +23,7 @@ struct TurnCounts {
 }
 
 impl TurnCounts {
-    /// Controllers that had no turn yet.
+    /// Creates controllers that have had no turn yet.
     fn new(machine: Machine) -> TurnCounts
         ensures { ⟦<TurnCounts as Bus>⟧.meaning result ≡ machine }
     {
@@ -60,7 +60,7 @@ impl Bus for TurnCounts {
     }
 }
 
-/// A file of two controllers and forty namespaces that both have.
+/// Returns a file with two controllers and forty namespaces that are attached to both.
 fn shared_file(alloc: Global) -> Result<String, AllocError> {
     let mut file = String::new(alloc);
     write!(
@@ -79,7 +79,8 @@ fn shared_file(alloc: Global) -> Result<String, AllocError> {
     Ok(file)
 }
 
-/// `list` has so many turns over these controllers, the first of which take so many entries.
+/// Checks the number of turns that `list` gives these controllers, and how many entries the first
+/// ones take.
 fn expect_turns(
     rt: &impl Abort,
     alloc: Global,
@@ -101,7 +102,7 @@ fn expect_turns(
         &mut messages,
     );
     assert!(rt; end == RunEnd::Status(0));
-    // A line has 120 bytes.
+    // Each line has 120 bytes.
     assert_eq!(rt; out.into_inner().len(), 9600);
     assert!(rt; messages.into_inner().is_empty());
     assert_eq!(rt; bus.turns, turns);
@@ -109,7 +110,8 @@ fn expect_turns(
     Ok(())
 }
 
-/// Each controller is asked who it is, which namespaces it has, and what each of them is.
+/// Each controller is asked for its own data, for its list of namespaces, and for the data of each
+/// of them.
 #[test]
 fn asks_for_sixteen_namespaces_at_a_time(rt: HostRuntime) -> Result<(), Fail> {
     let geometry = Geometry {

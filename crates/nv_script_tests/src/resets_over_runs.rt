@@ -16,7 +16,7 @@ const IS_OFF: &str = "set-feature:0x6 (Volatile Write Cache), value:0x0, save:0\
 
 const CACHE: &str = "get-feature /dev/nvme0 -f 6\n";
 
-/// A script on controllers that may be in use ends so, and prints this.
+/// Checks the end and the output of a script on controllers that may be in use.
 fn expect_run(
     rt: &impl Abort,
     alloc: Global,
@@ -44,7 +44,7 @@ fn expect_run(
     assert!(rt; out.into_inner().as_slice() == text.as_bytes());
 }
 
-/// A run begins by resetting each controller that was in use.
+/// A run first resets each controller that was in use.
 #[test]
 fn the_next_run_has_the_saved_values(rt: HostRuntime) -> Result<(), Fail> {
     let alloc = rt.alloc();
@@ -83,7 +83,7 @@ fn the_next_run_has_the_saved_values(rt: HostRuntime) -> Result<(), Fail> {
     Ok(())
 }
 
-/// The current value of the first controller's write cache is 0.
+/// Checks that the current value of the first controller's write cache is 0.
 fn expect_cache_off(rt: &impl Abort, machine: &Machine) {
     let get = Command::GetFeature(FeatureQuery {
         fid: 6,
@@ -101,7 +101,7 @@ fn expect_cache_off(rt: &impl Abort, machine: &Machine) {
     );
 }
 
-/// Where the geometry is out of its limits no controller is touched.
+/// If the geometry is out of its limits, no controller is touched.
 #[test]
 fn a_bad_geometry_resets_none(rt: HostRuntime) -> Result<(), Fail> {
     let alloc = rt.alloc();

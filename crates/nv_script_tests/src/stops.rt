@@ -1,4 +1,4 @@
-//! What a program makes of its arguments, and what it says of an end that no lawful bus has.
+//! What the program reads from its arguments, and its message for an end that no lawful bus causes.
 
 use nv_program::{Stop, asked, status_of};
 use nv_script::RunEnd;

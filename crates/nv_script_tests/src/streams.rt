@@ -1,6 +1,6 @@
-//! Readers and writers of the standard library as the streams of a run: they give and take pieces, end
-//! and fail. Each call of a stream is one call of what it stands over. In `nv_failing_tests` each call
-//! fails in turn.
+//! Readers and writers of the standard library as the streams of a run. They transfer pieces, end
+//! and fail, and each call of a stream is one call of the reader or writer below it. In
+//! `nv_failing_tests`, each call fails in turn.
 
 ghost use Rattle.std.specs.Prelude.{◌≤◌, length};
 
@@ -10,25 +10,25 @@ use nv_stream::{Held, OverHeld, write_all};
 use nv_subsystem::DEMO;
 use std::alloc::Global;
 use std::cmp;
-use std::io::{self, ErrorKind, Read, Write};
+use std::io::{self, BufWriter, ErrorKind, Read, Write};
 use std::process::Abort;
 use std::test::Fail;
 
-/// What a reader or writer answers to one call.
+/// What a reader or writer does in one call.
 #[derive(Clone, Copy)]
 enum Turn<'a> {
-    /// A reader gives these bytes.
+    /// The reader returns these bytes.
     Gives(&'a [u8]),
-    /// A writer takes this many bytes at most.
+    /// The writer takes at most this many bytes.
     Takes(usize),
-    /// It fails, and a flush that comes before it too.
+    /// The call fails, and so does a flush before it.
     Fails(ErrorKind),
 }
 
-/// It was interrupted.
+/// An interrupted call.
 const INTERRUPTED: Turn<'static> = Turn::Fails(ErrorKind::Interrupted);
 
-/// A reader that takes one turn a call, and gives no byte after the last.
+/// A reader that has one turn for each call, and returns no bytes after the last turn.
 #[derive(Drop)]
 struct TurnReader<'a> {
     turns: &'a [Turn<'a>],
@@ -63,7 +63,8 @@ impl<'a> Read for TurnReader<'a> {
     }
 }
 
-/// A writer that takes one turn a call, and whatever it is offered after the last, up to 64 bytes.
+/// A writer that has one turn for each call, and takes everything after the last turn, up to 64
+/// bytes in all.
 #[derive(Drop)]
 struct TurnWriter<'a> {
     turns: &'a [Turn<'a>],
@@ -85,7 +86,7 @@ impl<'a> TurnWriter<'a> {
         }
     }
 
-    /// Takes so many bytes at most, and up to 64 in all.
+    /// Takes at most `most` bytes, and at most 64 bytes in all.
     fn take(&mut self, bytes: &[u8], most: usize) -> usize
         ensures { result ≤ length bytes.now }
     {
@@ -95,7 +96,7 @@ impl<'a> TurnWriter<'a> {
         count
     }
 
-    /// It took these bytes, in so many calls.
+    /// Checks the bytes that the writer has taken, and the number of calls.
     fn check(&self, rt: &impl Abort, want: (&str, usize)) {
         let (text, calls) = want;
         assert!(rt; &self.bytes[..self.len] == text.as_bytes());
@@ -124,7 +125,8 @@ impl<'a> Write for TurnWriter<'a> {
     }
 }
 
-/// What a reader gives, and after how many calls the run ends, with what it wrote.
+/// The turns of a reader, and the number of calls after which the run ends, with its end and its
+/// output.
 #[derive(Clone, Copy)]
 struct Reads<'a> {
     turns: &'a [Turn<'a>],
@@ -218,7 +220,8 @@ fn reads_up_to_the_first_empty_piece_and_tries_none_again(rt: HostRuntime) -> Re
     Ok(())
 }
 
-/// What writers answer, and what they took, in how many calls, when the run of two lines ends.
+/// The turns of both writers, and what they have taken, in how many calls, when a run of two lines
+/// ends.
 #[derive(Clone, Copy)]
 struct Writes<'a> {
     out: &'a [Turn<'a>],
@@ -247,12 +250,12 @@ fn expect_writes(
     Ok(())
 }
 
-/// All that the two lines print, and what is said of the second.
+/// The output of the two lines, and the message for the second.
 const LISTED: &str = "[   0]:0x1\n[   1]:0x3\n";
 
 const TOLD: &str = "line 2: usage error\n";
 
-/// One byte is taken.
+/// A call that takes one byte.
 const ONE: Turn<'static> = Turn::Takes(1);
 
 #[test]
@@ -349,7 +352,7 @@ fn writes_the_rest_and_tries_no_failing_write_again(rt: HostRuntime) -> Result<(
     Ok(())
 }
 
-/// A line of 22 bytes, and 100,000 bytes of comments.
+/// Returns a script of a line with 22 bytes and 100,000 bytes of comments.
 fn line_and_comments(alloc: Global) -> Result<Vec<u8>, Fail> {
     let mut script = Vec::new(alloc);
     script.extend_from_slice(b"id-ns /dev/nvme0 -n 1\n")?;
@@ -359,8 +362,8 @@ fn line_and_comments(alloc: Global) -> Result<Vec<u8>, Fail> {
     Ok(script)
 }
 
-/// How many bytes of this script a reader gave, whose first piece has so many and the others 4,096,
-/// where the first write fails.
+/// Returns how many bytes of this script a reader returned before a run ended whose first write
+/// fails. The first piece has `first` bytes, and the others have 4,096.
 fn given_before_a_failing_write(
     rt: &impl Abort,
     alloc: Global,
@@ -385,8 +388,8 @@ fn given_before_a_failing_write(
     Ok(reader.given)
 }
 
-/// After a failing write in a line of 22 bytes, 4,095 bytes past it were read at most: the rest of
-/// the piece in which its newline came.
+/// If a write fails in a line of 22 bytes, at most 4,095 bytes after the line have been read: the
+/// rest of the piece in which its newline came.
 #[test]
 fn reads_no_more_than_a_piece_past_a_failing_write(rt: HostRuntime) -> Result<(), Fail> {
     assert_eq!(rt; given_before_a_failing_write(&rt, rt.alloc(), 21)?, 4117);
@@ -441,7 +444,7 @@ fn writes_what_it_takes_to_a_shared_writer(rt: HostRuntime) -> Result<(), Fail> 
     let turns = [Turn::Takes(2), Turn::Takes(64), Turn::Takes(1)];
     let mut inner = TurnWriter::new(&turns);
     {
-        let held = Held::new(&mut inner);
+        let held = Held::new(BufWriter::with_capacity(rt.alloc(), 0, &mut inner)?);
         let mut first = OverHeld::new(&held);
         let mut second = OverHeld::new(&held);
         assert!(rt; write_all(&mut first, b"abc"));
@@ -458,7 +461,7 @@ fn takes_nothing_after_a_failing_flush_of_a_shared_writer(rt: HostRuntime) -> Re
     let turns = [Turn::Takes(64), INTERRUPTED];
     let mut inner = TurnWriter::new(&turns);
     {
-        let held = Held::new(&mut inner);
+        let held = Held::new(BufWriter::with_capacity(rt.alloc(), 0, &mut inner)?);
         let mut out = OverHeld::new(&held);
         let is_written = write_all(&mut out, b"abc");
         assert!(rt; !held.flush());

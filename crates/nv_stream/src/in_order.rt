@@ -1,13 +1,36 @@
 //! Streams that keep an order: what was written is flushed before more of a script is read, and
 //! before a message is written.
 
-ghost use Rattle.std.specs.Prelude.{◌≡◌, ◌≤◌, IfSome, None, false, length};
+ghost use Rattle.std.specs.Prelude.{◌≡◌, ◌≤◌, [], List, ℕ, IfSome, None, false, length};
+ghost use Rattle.std.specs.Bool.{OnTrue};
+ghost use Rattle.std.specs.Io.KnownBytes.{Keeps};
 ghost use Rattle.nv_stream.specs.inner.Streams.{IsWritten};
-ghost use Rattle.nv_stream.specs.Streams.{Takes, is_failure};
+ghost use Rattle.nv_stream.specs.Streams.{IsPutOut, Takes, is_failure};
 
 use crate::streams::{Sink, Source};
 use std::cell::{Cell, RefCell};
-use std::io::Write;
+use std::io::{BufWriter, Write};
+
+/// A writer that may hold back what it took.
+pub trait Buffered: Write {
+    // What it took and hasn't written yet.
+    ghost unwritten: { Self → List ℕ };
+
+    /// Writes what it holds back, and flushes what it writes to. Returns whether that was done.
+    fn put_out(&mut self) -> bool
+        ensures bytes { Keeps (Self.contents self.old) (Self.contents self.new) }
+        ensures out { OnTrue result (unwritten self.new ≡ []) };
+}
+
+impl<W: Write + Drop> Buffered for BufWriter<W> {
+    ghost use Rattle.std.specs.Io.Buffered.{writer_buffer};
+
+    ghost unwritten = { writer_buffer };
+
+    fn put_out(&mut self) -> bool {
+        self.flush().is_ok()
+    }
+}
 
 /// Passes bytes to a writer. Returns how many it took, or `None` if it failed.
 fn write_to<W: Write>(writer: &mut W, bytes: &[u8]) -> Option<usize>
@@ -17,6 +40,14 @@ fn write_to<W: Write>(writer: &mut W, bytes: &[u8]) -> Option<usize>
     writer.write(bytes).ok()
 }
 
+/// Has a writer put out what it holds back. Returns whether that was done.
+fn put_out_of<W: Buffered>(writer: &mut W) -> bool
+    ensures bytes { Keeps (W.contents writer.old) (W.contents writer.new) }
+    ensures out { OnTrue result (W.unwritten writer.new ≡ []) }
+{
+    writer.put_out()
+}
+
 /// A buffered writer, and whether a write or a flush of it has failed. Several streams share it.
 #[derive(Drop)]
 pub struct Held<W> {
@@ -24,7 +55,7 @@ pub struct Held<W> {
     failed: Cell<bool>,
 }
 
-impl<W: Write> Held<W> {
+impl<W: Buffered> Held<W> {
     pub fn new(writer: W) -> Held<W> {
         Held {
             writer: RefCell::new(writer),
@@ -46,14 +77,23 @@ impl<W: Write> Held<W> {
         write_to(&mut *writer, bytes)
     }
 
-    /// Flushes the writer. Returns whether everything that it took was written.
-    pub fn flush(&self) -> bool {
-        let is_out = match self.writer.try_borrow_mut() {
-            Ok(mut writer) => writer.flush().is_ok(),
+    /// Has the writer put out what it holds back. Returns whether that was done.
+    fn put_out(&self) -> bool
+        ensures { OnTrue result (IsPutOut W.contents W.unwritten) }
+    {
+        match self.writer.try_borrow_mut() {
+            Ok(mut writer) => put_out_of(&mut *writer),
             Err(_) => false,
-        };
-        if !is_out {
+        }
+    }
+
+    /// Flushes the writer. Returns whether everything that it took was written.
+    pub fn flush(&self) -> bool
+        ensures { OnTrue result (IsPutOut W.contents W.unwritten) }
+    {
+        if !self.put_out() {
             self.failed.set(true);
+            return false;
         }
         !self.failed.get()
     }
@@ -66,7 +106,7 @@ pub struct OverHeld<'a, W> {
     failed: bool,
 }
 
-impl<'a, W: Write> OverHeld<'a, W> {
+impl<'a, W: Buffered> OverHeld<'a, W> {
     pub fn new(held: &'a Held<W>) -> OverHeld<'a, W>
         ensures taken { (⟦<OverHeld<'a, W> as Sink>⟧.state result).taken ≡ None }
         ensures fresh { (⟦<OverHeld<'a, W> as Sink>⟧.state result).has_failed ≡ false }
@@ -78,7 +118,7 @@ impl<'a, W: Write> OverHeld<'a, W> {
     }
 }
 
-impl<'a, W: Write> Sink for OverHeld<'a, W> {
+impl<'a, W: Buffered> Sink for OverHeld<'a, W> {
     ghost use Rattle.std.specs.Prelude.{None};
 
     ghost state = { λ s. record { taken = None; has_failed = s.failed } };
@@ -102,7 +142,7 @@ pub struct SourceAfter<'a, R, W> {
     held: &'a Held<W>,
 }
 
-impl<'a, R: Source, W: Write> SourceAfter<'a, R, W> {
+impl<'a, R: Source, W: Buffered> SourceAfter<'a, R, W> {
     pub fn new(source: R, held: &'a Held<W>) -> SourceAfter<'a, R, W>
         ensures { ⟦<SourceAfter<'a, R, W> as Source>⟧.state result ≡ R.state source }
     {
@@ -110,7 +150,7 @@ impl<'a, R: Source, W: Write> SourceAfter<'a, R, W> {
     }
 }
 
-impl<'a, R: Source, W: Write> Source for SourceAfter<'a, R, W> {
+impl<'a, R: Source, W: Buffered> Source for SourceAfter<'a, R, W> {
     ghost state = { λ s. R.state s.source };
 
     fn read(&mut self, buf: &mut [u8]) -> Option<usize> {
@@ -126,7 +166,7 @@ pub struct SinkAfter<'a, S, W> {
     held: &'a Held<W>,
 }
 
-impl<'a, S: Sink, W: Write> SinkAfter<'a, S, W> {
+impl<'a, S: Sink, W: Buffered> SinkAfter<'a, S, W> {
     pub fn new(sink: S, held: &'a Held<W>) -> SinkAfter<'a, S, W>
         ensures { ⟦<SinkAfter<'a, S, W> as Sink>⟧.state result ≡ S.state sink }
     {
@@ -134,7 +174,7 @@ impl<'a, S: Sink, W: Write> SinkAfter<'a, S, W> {
     }
 }
 
-impl<'a, S: Sink, W: Write> Sink for SinkAfter<'a, S, W> {
+impl<'a, S: Sink, W: Buffered> Sink for SinkAfter<'a, S, W> {
     ghost state = { λ s. S.state s.sink };
 
     fn write(&mut self, bytes: &[u8]) -> Option<usize> {

@@ -1,4 +1,4 @@
-pub use Rattle.nv_file.specs.Fault
+pub use Rattle.nv_layout.specs.UnlessMemory
 pub use Rattle.nv_model.specs.State
 pub use Rattle.nv_model.specs.Ranges
 pub mod ValueTable

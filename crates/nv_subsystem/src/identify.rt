@@ -1,6 +1,7 @@
 //! The Identify commands: when they are refused, and what they return. Section "Identify command".
 
 ghost use Rattle.std.specs.Prelude.{◌≡◌, ◌≤◌, ◌<◌, length, All};
+ghost use Rattle.nv_command.specs.Reply.{page_of};
 ghost use Rattle.nv_model.specs.WellFormed.{blocks};
 ghost use Rattle.nv_model.specs.Identify.{active_list_reply, active_namespace, active_reply};
 ghost use Rattle.nv_model.specs.Identify.{active_rows, allocated_list_reply};
@@ -88,11 +89,30 @@ impl Subsystem {
         }
     }
 
+    /// Writes the page of that reply.
+    pub(crate) fn put_active(&self, ctrl: u16, nsid: u32, page: &mut [u8; 4096])
+        requires { ctrl < length self.now.controllers }
+        ensures { page.new ≡ page_of (active_reply self.now ctrl nsid) }
+    {
+        if nsid == BROADCAST_NSID {
+            common(&self.formats, self.mc).put(page);
+        } else {
+            self.active(ctrl, nsid).put(page);
+        }
+    }
+
     /// Returns the reply for an allocated namespace.
     pub(crate) fn allocated_reply<'a>(&self, nsid: u32) -> Reply<'a>
         ensures { result ≡ allocated_reply self.now nsid }
     {
         Reply::Namespace(self.allocated(nsid))
+    }
+
+    /// Writes the page of that reply.
+    pub(crate) fn put_allocated(&self, nsid: u32, page: &mut [u8; 4096])
+        ensures { page.new ≡ page_of (allocated_reply self.now nsid) }
+    {
+        self.allocated(nsid).put(page);
     }
 
     /// Returns the reply with the NSIDs above `after` that are attached to a controller. It writes
@@ -110,12 +130,35 @@ impl Subsystem {
         Reply::List(list.ids())
     }
 
+    /// Writes the page of that reply, and its NSIDs to `list`.
+    pub(crate) fn put_active_list(
+        &self,
+        ctrl: u16,
+        after: u32,
+        list: &mut NsList,
+        page: &mut [u8; 4096],
+    )
+        requires { ctrl < length self.now.controllers }
+        ensures { page.new ≡ page_of (active_list_reply self.now ctrl after) }
+    {
+        attached_above(&self.controllers[ctrl as usize].attached, after, list);
+        list.put(page);
+    }
+
     /// Returns the reply with the allocated NSIDs above `after`. It writes them to `list`.
     pub(crate) fn allocated_list_reply<'a>(&self, after: u32, list: &'a mut NsList) -> Reply<'a>
         ensures { result ≡ allocated_list_reply self.now after }
     {
         allocated_above(&self.slots, after, list);
         Reply::List(list.ids())
+    }
+
+    /// Writes the page of that reply, and its NSIDs to `list`.
+    pub(crate) fn put_allocated_list(&self, after: u32, list: &mut NsList, page: &mut [u8; 4096])
+        ensures { page.new ≡ page_of (allocated_list_reply self.now after) }
+    {
+        allocated_above(&self.slots, after, list);
+        list.put(page);
     }
 }
 

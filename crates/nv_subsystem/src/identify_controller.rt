@@ -2,6 +2,7 @@
 
 ghost use Rattle.std.specs.Prelude.{◌≡◌, ◌<◌, length};
 ghost use Rattle.nv_subsystem.specs.inner.ControllerView.{controller_view};
+ghost use Rattle.nv_command.specs.Reply.{page_of};
 ghost use Rattle.nv_model.specs.IdentifyController.{cmic_of, controller_reply, fna_of};
 ghost use Rattle.nv_model.specs.IdentifyController.{id_ctrl_of, padded};
 
@@ -83,5 +84,12 @@ impl Subsystem {
         ensures { result ≡ controller_reply self.now ctrl }
     {
         Reply::Controller(self.id_ctrl(&self.controllers[ctrl as usize]))
+    }
+    /// Writes the page of that reply.
+    pub(crate) fn put_controller(&self, ctrl: u16, page: &mut [u8; 4096])
+        requires { ctrl < length self.now.controllers }
+        ensures { page.new ≡ page_of (controller_reply self.now ctrl) }
+    {
+        self.id_ctrl(&self.controllers[ctrl as usize]).put(page);
     }
 }

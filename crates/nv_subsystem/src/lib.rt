@@ -39,6 +39,7 @@ mod nsid_lists;
 mod reset;
 mod row;
 mod subsystem;
+mod told;
 
 pub use nv_command::{
     BROADCAST_NSID, Command, DwordCount, ERROR_INFORMATION, FeatureQuery, FeatureSetting, HEALTH,

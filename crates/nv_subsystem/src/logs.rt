@@ -2,6 +2,8 @@
 //! Page command".
 
 ghost use Rattle.std.specs.Prelude.{◌≡◌, ◌+◌, ◌<◌, ◌≤◌, length};
+ghost use Rattle.nv_layout.specs.Parts.{part};
+ghost use Rattle.nv_command.specs.Reply.{log_of};
 ghost use Rattle.nv_subsystem.specs.inner.ControllerView.{controller_view};
 ghost use Rattle.nv_model.specs.Logs.{entry_count, errors_of, log_length, log_reply, log_rows};
 ghost use Rattle.nv_model.specs.Logs.{smart_of};
@@ -109,6 +111,18 @@ impl Subsystem {
             Reply::Errors(controller.errors())
         } else {
             Reply::Smart(controller.health())
+        }
+    }
+    /// Fills `out` with the bytes of that log from `from` on, and with zeros past its end.
+    pub fn fill_log(&self, ctrl: u16, lid: u8, from: usize, out: &mut [u8])
+        requires { ctrl < length self.now.controllers }
+        ensures { out.new ≡ part (log_of (log_reply self.now ctrl lid)) from (length out.old) }
+    {
+        let controller = &self.controllers[ctrl as usize];
+        if lid == ERROR_INFORMATION {
+            controller.errors().fill(from, out);
+        } else {
+            Reply::Smart(controller.health()).fill(from, out);
         }
     }
 }

@@ -3,7 +3,7 @@
 ghost use Rattle.std.specs.Prelude.{◌≡◌, ◌<◌, ◌≤◌, ◌^◌, ℕ, length, None, IfOk, IfErr, false};
 ghost use Rattle.std.specs.Str.{is_utf8};
 ghost use Rattle.nv_model.specs.LogEntry.{counts_of, log_entry_of};
-ghost use Rattle.nv_file.specs.Fault.{IsUnlessMemory};
+ghost use Rattle.nv_layout.specs.UnlessMemory.{IsUnlessMemory};
 ghost use Rattle.nv_file.specs.File.{IsBlankText, no_version};
 ghost use Rattle.nv_file.specs.FileValue.{file_view};
 ghost use Rattle.nv_subsystem.specs.FromFile.{state_of, subsystem};
@@ -99,7 +99,7 @@ impl Subsystem {
     /// is, as `File::from_toml` does.
     #[tactic(auto, unfolding(crate::specs::FromFile::subsystem))]
     pub fn from_toml(alloc: Global, bytes: &[u8]) -> Result<Subsystem, SubsystemError>
-        ensures exact { IsUnlessMemory (λ s. s) result (subsystem bytes.now) }
+        ensures exact { IsUnlessMemory SubsystemError.Memory (λ s. s) result (subsystem bytes.now) }
         ensures text { is_utf8 bytes.now ≡ false → result ≡ Err SubsystemError.NotToml }
         ensures blank { IsBlankText bytes.now → result ≡ Err no_version }
         ensures well_formed { IfOk result IsWellFormed }
@@ -164,7 +164,7 @@ impl Subsystem {
     }
 
     /// Refuses a command of a controller by the first of its rows that applies.
-    fn check(&self, ctrl: u16, command: &Command) -> Result<(), Refusal>
+    pub(crate) fn check(&self, ctrl: u16, command: &Command) -> Result<(), Refusal>
         requires { ctrl < length self.now.controllers }
         ensures { Checks (rows_of self.now ctrl command.now) result }
     {

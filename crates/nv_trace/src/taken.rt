@@ -1,5 +1,8 @@
 //! An entry that was taken, as a line.
 
+ghost use Rattle.std.specs.Prelude.{◌≡◌};
+ghost use Rattle.nv_trace.specs.Lines.{command_name};
+
 use nv_layout::Sqe;
 use std::fmt;
 
@@ -11,7 +14,9 @@ pub(crate) struct Taken {
 }
 
 /// Returns the name of the command with an opcode. Section "Opcodes for Admin Commands".
-fn command_of(opcode: u8) -> &'static str {
+fn command_of(opcode: u8) -> &'static str
+    ensures { result.now ≡ command_name opcode }
+{
     match opcode {
         0x02 => "Get Log Page",
         0x06 => "Identify",
@@ -24,35 +29,55 @@ fn command_of(opcode: u8) -> &'static str {
     }
 }
 
-/// Writes a field with its name if it isn't 0.
-fn write_some<W: fmt::Write>(f: &mut fmt::Formatter<W>, name: &str, value: u64) -> fmt::Result {
-    if value == 0 {
-        return Ok(());
+/// A field with its name.
+#[derive(Clone, Copy)]
+struct Field(&'static str, u64);
+
+/// Writes a field such as ` cdw10=0x2`, or nothing if it is 0.
+impl fmt::Display for Field {
+    ghost use Rattle.std.specs.Prelude.{Some};
+    ghost use Rattle.nv_trace.specs.Lines.{field_text};
+
+    ghost output = { λ field. Some (field_text field.0.now field.1) };
+
+    fn fmt<W: fmt::Write>(&self, f: &mut fmt::Formatter<W>) -> fmt::Result {
+        let Field(name, value) = *self;
+        if value == 0 {
+            return Ok(());
+        }
+        write!(f, " {name}=0x{value:x}")
     }
-    write!(f, " {name}={value:#x}")
 }
 
 /// Writes a line such as `nvme0 taken Identify (0x06) cid=0x0 nsid=0x0 prp1=0x4000 prp2=0x0
 /// cdw10=0x2`. Other fields are left out if they are 0.
 impl fmt::Display for Taken {
+    ghost use Rattle.std.specs.Prelude.{Some};
+    ghost use Rattle.nv_trace.specs.Lines.{taken_text};
+
+    ghost output = { λ taken. Some (taken_text taken) };
+
     fn fmt<W: fmt::Write>(&self, f: &mut fmt::Formatter<W>) -> fmt::Result {
-        let entry = &self.entry;
+        let Taken { ctrl, entry } = *self;
         let command = command_of(entry.opcode);
         write!(
             f,
-            "nvme{} taken {command} ({:#04x}) ",
-            self.ctrl, entry.opcode
-        )?;
-        write!(f, "cid={:#x} nsid={:#x} ", entry.cid, entry.nsid)?;
-        write!(f, "prp1={:#x} prp2={:#x}", entry.prp1, entry.prp2)?;
-        write_some(f, "fuse", u64::from(entry.fuse))?;
-        write_some(f, "psdt", u64::from(entry.psdt))?;
-        write_some(f, "mptr", entry.mptr)?;
-        write_some(f, "cdw10", u64::from(entry.cdw10))?;
-        write_some(f, "cdw11", u64::from(entry.cdw11))?;
-        write_some(f, "cdw12", u64::from(entry.cdw12))?;
-        write_some(f, "cdw13", u64::from(entry.cdw13))?;
-        write_some(f, "cdw14", u64::from(entry.cdw14))?;
-        write_some(f, "cdw15", u64::from(entry.cdw15))
+            "nvme{ctrl} taken {command} (0x{:x}{:x}) cid=0x{:x} nsid=0x{:x} prp1=0x{:x} prp2=0x{:x}{}{}{}{}{}{}{}{}{}",
+            entry.opcode / 16,
+            entry.opcode % 16,
+            entry.cid,
+            entry.nsid,
+            entry.prp1,
+            entry.prp2,
+            Field("fuse", u64::from(entry.fuse)),
+            Field("psdt", u64::from(entry.psdt)),
+            Field("mptr", entry.mptr),
+            Field("cdw10", u64::from(entry.cdw10)),
+            Field("cdw11", u64::from(entry.cdw11)),
+            Field("cdw12", u64::from(entry.cdw12)),
+            Field("cdw13", u64::from(entry.cdw13)),
+            Field("cdw14", u64::from(entry.cdw14)),
+            Field("cdw15", u64::from(entry.cdw15))
+        )
     }
 }

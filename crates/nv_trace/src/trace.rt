@@ -24,7 +24,7 @@ const MOST_CONTROLLERS: usize = 16;
 /// traced.
 #[derive(Drop)]
 pub(crate) struct Trace<S: Sink> {
-    voice: Voice<S>,
+    pub(crate) voice: Voice<S>,
     pub(crate) queues: [Option<AdminQueues>; MOST_CONTROLLERS],
 }
 
@@ -77,7 +77,9 @@ impl<S: Sink> Trace<S> {
     }
 
     /// Returns whether the sink has failed.
-    pub(crate) fn is_silent(&self) -> bool {
+    pub(crate) fn is_silent(&self) -> bool
+        ensures { result ≡ (S.state self.now.voice.sink).has_failed }
+    {
         self.voice.is_silent()
     }
 

@@ -45,7 +45,9 @@ impl<B: Bus, S: Sink> Traced<B, S> {
     }
 
     /// Returns whether the sink has failed, after which nothing more is written.
-    pub fn is_silent(&self) -> bool {
+    pub fn is_silent(&self) -> bool
+        ensures { result ≡ (S.state self.now.trace.voice.sink).has_failed }
+    {
         self.trace.is_silent()
     }
 }

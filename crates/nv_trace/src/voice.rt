@@ -25,7 +25,9 @@ impl<S: Sink> Voice<S> {
     }
 
     /// Returns whether the sink has failed.
-    pub(crate) fn is_silent(&self) -> bool {
+    pub(crate) fn is_silent(&self) -> bool
+        ensures { result ≡ (S.state self.now.sink).has_failed }
+    {
         self.is_silent
     }
 

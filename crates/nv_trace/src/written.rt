@@ -1,5 +1,8 @@
 //! A register write as a line.
 
+ghost use Rattle.std.specs.Prelude.{◌≡◌};
+ghost use Rattle.nv_trace.specs.Lines.{register_name};
+
 use nv_register::Register;
 use std::fmt;
 
@@ -13,7 +16,9 @@ pub(crate) struct Written {
 
 /// Returns the name of a register. If it is one of two dwords, the name ends with `.low` or
 /// `.high`. Section "Register Definition".
-fn name_of(register: Register) -> &'static str {
+fn name_of(register: Register) -> &'static str
+    ensures { result.now ≡ register_name register }
+{
     match register {
         Register::CapLow => "CAP.low",
         Register::CapHigh => "CAP.high",
@@ -32,12 +37,23 @@ fn name_of(register: Register) -> &'static str {
 
 /// Writes a line such as `nvme0 write CC=0x460001`.
 impl fmt::Display for Written {
+    ghost use Rattle.std.specs.Prelude.{Some};
+    ghost use Rattle.nv_trace.specs.Lines.{written_text};
+
+    ghost output = { λ written. Some (written_text written) };
+
     fn fmt<W: fmt::Write>(&self, f: &mut fmt::Formatter<W>) -> fmt::Result {
-        write!(f, "nvme{} write ", self.ctrl)?;
-        match Register::at(self.offset) {
-            Some(register) => write!(f, "{}", name_of(register))?,
-            None => write!(f, "{:#x}", self.offset)?,
+        let Written {
+            ctrl,
+            offset,
+            dword,
+        } = *self;
+        match Register::at(offset) {
+            Some(register) => {
+                let name = name_of(register);
+                write!(f, "nvme{ctrl} write {name}=0x{dword:x}")
+            }
+            None => write!(f, "nvme{ctrl} write 0x{offset:x}=0x{dword:x}"),
         }
-        write!(f, "={:#x}", self.dword)
     }
 }

@@ -1,5 +1,4 @@
-//! Reads operations from standard input, one in each line, and answers each at once on standard
-//! output.
+//! Reads operations from standard input, one per line, and answers each at once on standard output.
 #![tactic(auto)]
 
 use nv_operations::Session;

@@ -1,4 +1,4 @@
--- A handle and a box's parts own what a box of a machine owns.
+-- A handle, and a box taken apart, own what a box of a machine owns.
 use mir.Syntax.{impl, tnil, dnil}
 use mathlib.Core.List.{[]}
 use denote.Signature.{Slot, plain}

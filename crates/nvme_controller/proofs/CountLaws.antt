@@ -1,4 +1,4 @@
--- The counts of a controller are the same without phase tags.
+-- Phase tags don't matter for the counts of a controller.
 use Rattle.std.proofs.Common.{◌≡◌, ◌∙◌, ℕ, ◌≤◌, zero, suc, List, [], ◌∷◌, ap, length, map, refl, sym}
 use Rattle.std.proofs.lemmas.Option.{slice_get_past}
 use Rattle.std.specs.Option.{option_map_or}

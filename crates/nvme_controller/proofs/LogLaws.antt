@@ -1,4 +1,4 @@
--- The entries of a log are the same without phase tags, but for these.
+-- The entries of a log without phase tags are those of the log with their phase tags removed.
 use Rattle.std.proofs.Common.{◌≡◌, ◌∙◌, ℕ, ◌≤◌, zero, suc, List, [], ◌∷◌, ap, length, map, refl, sym, subst}
 use Rattle.std.proofs.lemmas.Option.{slice_get_past}
 use Rattle.std.specs.Option.{option_map, option_map_or}
@@ -44,3 +44,5 @@ pub nowhere_told : (t : State) (c i : ℕ) (old : List ℕ) → length t.control
 nowhere_told t c i old past =
     subst (λ o. EntryTold (option_map_or (λ x. slice_get x.log i) o None) (pos 0) old old)
     (sym (slice_get_past t.controllers c past)) (refl, refl)
+
+pub ruleset entries = (entry_told, none_told, nowhere_told)

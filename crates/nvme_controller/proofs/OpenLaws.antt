@@ -1,8 +1,7 @@
--- What opening a file answers by what reading it answers.
+-- How opening a file follows from reading it.
 use Rattle.std.proofs.Common.{◌≡◌, ◌∙◌, ◌⊎◌, ap, inl, inr, refl, sym, subst, ℕ, List, [], length}
-use Rattle.std.specs.Prelude.{pos, Option, Some, Result, Ok, Err}
+use Rattle.std.specs.Prelude.{pos, Option, Some, Result, Ok}
 use Rattle.nv_bus.specs.Bus.{BusValue}
-use Rattle.nv_file.specs.Fault.{IsUnlessMemory}
 use Rattle.nv_file.specs.FaultText.{fault_text}
 use Rattle.nv_file.specs.declared.error.SubsystemError.{SubsystemError}
 use Rattle.nv_file.specs.declared.error.SubsystemError.TheVariants as fault
@@ -23,13 +22,10 @@ no_text file s bytes is empty = subst (λ f. Tells f (pos 0) bytes) (sym is) (in
 
 -- ---- a fault
 
-pub refused : (file : Result State SubsystemError) (e : SubsystemError)
-    → IsUnlessMemory {X = State} {Y = State} (λ s. s) (Err e) file → IsFaultOf file e
-refused file fault.Memory is = inl refl
-refused file e is = inr is
-
 pub no_memory : (file : Result State SubsystemError) (e : SubsystemError) → e ≡ fault.Memory → IsFaultOf file e
 no_memory file e is = inl is
+
+pub ruleset opens = (opened, no_text, no_memory)
 
 pub fault_opens : (file : Result State SubsystemError) (e : SubsystemError) (m : Option BusValue) → IsFaultOf file e
     → Opens file (number_of e) m m
@@ -47,8 +43,10 @@ fault_told file e old new (inl is) same text =
 fault_told file e old new (inr is) same text =
     subst (λ f. Tells f (number_of e) new) (sym is) (inr (refl, same_length e old new same text))
 
--- or memory for its text is refused
+-- a fault, or no memory for its text
 pub still_a_fault : (file : Result State SubsystemError) (e f : SubsystemError) → IsFaultOf file e
     → (f ≡ e) ⊎ (f ≡ fault.Memory) → IsFaultOf file f
 still_a_fault file e f is (inl same) = subst (λ x. IsFaultOf file x) (sym same) is
 still_a_fault file e f is (inr memory) = inl memory
+
+pub ruleset faults = (fault_opens, fault_told, still_a_fault)

@@ -1,4 +1,4 @@
--- A text that is cut to its room.
+-- A text that is cut to the room for it.
 use Rattle.std.proofs.Common.{◌≡◌, ◌∙◌, ap, ℕ, ◌-◌, inl, inr, List, ◌++◌, arith, length, length-take, min, replicate}
 use Rattle.std.proofs.Common.{sym, take}
 use Rattle.std.proofs.lemmas.Bool.{cases_lt}

@@ -1,4 +1,4 @@
--- What the calls of a program in C answer, and what they change.
+-- The calls of a program in C: what they return, and what they change.
 use Rattle.std.specs.Prelude.{◌≡◌, ◌&&◌, ℕ, ℤ, pos, Bool, List, length, nat_lt, replicate, slice_set}
 use Rattle.std.specs.Prelude.{Option, None, Some, Result, Ok, Err, ◌⊎◌, if◌then◌else◌, MatchBool}
 use Rattle.nv_layout.specs.ErrorEntryBytes.{bytes_of_error_entry}
@@ -33,28 +33,27 @@ machine_of s = record {
   banks = replicate (length s.controllers) new_bank;
 }
 
--- opening a file: 0 with the machine of its subsystem, or the number of its first fault with the
--- handle as it was
+-- opening a file: 0 with the machine of its subsystem, or the number of its first fault with the handle unchanged
 abbrev pub OpensFile : Result State SubsystemError → ℤ → Option BusValue → Option BusValue → Type 0
 OpensFile (Ok s) number m m' = (number ≡ pos 0) × (m' ≡ Some (machine_of s))
 OpensFile (Err e) number m m' = (number ≡ number_of e) × (m' ≡ m)
 
--- opening, where memory may be refused
+-- opening a file, if there may be too little memory
 abbrev pub Opens : Result State SubsystemError → ℤ → Option BusValue → Option BusValue → Type 0
 Opens file number m m' =
     ((number ≡ number_of fault.Memory) × (m' ≡ m)) ⊎ OpensFile file number m m'
 
 -- ---- registers
 
--- there is a controller of this number
+-- there is a controller with this number
 abbrev pub has : BusValue → ℕ → Bool
 has m c = nat_lt c (length m.banks)
 
--- what a read of controller c gives: all ones where there is no such controller
+-- the dword that is read from controller c, or all ones if there is no such controller
 abbrev pub read_of : BusValue → ℕ → ℕ → ℕ
 read_of m c offset = if has m c then value_at (bank_at m.banks c) offset else 4294967295
 
--- a write, which changes nothing where there is no such controller
+-- a write to controller c, which changes nothing if there is no such controller
 abbrev pub Written : ℕ → ℕ → ℕ → BusValue → BusValue → Type 0
 Written c offset x m m' =
     MatchBool (has m c)
@@ -72,7 +71,7 @@ pub record BytesTurn (page_size c most count : ℕ) (m : BusValue) (bytes : List
       (bank_at m'.banks c)
   pub len : length bytes' ≡ length bytes
 
--- such a turn, of a controller that there is over whole pages; else nothing is done
+-- such a turn, if the controller exists and the bytes are whole pages; otherwise nothing changes
 abbrev pub Turned : ℕ → ℕ → ℕ → ℕ → BusValue → List ℕ → BusValue → List ℕ → Type 0
 Turned c page_size most count m bytes m' bytes' =
     MatchBool (has m c && are_pages page_size (length bytes))
@@ -81,8 +80,8 @@ Turned c page_size most count m bytes m' bytes' =
 
 -- ---- logs
 
--- an entry of a log, if there is one: 1 with its bytes, of which the phase tag is any; or 0 with the
--- bytes as they were
+-- an entry of a log: 1 with its bytes, which have either phase tag; or 0 with the bytes unchanged, if there is no such
+-- entry
 abbrev pub EntryTold : Option ErrorEntry → ℤ → List ℕ → List ℕ → Type 0
 EntryTold None found old new = (found ≡ pos 0) × (new ≡ old)
 EntryTold (Some e) found old new =

@@ -7,7 +7,7 @@ use Rattle.nv_file.specs.declared.error.SubsystemError.TheVariants as fault
 use Rattle.nv_model.specs.State.{State}
 use Rattle.nvme_controller.specs.Calls.{number_of}
 
--- a text in so many bytes, cut so that a zero byte ends it, with zeros behind it
+-- a text in `room` bytes, cut so that a zero byte ends it, and filled up with zeros
 abbrev pub c_text : ℕ → List ℕ → List ℕ
 c_text room text =
     let shown = take (room - 1) text in shown ++ replicate (room - length shown) 0
@@ -17,11 +17,11 @@ abbrev pub TellsFault : SubsystemError → ℤ → List ℕ → Type 0
 TellsFault e number bytes =
     (number ≡ number_of e) × (bytes ≡ c_text (length bytes) (fault_text e))
 
--- what is told of a file: its first fault, or no text where it has none
+-- the first fault of a file, or 0 and an empty text if it has none
 abbrev pub TellsFile : Result State SubsystemError → ℤ → List ℕ → Type 0
 TellsFile (Ok s) number bytes = (number ≡ pos 0) × (bytes ≡ c_text (length bytes) [])
 TellsFile (Err e) number bytes = TellsFault e number bytes
 
--- the same, where memory may be refused
+-- the first fault of a file, if there may be too little memory
 abbrev pub Tells : Result State SubsystemError → ℤ → List ℕ → Type 0
 Tells file number bytes = TellsFault fault.Memory number bytes ⊎ TellsFile file number bytes

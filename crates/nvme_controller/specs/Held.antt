@@ -11,7 +11,7 @@ use Rattle.nv_bus.specs.Bus.{BusValue}
 use Rattle.nv_controller.specs.BusCode.{bus_code}
 use Rattle.nv_controller.specs.contracts.machine.Machine.{the_row}
 
--- the machine at a pointer, with the right to free its memory; or nothing
+-- the machine at a pointer, with the right to free its memory, or nothing
 abbrev pub holds : Global → Ptr → Option BusValue → Fml
 holds alloc at None = ftrue
 holds alloc at (Some m) = box_owns (ghosts.dealloc_token alloc) the_row at m

@@ -1,4 +1,4 @@
--- The machine of a handle that was opened and not closed.
+-- The machine of a handle that has been opened and not closed.
 use Rattle.std.specs.Prelude.{Option, Some, None, IsSomeAnd}
 use Rattle.nv_bus.specs.Bus.{BusValue, IsBus}
 

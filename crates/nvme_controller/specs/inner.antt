@@ -1,2 +1,2 @@
--- What only contracts inside of the crate say.
+-- What no public contract reaches.
 pub mod FaultText

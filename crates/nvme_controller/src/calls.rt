@@ -1,4 +1,4 @@
-//! What a program in C calls. A call takes the machine out of its handle, and puts it back.
+//! The calls of a program in C. Each takes the machine out of its handle, and puts it back.
 ghost use Rattle.std.specs.Prelude.{◌≡◌, ◌<◌, IfErr, IfOk, IfSome, IsTrue, None, Option, Some};
 ghost use Rattle.std.specs.Prelude.{ℕ, [], List, length, pos};
 ghost use Rattle.nv_bus.specs.Bus.{BusValue, IsBus};
@@ -19,11 +19,11 @@ use nv_subsystem::{DEMO, Subsystem, SubsystemError};
 use std::alloc::Global;
 use std::marker::Brand;
 
-/// What a read of a controller that there isn't gives.
+/// The value of every dword of a controller that doesn't exist.
 const ABSENT: u32 = 0xffff_ffff;
 
-/// The machine of a subsystem file, or the file's first fault.
-#[tactic(auto, using(crate::proofs::OpenLaws::opened, crate::proofs::OpenLaws::no_text, crate::proofs::OpenLaws::refused, crate::proofs::OpenLaws::no_memory))]
+/// Creates the machine of a subsystem file, or returns the file's first fault.
+#[tactic(auto, using(crate::proofs::OpenLaws::opens))]
 fn machine_of(alloc: Global, file: &[u8]) -> Result<Box<Machine>, SubsystemError>
     ensures bus { IfOk result (λ b. IsBus b.value) }
     ensures value { IfOk result
@@ -40,9 +40,9 @@ fn machine_of(alloc: Global, file: &[u8]) -> Result<Box<Machine>, SubsystemError
     Ok(place)
 }
 
-/// Opens the machine of a subsystem file: 0, or the number of the file's first fault, whose text
-/// goes to `fault`.
-#[tactic(auto, using(crate::proofs::OpenLaws::fault_opens, crate::proofs::OpenLaws::fault_told, crate::proofs::OpenLaws::still_a_fault))]
+/// Opens the machine of a subsystem file. Returns 0, or the number of the file's first fault, whose
+/// text is written to `fault`.
+#[tactic(auto, using(crate::proofs::OpenLaws::faults))]
 fn open(alloc: Global, file: &[u8], handle: &mut Handle, fault: &mut [u8]) -> i32
     ensures opens { Opens (subsystem file.now) result handle.old.machine handle.new.machine }
     ensures open { result ≡ pos 0 → IsOpen handle.new.machine }
@@ -58,8 +58,8 @@ fn open(alloc: Global, file: &[u8], handle: &mut Handle, fault: &mut [u8]) -> i3
     }
 }
 
-/// Opens the machine of a subsystem file: 0, or the number of the file's first fault, whose text
-/// goes to `fault`.
+/// Opens the machine of a subsystem file. Returns 0, or the number of the file's first fault, whose
+/// text is written to `fault`.
 #[unsafe(no_mangle)]
 pub extern "C" fn nvme_handle_open(
     alloc: Global,
@@ -74,7 +74,8 @@ pub extern "C" fn nvme_handle_open(
     open(alloc, file, handle, fault)
 }
 
-/// Opens the machine of the demonstration subsystem.
+/// Opens the machine of the demonstration subsystem. Returns 0, or the number of the fault, which
+/// is too little memory.
 #[unsafe(no_mangle)]
 pub extern "C" fn nvme_handle_demo(alloc: Global, handle: &mut Handle) -> i32
     ensures opens { Opens (subsystem DEMO.now) result handle.old.machine handle.new.machine }
@@ -83,7 +84,7 @@ pub extern "C" fn nvme_handle_demo(alloc: Global, handle: &mut Handle) -> i32
     open(alloc, DEMO.as_bytes(), handle, &mut [])
 }
 
-/// Drops the machine.
+/// Closes the handle and drops its machine.
 #[unsafe(no_mangle)]
 pub extern "C" fn nvme_handle_close(alloc: Global, handle: &mut Handle)
     requires open { IsOpen handle.old.machine }
@@ -92,7 +93,7 @@ pub extern "C" fn nvme_handle_close(alloc: Global, handle: &mut Handle)
     drop(handle.take(alloc));
 }
 
-/// The number of controllers.
+/// Returns the number of controllers.
 #[unsafe(no_mangle)]
 pub extern "C" fn nvme_handle_controllers(alloc: Global, handle: &mut Handle) -> u16
     requires open { IsOpen handle.old.machine }
@@ -105,7 +106,8 @@ pub extern "C" fn nvme_handle_controllers(alloc: Global, handle: &mut Handle) ->
     count
 }
 
-/// The dword of a controller's registers, or all ones where there is no such controller.
+/// Reads the dword at an offset of a controller's registers, or all ones if there is no such
+/// controller.
 fn read(machine: &Machine, ctrl: u16, offset: u32) -> u32
     ensures { result ≡ read_of machine.now ctrl offset }
 {
@@ -116,7 +118,7 @@ fn read(machine: &Machine, ctrl: u16, offset: u32) -> u32
     }
 }
 
-/// The dword of a controller's registers at an offset in bytes.
+/// Reads the dword at an offset, in bytes, of a controller's registers.
 #[unsafe(no_mangle)]
 pub extern "C" fn nvme_handle_read32(
     alloc: Global,
@@ -134,7 +136,7 @@ pub extern "C" fn nvme_handle_read32(
     value
 }
 
-/// Writes the dword of a controller's registers, where there is such a controller.
+/// Writes the dword at an offset of a controller's registers, if there is such a controller.
 fn write(machine: &mut Machine, ctrl: u16, offset: u32, value: u32)
     requires { IsBus machine.old }
     ensures written { Written ctrl offset value machine.old machine.new }
@@ -145,7 +147,7 @@ fn write(machine: &mut Machine, ctrl: u16, offset: u32, value: u32)
     }
 }
 
-/// Writes the dword of a controller's registers at an offset in bytes.
+/// Writes the dword at an offset, in bytes, of a controller's registers.
 #[unsafe(no_mangle)]
 pub extern "C" fn nvme_handle_write32(
     alloc: Global,
@@ -163,14 +165,14 @@ pub extern "C" fn nvme_handle_write32(
     handle.put(machine);
 }
 
-/// The bytes of a turn, and how many entries it took.
+/// The number of entries that a turn took, and the bytes of the host's memory, which are returned.
 #[derive(Drop)]
 struct Taken<'a> {
     count: u16,
     memory: &'a mut [u8],
 }
 
-/// Lets a controller take entries over these bytes, and gives them back.
+/// Gives a controller a turn over these bytes, which it returns.
 fn turn<'a, L: Loan>(
     machine: &mut Machine,
     ctrl: u16,
@@ -196,7 +198,7 @@ fn turn<'a, L: Loan>(
     }
 }
 
-/// The same, by whatever reference the bytes are lent.
+/// Does what `turn` does, with a loan of the reference to the bytes.
 fn lent_turn<'a>(
     machine: &mut Machine,
     ctrl: u16,
@@ -215,8 +217,8 @@ fn lent_turn<'a>(
     turn::<Brand>(machine, ctrl, memory, page_size, most)
 }
 
-/// Lets a controller take entries over these bytes. Nothing is done if there is no such controller,
-/// or the bytes are not whole pages.
+/// Gives a controller a turn over these bytes, and returns how many entries it took. Nothing
+/// changes if there is no such controller, or the bytes aren't whole pages.
 fn turn_over(machine: &mut Machine, ctrl: u16, memory: &mut [u8], page_size: u32, most: u16) -> u16
     requires { IsBus machine.old }
     ensures turned { Turned ctrl page_size most result
@@ -230,7 +232,8 @@ fn turn_over(machine: &mut Machine, ctrl: u16, memory: &mut [u8], page_size: u32
     }
 }
 
-/// Lets a controller take entries over these bytes of the host.
+/// Gives a controller a turn of at most `most` entries over the host's memory, and returns how many
+/// it took.
 #[unsafe(no_mangle)]
 pub extern "C" fn nvme_handle_turn(
     alloc: Global,
@@ -251,8 +254,8 @@ pub extern "C" fn nvme_handle_turn(
     count
 }
 
-/// How many commands a controller refused, and how many it took: none where there is no such
-/// controller.
+/// Returns how many commands a controller has refused, and how many it has taken: 0 and 0 if there
+/// is no such controller.
 #[tactic(auto, using(crate::proofs::CountLaws::counts_through, crate::proofs::CountLaws::no_counts))]
 fn counts(machine: &Machine, ctrl: u16) -> (u64, u64)
     requires { IsBus machine.now }
@@ -265,7 +268,7 @@ fn counts(machine: &Machine, ctrl: u16) -> (u64, u64)
     }
 }
 
-/// How many commands a controller refused, and how many it took.
+/// Writes how many commands a controller has refused, and how many it has taken.
 #[unsafe(no_mangle)]
 pub extern "C" fn nvme_handle_counts(
     alloc: Global,
@@ -288,9 +291,9 @@ pub extern "C" fn nvme_handle_counts(
     handle.put(machine);
 }
 
-/// Puts the entry of a controller's error log at an index, from the newest on: 1, or 0 where there
-/// is none.
-#[tactic(auto, using(crate::proofs::LogLaws::entry_told, crate::proofs::LogLaws::none_told, crate::proofs::LogLaws::nowhere_told))]
+/// Writes the entry at an index of a controller's error log, of which 0 is the newest. Returns 1,
+/// or 0 if there is no such entry.
+#[tactic(auto, using(crate::proofs::LogLaws::entries))]
 fn put_entry(machine: &Machine, ctrl: u16, index: usize, entry: &mut [u8; 64]) -> i32
     requires { IsBus machine.now }
     ensures { EntryTold (log_entry_of machine.now.state ctrl index) result entry.old entry.new }
@@ -307,8 +310,8 @@ fn put_entry(machine: &Machine, ctrl: u16, index: usize, entry: &mut [u8; 64]) -
     }
 }
 
-/// The entry of a controller's error log at an index, from the newest on: 1, or 0 where there is
-/// none.
+/// Writes the entry at an index of a controller's error log, of which 0 is the newest. Returns 1,
+/// or 0 if there is no such entry.
 #[unsafe(no_mangle)]
 pub extern "C" fn nvme_handle_log_entry(
     alloc: Global,

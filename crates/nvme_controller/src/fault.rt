@@ -8,7 +8,7 @@ ghost use Rattle.nvme_controller.specs.FaultText.{c_text};
 use nv_subsystem::SubsystemError;
 use std::alloc::Global;
 
-/// The number of a fault.
+/// Returns the number of a fault.
 pub(crate) fn number(fault: SubsystemError) -> i32
     ensures { result ≡ number_of fault }
 {
@@ -25,7 +25,7 @@ pub(crate) fn number(fault: SubsystemError) -> i32
     }
 }
 
-/// Puts a text and zeros behind it, cut so that a zero byte ends it.
+/// Writes a text and fills the room up with zeros. The text is cut so that a zero byte ends it.
 pub(crate) fn put_text(text: &[u8], room: &mut [u8])
     ensures { room.new ≡ c_text (length room.old) text.now }
 {
@@ -36,8 +36,8 @@ pub(crate) fn put_text(text: &[u8], room: &mut [u8])
     rest.fill(0);
 }
 
-/// Puts the text of a fault, and answers whose text it is: that fault's, or want of memory for its
-/// text.
+/// Writes the text of a fault, and returns that fault, or `Memory` if there was too little memory
+/// for its text.
 pub(crate) fn put_fault(alloc: Global, fault: SubsystemError, room: &mut [u8]) -> SubsystemError
     ensures whose { (result ≡ fault) ⊎ (result ≡ SubsystemError.Memory) }
     ensures text { room.new ≡ c_text (length room.old) (fault_text result) }

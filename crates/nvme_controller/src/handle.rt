@@ -1,4 +1,4 @@
-//! What a program in C holds of a machine.
+//! The handle by which a program in C holds a machine.
 ghost use Rattle.std.specs.Prelude.{◌≡◌, None, Option, Some};
 ghost use Rattle.nv_bus.specs.Bus.{BusValue};
 ghost use Rattle.nvme_controller.specs.Held.{held_code, holds};
@@ -10,7 +10,7 @@ use std::alloc::Global;
 use std::marker::Model;
 use std::{mem, ptr};
 
-/// A machine, or none: its place in memory.
+/// A place for a machine: a pointer to it, or null.
 #[repr(C)]
 #[derive(Drop)]
 pub struct Handle {
@@ -24,7 +24,7 @@ impl Model for Handle {
 }
 
 impl Handle {
-    /// No machine.
+    /// Creates a handle without a machine.
     fn none(alloc: Global) -> Handle
         ensures { result.machine ≡ None }
     {
@@ -51,7 +51,7 @@ impl Handle {
         Parts { ptr, alloc }
     }
 
-    /// Takes the machine out.
+    /// Takes the machine out of the handle.
     pub(crate) fn take(&mut self, alloc: Global) -> Box<Machine>
         requires { IsOpen self.old.machine }
         ensures value { self.old.machine ≡ Some result.value }
@@ -61,7 +61,7 @@ impl Handle {
         held.into_parts().into_box()
     }
 
-    /// Puts a machine in.
+    /// Puts a machine into the handle.
     pub(crate) fn put(&mut self, machine: Box<Machine>)
         ensures { self.new.machine ≡ Some machine.value }
     {

@@ -1,7 +1,7 @@
-//! The controllers of an NVM subsystem for programs in C: a machine stands behind a [`Handle`], and
-//! each call of C is a call of `nv_controller`, under the clauses of that call.
+//! The controllers of an NVM subsystem for programs in C. A program holds a machine by a
+//! [`Handle`], and each of its calls is a call of `nv_controller`, with the clauses of that call.
 //!
-//! `library/nvme_controller.h` has what a program in C calls.
+//! `library/nvme_controller.h` declares the calls for a program in C.
 #![tactic(auto)]
 
 mod calls;

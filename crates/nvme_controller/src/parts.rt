@@ -1,11 +1,11 @@
-//! A `Box` with its fields in sight of the module beside.
+//! A `Box` whose fields this crate can see.
 ghost use Rattle.std.specs.Prelude.{◌≡◌};
 ghost use Rattle.std.specs.Box.Ownership.{box_owns};
 
 use std::alloc::Allocator;
 use std::marker::Model;
 
-/// A box as its pointer.
+/// A box, taken apart into its pointer and its allocator.
 pub struct Parts<T, A: Allocator> {
     pub(crate) ptr: *mut T,
     pub(crate) alloc: A,

@@ -1,10 +1,10 @@
-//! A sink that keeps nothing.
+//! A sink that stores nothing.
 
 ghost use Rattle.std.specs.Prelude.{None, false};
 
 use nv_script::Sink;
 
-/// Counts the bytes that are written to it.
+/// A sink that counts the bytes that are written to it.
 #[derive(Drop)]
 pub struct CountingSink {
     pub bytes: u64,

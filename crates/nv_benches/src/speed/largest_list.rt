@@ -9,16 +9,16 @@ use std::time::Duration;
 /// How many lines `list` writes.
 pub const DEVICES: u32 = 16_384;
 
-/// What was measured of one `list`.
+/// The measurements of one `list`.
 #[derive(Clone, Copy)]
 pub struct MeasuredList {
     pub written: Written,
-    /// The time without that of making the controllers ready.
+    /// The time of the run, without that of making the controllers ready.
     pub time: Duration,
 }
 
 impl MeasuredList {
-    /// Returns the nanoseconds for each line that it writes.
+    /// Returns the nanoseconds for each namespace that it lists.
     pub(crate) fn a_device(self) -> u128 {
         self.time.as_nanos() / u128::from(DEVICES)
     }

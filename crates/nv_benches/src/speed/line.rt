@@ -1,4 +1,4 @@
-//! How long a line of a script takes, and each of its parts alone.
+//! The time that a line of a script takes, and that of each of its parts alone.
 
 ghost use Rattle.nv_command.specs.Command.{CommandFits};
 ghost use Rattle.nv_command.specs.Logs.{IsSendable};
@@ -17,21 +17,21 @@ use std::time::{Duration, Instant};
 /// The number of controllers of the demonstration subsystem.
 const CONTROLLERS: u16 = 2;
 
-/// What was measured of a line.
+/// The measurements of a line.
 #[derive(Clone, Copy)]
 pub struct MeasuredLine {
     pub written: Written,
     pub times: LineTimes,
 }
 
-/// Measures a line at a geometry: its run and each part of it alone.
+/// Measures a line at a geometry: its whole run, and each part alone.
 pub(crate) fn measure_line(
     rt: &HostRuntime,
     geometry: Geometry,
     kind: LineKind,
 ) -> io::Result<MeasuredLine> {
     let script = kind.line().repeat(rt.alloc(), LINES as usize)?;
-    // A first run that isn't counted, so that each counted run finds the memory in the same caches.
+    // The first run isn't counted, so that each counted run finds the memory in the same caches.
     let _ = time_lines(rt, geometry, kind, b"")?;
     let (_, empty_run) = time_lines(rt, geometry, kind, b"")?;
     let (written, run) = time_lines(rt, geometry, kind, script.as_bytes())?;
@@ -54,7 +54,7 @@ pub(crate) fn measure_line(
     Ok(MeasuredLine { written, times })
 }
 
-/// Returns what a run of a script writes and how long it takes.
+/// Returns what a run of a script writes, and how long it takes.
 fn time_lines(
     rt: &HostRuntime,
     geometry: Geometry,

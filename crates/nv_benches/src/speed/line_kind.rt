@@ -23,7 +23,7 @@ pub enum LineKind {
     Comment,
 }
 
-/// All kinds of line.
+/// All kinds of lines.
 pub const LINE_KINDS: [LineKind; 9] = [
     LineKind::ListNs,
     LineKind::IdNs,
@@ -36,7 +36,7 @@ pub const LINE_KINDS: [LineKind; 9] = [
     LineKind::Comment,
 ];
 
-/// The greatest number of commands that a line sends.
+/// The most commands that a line sends.
 pub const MOST_COMMANDS: u32 = 6;
 
 /// The number of dwords of four errors.
@@ -75,7 +75,7 @@ impl LineKind {
         }
     }
 
-    /// Returns how many commands the first controller has refused before.
+    /// Returns how many commands the first controller has refused before the line.
     pub(crate) fn refusals(self) -> u32 {
         match self {
             LineKind::ErrorLog => 4,
@@ -83,8 +83,8 @@ impl LineKind {
         }
     }
 
-    /// Returns one of the commands that the line sends, by its place from 0 on. What `list` sends
-    /// to the second controller is sent to the first one here.
+    /// Returns one of the commands that the line sends, by its place, counted from 0. The commands
+    /// of `list` to the second controller are sent to the first one here.
     pub(crate) fn command(self, place: u32) -> Option<Command<'static>>
         ensures fits { IfSome result CommandFits }
         ensures sends { IfSome result IsSendable }
@@ -120,7 +120,8 @@ impl LineKind {
     }
 }
 
-/// Returns what `list` sends to two controllers, of which the first has namespaces 1 and 3.
+/// Returns a command that `list` sends to two controllers, of which the first has namespaces 1 and
+/// 3.
 fn list_command(place: u32) -> Option<Command<'static>>
     ensures fits { IfSome result CommandFits }
     ensures sends { IfSome result IsSendable }

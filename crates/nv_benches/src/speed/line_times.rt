@@ -3,13 +3,13 @@
 use std::fmt;
 use std::time::Duration;
 
-/// How many lines are measured together.
+/// The number of lines that are measured together.
 pub const LINES: u32 = 1_000;
 
-/// The times of `LINES` lines of a kind together.
+/// The times of `LINES` lines of one kind together.
 #[derive(Clone, Copy)]
 pub struct LineTimes {
-    /// The time of their run.
+    /// The time of a run of the lines.
     pub run: Duration,
     /// The time of a run of an empty script.
     pub empty_run: Duration,
@@ -25,7 +25,7 @@ pub struct LineTimes {
 pub const HEADS: &str = "  whole  reading  transport  command  printing";
 
 impl LineTimes {
-    /// Adds the times of one more command.
+    /// Adds the times of another command.
     pub(crate) fn with_command(self, admin: Duration, command: Duration) -> LineTimes {
         LineTimes {
             admin: self.admin.saturating_add(admin),
@@ -34,7 +34,7 @@ impl LineTimes {
         }
     }
 
-    /// Returns the least of each time.
+    /// Returns the lesser of the two for each time.
     pub(crate) fn least(self, other: LineTimes) -> LineTimes {
         LineTimes {
             run: self.run.min(other.run),
@@ -46,13 +46,13 @@ impl LineTimes {
     }
 }
 
-/// Returns the nanoseconds for one line.
+/// Returns the nanoseconds for each line.
 fn a_line(time: Duration) -> u128 {
     time.as_nanos() / u128::from(LINES)
 }
 
 impl fmt::Display for LineTimes {
-    /// Writes the nanoseconds for one line. Transport is the time of the driver without the
+    /// Writes the nanoseconds for each line. Transport is the time of the driver without the
     /// commands. Printing is the time of the run without reading and the driver: the line is cut
     /// out of the script, and its text is made and written.
     fn fmt<W: fmt::Write>(&self, f: &mut fmt::Formatter<W>) -> fmt::Result {

@@ -43,7 +43,7 @@ pub(crate) fn demo(alloc: Global, refusals: u32) -> io::Result<Subsystem>
     Ok(subsystem)
 }
 
-/// Returns the largest file: sixteen controllers, each with the same 1,024 namespaces.
+/// Returns the largest file, with sixteen controllers that all have the same 1,024 namespaces.
 fn largest_file(alloc: Global) -> Result<String, AllocError> {
     let mut file = String::new(alloc);
     write!(

@@ -5,10 +5,10 @@ use crate::speed::line_kind::{LINE_KINDS, LineKind};
 use crate::speed::shape::{SHAPES, Shape};
 use std::io;
 
-/// How often each row is measured. The least times count.
+/// How often each row is measured. The least time of each kind counts.
 const ROUNDS: u32 = 20;
 
-/// What was measured of a kind of line at a geometry.
+/// The measurements of a kind of line at a geometry.
 #[derive(Clone, Copy, Drop)]
 pub struct Row {
     pub shape: Shape,
@@ -16,7 +16,7 @@ pub struct Row {
     pub measured: MeasuredLine,
 }
 
-/// Measures a line of each kind at a geometry, and adds their rows.
+/// Measures each kind of line at a geometry, and adds a row for each.
 fn add_rows(rt: &HostRuntime, rows: &mut Vec<Row>, shape: Shape) -> io::Result<()> {
     for kind in LINE_KINDS {
         let measured = measure_line(rt, shape.geometry(), kind)?;
@@ -39,7 +39,7 @@ fn first_round(rt: &HostRuntime) -> io::Result<Vec<Row>> {
     Ok(rows)
 }
 
-/// Measures each row once more.
+/// Measures each row again, and keeps the least times.
 fn next_round(rt: &HostRuntime, rows: &mut [Row]) -> io::Result<()> {
     for row in rows {
         let again = measure_line(rt, row.shape.geometry(), row.kind)?;
@@ -48,7 +48,7 @@ fn next_round(rt: &HostRuntime, rows: &mut [Row]) -> io::Result<()> {
     Ok(())
 }
 
-/// Measures each row in several rounds, so that the machine's slow moments fall on all rows alike.
+/// Measures each row in several rounds, so that slow moments of the machine affect all rows alike.
 pub(crate) fn measure_rows(rt: &HostRuntime) -> io::Result<Vec<Row>> {
     let mut rows = first_round(rt)?;
     for round in 1..ROUNDS {

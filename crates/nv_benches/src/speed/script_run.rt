@@ -10,14 +10,14 @@ use nv_subsystem::Subsystem;
 use std::io::{self, ErrorKind};
 use std::time::{Duration, Instant};
 
-/// How many bytes a run wrote.
+/// The number of bytes that a run wrote.
 #[derive(Clone, Copy)]
 pub struct Written {
     pub out: u64,
     pub messages: u64,
 }
 
-/// Returns what a run of a script over a subsystem writes and how long it takes.
+/// Returns what a run of a script over a subsystem writes, and how long it takes.
 pub(crate) fn time_run(
     rt: &HostRuntime,
     subsystem: Subsystem,

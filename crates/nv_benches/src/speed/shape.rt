@@ -2,7 +2,7 @@
 
 use nv_driver::Geometry;
 
-/// A geometry.
+/// A geometry at which lines are measured.
 #[derive(Clone, Copy)]
 pub enum Shape {
     Default,
@@ -14,7 +14,7 @@ pub enum Shape {
     PageEnd,
 }
 
-/// All of these geometries.
+/// All these geometries.
 pub const SHAPES: [Shape; 4] = [Shape::Default, Shape::Shallow, Shape::Deep, Shape::PageEnd];
 
 impl Shape {

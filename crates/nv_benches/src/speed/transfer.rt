@@ -12,17 +12,17 @@ use std::alloc::{AllocError, Global};
 use std::io::{self, ErrorKind};
 use std::time::{Duration, Instant};
 
-/// The greatest number of pages of a transfer.
+/// The most pages that a transfer has.
 const MOST_PAGES: u32 = 257;
 
-/// What was measured of a transfer.
+/// The measurements of a transfer.
 #[derive(Clone, Copy)]
 pub struct Measured {
     pub spans: usize,
     pub times: TransferTimes,
 }
 
-/// Returns `count` pages from page 2 on, because pages 0 and 1 are left for the list.
+/// Returns `count` pages from page 2 on. Pages 0 and 1 are for the list.
 fn buffer_pages(alloc: Global, count: u32) -> Result<Vec<PageNo>, AllocError>
     requires { count < 2 ^ 16 }
     ensures { IfOk result (λ pages. pages.items ≡ table count (λ k. k + 2)) }
@@ -91,7 +91,7 @@ fn measure_calls<M: HostMemory>(
     })
 }
 
-/// Returns how long it takes to build the transfer `ROUNDS` times.
+/// Returns how long it takes to build a transfer `ROUNDS` times.
 fn time_builds<M: HostMemory>(
     rt: &HostRuntime,
     mem: &mut M,

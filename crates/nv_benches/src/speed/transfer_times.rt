@@ -1,4 +1,4 @@
-//! The times of calls.
+//! The times of the calls of a transfer.
 
 use std::fmt;
 use std::time::Duration;
@@ -9,7 +9,7 @@ pub const LENGTH: u32 = 1_048_576;
 /// How often each call is made.
 pub const ROUNDS: u32 = 64;
 
-/// The times of the calls of each kind together.
+/// The times of all calls of each kind together.
 #[derive(Clone, Copy)]
 pub struct TransferTimes {
     pub build: Duration,
@@ -18,7 +18,7 @@ pub struct TransferTimes {
     pub copy_in: Duration,
 }
 
-/// Returns the bytes that are transferred in a second.
+/// Returns how many bytes are transferred in a second.
 fn bytes_per_second(time: Duration) -> u128 {
     let bytes = u128::from(LENGTH) * u128::from(ROUNDS);
     bytes * 1_000_000_000 / time.as_nanos().max(1)

@@ -1,9 +1,12 @@
 -- The pages of a command: what no public contract reaches.
-use Rattle.std.specs.Prelude.{◌≡◌, ℕ, ◌+◌, ◌<◌, All, AllPairs, List, take, true}
+use Rattle.std.specs.Prelude.{◌≡◌, ℕ, ◌+◌, ◌<◌, All, AllPairs, List, drop, take, true}
 use Rattle.std.specs.FinSet as set
 use Rattle.nv_host.specs.PageSets.{Pages}
 use Rattle.nv_driver.specs.declared.command_pages.CommandPages.{CommandPages}
 use Rattle.nv_driver.specs.CommandPages.{without}
+
+abbrev pub data_pages : CommandPages → List ℕ
+data_pages p = take p.data_pages (drop 2 p.numbers)
 
 -- all pages: the two for a list, and then those of the data
 abbrev pub all_pages : CommandPages → List ℕ

@@ -1,6 +1,9 @@
--- A command that a driver submitted: what no public contract reaches.
-use Rattle.std.specs.Prelude.{◌≡◌, ℕ, ◌+◌, ◌*◌, ◌≤◌, List, length}
+-- A request that a driver submitted, and where its data lies: what no public contract reaches.
+use Rattle.std.specs.Prelude.{◌≡◌, ℕ, ◌+◌, ◌*◌, ◌≤◌, List, ◌∷◌, length}
 use Rattle.std.specs.FinSet as set
+use Rattle.nv_host.specs.Pages.{IsPageSize}
+use Rattle.nv_prp.specs.Buffer.{IsBuffer, IsListPlace}
+use Rattle.nv_prp.specs.Place.{AreDistinct}
 use Rattle.nv_queue.specs.Rings.{submitted_one}
 use Rattle.nv_queue.specs.Slots.{with_submission}
 use Rattle.nv_command.specs.Command.{transfer_by}
@@ -10,19 +13,60 @@ use Rattle.nv_model.specs.Step.{next_serial}
 use Rattle.nv_driver.specs.inner.CommandPages.{AreLowest, all_pages}
 use Rattle.nv_driver.specs.CommandPages.{AreTaken, without}
 use Rattle.nv_driver.specs.Layout.{offset_for, pages_of_command}
+use Rattle.nv_driver.specs.Request.{Asked, Request, request_of}
 use Rattle.nv_driver.specs.inner.Schedule.{IsListedAtPlace}
 use Rattle.nv_driver.specs.Schedule.{IsPrepared, entry}
 use Rattle.nv_driver.specs.declared.command_pages.CommandPages.{CommandPages}
+use Rattle.nv_driver.specs.declared.data_place.DataPlace.{DataPlace}
 use Rattle.nv_driver.specs.declared.geometry.Geometry.{Geometry}
+use Rattle.nv_driver.specs.declared.outgoing.Outgoing.{Outgoing}
 use Rattle.nv_driver.specs.declared.queue_pair.QueuePair.{QueuePair as QueuePairFields}
-use Rattle.nv_driver.specs.Submitting.{sent_by}
+use Rattle.nv_driver.specs.Submitting.{RequestPlace, place_by, sent_at}
 
--- the command's pages were taken and prepared, and its entry was put in the ring; a command without
--- data has no pages for it, and no data pointer
-pub record IsSubmitted (g : Geometry) (k : Command) (own : CommandPages) (old new : QueuePairFields)
-    (before after : List ℕ) : Type 0 where
+abbrev pub place_of : DataPlace → RequestPlace
+place_of p = record {
+  pages = p.buffer.pages.now;
+  offset = p.buffer.offset;
+  first = p.list.first;
+  second = p.list.second;
+  list_offset = p.list.offset;
+}
+
+-- a request that asks for this
+abbrev pub request_as : Outgoing → Asked → Request
+request_as q asked =
+    record { entry = q.entry; transfer = q.transfer; sends = q.sends.now; asked = asked }
+
+-- all pages of a place: the two for a list, and then those of the data
+abbrev pub pages_at : RequestPlace → List ℕ
+pages_at at = at.first ∷ at.second ∷ at.pages
+
+-- `len` bytes and a list fit there, in distinct pages of the memory
+pub record IsPlaceFor (mem : List ℕ) (page_size : ℕ) (at : RequestPlace) (len : ℕ) : Type 0 where
+  pub is_size : IsPageSize page_size
+  pub buffer : IsBuffer mem page_size at.pages at.offset len
+  pub list : IsListPlace mem page_size at.first at.second at.list_offset
+  pub distinct : AreDistinct (pages_at at)
+
+-- the pages are prepared, and the entry is in the ring; a request without data has no data pointer
+pub record IsSubmittedAt (page_size : ℕ) (at : RequestPlace) (q : Request)
+    (old new : QueuePairFields) (before after : List ℕ) : Type 0 where
   pub prp1 : ℕ
   pub prp2 : ℕ
+  pub ready : List ℕ
+  pub prepared : IsPrepared page_size (sent_at at q old.serial prp1 prp2) before ready
+  pub list : IsListedAtPlace page_size (sent_at at q old.serial prp1 prp2) ready
+  pub pointer : length_of q.transfer ≡ 0 → (prp1 ≡ 0) × (prp2 ≡ 0)
+  pub mem : after
+      ≡ with_submission ready old.submission (entry (sent_at at q old.serial prp1 prp2))
+  pub pair : new ≡ record old {
+    submission = submitted_one old.submission;
+    serial = next_serial old.serial;
+  }
+
+-- the command's pages were taken, and it was submitted; a command without data has no pages for it
+pub record IsSubmitted (g : Geometry) (k : Command) (own : CommandPages) (old new : QueuePairFields)
+    (before after : List ℕ) : Type 0 where
   pub few : own.data_pages + 2 ≤ pages_of_command g.page_size
   pub seven : length own.numbers ≡ 7
   pub taken : AreTaken old.pages (all_pages own)
@@ -30,15 +74,7 @@ pub record IsSubmitted (g : Geometry) (k : Command) (own : CommandPages) (old ne
   pub enough : offset_for g (length_of (transfer_by k)) + length_of (transfer_by k)
       ≤ own.data_pages * g.page_size
   pub none : length_of (transfer_by k) ≡ 0 → own.data_pages ≡ 0
-  pub ready : List ℕ
-  pub prepared : IsPrepared g.page_size (sent_by g k old.serial own prp1 prp2) before ready
-  pub list : IsListedAtPlace g.page_size (sent_by g k old.serial own prp1 prp2) ready
-  pub pointer : length_of (transfer_by k) ≡ 0 → (prp1 ≡ 0) × (prp2 ≡ 0)
-  pub mem : after
-      ≡ with_submission ready old.submission (entry (sent_by g k old.serial own prp1 prp2))
-  pub pair : new ≡ record old {
-    submission = submitted_one old.submission;
-    serial = next_serial old.serial;
-    pages = without old.pages (all_pages own);
-  }
   pub free : set.len new.pages.members + (own.data_pages + 2) ≡ set.len old.pages.members
+  pub one : IsSubmittedAt g.page_size (place_by g k own) (request_of k)
+      (record old { pages = without old.pages (all_pages own) }) new before after
+  pub open one use *

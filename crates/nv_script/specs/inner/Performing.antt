@@ -1,25 +1,20 @@
 -- What performing a request leaves behind.
 use Rattle.std.specs.Prelude.{◌≡◌, ℕ, List, take, Option, None, Some, Result, Ok, Err, Vec}
 use Rattle.nv_command.specs.declared.reply.Reply.{Reply}
-use Rattle.nv_layout.specs.declared.status.Status.{Status}
 use Rattle.nv_model.specs.State.{State}
+use Rattle.nv_line.specs.declared.request.Ask.{Ask}
 use Rattle.nv_line.specs.declared.request.Query.{Query}
 use Rattle.nv_line.specs.declared.request.Query.TheVariants as query
 use Rattle.nv_line.specs.declared.request.Request.{Request}
 use Rattle.nv_print.specs.declared.device.Device.{Device}
 use Rattle.nv_print.specs.declared.shown.Shown.{Shown}
 use Rattle.nv_print.specs.declared.shown.Shown.TheVariants as shown
-use Rattle.nv_script.specs.Outcomes.{Order, exchange_of, exchange_with, Outcome, outcome_of}
+use Rattle.nv_script.specs.Outcomes.{Outcome, outcome_of}
 use Rattle.nv_script.specs.Orders.{orders_of}
 use Rattle.nv_script.specs.Results.{output_for}
-use Rattle.nv_script.specs.Shown.{shown_of}
+use Rattle.nv_script.specs.Shown.{shown_by, shown_of}
 use Rattle.nv_script.specs.declared.performing.Stop.{Stop}
 use Rattle.nv_script.specs.declared.performing.Stop.TheVariants as stop
-
--- an order was carried out, with this reply or refusal
-abbrev pub OrderLeaves : Result Reply Status → Order → State → List ℕ → State → List ℕ → Type 0
-OrderLeaves answer o s serials state next =
-    exchange_with answer state next ≡ exchange_of s serials o
 
 -- these are the subsystem and the serials after an outcome
 pub record IsReached (o : Outcome) (state : State) (serials : List ℕ) : Type 0 where
@@ -42,6 +37,12 @@ QueryLeaves (Ok shown) q s serials state next =
     let o = outcome_of s serials (orders_of s q) in
     (o.refusal ≡ None) × (shown ≡ shown_of (orders_of s q) q o.replies) × IsReached o state next
 QueryLeaves (Err stop) q s serials state next = StopLeaves stop q s serials state next
+
+-- what the last reply to an ask shows, or why there is none
+abbrev pub AskLeaves : Result Reply Stop → ℕ → Ask → State → List ℕ → State → List ℕ → Type 0
+AskLeaves (Ok reply) c a s serials state next =
+    QueryLeaves (Ok (shown_by a reply)) (query.One c a) s serials state next
+AskLeaves (Err stop) c a s serials state next = StopLeaves stop (query.One c a) s serials state next
 
 -- the devices that `list` shows, or why there are none
 abbrev pub ListedAll : Result (List Device) Stop → State → List ℕ → State → List ℕ → Type 0

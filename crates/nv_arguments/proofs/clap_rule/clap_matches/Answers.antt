@@ -1,4 +1,4 @@
-use Rattle.std.proofs.Common.{◌∙◌}
+use Rattle.std.proofs.Common.{◌∙◌, inr}
 use Rattle.nv_arguments.proofs.ClapRules.{matches_as, refused, is_simple_as, taken}
 use Rattle.nv_arguments.proofs.clap_rule.clap_matches.Goals as goal
 
@@ -12,4 +12,4 @@ pub returns : goal.returns
 returns c =
     let e = c.in_ok-command.ensures in
     let k = c.kind.ensures in
-    refused _ _ _ e (c.in-Err.ensures.kinds (is_simple_as _ e)) (λ o. c.in_default.not-OutOfMemory (k ∙ o))
+    inr (refused _ _ _ e (c.in-Err.ensures.kinds (is_simple_as _ e)) (λ o. c.in_default.not-OutOfMemory (k ∙ o)))

@@ -1,11 +1,16 @@
-use Rattle.std.proofs.Common.{◌∙◌, ap, sym}
-use Rattle.nv_command.specs.Command.{bytes_to_host}
-use Rattle.nv_prp.specs.Place.{places}
-use Rattle.nv_controller.proofs.DataLaws.{none_to_host, nothing_sent}
+use Rattle.std.proofs.Common.{subst}
+use Rattle.nv_command.specs.Reply.{FitsRecord}
+use Rattle.nv_command.specs.declared.command.Command.{Command}
+use Rattle.nv_model.specs.Logs.{log_reply}
+use Rattle.nv_model.specs.Meaning.{reply_of}
+use Rattle.nv_controller.proofs.DataLaws.{log_length, page_data}
 use Rattle.nv_controller.proofs.entry.deliver.Goals as goal
 
-pub returns-in_default-clause-bytes : goal.returns-in_default-clause-bytes
-returns-in_default-clause-bytes g c =
-    nothing_sent c.args.command.now c.args.reply.now _ (places c.args.entry_data.now.spans)
-    c.requires.is_reply c.requires.fits
-    (ap bytes_to_host (sym c.transfer.ensures) ∙ none_to_host c.transfer.result c.in_default.not-ToHost)
+pub deliver_log-requires-clause-short : goal.deliver_log-requires-clause-short
+deliver_log-requires-clause-short g c =
+    log_length (log_reply c.args.subsystem.now c.args.ctrl c.in-GetLog.asked.lid)
+    (subst (λ (k : Command). FitsRecord (reply_of c.args.subsystem.now c.args.ctrl k)) c.in-GetLog.is c.requires.fits)
+
+pub deliver_page-requires-clause-page : goal.deliver_page-requires-clause-page
+deliver_page-requires-clause-page g c =
+    page_data c.args.command.now _ c.in_default.not-GetLog

@@ -1,4 +1,6 @@
-use Rattle.std.proofs.Common.{ap, arith}
+use Rattle.std.proofs.Common.{◌∙◌, ap, arith, rules, subst, sym}
+use Rattle.nv_driver.specs.UnderWay.{Run}
+use Rattle.nv_driver.specs.inner.UnderWay.{HasAnswers}
 use Rattle.nv_driver.specs.declared.geometry.Geometry.{Geometry}
 use Rattle.nv_driver.proofs.EndLaws.{all_collected, answers_all, begins_all, ends_all}
 use Rattle.nv_driver.proofs.RoundLaws.{comes_further}
@@ -13,16 +15,40 @@ loop-batch-init g c =
     let u = begun.under_way in
     record {
       under_way = u;
-      bus = begun.bus_is;
       answers = begun.answers_are;
       near = omega (arith, b.collected, b.told, u.begun.geometry.pace, ap (λ (q : Geometry). q.pace) u.geometry);
     }
 
+pub turn-requires : goal.turn-requires
+turn-requires g c κs within =
+    let i = c.loop-batch.invariant in
+    let s = c.send.ensures in (
+      search rules,
+      (
+        search rules,
+        (
+          ap (λ (r : Run). r.commands) (sym c.requires.1.1.0),
+          (
+            s.under_way,
+            (
+              subst (λ n. HasAnswers g.run n c.loop-batch.answers) (sym s.collected) i.answers,
+              (
+                omega (arith, s.some (omega (arith, c.loop-batch-test.true)), s.collected),
+                omega (arith, i.near, s.told, s.collected, ap (λ (q : Geometry). q.pace) s.geometry),
+              ),
+            ),
+          ),
+        ),
+      ),
+    )
+
 pub loop-batch-smaller : goal.loop-batch-smaller
 loop-batch-smaller g c =
-    let e = c.round.ensures in
-    comes_further _ c.loop-batch.batch c.round.new.self (omega (arith, c.loop-batch-test.true)) (omega (arith, e.count))
-    e.none
+    let s = c.send.ensures in
+    let e = c.turn.ensures in
+    comes_further _ c.loop-batch.batch c.turn.new.self (omega (arith, c.loop-batch-test.true))
+    (omega (arith, e.count, s.collected)) (λ same. let none = e.none (same ∙ sym s.collected) in
+    (omega (arith, none.0, s.told, s.collected), none.1 ∙ s.collected))
 
 pub returns-clause-answers : goal.returns-clause-answers
 returns-clause-answers g c =
@@ -30,14 +56,18 @@ returns-clause-answers g c =
     let run = c.requires.1.1.0 in
     answers_all run i.answers (all_collected run i.under_way (omega (arith, c.loop-batch-test.false))).1
 
+pub returns-clause-state : goal.returns-clause-state
+returns-clause-state g c = let i = c.loop-batch.invariant in
+    (ends_all c.requires.1.1.0 i.under_way (omega (arith, c.loop-batch-test.false)) c.tell.ensures).state
+
 pub returns-clause-ready : goal.returns-clause-ready
 returns-clause-ready g c = let i = c.loop-batch.invariant in
-    (ends_all c.requires.1.1.0 i.under_way i.bus (omega (arith, c.loop-batch-test.false)) c.tell.ensures).ready
+    (ends_all c.requires.1.1.0 i.under_way (omega (arith, c.loop-batch-test.false)) c.tell.ensures).ready
 
 pub returns-clause-banks : goal.returns-clause-banks
 returns-clause-banks g c = let i = c.loop-batch.invariant in
-    (ends_all c.requires.1.1.0 i.under_way i.bus (omega (arith, c.loop-batch-test.false)) c.tell.ensures).banks
+    (ends_all c.requires.1.1.0 i.under_way (omega (arith, c.loop-batch-test.false)) c.tell.ensures).banks
 
 pub returns-clause-others : goal.returns-clause-others
 returns-clause-others g c = let i = c.loop-batch.invariant in
-    (ends_all c.requires.1.1.0 i.under_way i.bus (omega (arith, c.loop-batch-test.false)) c.tell.ensures).others
+    (ends_all c.requires.1.1.0 i.under_way (omega (arith, c.loop-batch-test.false)) c.tell.ensures).others

@@ -1,17 +1,19 @@
 use Rattle.std.proofs.Common.{length}
 use Rattle.nv_driver.specs.inner.Pace.{IsToldInTime}
-use Rattle.nv_driver.specs.inner.UnderWay.{HasAnswers, IsBusOf, left_of}
+use Rattle.nv_driver.specs.inner.UnderWay.{HasAnswers, left_of}
 use Rattle.nv_driver.specs.UnderWay.{IsUnderWay}
 use Rattle.nv_driver.proofs.batch.exchange_all.Given as goal
 
-abbrev pub ghost-round : goal.ghost-round
-ghost-round g a = g.run
+abbrev pub ghost-send : goal.ghost-send
+ghost-send g a = g.run
+
+abbrev pub ghost-turn : goal.ghost-turn
+ghost-turn g a = g.run
 
 abbrev pub invariant-loop-batch : goal.invariant-loop-batch
 invariant-loop-batch g l = record {
-  under_way : IsUnderWay g.run l.batch.sent l.batch.collected l.batch l.pair
+  under_way : IsUnderWay g.run l.batch.sent l.batch.collected l.batch (g.B.Bus.meaning l.bus) l.pair
       (g.M.HostMemory.page_len l.host.mem) (g.M.HostMemory.bytes l.host.mem);
-  bus : IsBusOf g.run l.batch.sent l.batch.collected l.batch.told (g.B.Bus.meaning l.bus);
   answers : HasAnswers g.run l.batch.collected l.answers;
   near : IsToldInTime l.batch;
 }

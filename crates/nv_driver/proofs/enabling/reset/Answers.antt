@@ -1,7 +1,7 @@
 use Rattle.std.proofs.Common.{refl}
 use Rattle.nv_driver.proofs.RegisterLaws.{set_twice}
 use Rattle.nv_driver.proofs.ResetLaws.{ready_again}
-use Rattle.nv_driver.proofs.RoundLaws.{set_again}
+use Rattle.nv_driver.proofs.OnWayLaws.{set_again}
 use Rattle.nv_driver.proofs.ResetLaws.{zeroed_length, zeroed_others}
 use Rattle.nv_driver.proofs.enabling.reset.Goals as goal
 

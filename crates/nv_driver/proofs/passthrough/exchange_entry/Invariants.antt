@@ -1,8 +1,5 @@
 use Rattle.nv_model.specs.Conditions.{greatest_limit}
 use Rattle.nv_driver.proofs.passthrough.exchange_entry.Given as goal
 
-abbrev pub ghost-exchange_at : goal.ghost-exchange_at
-ghost-exchange_at g a = g.run
-
 abbrev pub ghost-data_pages : goal.ghost-data_pages
 ghost-data_pages g a = greatest_limit

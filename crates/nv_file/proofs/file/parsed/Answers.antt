@@ -1,6 +1,8 @@
-use Rattle.std.proofs.Common.{◌≡◌, ◌∙◌, None, sym}
+use Rattle.std.proofs.Common.{◌≡◌, ◌∙◌, None, ap, inr, sym}
 use Rattle.std.proofs.lemmas.Bool.{false≢true}
+use Rattle.std.specs.Option.{ok_or}
 use Rattle.toml.specs.Parse.{parse_document}
+use Rattle.nv_file.specs.declared.error.SubsystemError.TheVariants.{NotToml}
 use Rattle.nv_file.proofs.TextLaws.{blank_document}
 use Rattle.nv_file.proofs.file.parsed.Goals as goal
 
@@ -15,7 +17,7 @@ pub returns-else-is_memory-clause-exact : goal.returns-else-is_memory-clause-exa
 returns-else-is_memory-clause-exact c =
     let none : parse_document c.args.text.now ≡ None = c.in-Err.ensures.refused
     (λ is. absurd (false≢true (sym c.if-is_memory.false ∙ c.is_memory.ensures.1 is))) in
-    rw none
+    inr (ap (λ t. ok_or t NotToml) none)
 
 pub returns-else-is_memory-clause-blank : goal.returns-else-is_memory-clause-blank
 returns-else-is_memory-clause-blank c = λ blank.

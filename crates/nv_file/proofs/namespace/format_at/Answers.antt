@@ -6,7 +6,8 @@ use Rattle.nv_file.proofs.namespace.format_at.Goals as goal
 
 pub returns-in-Some-clause-exact : goal.returns-in-Some-clause-exact
 returns-in-Some-clause-exact c =
-    let at : slice_get c.args.formats.now c.args.index ≡ Some c.in-Some.format.now = grind (arith, common_steps, gets) in
+    let at : slice_get c.args.formats.now c.args.index ≡ Some c.in-Some.format.now =
+    grind (arith, common_steps, gets) in
     is_there _ _ _ _ at
 
 pub returns-in-None-clause-exact : goal.returns-in-None-clause-exact

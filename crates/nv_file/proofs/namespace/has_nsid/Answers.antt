@@ -1,17 +1,9 @@
-use Rattle.std.proofs.Common.{rules, tests, ◌≡◌, ◌∙◌, ◌==◌, sym}
-use Rattle.std.proofs.lemmas.Iterator.Search.{any_from_yields_List}
+use Rattle.std.proofs.Common.{rules, tests}
 use Rattle.std.proofs.lemmas.Iterator.{YieldsList-from_slice}
-use Rattle.std.specs.List.{list_any}
 use Rattle.nv_file.specs.declared.namespace.NamespaceEntry.{NamespaceEntry}
-use Rattle.nv_file.specs.KeyChecks.{is_among}
-use Rattle.nv_model.proofs.MappedLaws.{list_any-map}
+use Rattle.nv_file.proofs.Among.{any_is_among}
 use Rattle.nv_file.proofs.namespace.has_nsid.Goals as goal
 
 pub returns : goal.returns
-unfolding is_among
-returns c =
-    let test = λ (x : NamespaceEntry). x.nsid == c.args.nsid in
-    let is : c.any.result ≡ list_any test c.args.namespaces.now =
-    any_from_yields_List test _ _ c.any.result c.any.ensures.ran
-    (YieldsList-from_slice c.args.namespaces.now cc) (λ x b q k. search (rules, tests)) in
-    is ∙ sym (list_any-map (λ other. other == c.args.nsid) (λ (x : NamespaceEntry). x.nsid) c.args.namespaces.now)
+returns c = any_is_among (λ (x : NamespaceEntry). x.nsid) c.args.nsid c.args.namespaces.now _ _ c.any.result
+    c.any.ensures.ran (YieldsList-from_slice c.args.namespaces.now cc) (λ x b q k. search (rules, tests))

@@ -1,7 +1,6 @@
 use Rattle.std.proofs.Common.{◌∙◌, ap, sym, map, Some}
-use Rattle.nv_line.specs.LineFault.{ok_map}
 use Rattle.nv_line.specs.Word.{words_of}
-use Rattle.nv_operations.specs.Answers.{request_in}
+use Rattle.nv_operations.specs.Answers.{ok_map, request_in}
 use Rattle.nv_operations.proofs.AnswerLaws.{no_text, some_text}
 use Rattle.nv_operations.proofs.answering.read_line.Goals as goal
 

@@ -1,6 +1,6 @@
 use Rattle.nv_operations.proofs.TransferLaws.{ApartTo}
 use Rattle.nv_operations.proofs.conditions.are_distinct.Given as goal
 
--- no page so far is one of those behind it
+-- no page so far occurs again after it
 abbrev pub invariant-loop-index : goal.invariant-loop-index
 invariant-loop-index l = ApartTo l.pages l.index

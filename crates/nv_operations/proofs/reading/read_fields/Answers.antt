@@ -1,4 +1,4 @@
-use Rattle.std.proofs.Common.{◌≡◌, ◌∙◌, ap, sym, arith, [], map, length, ℕ, List, Bor, ◌<◌, ◌≤◌, Ok, Err, get_or}
+use Rattle.std.proofs.Common.{◌∙◌, ap, sym, arith, [], map, length, ℕ, List, Bor, ◌<◌, ◌≤◌}
 use Rattle.std.proofs.lemmas.List.{get_or-map, length-map}
 use Rattle.nv_layout.specs.Steps.{◌>>=◌}
 use Rattle.nv_operations.specs.Field.{field_in, fields_in, missing_in, unless_missing}
@@ -12,7 +12,8 @@ returns-in-Err c =
     let below : c.loop-place.place < length ws = rw length-map (c.loop-place-test.true) in
     let at = get_or-map (λ (w : Bor (List ℕ)). w.now) c.args.words.now c.loop-place.place _ [] c.loop-place-test.true in
     let slips = word_slips c.args.rows.now c.loop-place.place c.loop-place.fields ws c.in-Err.slip below
-    (ap (field_in c.args.rows.now c.loop-place.place c.loop-place.fields) at ∙ sym c.in_ok-field.ensures ∙ c.in-Err.is) in
+    (ap (field_in c.args.rows.now c.loop-place.place c.loop-place.fields) at
+    ∙ sym c.in_ok-field.ensures ∙ c.in-Err.is) in
     let whole = sym c.loop-place.invariant ∙ slips in
     sym (ap (λ r. r >>= (λ fs. unless_missing fs (missing_in c.args.rows.now fs))) whole)
 
@@ -22,7 +23,8 @@ loop-place-preserved c =
     let below : c.loop-place.place < length ws = rw length-map (c.loop-place-test.true) in
     let at = get_or-map (λ (w : Bor (List ℕ)). w.now) c.args.words.now c.loop-place.place _ [] c.loop-place-test.true in
     let read = word_read c.args.rows.now c.loop-place.place c.loop-place.fields ws c.in-Ok.field below
-    (ap (field_in c.args.rows.now c.loop-place.place c.loop-place.fields) at ∙ sym c.in_ok-field.ensures ∙ c.in-Ok.is) in
+    (ap (field_in c.args.rows.now c.loop-place.place c.loop-place.fields) at
+    ∙ sym c.in_ok-field.ensures ∙ c.in-Ok.is) in
     rw c.in_ok-push-in-Ok.ensures (sym read ∙ c.loop-place.invariant)
 
 pub returns-in-Some : goal.returns-in-Some

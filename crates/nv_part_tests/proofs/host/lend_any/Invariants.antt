@@ -1,5 +1,5 @@
 use Rattle.nv_part_tests.proofs.host.lend_any.Given as goal
 
--- the reference that is lent
+-- the reference to the bytes
 abbrev pub ghosts-lend : goal.ghosts-lend
-ghosts-lend a = record { reference = a.bytes.ghost_name }
+ghosts-lend a a' = record { reference = a'.bytes.ghost_name }

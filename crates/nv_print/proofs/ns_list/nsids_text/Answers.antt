@@ -7,5 +7,5 @@ pub loop-index-preserved : goal.loop-index-preserved
 loop-index-preserved c =
     let i = c.loop-index.index in
     let xs = c.args.nsids.now in
-    c.in_ok-write.ensures.bytes ∙ ap (λ t. t ++ nsid_line i (get_or xs i 0)) c.loop-index.invariant
+    c.in_ok-push_nsid.ensures ∙ ap (λ t. t ++ nsid_line i (get_or xs i 0)) c.loop-index.invariant
     ∙ sym (lines_of_next nsid_line xs i 0 c.loop-index-test.true)

@@ -7,8 +7,8 @@ use Rattle.nv_print.proofs.shown.string_of.Goals as goal
 
 pub returns-in-Controller-clause-bound : goal.returns-in-Controller-clause-bound
 returns-in-Controller-clause-bound c =
-    text_within c.fields_text.result _ _ c.fields_text.ensures
-    (rw c.id_ctrl_fields.ensures.value (omega (arith, id_ctrl_text c.in-Controller.identity)))
+    text_within c.id_ctrl_text.result _ _ c.id_ctrl_text.ensures.value
+    (omega (arith, id_ctrl_text c.in-Controller.identity, c.id_ctrl_text.ensures.texts))
 
 pub returns-in-Namespace-clause-bound : goal.returns-in-Namespace-clause-bound
 returns-in-Namespace-clause-bound c =
@@ -22,8 +22,8 @@ returns-in-NsList-clause-bound c =
 
 pub returns-in-Smart-clause-bound : goal.returns-in-Smart-clause-bound
 returns-in-Smart-clause-bound c =
-    text_within c.fields_text-in-Smart.result _ _ c.fields_text-in-Smart.ensures
-    (rw c.smart_fields.ensures (omega (arith, smart_text c.in-Smart.smart)))
+    text_within c.smart_text.result _ _ c.smart_text.ensures
+    (omega (arith, smart_text c.in-Smart.smart))
 
 pub returns-in-Errors-clause-bound : goal.returns-in-Errors-clause-bound
 returns-in-Errors-clause-bound c =

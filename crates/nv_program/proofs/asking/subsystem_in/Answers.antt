@@ -1,7 +1,6 @@
-use Rattle.std.proofs.Common.{◌≡◌, ◌∙◌, ap, subst, sym, Ok, Err}
+use Rattle.std.proofs.Common.{◌≡◌, ◌⊎◌, ◌∙◌, ap, subst, sym, Ok, Err}
 use Rattle.std.proofs.lemmas.Result.{err_from_is_err_and}
-use Rattle.nv_file.specs.Fault.{IsUnlessMemory}
-use Rattle.nv_model.specs.State.{State}
+use Rattle.nv_file.specs.declared.error.SubsystemError.TheVariants.{Memory}
 use Rattle.nv_program.specs.inner.Asked.{IsSubsystemIn}
 use Rattle.nv_program.specs.Stops.{of_file}
 use Rattle.nv_program.proofs.Files.{in_file, refused_in}
@@ -15,7 +14,7 @@ returns-in_err-from_toml-clause-exact g c =
     let gave = c.from_residual-in_err-from_toml in
     let fault = err_from_is_err_and gave.result gave.ensures.1 in
     let is : gave.result ≡ Err (of_file e) = fault.1 ∙ ap Err fault.2 in
-    let first = subst (λ b. IsUnlessMemory (λ (s : State). s) (Err e) (subsystem b)) c.deref.ensures.value
+    let first = subst (λ b. (e ≡ Memory) ⊎ (subsystem b ≡ Err e)) c.deref.ensures.value
     c.in_err-from_toml.ensures.exact in
     in_file (g.F.Read.remaining c.args.file) bytes gave.result c.in_ok-bytes.ensures.all
     (subst (IsSubsystemIn bytes) (sym is) (refused_in bytes e c.in_ok-bytes.ensures.few first))

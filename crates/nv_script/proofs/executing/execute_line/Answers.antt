@@ -6,7 +6,7 @@ use Rattle.nv_script.specs.Results.{LineResult, answer_result, message_at, outpu
 use Rattle.nv_driver.specs.inner.Linked.{serials_of}
 use Rattle.nv_print.specs.declared.fault.FaultCause.TheVariants as cause
 use Rattle.nv_line.specs.declared.line.Line.TheVariants as line
-use Rattle.nv_script.proofs.LineLaws.{amid-all, amid-some, amid-zero, fault_said, line_said, message_leaves}
+use Rattle.nv_script.proofs.LineLaws.{amid-all, amid-some, amid-zero, fault_said, message_leaves}
 use Rattle.nv_script.proofs.LineLaws.{output_leaves, result_asked, result_fault, said_here}
 use Rattle.nv_script.proofs.executing.execute_line.Goals as goal
 
@@ -16,7 +16,7 @@ returns-in-Ok-perform-clause-left g c text p o m is stands =
     let serials = serials_of c.args.session.now.driver in
     let n = c.args.session.now.number in
     let r = c.in-Request.request in
-    let said = line_said c.in-Ok.said _ (c.in-Ok.ensures.said text is) ∙ ap Ok c.in-Request.is in
+    let said = c.in-Ok.ensures.said text is ∙ ap Ok c.in-Request.is in
     let here =
     said_here p text s c.controllers.result (Ok (line.Request r)) stands.holds.reached
     (c.controllers.ensures ∙ c.requires.linked.bus.banks) said in
@@ -46,7 +46,7 @@ returns-in-Err-Refused-clause-left g c text p o m is stands =
     let serials = serials_of c.args.session.now.driver in
     let n = c.args.session.now.number in
     let r = c.in-Request.request in
-    let said = line_said c.in-Ok.said _ (c.in-Ok.ensures.said text is) ∙ ap Ok c.in-Request.is in
+    let said = c.in-Ok.ensures.said text is ∙ ap Ok c.in-Request.is in
     let here =
     said_here p text s c.controllers.result (Ok (line.Request r)) stands.holds.reached
     (c.controllers.ensures ∙ c.requires.linked.bus.banks) said in
@@ -77,7 +77,7 @@ returns-in-Err-Memory-clause-left g c text p o m is stands =
     let s = (g.B.Bus.meaning c.args.bus.now).state in
     let serials = serials_of c.args.session.now.driver in
     let r = c.in-Request.request in
-    let said = line_said c.in-Ok.said _ (c.in-Ok.ensures.said text is) ∙ ap Ok c.in-Request.is in
+    let said = c.in-Ok.ensures.said text is ∙ ap Ok c.in-Request.is in
     let here =
     said_here p text s c.controllers.result (Ok (line.Request r)) stands.holds.reached
     (c.controllers.ensures ∙ c.requires.linked.bus.banks) said in

@@ -1,8 +1,15 @@
 use Rattle.std.proofs.lemmas.Result.{err_from_is_err_and}
-use Rattle.nv_script.proofs.QueryLaws.{left_memory}
+use Rattle.nv_script.proofs.QueryLaws.{no_text}
 use Rattle.nv_script.proofs.performing.perform.Goals as goal
 
-pub returns-in_err-write-clause-left : goal.returns-in_err-write-clause-left
-returns-in_err-write-clause-left g c =
-    let e = err_from_is_err_and c.from_residual-in_err-write.result c.from_residual-in_err-write.ensures.1 in
-    rw (e.1, e.2) (left_memory _ _ _ _ c.args.request.now.query c.in_ok-shown.ensures.left.2)
+pub returns-in_err-write-in-One-clause-left : goal.returns-in_err-write-in-One-clause-left
+returns-in_err-write-in-One-clause-left g c =
+    let r = c.from_residual-in_err-write-in-One in
+    let e = err_from_is_err_and r.result r.ensures.1 in
+    rw (e.1, e.2) (no_text _ _ _ _ c.args.request.now _ c.in-One.is _ c.in_ok-reply-in-One.ensures.left)
+
+pub returns-in_err-write-in-List-clause-left : goal.returns-in_err-write-in-List-clause-left
+returns-in_err-write-in-List-clause-left g c =
+    let r = c.from_residual-in_err-write-in-List in
+    let e = err_from_is_err_and r.result r.ensures.1 in
+    rw (e.1, e.2) (no_text _ _ _ _ c.args.request.now _ c.in-List.is _ c.in_ok-devices-in-List.ensures.left)

@@ -29,7 +29,8 @@ returns-in-Entry-clause-answer g c =
     ap (λ (a : AnswerHeader). a.length) c.returned.ensures ∙ c.wanted_length-wanted.ensures.length ∙ sym full in
     let came = ap (λ n. take n (out ++ rest)) many ∙ take-append_seam out rest in
     let is = returned_by b d h.controller h.entry c.args.sent.now out below sent.answer sent.out in
-    let by : IsAnswerByKind Entry (point_of b d) h c.args.sent.now (record { header = c.returned.result; payload = out }) = (
+    let by : IsAnswerByKind Entry (point_of b d) h c.args.sent.now
+    (record { header = c.returned.result; payload = out }) = (
       told,
       subst (λ n. IsReturned (point_of b d) h.controller h.entry c.args.sent.now n told out) full is,
       c.returned.ensures ∙ ap (returned told.dword0 told.status) wanted.ensures.length,

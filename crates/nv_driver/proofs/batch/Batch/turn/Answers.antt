@@ -1,38 +1,112 @@
-use Rattle.std.proofs.Common.{ap, arith, refl}
+use Rattle.std.proofs.Common.{◌≡◌, ◌∙◌, ℕ, ◌+◌, ◌-◌, ◌*◌, ◌≤◌, ap, arith, refl, rules}
+use Rattle.nv_driver.specs.inner.Pace.{IsToldByPace}
+use Rattle.nv_driver.specs.declared.batch.Batch.{Batch}
 use Rattle.nv_driver.specs.declared.geometry.Geometry.{Geometry}
 use Rattle.nv_driver.proofs.RoundLaws.{none_free, tells_on, turns_on}
 use Rattle.nv_driver.proofs.batch.Batch.turn.Goals as goal
+use Rattle.nv_driver.proofs.batch.Batch.turn.Goals.{then-self-pace, else-self-pace}
+
+-- the head doorbell is rung once more
+told_once : {pace limit old new : ℕ} (times before : ℕ) → old ≡ before + times * pace → new - old ≡ limit → limit ≡ pace
+    → 1 ≤ pace → IsToldByPace pace before new
+told_once {pace} {limit} {old} {new} times before h e f some =
+    let more : new ≡ old + pace = omega arith in (times + 1, grind arith)
 
 pub returns-then-posted-eq0 : goal.returns-then-posted-eq0
 returns-then-posted-eq0 g c =
-    let u = c.requires.1.1.0 in
+    let u = c.requires.1.1.1.0 in
+    let rest = c.requires.1.1.1.1 in
     let e = c.turn-posted.ensures in
     let pace = ap (λ (q : Geometry). q.pace) c.geometry.view_is in
     let some = u.begun.geometry.pace in
     let run_pace = ap (λ (q : Geometry). q.pace) u.geometry in
-    let h = turns_on u c.requires.1.1.1.0 e.turn pace e.bus e.len e.page in
-    let next = tells_on h.under_way h.bus_is c.tell.ensures in
+    let h = turns_on u e.turn pace e.bus e.len e.page in
+    let deep = u.begun.laid.deep in
+    let none : c.turn-posted.result ≡ 0 = omega arith in
+    let same : c.args.self.now.collected + c.turn-posted.result ≡ c.args.self.now.collected = omega (arith, none) in
+    let free = none_free _ _ _ _ _ _ h.1 none (omega (arith, some, run_pace)) (omega (arith, rest.1.0)) deep.0 in
     rw (c.tell.ensures.batch) (record {
-      under_way = next.0;
-      bus = next.1;
-      batch = refl;
-      count = h.number_is;
+      under_way = rw same at (tells_on h.0 c.tell.ensures);
+      answers = rest.0;
       near = omega (arith, some, run_pace);
-      some = λ more. absurd (omega arith);
-      none = λ none. (none_free h none (omega (arith, some, run_pace)) c.requires.1.1.1.1.0, refl);
+      count = omega (arith, h.1, none);
+      paced = λ more. absurd (omega arith);
+      none = λ _. (free, refl);
     })
 
-pub returns-else-posted-eq0 : goal.returns-else-posted-eq0
-returns-else-posted-eq0 g c =
+pub loop-init : goal.loop-init
+loop-init g c =
+    let u = c.requires.1.1.1.0 in
+    let rest = c.requires.1.1.1.1 in
     let e = c.turn-posted.ensures in
     let pace = ap (λ (q : Geometry). q.pace) c.geometry.view_is in
-    let h = turns_on c.requires.1.1.0 c.requires.1.1.1.0 e.turn pace e.bus e.len e.page in
+    let h = turns_on u e.turn pace e.bus e.len e.page in
     record {
-      under_way = h.under_way;
-      bus = h.bus_is;
+      under_way = h.0;
+      answers = rest.0;
       batch = refl;
-      count = h.number_is;
-      near = c.requires.1.1.1.1.1;
-      some = λ more. refl;
-      none = λ none. absurd (omega arith);
+      collected = omega arith;
+      near = rest.1.1;
+      paced = (0, omega arith);
+      count = h.1;
+    }
+
+pub collect_one-requires : goal.collect_one-requires
+collect_one-requires g c κs within =
+    let i = c.loop.invariant in (
+      search rules,
+      (c.requires.1.1.0, ((_, _, i.under_way, omega (arith, i.collected, c.loop-test.true)), i.answers)),
+    )
+
+pub loop-preserved : goal.loop-preserved
+loop-preserved g c =
+    let i = c.loop.invariant in
+    let one = c.collect_one.ensures in
+    let u = i.under_way in
+    let n = c.loop.self.collected in
+    let some = u.begun.geometry.pace in
+    let run_pace = ap (λ (q : Geometry). q.pace) u.geometry in
+    let first_pace = ap (λ (q : Geometry). q.pace) c.requires.1.1.1.0.geometry in
+    let limit = c.from-pace.ensures ∙ ap (λ (q : Geometry). q.pace) c.geometry.view_is in
+    let next = rw one.batch at one.under_way _ _ u (omega (arith, i.collected, c.loop-test.true)) in
+    let answers = rw one.batch at one.answers in
+    elim c.if-self-pace.branch [
+      | then-self-pace w ↦
+          let t = rw one.batch at w.tell-then-self-pace.ensures in
+          let told = tells_on next t in
+          let full = rw one.batch at w.if-self-pace.true in
+          rw (w.self-is ∙ t.batch, w.pair-is, w.bus-is) (record {
+            under_way = told;
+            answers = answers;
+            batch = ap (λ (b : Batch). record b { collected = n + 1; told = n + 1 }) i.batch;
+            collected = omega (arith, i.collected);
+            near = omega (arith, some, run_pace);
+            paced = told_once _ _ i.paced.1 full limit (omega (arith, some, first_pace));
+            count = i.count;
+          })
+      | else-self-pace w ↦
+          let more = rw one.batch at w.if-self-pace.false in
+          rw (w.self-is ∙ one.batch, w.pair-is, w.bus-is) (record {
+            under_way = next;
+            answers = answers;
+            batch = ap (λ (b : Batch). record b { collected = n + 1 }) i.batch;
+            collected = omega (arith, i.collected);
+            near = omega (arith, more, limit, first_pace, run_pace, i.near);
+            paced = i.paced;
+            count = i.count;
+          })
+    ]
+
+pub returns : goal.returns
+returns g c =
+    let i = c.loop.invariant in
+    let all : c.args.self.now.collected + c.turn-posted.result ≡ c.loop.self.collected =
+    omega (arith, i.collected, c.loop-test.false, c.loop.auto.counter-end) in
+    record {
+      under_way = rw all at i.under_way;
+      answers = i.answers;
+      near = i.near;
+      count = omega (arith, all, i.count);
+      paced = λ more. i.paced;
+      none = λ same. absurd (omega (arith, all));
     }

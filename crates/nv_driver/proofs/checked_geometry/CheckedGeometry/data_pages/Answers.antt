@@ -23,6 +23,7 @@ returns ghosts c =
     let pages = enough_of most (offset_for g c.args.len) c.args.len fields.page_size c.div_ceil.result is.page_size
     (offset_fits g c.args.len is).1 c.requires.0 (rw begins at c.div_ceil.ensures) in
     rw (← c.self.view_is) (record {
+      keeps = is;
       enough = pages.0;
       none = λ none. pages.2 (omega (arith, none, ap (offset_for g) none));
       few = pages.1;

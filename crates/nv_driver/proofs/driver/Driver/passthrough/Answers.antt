@@ -1,4 +1,4 @@
-use Rattle.std.proofs.Common.{◌∙◌, ap, refl, rules, subst, sym}
+use Rattle.std.proofs.Common.{◌∙◌, ap, subst, sym}
 use Rattle.nv_driver.specs.Alone.{IsReceived, asked_in, entry_step}
 use Rattle.nv_driver.specs.Driver.{HasEntryPages, after_commands}
 use Rattle.nv_driver.specs.Exchange.{after_some}
@@ -9,30 +9,28 @@ use Rattle.nv_driver.proofs.AdminLaws.{after_first, banks_left, driver_after_bel
 use Rattle.nv_driver.proofs.PassthroughLaws.{behind_last, count_is, ends_before, has_room, room_stays, serial_is}
 use Rattle.nv_driver.proofs.driver.Driver.passthrough.Goals as goal
 
-pub exchange_entry-requires : goal.exchange_entry-requires
-exchange_entry-requires g c κs within =
-    let inside = inside_of _ _ _ _ _ c.requires.ctrl c.self.view_is in
-    let here = c.index_mut-pair.ensures.value in
-    let ready = ready_at c.self.invariant c.requires.linked.bus
-    (c.requires.linked.left ∙ ap banks_of (sym c.self.view_is)) inside here in
-    let first = c.pages-first_page.ensures.pages ∙ ap (pages_of c.self.inside.geometry)
-    (count_is _ _ _ c.self.view_is c.controllers.ensures) in
-    let room = has_room c.self.invariant c.self.view_is c.requires.room first in (
-      search rules,
-      (
-        search rules,
-        (
-          refl,
-          (
-            ready,
-            (
-              c.requires.fits,
-              (behind_last c.self.invariant inside here first, (room.0, room.1)),
-            ),
-          ),
-        ),
-      ),
-    )
+pub exchange_entry-requires-clause-ready : goal.exchange_entry-requires-clause-ready
+exchange_entry-requires-clause-ready g c =
+    ready_at c.self.invariant c.requires.linked.bus (c.requires.linked.left ∙ ap banks_of (sym c.self.view_is))
+    (inside_of _ _ _ _ _ c.requires.ctrl c.self.view_is) c.index_mut-pair.ensures.value
+
+pub exchange_entry-requires-clause-behind : goal.exchange_entry-requires-clause-behind
+exchange_entry-requires-clause-behind g c =
+    behind_last c.self.invariant (inside_of _ _ _ _ _ c.requires.ctrl c.self.view_is) c.index_mut-pair.ensures.value
+    (c.pages.ensures.pages ∙ ap (pages_of c.self.inside.geometry)
+    (count_is _ _ _ c.self.view_is c.controllers.ensures))
+
+pub exchange_entry-requires-clause-inside : goal.exchange_entry-requires-clause-inside
+exchange_entry-requires-clause-inside g c =
+    (has_room c.self.invariant c.self.view_is c.requires.room
+    (c.pages.ensures.pages ∙ ap (pages_of c.self.inside.geometry)
+    (count_is _ _ _ c.self.view_is c.controllers.ensures))).0
+
+pub exchange_entry-requires-clause-numbered : goal.exchange_entry-requires-clause-numbered
+exchange_entry-requires-clause-numbered g c =
+    (has_room c.self.invariant c.self.view_is c.requires.room
+    (c.pages.ensures.pages ∙ ap (pages_of c.self.inside.geometry)
+    (count_is _ _ _ c.self.view_is c.controllers.ensures))).1
 
 pub invariant_of-self : goal.invariant_of-self
 invariant_of-self g c =
@@ -40,7 +38,7 @@ invariant_of-self g c =
     driver_after_below c.self.invariant (inside_of _ _ _ _ _ c.requires.ctrl c.self.view_is)
     c.index_mut-pair.ensures.value e.ready e.pair _ e.others
     (ends_before c.self.invariant
-    (c.pages-first_page.ensures.pages ∙ ap (pages_of c.self.inside.geometry)
+    (c.pages.ensures.pages ∙ ap (pages_of c.self.inside.geometry)
     (count_is _ _ _ c.self.view_is c.controllers.ensures))) e.len e.page
 
 pub returns-clause-out : goal.returns-clause-out

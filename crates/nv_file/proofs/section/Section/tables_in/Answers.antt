@@ -20,5 +20,6 @@ returns-in_err-ok_or-2 c =
 
 pub returns : goal.returns
 returns c =
-    let found : as_tables (view c.args.value.now) ≡ Some (tables_view c.loop-item.tables.items) = grind (arith, common_steps) in
+    let found : as_tables (view c.args.value.now) ≡ Some (tables_view c.loop-item.tables.items) =
+    grind (arith, common_steps) in
     (is_of_kind _ _ _ found, rw found refl)

@@ -17,8 +17,8 @@ returns c =
     elim c.requires.made [
       | inl broken ↦ absurd (c.in_default.not-OutOfMemory (k ∙ s.fails (s.stays broken)))
       | inr made ↦ record {
-        value = refused c.args.self.now.verb _ _ _ made (s.kinds (simple_as _ _ made))
-            (λ o. c.in_default.not-OutOfMemory (k ∙ o));
+        value = inr (refused c.args.self.now.verb _ _ _ made (s.kinds (simple_as _ _ made))
+            (λ o. c.in_default.not-OutOfMemory (k ∙ o)));
         made = stays_made c.args.self.now.verb _ _ made s.after;
       }
     ]

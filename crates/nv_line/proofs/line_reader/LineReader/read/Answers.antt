@@ -1,13 +1,14 @@
-use Rattle.std.proofs.Common.{◌∙◌, ap, sym, arith, inr, map}
+use Rattle.std.proofs.Common.{◌∙◌, ap, sym, arith, inr, map, Ok}
 use Rattle.std.proofs.lemmas.Result.{err_from_is_err_and}
 use Rattle.nv_line.specs.Word.{without_nvme, words_of}
-use Rattle.nv_line.proofs.FaultOrder.{answer_at, handed_on, handed_up, no_text}
+use Rattle.nv_line.specs.declared.line.Line.TheVariants as line
+use Rattle.nv_line.proofs.FaultOrder.{answer_at, handed_up, no_text, said_by}
 use Rattle.nv_line.proofs.line_reader.LineReader.read.Goals as goal
 
 pub returns-in_default-clause-exact : goal.returns-in_default-clause-exact
 returns-in_default-clause-exact c =
-    inr (sym (no_text c.args.line.now c.args.controllers (omega arith)
-    (sym c.if-is_skipped_line.ensures) c.in_default.ensures.cases.0))
+    inr (no_text c.args.line.now c.args.controllers (omega arith)
+    (sym c.if-is_skipped_line.ensures) c.in_default.ensures.cases.0)
 
 pub returns-in_err-request-clause-exact : goal.returns-in_err-request-clause-exact
 returns-in_err-request-clause-exact c =
@@ -25,5 +26,5 @@ returns-clause-exact c =
     let words = c.without_program-words.ensures
     ∙ ap without_nvme (ap (map (λ w. w.now)) c.into_bump_slice-words.ensures ∙ c.in_ok-split_words.ensures
     ∙ ap words_of (c.in_ok-text.ensures ∙ text.0)) in
-    answer_at c.args.line.now c.args.controllers _ _ (omega arith) (sym c.if-is_skipped_line.ensures) text.1 words
-    (handed_on _ _ c.in_ok-request.ensures.value)
+    answer_at c.args.line.now c.args.controllers _ (Ok (line.Request c.in_ok-request.request)) (omega arith)
+    (sym c.if-is_skipped_line.ensures) text.1 words (ap said_by c.in_ok-request.ensures.value)

@@ -26,4 +26,4 @@ returns c =
     ap (λ (x : MadeCommand). x.verb) c.index_mut.ensures.value
     ∙ sym (get_or-map (λ (x : MadeCommand). x.verb) items place c.index_mut.result.now c.args.verb inside)
     ∙ ap (λ vs. get_or vs place c.args.verb) c.self.view_is ∙ c.in_ok-place.ensures.verb c.args.verb in
-    rows_by _ _ _ _ verb c.matches.ensures.value
+    rows_by _ _ _ _ _ verb c.matches.ensures.value

@@ -3,7 +3,7 @@ use Rattle.std.specs.Prelude.{IsOk, is_ok}
 use Rattle.std.proofs.lemmas.List.Elements.{at_read}
 use borrow.Author.Count.{below_more}
 use Rattle.nv_driver.specs.Answer.{Answer}
-use Rattle.nv_line.specs.declared.request.Act.TheVariants.{Send}
+use Rattle.nv_script.specs.Outcomes.{Send}
 use Rattle.nv_script.specs.Outcomes.{order_of}
 use Rattle.nv_script.specs.Shown.{listing_of, listing_told}
 use Rattle.nv_script.proofs.ListLaws.{told_more}

@@ -19,6 +19,7 @@ pub returns : goal.returns
 returns c =
     let t = c.self.inside in
     rw c.remove.ensures.values
-    (ap (in_values t.by_nsid.count) (removed_nsid t.by_nsid.values t.by_feature.values c.self.invariant.apart c.args.nsid)
+    (ap (in_values t.by_nsid.count)
+    (removed_nsid t.by_nsid.values t.by_feature.values c.self.invariant.apart c.args.nsid)
     ∙ ap (λ (v : ValueTable). record v { values = map_of.remove v.values (recovery_key c.args.nsid) })
     c.self.view_is)

@@ -1,0 +1,20 @@
+use Rattle.std.proofs.Common.{◌≡◌, ◌+◌}
+use Rattle.nv_driver.specs.inner.Pace.{IsToldByPace, IsToldInTime, taken_by_turn}
+use Rattle.nv_driver.specs.inner.UnderWay.{HasAnswers}
+use Rattle.nv_driver.specs.UnderWay.{IsUnderWay}
+use Rattle.nv_driver.proofs.batch.Batch.turn.Given as goal
+
+abbrev pub ghost-collect_one : goal.ghost-collect_one
+ghost-collect_one g a = g.run
+
+abbrev pub invariant-loop : goal.invariant-loop
+invariant-loop g l = record {
+  under_way : IsUnderWay g.run l.self.sent (l.fn.self.collected + l.posted) l.self (g.B.Bus.meaning l.bus) l.pair
+      (g.M.HostMemory.page_len l.host.mem) (g.M.HostMemory.bytes l.host.mem);
+  answers : HasAnswers g.run l.self.collected l.answers;
+  batch : l.self ≡ record l.fn.self { collected = l.self.collected; told = l.self.told };
+  collected : l.self.collected ≡ l.fn.self.collected + l.counter;
+  near : IsToldInTime l.self;
+  paced : IsToldByPace l.fn.self.geometry.pace l.fn.self.told l.self.told;
+  count : l.posted ≡ taken_by_turn g.run l.fn.self;
+}

@@ -1,0 +1,57 @@
+-- What `unfolding` opens by one name: the checks and values that its line lists.
+use Rattle.nv_file.specs.File.{file_checks, file_value}
+use Rattle.nv_file.specs.KeyChecks.{flag_at, integer, integers_at, number_at, of_kind, optional_integer, tables}
+use Rattle.nv_file.specs.KeyChecks.{tables_at, text, text_at}
+use Rattle.nv_file.specs.TableChecks.{controller_checks, controller_value, counters_checks, counters_value}
+use Rattle.nv_file.specs.TableChecks.{defaults_checks, defaults_value, feature_checks, feature_value}
+use Rattle.nv_file.specs.TableChecks.{format_checks, format_value, identity_checks, identity_value}
+use Rattle.nv_file.specs.TableChecks.{namespace_checks, namespace_value, numbers_checks, numbers_value}
+use Rattle.nv_file.specs.TableChecks.{smart_checks, smart_value, thresholds, thresholds_at}
+
+unfoldable pub keys : Unit {0}
+unfolding integer optional_integer text tables of_kind number_at flag_at text_at integers_at tables_at
+keys = tt
+
+unfoldable pub format : Unit {0}
+unfolding format_checks format_value
+format = tt
+
+unfoldable pub over_and_under : Unit {0}
+unfolding thresholds thresholds_at
+over_and_under = tt
+
+unfoldable pub defaults : Unit {0}
+unfolding defaults_checks defaults_value
+defaults = tt
+
+unfoldable pub feature : Unit {0}
+unfolding feature_checks feature_value
+feature = tt
+
+unfoldable pub counters : Unit {0}
+unfolding counters_checks counters_value
+counters = tt
+
+unfoldable pub smart : Unit {0}
+unfolding smart_checks smart_value
+smart = tt
+
+unfoldable pub numbers : Unit {0}
+unfolding numbers_checks numbers_value
+numbers = tt
+
+unfoldable pub identity : Unit {0}
+unfolding identity_checks identity_value
+identity = tt
+
+unfoldable pub controller : Unit {0}
+unfolding controller_checks controller_value identity_value numbers_value
+controller = tt
+
+unfoldable pub namespace : Unit {0}
+unfolding namespace_checks namespace_value
+namespace = tt
+
+unfoldable pub file : Unit {0}
+unfolding file_checks file_value
+file = tt

@@ -1,0 +1,84 @@
+-- Hexadecimal digits, written from the last to the first.
+use Rattle.std.proofs.Common.{◌≡◌, ◌∙◌, ℕ, zero, suc, ◌-◌, ◌/◌, ◌%◌, ◌<◌, ◌≤◌, ap, arith, refl, Bool, true, false}
+use Rattle.std.proofs.Common.{List, [], ◌∷◌, drop, length, length-set, set, take}
+use Rattle.std.specs.Prelude.{◌==◌, if◌then◌else◌}
+use Rattle.std.specs.Fmt.{digit_glyph, digits, digits_onto}
+use Rattle.std.specs.Str.{IsAscii, IsUtf8}
+use Rattle.std.proofs.lemmas.Bool.Decides.{nat_tests}
+use Rattle.std.proofs.lemmas.List.{length-drop, take_all}
+use Rattle.std.proofs.lemmas.Str.{IsUtf8-from_ascii}
+use Rattle.std.proofs.lemmas.Str.Ascii.{IsAscii-cons, IsAscii-nil}
+use Rattle.nv_print.specs.Text.{hexadecimal}
+
+abbrev last_digit : ℕ → ℕ
+last_digit n = digit_glyph false (n % 16)
+
+-- before the first digit is written
+pub none_written : (n : ℕ) → digits_onto 64 16 false n [] ≡ digits 16 false n
+unfolding digits
+none_written n = refl
+
+by_test : (i n : ℕ) (acc : List ℕ) (t : Bool) → (n / 16 == 0) ≡ t → 0 < i
+    → digits_onto i 16 false n acc
+    ≡ (if t then last_digit n ∷ acc else digits_onto (i - 1) 16 false (n / 16) (last_digit n ∷ acc))
+by_test zero n acc t e h = absurd (omega arith)
+by_test (suc k) n acc t e h =
+    let less : suc k - 1 ≡ k = omega arith in
+    rw less
+    (ap (λ t. if t then last_digit n ∷ acc else digits_onto k 16 false (n / 16) (last_digit n ∷ acc)) e)
+
+-- one more digit, the first or not
+pub first_digit : (i n : ℕ) (acc : List ℕ) → 0 < i → n / 16 ≡ 0
+    → digits_onto i 16 false n acc ≡ last_digit n ∷ acc
+first_digit i n acc h none = by_test i n acc true (grind (arith, nat_tests)) h
+
+pub later_digit : (i n : ℕ) (acc : List ℕ) → 0 < i → (n / 16 ≡ 0 → ⊥)
+    → digits_onto i 16 false n acc ≡ digits_onto (i - 1) 16 false (n / 16) (last_digit n ∷ acc)
+later_digit i n acc h some = by_test i n acc false (grind (arith, nat_tests)) h
+
+-- a byte that is written before others
+pub put_before : (room : List ℕ) (i x : ℕ) → 0 < i → i ≤ length room → drop (i - 1) (set room (i - 1) x) ≡ x ∷ drop i room
+put_before room zero x h within = absurd (omega arith)
+put_before [] (suc i) x h within = absurd (omega arith)
+put_before (y ∷ room) (suc zero) x h within = refl
+put_before (y ∷ room) (suc (suc i)) x h within =
+    let less : suc (suc i) - 1 ≡ suc i = omega arith in
+    let before : suc i - 1 ≡ i = omega arith in
+    rw less (rw before at (put_before room (suc i) x (omega arith) (omega arith)))
+
+-- `0x` is written before the digits
+pub prefixed : (room : List ℕ) (start n : ℕ) → 2 ≤ start → start ≤ 66 → length room ≡ 66
+    → drop start room ≡ digits 16 false n
+    → take (66 - (start - 1 - 1)) (drop (start - 1 - 1) (set (set room (start - 1) 120) (start - 1 - 1) 48))
+    ≡ hexadecimal n
+prefixed room start n after within len is =
+    let x : List ℕ = set room (start - 1) 120 in
+    let all : List ℕ = set x (start - 1 - 1) 48 in
+    let room_x : length x ≡ 66 = length-set room (start - 1) 120 ∙ len in
+    let room_all : length all ≡ 66 = length-set x (start - 1 - 1) 48 ∙ room_x in
+    take_all (66 - (start - 1 - 1)) (drop (start - 1 - 1) all)
+    (omega (arith, length-drop (start - 1 - 1) all, room_all))
+    ∙ put_before x (start - 1) 48 (omega arith) (omega (arith, room_x))
+    ∙ ap (λ t. 48 ∷ t) (put_before room start 120 (omega arith) (omega (arith, len)) ∙ ap (λ t. 120 ∷ t) is)
+
+-- ---- they are ASCII
+
+glyph_ascii : (n : ℕ) → last_digit n < 128
+glyph_ascii n = grind (arith, nat_tests)
+
+either : (t : Bool) (x y : List ℕ) → IsAscii x → IsAscii y → IsAscii (if t then x else y)
+either true x y hx hy = hx
+either false x y hx hy = hy
+
+digits_ascii : (k n : ℕ) (acc : List ℕ) → IsAscii acc → IsAscii (digits_onto k 16 false n acc)
+digits_ascii zero n acc h = h
+digits_ascii (suc k) n acc h =
+    let more = IsAscii-cons (last_digit n) acc (glyph_ascii n) h in
+    either (n / 16 == 0) _ _ more (digits_ascii k (n / 16) (last_digit n ∷ acc) more)
+
+pub hexadecimal_utf8 : (n : ℕ) → IsUtf8 (hexadecimal n)
+unfolding digits
+hexadecimal_utf8 n =
+    IsUtf8-from_ascii _
+    (IsAscii-cons 48 (120 ∷ digits 16 false n) (omega arith)
+    (IsAscii-cons 120 (digits 16 false n) (omega arith) (digits_ascii 64 n [] IsAscii-nil)))

@@ -1,0 +1,100 @@
+use Rattle.std.proofs.Common.{ap, Ok, Err}
+use Rattle.std.proofs.lemmas.Result.{err_from_is_err_and}
+use Rattle.nv_command.specs.declared.command.Command.TheVariants.{IdentifyController}
+use Rattle.nv_command.specs.declared.reply.Reply.TheVariants.{Done}
+use Rattle.nv_driver.specs.inner.Linked.{serials_of}
+use Rattle.nv_script.specs.Orders.{orders_of_one}
+use Rattle.nv_script.specs.Outcomes.{Reset, order_of}
+use Rattle.nv_script.proofs.LinkLaws.{sent, still_known, was_reset}
+use Rattle.nv_script.proofs.QueryLaws.{both_accepted, only_accepted, only_refused, second_refused}
+use Rattle.nv_script.proofs.performing.last_reply.Goals as goal
+
+pub returns-in_err-admin-in-Send-clause-left : goal.returns-in_err-admin-in-Send-clause-left
+returns-in_err-admin-in-Send-clause-left g c =
+    let b = g.B.Bus.meaning c.args.bus.now in
+    let new = g.B.Bus.meaning c.admin.new.bus in
+    let d = c.args.driver.now in
+    let after = c.admin.new.self in
+    let ctrl = c.args.ctrl in
+    let k = c.in-Send.command in
+    let done = c.in_err-admin-in-Send.ensures in
+    let status = c.in_err-admin-in-Send.field-0.0 in
+    let e = err_from_is_err_and c.from_residual.result c.from_residual.ensures.1 in
+    rw (e.1, e.2)
+    (only_refused b.state new.state (serials_of d) (serials_of after) ctrl c.args.ask.now (order_of ctrl k)
+    (ap (orders_of_one b.state ctrl) c.in-Send.is) status
+    (sent b new d after ctrl k (Err status) c.requires.known.controller done.answer done.state done.driver))
+
+pub returns-in_ok-admin-in-Send-clause-left : goal.returns-in_ok-admin-in-Send-clause-left
+returns-in_ok-admin-in-Send-clause-left g c =
+    let b = g.B.Bus.meaning c.args.bus.now in
+    let new = g.B.Bus.meaning c.admin.new.bus in
+    let d = c.args.driver.now in
+    let after = c.admin.new.self in
+    let ctrl = c.args.ctrl in
+    let k = c.in-Send.command in
+    let done = c.in_ok-admin-in-Send.ensures in
+    let reply = c.in_ok-admin-in-Send.field-0 in
+    only_accepted b.state new.state (serials_of d) (serials_of after) ctrl c.args.ask.now (order_of ctrl k)
+    (ap (orders_of_one b.state ctrl) c.in-Send.is) reply
+    (sent b new d after ctrl k (Ok reply) c.requires.known.controller done.answer done.state done.driver)
+
+pub returns-in_err-admin-in-ErrorLog-clause-left : goal.returns-in_err-admin-in-ErrorLog-clause-left
+returns-in_err-admin-in-ErrorLog-clause-left g c =
+    let b = g.B.Bus.meaning c.args.bus.now in
+    let mid = g.B.Bus.meaning c.admin-in-ErrorLog.new.bus in
+    let last = g.B.Bus.meaning c.admin-in-ErrorLog-2.new.bus in
+    let d = c.args.driver.now in
+    let second = c.admin-in-ErrorLog.new.self in
+    let after = c.admin-in-ErrorLog-2.new.self in
+    let ctrl = c.args.ctrl in
+    let known = c.requires.known.controller in
+    let told = c.in_ok-told-in-ErrorLog.told in
+    let first = c.in_ok-told-in-ErrorLog.ensures in
+    let k = c.log_command-command.result in
+    let done = c.in_err-admin-in-ErrorLog.ensures in
+    let status = c.in_err-admin-in-ErrorLog.field-0.0 in
+    let r = c.from_residual-in_err-admin-in-ErrorLog in
+    let e = err_from_is_err_and r.result r.ensures.1 in
+    rw (e.1, e.2, c.in-ErrorLog.is)
+    (second_refused b.state mid.state (serials_of d) (serials_of second) ctrl c.in-ErrorLog.entries last.state
+    (serials_of after) told
+    (sent b mid d second ctrl IdentifyController (Ok told) known first.answer first.state first.driver) k
+    c.log_command-command.ensures.command status
+    (sent mid last second after ctrl k (Err status) (still_known d second ctrl first.driver known) done.answer
+    done.state done.driver))
+
+pub returns-in_ok-admin-in-ErrorLog-clause-left : goal.returns-in_ok-admin-in-ErrorLog-clause-left
+returns-in_ok-admin-in-ErrorLog-clause-left g c =
+    let b = g.B.Bus.meaning c.args.bus.now in
+    let mid = g.B.Bus.meaning c.admin-in-ErrorLog.new.bus in
+    let last = g.B.Bus.meaning c.admin-in-ErrorLog-2.new.bus in
+    let d = c.args.driver.now in
+    let second = c.admin-in-ErrorLog.new.self in
+    let after = c.admin-in-ErrorLog-2.new.self in
+    let ctrl = c.args.ctrl in
+    let known = c.requires.known.controller in
+    let told = c.in_ok-told-in-ErrorLog.told in
+    let first = c.in_ok-told-in-ErrorLog.ensures in
+    let k = c.log_command-command.result in
+    let done = c.in_ok-admin-in-ErrorLog.ensures in
+    let reply = c.in_ok-admin-in-ErrorLog.field-0 in
+    rw c.in-ErrorLog.is
+    (both_accepted b.state mid.state (serials_of d) (serials_of second) ctrl c.in-ErrorLog.entries last.state
+    (serials_of after) told
+    (sent b mid d second ctrl IdentifyController (Ok told) known first.answer first.state first.driver) k
+    c.log_command-command.ensures.command reply
+    (sent mid last second after ctrl k (Ok reply) (still_known d second ctrl first.driver known) done.answer
+    done.state done.driver))
+
+pub returns-in-Ok-clause-left : goal.returns-in-Ok-clause-left
+returns-in-Ok-clause-left g c =
+    let b = g.B.Bus.meaning c.args.bus.now in
+    let new = g.B.Bus.meaning c.reset.new.bus in
+    let d = c.args.driver.now in
+    let after = c.reset.new.self in
+    let ctrl = c.args.ctrl in
+    only_accepted b.state new.state (serials_of d) (serials_of after) ctrl c.args.ask.now
+    (record { controller = ctrl; act = Reset })
+    (ap (orders_of_one b.state ctrl) c.in-Reset.is) Done
+    (was_reset b new d after ctrl c.reset.ensures.state c.reset.ensures.driver)
