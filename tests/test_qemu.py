@@ -118,7 +118,7 @@ class Messages(Case):
     def test_launcher(self):
         shutil.copy(program(), installed().parent.parent / 'lib/nvme-model/qemu')
         self.assertTrue(run(installed(), '--qemu', '--help').out.startswith(b'usage: nvme-model --qemu '))
-        self.assertTrue(run(installed(), '--no-notice', '--qemu', 'true').err.endswith(b'nvme-model(1) says more.\n'))
+        self.assertTrue(run(installed(), '--no-notice', '--qemu', 'true').err.endswith(b'See nvme-model(1).\n'))
 
     def test_ends(self):
         def ended(script, *words):
