@@ -1,3 +1,4 @@
 pub mod ArgumentOption
 pub mod ClapRule
+pub mod FaultText
 pub mod Arguments

@@ -271,7 +271,8 @@ pub can_exchange : {g : Geometry} {c first n : ℕ} {e : Sqe} {m : Transfer} (co
     {at : RequestPlace} {bus : BusValue} {l : QueuePairFields} {now : ℕ} {bytes : List ℕ}
     → IsReady g bus c l now bytes → SqeFits e → m ≡ transfer_for e → n ≡ length_of m
     → ((i : ℕ) → i < count + 2 → slice_index numbers i ≡ first + i) → length numbers ≡ 259
-    → at ≡ place_in g numbers count n → offset_for g n + n ≤ count * g.page_size → count + 2 ≤ pages_of_entry g.page_size
+    → at ≡ place_in g numbers count n → offset_for g n + n ≤ count * g.page_size
+    → count + 2 ≤ pages_of_entry g.page_size
     → (first + pages_of_entry g.page_size) * g.page_size ≤ length bytes → l.pages.first + l.pages.count ≤ first
     → CanExchange g c e at (side bus l now bytes)
 can_exchange {g} {first = first} {n = n} count numbers {now = now} {bytes = bytes}

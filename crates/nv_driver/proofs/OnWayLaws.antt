@@ -314,7 +314,8 @@ module _ {w : Way} {bus : BusValue} {l : QueuePairFields} {now : ℕ} {bytes : L
         let c = u.keeps.counts in
         rw (head_is, ap (λ (o : QueuePairFields). o.submission) u.pair) (
         (between_kept t.depth (t.start + k) 1 (m - k) (t.start + (k + 1)) (t.start + m)
-        (omega (arith, c.done, c.rung, more)) (omega (arith, c.few)) (omega arith) (omega (arith, c.done, c.rung, more))))
+        (omega (arith, c.done, c.rung, more)) (omega (arith, c.few)) (omega arith)
+        (omega (arith, c.done, c.rung, more))))
 
     abbrev pub answer_next : Answer
     answer_next = answer_awaited t world next_one

@@ -99,8 +99,8 @@ module _ {r : Run} {bells turns : ℕ} {b : Batch} {bus : BusValue} {l : QueuePa
       omega (arith, all, rest, now_has, few, times, u.begun.room)
 
   pub serial_below : l.serial < 65535
-  serial_below = rw (ap (λ (q : QueuePairFields). q.serial) u.pair) (mod_below (r.pair.serial + length u.course.sent) 65535
-      (omega arith))
+  serial_below = rw (ap (λ (q : QueuePairFields). q.serial) u.pair)
+      (mod_below (r.pair.serial + length u.course.sent) 65535 (omega arith))
 
   pub has_slot : b.sent < b.collected + r.geometry.window → ¬ IsSubmitFull l.submission
   has_slot more full =

@@ -15,7 +15,7 @@ use nv_prp::{Buffer, ListPlace, build};
 #[derive(Clone, Copy)]
 pub struct DataPlace<'a> {
     pub buffer: Buffer<'a>,
-    pub list: ListPlace,
+    list: ListPlace,
 }
 
 impl<'a> DataPlace<'a> {

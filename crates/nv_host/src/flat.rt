@@ -1,8 +1,9 @@
 //! A host's memory in one vector.
 
-ghost use Rattle.std.specs.Prelude.{◌≡◌, ◌+◌, ◌*◌, ◌≤◌, ◌↔◌, IfOk, IsOk, length, refl, replicate};
+ghost use Rattle.std.specs.Prelude.{◌≡◌, ◌*◌, IfOk, refl, replicate};
 ghost use Rattle.nv_host.specs.Pages.{IsPageSize};
 
+use crate::range::{load, page, store};
 use crate::{HostMemory, Memory, OutOfMemoryRange};
 use std::alloc::Global;
 use std::marker::Model;
@@ -47,21 +48,8 @@ impl FlatMemory {
             Err(_) => Err(Memory),
         }
     }
-
-    /// Where a range of the memory's bytes ends.
-    fn end_of_range(&self, addr: u64, len: usize) -> Result<usize, OutOfMemoryRange>
-        ensures inside { IsOk result ↔ (addr + len ≤ length self.now.bytes) }
-        ensures value { IfOk result (λ end. end ≡ addr + len) }
-    {
-        let size = self.bytes.len() as u64;
-        if addr > size || len as u64 > size - addr {
-            return Err(OutOfMemoryRange);
-        }
-        Ok(addr as usize + len)
-    }
 }
 
-#[tactic(auto, unfolding(crate::specs::Bytes::bytes_at, crate::specs::Bytes::with_bytes))]
 impl HostMemory for FlatMemory {
     ghost bytes = { λ m. m.bytes };
 
@@ -76,19 +64,14 @@ impl HostMemory for FlatMemory {
     }
 
     fn load(&self, addr: u64, out: &mut [u8]) -> Result<(), OutOfMemoryRange> {
-        let end = self.end_of_range(addr, out.len())?;
-        out.copy_from_slice(&self.bytes[addr as usize..end]);
-        Ok(())
+        load(&self.bytes, addr, out)
     }
 
     fn store(&mut self, addr: u64, source: &[u8]) -> Result<(), OutOfMemoryRange> {
-        let end = self.end_of_range(addr, source.len())?;
-        self.bytes[addr as usize..end].copy_from_slice(source);
-        Ok(())
+        store(&mut self.bytes, addr, source)
     }
 
     fn page(&self, n: u32) -> &[u8] {
-        let start = n as usize * self.page_size as usize;
-        &self.bytes[start..start + self.page_size as usize]
+        page(&self.bytes, self.page_size, n)
     }
 }

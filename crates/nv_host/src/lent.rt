@@ -1,9 +1,10 @@
 //! A host's memory in bytes that are lent.
 
-ghost use Rattle.std.specs.Prelude.{◌≡◌, ◌*◌, ◌+◌, ◌≤◌, ◌↔◌, IfOk, IsOk, IsTrue, length};
+ghost use Rattle.std.specs.Prelude.{◌≡◌, ◌*◌, IsTrue, length};
 ghost use Rattle.std.specs.Borrow.{GName};
 ghost use Rattle.nv_host.specs.Pages.{are_pages, is_page_size};
 
+use crate::range::{load, page, store};
 use crate::{HostMemory, OutOfMemoryRange};
 use std::marker::{Brand, PhantomData};
 
@@ -64,21 +65,9 @@ impl<'a, L: Loan> LentMemory<'a, L> {
         let LentMemory { bytes, .. } = self;
         LentBytes { bytes }
     }
-
-    /// Returns where a range of the memory's bytes ends.
-    fn end_of_range(&self, addr: u64, len: usize) -> Result<usize, OutOfMemoryRange>
-        ensures inside { IsOk result ↔ (addr + len ≤ length self.now.bytes.now) }
-        ensures value { IfOk result (λ end. end ≡ addr + len) }
-    {
-        let size = self.bytes.len() as u64;
-        if addr > size || len as u64 > size - addr {
-            return Err(OutOfMemoryRange);
-        }
-        Ok(addr as usize + len)
-    }
 }
 
-#[tactic(auto, unfolding(crate::specs::Bytes::bytes_at, crate::specs::Bytes::with_bytes, crate::specs::Pages::IsPageSize))]
+#[tactic(auto, unfolding(crate::specs::Pages::IsPageSize))]
 impl<'a, L: Loan> HostMemory for LentMemory<'a, L> {
     ghost bytes = { λ m. m.bytes.now };
 
@@ -93,19 +82,14 @@ impl<'a, L: Loan> HostMemory for LentMemory<'a, L> {
     }
 
     fn load(&self, addr: u64, out: &mut [u8]) -> Result<(), OutOfMemoryRange> {
-        let end = self.end_of_range(addr, out.len())?;
-        out.copy_from_slice(&self.bytes[addr as usize..end]);
-        Ok(())
+        load(self.bytes, addr, out)
     }
 
     fn store(&mut self, addr: u64, source: &[u8]) -> Result<(), OutOfMemoryRange> {
-        let end = self.end_of_range(addr, source.len())?;
-        self.bytes[addr as usize..end].copy_from_slice(source);
-        Ok(())
+        store(self.bytes, addr, source)
     }
 
     fn page(&self, n: u32) -> &[u8] {
-        let start = n as usize * self.page_size as usize;
-        &self.bytes[start..start + self.page_size as usize]
+        page(self.bytes, self.page_size, n)
     }
 }

@@ -23,6 +23,7 @@ mod inside;
 mod lent;
 mod memory;
 mod page_set;
+mod range;
 
 pub use error::{Memory, OutOfMemoryRange};
 pub use flat::FlatMemory;

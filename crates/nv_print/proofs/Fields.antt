@@ -42,7 +42,8 @@ format_more text word number colon fields mark end =
 
 -- a text to which the columns of a device were added
 pub columns_more : (text a b c d e f : List ℕ)
-    → ((((((((text ++ (a ++ 32 ∷ [])) ++ (b ++ 32 ∷ [])) ++ (c ++ 32 ∷ [])) ++ d) ++ 32 ∷ []) ++ e) ++ 32 ∷ []) ++ f) ++ 10 ∷ []
+    → ((((((((text ++ (a ++ 32 ∷ [])) ++ (b ++ 32 ∷ [])) ++ (c ++ 32 ∷ [])) ++ d) ++ 32 ∷ []) ++ e) ++ 32 ∷ []) ++ f)
+    ++ 10 ∷ []
     ≡ text ++ (a ++ (32 ∷ b ++ (32 ∷ c ++ (32 ∷ d ++ (32 ∷ e ++ (32 ∷ f ++ 10 ∷ []))))))
 columns_more text a b c d e f =
     six_more (((text ++ (a ++ 32 ∷ [])) ++ (b ++ 32 ∷ [])) ++ (c ++ 32 ∷ [])) d (32 ∷ []) e (32 ∷ []) f (10 ∷ [])

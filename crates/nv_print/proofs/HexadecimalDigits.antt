@@ -37,7 +37,8 @@ pub later_digit : (i n : ℕ) (acc : List ℕ) → 0 < i → (n / 16 ≡ 0 → �
 later_digit i n acc h some = by_test i n acc false (grind (arith, nat_tests)) h
 
 -- a byte that is written before others
-pub put_before : (room : List ℕ) (i x : ℕ) → 0 < i → i ≤ length room → drop (i - 1) (set room (i - 1) x) ≡ x ∷ drop i room
+pub put_before : (room : List ℕ) (i x : ℕ) → 0 < i → i ≤ length room
+    → drop (i - 1) (set room (i - 1) x) ≡ x ∷ drop i room
 put_before room zero x h within = absurd (omega arith)
 put_before [] (suc i) x h within = absurd (omega arith)
 put_before (y ∷ room) (suc zero) x h within = refl

@@ -27,7 +27,8 @@ spaces_ascii (suc n) = IsAscii-cons 32 (replicate n 32) (omega arith) (spaces_as
 
 -- many spaces can be cut at each of their places
 pub spaces_cut : (n : ℕ) → n ≤ 41 → IsCharBoundary (codes "                                         ") n
-spaces_cut n within = IsCharBoundary-from_ascii (codes "                                         ") n (spaces_ascii 41) within
+spaces_cut n within =
+    IsCharBoundary-from_ascii (codes "                                         ") n (spaces_ascii 41) within
 
 -- the first of them
 pub spaces_are : (n : ℕ) → n ≤ 41 → take n (codes "                                         ") ≡ replicate n 32

@@ -1,3 +1,4 @@
 pub mod Asked
 pub mod Stops
+pub mod StopText
 pub mod inner

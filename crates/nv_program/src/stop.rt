@@ -41,6 +41,11 @@ pub enum Stop {
 
 // What the arguments or a run come to is told in their own words.
 impl fmt::Display for Stop {
+    ghost use Rattle.std.specs.Prelude.{Some};
+    ghost use Rattle.nv_program.specs.StopText.{stop_text};
+
+    ghost output = { λ stop. Some (stop_text stop) };
+
     fn fmt<W: fmt::Write>(&self, f: &mut fmt::Formatter<W>) -> fmt::Result {
         match self {
             Stop::Arguments => write!(f, "{}", ArgumentsFault::Refused),

@@ -8,4 +8,5 @@ pub mod ScriptLines
 pub mod Results
 pub mod Cuts
 pub mod Ends
+pub mod EndText
 pub mod inner

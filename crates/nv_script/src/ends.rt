@@ -29,6 +29,11 @@ pub enum RunEnd {
 }
 
 impl fmt::Display for RunEnd {
+    ghost use Rattle.std.specs.Prelude.{Some};
+    ghost use Rattle.nv_script.specs.EndText.{end_text};
+
+    ghost output = { λ run_end. Some (end_text run_end) };
+
     fn fmt<W: fmt::Write>(&self, f: &mut fmt::Formatter<W>) -> fmt::Result {
         match self {
             RunEnd::Status(status) => write!(f, "status {status}"),

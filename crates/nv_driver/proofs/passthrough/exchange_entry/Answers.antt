@@ -89,4 +89,5 @@ returns g c =
     let by = c.complete-completion.ensures.answered (run begun) (sent begun) (submitted begun s.page) refl
     (tail_is asked.ready s.tail) in
     let first = ap (λ (p : RequestPlace). p.first) c.new-place.ensures ∙ pages.each 0 (omega arith) ∙ omega arith in
-    rw first at (exchanged begun by (length c.args.out.now) c.complete-completion.ensures.pages (rw (q.transfer) at c.receive.ensures))
+    let came = rw (q.transfer) at c.receive.ensures in
+    rw first at (exchanged begun by (length c.args.out.now) c.complete-completion.ensures.pages came)

@@ -25,7 +25,8 @@ loop-start-preserved c =
       after = omega arith;
       within = omega (arith, l.invariant.within);
       room = length-set l.room (l.start - 1) c.digit.result ∙ l.invariant.room;
-      digits = ap (λ d. digits_onto (l.start - 1 - 2) 16 false (l.rest / 16) (drop (l.start - 1) (set l.room (l.start - 1) d)))
+      digits = ap (λ d. digits_onto (l.start - 1 - 2) 16 false (l.rest / 16)
+          (drop (l.start - 1) (set l.room (l.start - 1) d)))
           c.digit.ensures
           ∙ ap (digits_onto (l.start - 1 - 2) 16 false (l.rest / 16)) written
           ∙ ap (λ k. digits_onto k 16 false (l.rest / 16) (digit_glyph false (l.rest % 16) ∷ drop l.start l.room)) fuel

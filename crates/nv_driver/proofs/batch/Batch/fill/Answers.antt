@@ -68,8 +68,8 @@ loop-number-preserved g c =
     let many = ap (λ (ks : List Command). length ks) c.requires.1.0 in
     let next = c.submit_command-next.ensures in
     record {
-      under_way = λ b old. submits_at (i.under_way b old) _ i.sent (omega arith) first.geometry next.submitted c.requires.1.0
-          c.index-commands-number.is (omega (arith, first.some)) next.len next.page;
+      under_way = λ b old. submits_at (i.under_way b old) _ i.sent (omega arith) first.geometry next.submitted
+          c.requires.1.0 c.index-commands-number.is (omega (arith, first.some)) next.len next.page;
       sent = ap (λ n. n + 1) i.sent;
       from = omega arith;
       collected = i.collected;
