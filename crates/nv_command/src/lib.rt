@@ -10,6 +10,7 @@ ghost use Rattle.nv_command.specs.declared.command.TheConstants.{BROADCAST_NSID}
 ghost use Rattle.nv_command.specs.declared.logs.TheConstants.{ERROR_INFORMATION, HEALTH};
 ghost use Rattle.nv_command.specs.Travel.{CommandsTravel, RepliesFit, RepliesTravel};
 
+mod borrowed;
 mod command;
 mod dword_count;
 mod entry;
@@ -25,6 +26,7 @@ mod reply_room;
 mod status_code;
 mod transfer;
 
+pub use borrowed::Borrowed;
 pub use command::{BROADCAST_NSID, Command};
 pub use dword_count::DwordCount;
 pub use features::{FeatureQuery, FeatureSetting};

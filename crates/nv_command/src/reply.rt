@@ -4,15 +4,16 @@ ghost use Rattle.std.specs.Prelude.{◌≡◌, length};
 ghost use Rattle.nv_layout.specs.Parts.{part};
 ghost use Rattle.nv_command.specs.Reply.{dword0_of, log_of, page_of, with_data};
 
+use crate::borrowed::Borrowed;
 use nv_layout::{ErrorEntries, IdCtrl, IdNs, NamespaceIds, Smart};
 
-/// The reply to an accepted command. Lists and entries are borrowed.
+/// The reply to an accepted command. Records, lists and entries are borrowed.
 #[derive(Drop)]
 pub enum Reply<'a> {
     /// The data of a controller.
-    Controller(IdCtrl),
+    Controller(Borrowed<'a, IdCtrl>),
     /// The data of a namespace.
-    Namespace(IdNs),
+    Namespace(Borrowed<'a, IdNs>),
     /// NSIDs, in ascending order.
     List(NamespaceIds<'a>),
     /// A number, in dword 0.
@@ -22,7 +23,7 @@ pub enum Reply<'a> {
     /// The error log, the newest entry first.
     Errors(ErrorEntries<'a>),
     /// The health log.
-    Smart(Smart),
+    Smart(Borrowed<'a, Smart>),
 }
 
 impl<'a> Reply<'a> {
@@ -41,8 +42,8 @@ impl<'a> Reply<'a> {
         ensures { page.new ≡ with_data (page_of self.now) page.old }
     {
         match self {
-            Reply::Controller(controller) => controller.put(page),
-            Reply::Namespace(namespace) => namespace.put(page),
+            Reply::Controller(controller) => controller.get().put(page),
+            Reply::Namespace(namespace) => namespace.get().put(page),
             Reply::List(list) => list.put(page),
             _ => {}
         }
@@ -57,7 +58,7 @@ impl<'a> Reply<'a> {
             Reply::Errors(entries) => entries.fill(from, out),
             Reply::Smart(smart) => {
                 let mut bytes = [0; 512];
-                smart.put(&mut bytes);
+                smart.get().put(&mut bytes);
                 fill_from(&bytes, from, out)
             }
             _ => fill_from(&[], from, out),

@@ -12,6 +12,7 @@ ghost use Rattle.nv_command.specs.inner.Room.{IsSizeOf};
 ghost use Rattle.nv_command.specs.Room.{entries_held};
 ghost use Rattle.nv_command.specs.declared.reply.Reply.TheVariants.{Done};
 
+use crate::borrowed::Borrowed;
 use crate::command::Command;
 use crate::form::ReplyKind;
 use crate::reply::Reply;
@@ -68,17 +69,17 @@ impl ReplyRoom {
     pub fn reply(&self) -> Reply<'_>
         ensures { result ≡ self.now }
     {
-        match self.held {
-            Held::Controller(controller) => Reply::Controller(controller),
-            Held::Namespace(namespace) => Reply::Namespace(namespace),
+        match &self.held {
+            Held::Controller(controller) => Reply::Controller(Borrowed::new(controller)),
+            Held::Namespace(namespace) => Reply::Namespace(Borrowed::new(namespace)),
             Held::List => Reply::List(self.list.ids()),
-            Held::Number(number) => Reply::Number(number),
+            Held::Number(number) => Reply::Number(*number),
             Held::Done => Reply::Done,
             Held::Errors { count, present } => {
-                let entries = &self.entries[..present];
-                Reply::Errors(ErrorEntries::new(entries, &[], count))
+                let entries = &self.entries[..*present];
+                Reply::Errors(ErrorEntries::new(entries, &[], *count))
             }
-            Held::Smart(smart) => Reply::Smart(smart),
+            Held::Smart(smart) => Reply::Smart(Borrowed::new(smart)),
         }
     }
 
@@ -87,8 +88,8 @@ impl ReplyRoom {
         ensures { self.new ≡ reply.now }
     {
         self.held = match reply {
-            Reply::Controller(controller) => Held::Controller(*controller),
-            Reply::Namespace(namespace) => Held::Namespace(*namespace),
+            Reply::Controller(controller) => Held::Controller(*controller.get()),
+            Reply::Namespace(namespace) => Held::Namespace(*namespace.get()),
             Reply::List(ids) => {
                 keep_ids(ids.as_slice(), &mut self.list);
                 Held::List
@@ -102,7 +103,7 @@ impl ReplyRoom {
                     present,
                 }
             }
-            Reply::Smart(smart) => Held::Smart(*smart),
+            Reply::Smart(smart) => Held::Smart(*smart.get()),
         };
     }
 

@@ -1,5 +1,8 @@
 -- The data of replies.
-use Rattle.std.proofs.Common.{◌≡◌, ℕ, ◌<◌, ◌≤◌, arith, refl, List, [], ◌∷◌, length}
+use Rattle.std.proofs.Common.{◌≡◌, ◌∙◌, ℕ, ◌+◌, ◌<◌, ◌≤◌, Bool, true, false, ap, arith, drop, refl, sym, take}
+use Rattle.std.proofs.Common.{List, [], ◌∷◌, length}
+use Rattle.std.proofs.lemmas.List.{take_all}
+use Rattle.std.specs.Bool.{MatchBool}
 use Rattle.nv_layout.proofs.LogLaws.{length-bytes_of_smart, length-entries}
 use Rattle.nv_prp.specs.Place.{written_at}
 use Rattle.nv_bus.specs.Call.{length_of}
@@ -23,10 +26,22 @@ page_data (GetLog q) r other = absurd (other q refl)
 page_data k r other = refl
 
 -- data to the host is all the data of its command
-pub all_sent : (m : Transfer) → 0 < bytes_to_host m → bytes_to_host m ≡ length_of m
-all_sent NoData some = absurd (omega (arith, some))
-all_sent (ToHost n) some = refl
-all_sent (FromHost n) some = absurd (omega (arith, some))
+pub all_sent : (m : Transfer) (n : ℕ) → m ≡ ToHost n → bytes_to_host m ≡ length_of m
+all_sent m n is = ap bytes_to_host is ∙ sym (ap length_of is)
+
+pub none_sent : (m : Transfer) → ((n : ℕ) → m ≡ ToHost n → ⊥) → bytes_to_host m ≡ 0
+none_sent NoData other = refl
+none_sent (ToHost n) other = absurd (other n refl)
+none_sent (FromHost n) other = refl
+
+-- all bytes of a page, of which each part is asked for from its place on
+pub whole_page : (has : Bool) (page bytes : List ℕ) (at n : ℕ) → MatchBool has (page ≡ bytes) (bytes ≡ [])
+    → length page ≡ n → 0 < n → at + n ≤ length bytes → page ≡ take n (drop at bytes)
+whole_page true page bytes at n is long some inside =
+    let size = ap length is in
+    let first : at ≡ 0 = omega (arith, size) in
+    is ∙ sym (ap (λ k. take n (drop k bytes)) first ∙ take_all n bytes (omega (arith, size)))
+whole_page false page bytes at n is long some inside = absurd (omega (arith, ap length is))
 
 -- ---- logs
 

@@ -20,12 +20,13 @@ ghost use Rattle.nv_subsystem.specs.Tagged.{settled, untagged};
 
 use crate::call::read_call;
 use crate::log_part::LogPart;
-use crate::scratch::{EntryData, Scratch};
+use crate::reply_page::ReplyPage;
+use crate::scratch::Scratch;
 use nv_bus::Told;
-use nv_command::{Command, LogQuery, Refusal};
+use nv_command::{Command, LogQuery, Refusal, Transfer};
 use nv_host::HostMemory;
-use nv_layout::{Cqe, NsList, Sqe, Status};
-use nv_prp::{Spans, copy_out, write_out};
+use nv_layout::{Cqe, Sqe, Status};
+use nv_prp::{Spans, write_out};
 use nv_register::Rings;
 use nv_subsystem::{Origin, Subsystem};
 
@@ -71,24 +72,28 @@ fn deliver_page<M: HostMemory>(
     ctrl: u16,
     mem: &mut M,
     command: &Command,
-    entry_data: &mut EntryData,
-    ids: &mut NsList,
+    spans: &Spans,
 )
     requires ctrl { ctrl < length subsystem.now.controllers }
     requires page { let reply = reply_of subsystem.now ctrl command.now in
         data_of command.now reply ≡ page_of reply }
-    requires inside { LieIn (length (M.bytes mem.old)) entry_data.old.spans }
-    requires len { length (places entry_data.old.spans) ≡ length_of (transfer_by command.now) }
+    requires inside { LieIn (length (M.bytes mem.old)) spans.now }
+    requires len { length (places spans.now) ≡ length_of (transfer_by command.now) }
+    requires few { length (places spans.now) ≤ most_bytes }
     requires is_reply { IsReplyTo command.now (reply_of subsystem.now ctrl command.now) }
     requires fits { FitsRecord (reply_of subsystem.now ctrl command.now) }
-    ensures bytes { M.bytes mem.new ≡ written_at (M.bytes mem.old) (places entry_data.old.spans)
+    ensures bytes { M.bytes mem.new ≡ written_at (M.bytes mem.old) (places spans.now)
         (data_of command.now (reply_of subsystem.now ctrl command.now)) }
     ensures len { length (M.bytes mem.new) ≡ length (M.bytes mem.old) }
     ensures page_len { M.page_len mem.new ≡ M.page_len mem.old }
 {
-    let EntryData { spans, page } = entry_data;
-    if subsystem.put_page(ctrl, command, ids, page) {
-        copy_out(mem, spans, page);
+    if let Transfer::ToHost(_) = command.transfer() {
+        let page = ReplyPage {
+            subsystem,
+            ctrl,
+            command,
+        };
+        write_out(mem, spans, &page);
     }
 }
 
@@ -132,23 +137,22 @@ fn deliver<M: HostMemory>(
     ctrl: u16,
     mem: &mut M,
     command: &Command,
-    entry_data: &mut EntryData,
-    ids: &mut NsList,
+    spans: &Spans,
 )
     requires ctrl { ctrl < length subsystem.now.controllers }
-    requires inside { LieIn (length (M.bytes mem.old)) entry_data.old.spans }
-    requires len { length (places entry_data.old.spans) ≡ length_of (transfer_by command.now) }
-    requires few { length (places entry_data.old.spans) ≤ most_bytes }
+    requires inside { LieIn (length (M.bytes mem.old)) spans.now }
+    requires len { length (places spans.now) ≡ length_of (transfer_by command.now) }
+    requires few { length (places spans.now) ≤ most_bytes }
     requires is_reply { IsReplyTo command.now (reply_of subsystem.now ctrl command.now) }
     requires fits { FitsRecord (reply_of subsystem.now ctrl command.now) }
-    ensures bytes { M.bytes mem.new ≡ written_at (M.bytes mem.old) (places entry_data.old.spans)
+    ensures bytes { M.bytes mem.new ≡ written_at (M.bytes mem.old) (places spans.now)
         (data_of command.now (reply_of subsystem.now ctrl command.now)) }
     ensures len { length (M.bytes mem.new) ≡ length (M.bytes mem.old) }
     ensures page_len { M.page_len mem.new ≡ M.page_len mem.old }
 {
     match command {
-        Command::GetLog(asked) => deliver_log(subsystem, ctrl, mem, *asked, &entry_data.spans),
-        _ => deliver_page(subsystem, ctrl, mem, command, entry_data, ids),
+        Command::GetLog(asked) => deliver_log(subsystem, ctrl, mem, *asked, spans),
+        _ => deliver_page(subsystem, ctrl, mem, command, spans),
     }
 }
 
@@ -159,21 +163,20 @@ fn execute<M: HostMemory>(
     mem: &mut M,
     command: &Command,
     origin: Origin,
-    entry_data: &mut EntryData,
-    ids: &mut NsList,
+    spans: &Spans,
 ) -> Told
     requires ctrl { ctrl < length subsystem.old.controllers }
     requires well_formed { IsWellFormed subsystem.old }
-    requires inside { LieIn (length (M.bytes mem.old)) entry_data.old.spans }
-    requires len { length (places entry_data.old.spans) ≡ length_of (transfer_by command.now) }
-    requires few { length (places entry_data.old.spans) ≤ most_bytes }
+    requires inside { LieIn (length (M.bytes mem.old)) spans.now }
+    requires len { length (places spans.now) ≡ length_of (transfer_by command.now) }
+    requires few { length (places spans.now) ≤ most_bytes }
     ensures told { result
         ≡ told_by (step (untagged subsystem.old) ctrl command.now origin.cid).answer }
     ensures state { untagged subsystem.new
         ≡ (step (untagged subsystem.old) ctrl command.now origin.cid).state }
     ensures tagged { subsystem.new ≡ settled subsystem.old ctrl command.now origin
         (refusal_of subsystem.old ctrl command.now) }
-    ensures moved { Moves command.now (places entry_data.old.spans)
+    ensures moved { Moves command.now (places spans.now)
         (step (untagged subsystem.old) ctrl command.now origin.cid).answer
         (M.bytes mem.old) (M.bytes mem.new) }
     ensures well_formed { IsWellFormed subsystem.new }
@@ -183,7 +186,7 @@ fn execute<M: HostMemory>(
     let refusal = subsystem.refusal(ctrl, command);
     let told = match &refusal {
         None => {
-            deliver(subsystem, ctrl, mem, command, entry_data, ids);
+            deliver(subsystem, ctrl, mem, command, spans);
             reply_told(subsystem, ctrl, command)
         }
         Some(refusal) => refusal_told(refusal),
@@ -227,11 +230,7 @@ fn answer_entry<M: HostMemory>(
         cid: entry.cid,
         phase,
     };
-    let Scratch {
-        entry_data,
-        listed,
-        ids,
-    } = scratch;
+    let Scratch { entry_data, listed } = scratch;
     let limit = subsystem.limit(ctrl);
     match read_call(mem, entry, limit, entry_data, listed) {
         Err(code) => {
@@ -239,7 +238,7 @@ fn answer_entry<M: HostMemory>(
             subsystem.refuse(ctrl, origin, entry.nsid, refusal);
             refusal_told(&refusal)
         }
-        Ok(command) => execute(subsystem, ctrl, mem, &command, origin, entry_data, ids),
+        Ok(command) => execute(subsystem, ctrl, mem, &command, origin, &entry_data.spans),
     }
 }
 

@@ -48,6 +48,7 @@ mod call;
 mod entry;
 mod log_part;
 mod machine;
+mod reply_page;
 mod scratch;
 mod turn;
 

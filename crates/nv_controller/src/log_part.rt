@@ -5,7 +5,7 @@ ghost use Rattle.nv_layout.specs.Parts.{part};
 ghost use Rattle.nv_command.specs.Reply.{log_of};
 ghost use Rattle.nv_model.specs.Logs.{log_reply};
 
-use nv_prp::Payload;
+use nv_host::Payload;
 use nv_subsystem::Subsystem;
 
 /// A number of bytes of a controller's log, from a byte on, with zeros past the log's end.

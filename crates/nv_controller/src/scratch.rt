@@ -2,7 +2,7 @@
 
 ghost use Rattle.std.specs.Prelude.{length};
 
-use nv_layout::{CtrlList, NsList};
+use nv_layout::CtrlList;
 use nv_prp::Spans;
 
 /// The data of an entry.
@@ -10,7 +10,7 @@ use nv_prp::Spans;
 pub struct EntryData {
     /// Where it lies in the host's memory.
     pub spans: Spans,
-    /// A page of the data, from the host or to it.
+    /// A page of the data from the host.
     pub page: [u8; 4096],
 }
 
@@ -21,8 +21,6 @@ pub struct Scratch {
     pub entry_data: EntryData,
     /// The controllers that it lists.
     pub listed: CtrlList,
-    /// The namespaces that its reply lists.
-    pub ids: NsList,
 }
 
 impl Scratch {
@@ -33,7 +31,6 @@ impl Scratch {
                 page: [0; 4096],
             },
             listed: CtrlList::new(),
-            ids: NsList::new(),
         }
     }
 }

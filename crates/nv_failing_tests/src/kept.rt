@@ -1,8 +1,8 @@
 //! The state of the first controller of a subsystem, as far as a script can change it.
 
 use nv_controller::Machine;
-use nv_layout::{NsList, ThreeBits};
-use nv_subsystem::{Command, FeatureQuery, Reply, Subsystem};
+use nv_layout::ThreeBits;
+use nv_subsystem::{Command, FeatureQuery, Reply, ReplyRoom, Subsystem};
 
 /// How many refusals and commands the controller has counted, and the current value of its write
 /// cache, if there is one.
@@ -23,8 +23,8 @@ fn cache_of(subsystem: &Subsystem) -> Option<u32> {
     if subsystem.controllers() == 0 {
         return None;
     }
-    let mut list = NsList::new();
-    match subsystem.answer(0, &get, &mut list) {
+    let mut room = ReplyRoom::new();
+    match subsystem.answer(0, &get, &mut room) {
         Ok(Reply::Number(value)) => Some(value),
         _ => None,
     }

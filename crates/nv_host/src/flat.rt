@@ -3,8 +3,8 @@
 ghost use Rattle.std.specs.Prelude.{◌≡◌, ◌*◌, IfOk, refl, replicate};
 ghost use Rattle.nv_host.specs.Pages.{IsPageSize};
 
-use crate::range::{load, page, store};
-use crate::{HostMemory, Memory, OutOfMemoryRange};
+use crate::range::{fill, load, page, store};
+use crate::{HostMemory, Memory, OutOfMemoryRange, Payload};
 use std::alloc::Global;
 use std::marker::Model;
 
@@ -69,6 +69,10 @@ impl HostMemory for FlatMemory {
 
     fn store(&mut self, addr: u64, source: &[u8]) -> Result<(), OutOfMemoryRange> {
         store(&mut self.bytes, addr, source)
+    }
+
+    fn fill<P: Payload>(&mut self, addr: u64, payload: &P, from: usize, len: usize) {
+        fill(&mut self.bytes, addr, payload, from, len)
     }
 
     fn page(&self, n: u32) -> &[u8] {

@@ -4,8 +4,8 @@ ghost use Rattle.std.specs.Prelude.{◌≡◌, ◌*◌, IsTrue, length};
 ghost use Rattle.std.specs.Borrow.{GName};
 ghost use Rattle.nv_host.specs.Pages.{are_pages, is_page_size};
 
-use crate::range::{load, page, store};
-use crate::{HostMemory, OutOfMemoryRange};
+use crate::range::{fill, load, page, store};
+use crate::{HostMemory, OutOfMemoryRange, Payload};
 use std::marker::{Brand, PhantomData};
 
 /// By which reference bytes are lent. A function that makes a [`LentMemory`] has a parameter with
@@ -87,6 +87,10 @@ impl<'a, L: Loan> HostMemory for LentMemory<'a, L> {
 
     fn store(&mut self, addr: u64, source: &[u8]) -> Result<(), OutOfMemoryRange> {
         store(self.bytes, addr, source)
+    }
+
+    fn fill<P: Payload>(&mut self, addr: u64, payload: &P, from: usize, len: usize) {
+        fill(self.bytes, addr, payload, from, len)
     }
 
     fn page(&self, n: u32) -> &[u8] {

@@ -1,11 +1,11 @@
 //! What the memory of a host does.
 
 ghost use Rattle.std.specs.Prelude.{◌≡◌, ◌+◌, ◌*◌, ◌≤◌, ◌↔◌, ℕ, IsOk, IsTrue, List, OnErr, OnOk};
-ghost use Rattle.std.specs.Prelude.{length};
+ghost use Rattle.std.specs.Prelude.{drop, length, take};
 ghost use Rattle.nv_host.specs.Bytes.{bytes_at, with_bytes};
 ghost use Rattle.nv_host.specs.Pages.{HasPage, IsPageSize, are_pages, is_page_size};
 
-use crate::OutOfMemoryRange;
+use crate::{OutOfMemoryRange, Payload};
 
 /// The memory of a host, as its bytes in pages. Page n begins at address n times the page size.
 /// Section "Physical Region Page Entry and List".
@@ -35,6 +35,15 @@ pub trait HostMemory {
         ensures inside { IsOk result ↔ (addr + length source.now ≤ length (bytes self.old)) }
         ensures value { OnOk result (bytes self.new ≡ with_bytes (bytes self.old) addr source.now) }
         ensures err { OnErr result (bytes self.new ≡ bytes self.old) }
+        ensures page { page_len self.new ≡ page_len self.old };
+
+    /// Writes `len` bytes of a payload, from its byte `from` on, to the range that begins at an
+    /// address. The payload has these bytes, and the range lies in the memory.
+    fn fill<P: Payload>(&mut self, addr: u64, payload: &P, from: usize, len: usize)
+        requires inside { addr + len ≤ length (bytes self.old) }
+        requires has { from + len ≤ length (P.bytes payload.now) }
+        ensures value { bytes self.new
+            ≡ with_bytes (bytes self.old) addr (take len (drop from (P.bytes payload.now))) }
         ensures page { page_len self.new ≡ page_len self.old };
 
     /// The bytes of a page, whose number is less than `pages`.

@@ -1,10 +1,10 @@
 //! Ranges of a memory's bytes.
 
-ghost use Rattle.std.specs.Prelude.{◌≡◌, ◌+◌, ◌*◌, ◌≤◌, ◌↔◌, IfOk, IsOk, OnErr, OnOk, length};
+ghost use Rattle.std.specs.Prelude.{◌≡◌, ◌+◌, ◌*◌, ◌≤◌, ◌↔◌, IfOk, IsOk, OnErr, OnOk, drop, length, take};
 ghost use Rattle.nv_host.specs.Bytes.{bytes_at, with_bytes};
 ghost use Rattle.nv_host.specs.Pages.{HasPage};
 
-use crate::OutOfMemoryRange;
+use crate::{OutOfMemoryRange, Payload};
 
 /// Returns where the range of `len` bytes from an address on ends, in a memory of `size` bytes.
 fn end_of_range(size: usize, addr: u64, len: usize) -> Result<usize, OutOfMemoryRange>
@@ -40,6 +40,18 @@ pub(crate) fn store(bytes: &mut [u8], addr: u64, source: &[u8]) -> Result<(), Ou
     let end = end_of_range(bytes.len(), addr, source.len())?;
     bytes[addr as usize..end].copy_from_slice(source);
     Ok(())
+}
+
+/// Writes `len` bytes of a payload, from its byte `from` on, from an address on.
+#[tactic(auto, unfolding(crate::specs::Bytes::with_bytes))]
+pub(crate) fn fill<P: Payload>(bytes: &mut [u8], addr: u64, payload: &P, from: usize, len: usize)
+    requires inside { addr + len ≤ length bytes.old }
+    requires has { from + len ≤ length (P.bytes payload.now) }
+    ensures { bytes.new
+        ≡ with_bytes bytes.old addr (take len (drop from (P.bytes payload.now))) }
+{
+    let start = addr as usize;
+    payload.fill(from, &mut bytes[start..start + len]);
 }
 
 /// Returns the bytes of a page.

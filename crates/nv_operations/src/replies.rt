@@ -65,13 +65,13 @@ fn reply_fields(alloc: Global, reply: &Reply) -> Result<Fields, AllocError>
     ensures { IfOk result (λ fields. fields ≡ fields_of_reply reply.now) }
 {
     match reply {
-        Reply::Controller(controller) => id_ctrl_fields(alloc, controller),
-        Reply::Namespace(namespace) => id_ns_fields(alloc, namespace),
+        Reply::Controller(controller) => id_ctrl_fields(alloc, controller.get()),
+        Reply::Namespace(namespace) => id_ns_fields(alloc, namespace.get()),
         Reply::List(list) => nsids_fields(alloc, list.as_slice()),
         Reply::Number(number) => Fields::of_number(alloc, "number", u64::from(*number)),
         Reply::Done => Ok(Fields::new(alloc)),
         Reply::Errors(entries) => errors_fields(alloc, entries),
-        Reply::Smart(smart) => smart_fields(alloc, smart),
+        Reply::Smart(smart) => smart_fields(alloc, smart.get()),
     }
 }
 

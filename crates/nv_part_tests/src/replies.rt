@@ -31,7 +31,7 @@ fn replies_by_their_pages(rt: HostRuntime) {
         nvmcap: 4608,
         lbafs: [none; 16],
     };
-    let reply = Reply::Namespace(namespace);
+    let reply = Reply::Namespace(Borrowed::new(&namespace));
     let mut page = [0xff; 4096];
     reply.put(&mut page);
     check_number(&rt, u64::from(reply.dword0()), 0, "Dword 0");
@@ -40,7 +40,7 @@ fn replies_by_their_pages(rt: HostRuntime) {
     let mut room = ReplyRoom::new();
     room.read(&command, 0, &page);
     match room.reply() {
-        Reply::Namespace(read) => check_namespace(&rt, &read, &namespace),
+        Reply::Namespace(read) => check_namespace(&rt, read.get(), &namespace),
         _ => panic!(rt; "no namespace"),
     }
 }
@@ -193,6 +193,7 @@ fn check_error(rt: &impl Abort, found: &ErrorEntry, want: &ErrorEntry) {
 fn check_controller(rt: &impl Abort, room: &ReplyRoom, vid: u16, elpe: u8) {
     match room.reply() {
         Reply::Controller(controller) => {
+            let controller = controller.get();
             assert_eq!(rt; (controller.vid, controller.elpe), (vid, elpe));
         }
         _ => panic!(rt; "no controller"),
@@ -202,7 +203,7 @@ fn check_controller(rt: &impl Abort, room: &ReplyRoom, vid: u16, elpe: u8) {
 /// Checks the temperature in a reply.
 fn check_temperature(rt: &impl Abort, room: &ReplyRoom, want: u16) {
     match room.reply() {
-        Reply::Smart(smart) => assert_eq!(rt; smart.temperature, want),
+        Reply::Smart(smart) => assert_eq!(rt; smart.get().temperature, want),
         _ => panic!(rt; "no health"),
     }
 }

@@ -14,6 +14,7 @@ use crate::namespace::{namespace_text, send_namespace};
 use crate::ns_list::{nsids_text, send_nsids};
 use crate::select::Select;
 use crate::sentence::{feature_set, feature_value, reset, success};
+use nv_command::Borrowed;
 use nv_host::Memory;
 use nv_layout::{ErrorEntries, Feature, IdCtrl, IdNs, NamespaceIds, Smart};
 use serde::{Described, Serialize, Serializer};
@@ -23,13 +24,13 @@ use std::alloc::{AllocError, Global};
 #[derive(Drop)]
 pub enum Shown<'a> {
     /// The data of a controller.
-    Controller(IdCtrl),
+    Controller(Borrowed<'a, IdCtrl>),
     /// The data of a namespace.
-    Namespace(IdNs),
+    Namespace(Borrowed<'a, IdNs>),
     /// NSIDs, in ascending order.
     NsList(NamespaceIds<'a>),
     /// A health log.
-    Smart(Smart),
+    Smart(Borrowed<'a, Smart>),
     /// An error log, the newest entry first.
     Errors(ErrorEntries<'a>),
     /// Namespaces that are attached to controllers.
@@ -93,10 +94,10 @@ fn string_of(alloc: Global, shown: &Shown) -> Result<String, AllocError>
     ensures bound { IfOk result (λ t. length (string_bytes t) ≤ text_limit shown.now) }
 {
     match shown {
-        Shown::Controller(identity) => id_ctrl_text(alloc, identity),
-        Shown::Namespace(namespace) => namespace_text(alloc, namespace),
+        Shown::Controller(identity) => id_ctrl_text(alloc, identity.get()),
+        Shown::Namespace(namespace) => namespace_text(alloc, namespace.get()),
         Shown::NsList(nsids) => nsids_text(alloc, nsids.as_slice()),
-        Shown::Smart(smart) => smart_text(alloc, smart),
+        Shown::Smart(smart) => smart_text(alloc, smart.get()),
         Shown::Errors(entries) => entries_text(alloc, entries),
         Shown::Devices(devices) => devices_text(alloc, devices.as_slice()),
         Shown::Created { nsid } => success(alloc, "create-ns: Success, created nsid:", *nsid),
@@ -137,10 +138,10 @@ fn send<S: Serializer>(shown: &Shown, alloc: Global, out: &mut S) -> Result<(), 
         (length (compact_text (data_of shown.now)) < text_limit shown.now) }
 {
     match shown {
-        Shown::Controller(identity) => send_id_ctrl(identity, alloc, out),
-        Shown::Namespace(namespace) => send_namespace(namespace, alloc, out),
+        Shown::Controller(identity) => send_id_ctrl(identity.get(), alloc, out),
+        Shown::Namespace(namespace) => send_namespace(namespace.get(), alloc, out),
         Shown::NsList(nsids) => send_nsids(nsids.as_slice(), out),
-        Shown::Smart(smart) => send_smart(smart, alloc, out),
+        Shown::Smart(smart) => send_smart(smart.get(), alloc, out),
         Shown::Errors(entries) => send_entries(entries, alloc, out),
         Shown::Devices(devices) => send_devices(devices.as_slice(), alloc, out),
         _ => out.unit(),

@@ -40,22 +40,7 @@ pub none_read : (m : List ℕ) (a : ℕ) → bytes_at m a 0 ≡ []
 unfolding bytes_at
 none_read m a = refl
 
-pub write_more : (m : List ℕ) (a i n from : ℕ) (xs : List ℕ) → from + i + n ≤ length xs → a + i + n ≤ length m
-    → with_bytes m a (take (i + n) (drop from xs))
-    ≡ with_bytes (with_bytes m a (take i (drop from xs))) (a + i) (take n (drop (from + i) xs))
-write_more m a i n from xs most fits =
-    let front : length (take i (drop from xs)) ≡ i = simp (length-take, length-drop) (omega arith) in
-    let next : length (take n (drop (from + i) xs)) ≡ n = simp (length-take, length-drop) (omega arith) in
-    ap (λ l. with_bytes m a l)
-    (take-add i n (drop from xs) ∙ ap (λ l. take i (drop from xs) ++ take n l) (drop-drop i from xs))
-    ∙ sym (with_more m a (take i (drop from xs)) (take n (drop (from + i) xs)) (omega arith))
-    ∙ ap (λ k. with_bytes (with_bytes m a (take i (drop from xs))) (a + k) (take n (drop (from + i) xs))) front
-
 pub ruleset reads = (read_part, read_more, none_read, take-put_mid, length-bytes_at, length-take, length-drop)
-
-pub ruleset writes = (none_written, write_more, length-take, length-drop)
-
-pub ruleset pieces = (length-with_bytes, length-take, length-drop)
 
 -- ---- the next span, and those after it
 
@@ -170,6 +155,7 @@ pub ruleset lefts = (
   write_left,
   written_none,
   length-bytes_at,
+  length-with_bytes,
   length-take,
   length-drop,
   take_all,

@@ -4,9 +4,9 @@
 ghost use Rattle.std.specs.Prelude.{◌≡◌, ◌<◌, ◌^◌, length};
 ghost use Rattle.nv_prp.specs.Place.{LieIn, places, read_at, written_at};
 
-use crate::range::{Piece, read_range, write_range};
-use crate::{Payload, Spans};
-use nv_host::{HostMemory, store_inside};
+use crate::Spans;
+use crate::range::read_range;
+use nv_host::{HostMemory, Payload};
 
 /// Writes the bytes of a payload to the spans of the memory, span by span: data from the controller
 /// to the host. If spans overlap, the later byte stays.
@@ -22,11 +22,10 @@ pub fn write_out<M: HostMemory, P: Payload>(mem: &mut M, spans: &Spans, payload:
     ensures len { length (M.bytes mem.new) ≡ length (M.bytes mem.old) }
     ensures page { M.page_len mem.new ≡ M.page_len mem.old }
 {
-    let mut piece = Piece::new();
     let mut at = 0;
     for span in spans.as_slice() {
         let len = span.len as usize;
-        write_range(mem, span.address, payload, at, len, &mut piece);
+        mem.fill(span.address, payload, at, len);
         at += len;
     }
 }
@@ -35,7 +34,6 @@ pub fn write_out<M: HostMemory, P: Payload>(mem: &mut M, spans: &Spans, payload:
 /// If spans overlap, the later byte stays.
 ///
 /// The spans must lie in the memory, and have as many bytes as `source`.
-#[tactic(auto, using(crate::proofs::CopyLaws::lefts))]
 pub fn copy_out<M: HostMemory>(mem: &mut M, spans: &Spans, source: &[u8])
     requires inside { LieIn (length (M.bytes mem.old)) spans.now }
     requires len { length (places spans.now) ≡ length source.now }
@@ -43,12 +41,7 @@ pub fn copy_out<M: HostMemory>(mem: &mut M, spans: &Spans, source: &[u8])
     ensures len { length (M.bytes mem.new) ≡ length (M.bytes mem.old) }
     ensures page { M.page_len mem.new ≡ M.page_len mem.old }
 {
-    let mut at = 0;
-    for span in spans.as_slice() {
-        let end = at + span.len as usize;
-        store_inside(mem, span.address, &source[at..end]);
-        at = end;
-    }
+    write_out(mem, spans, &source);
 }
 
 /// Reads the bytes of the spans of the memory into `out`: data from the host to the controller.

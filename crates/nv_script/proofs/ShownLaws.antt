@@ -41,7 +41,7 @@ use Rattle.nv_model.specs.declared.row.Row.{Row}
 use Rattle.nv_print.specs.Message.{select_of}
 use Rattle.nv_print.specs.declared.select.Select.{Select}
 use Rattle.nv_print.specs.declared.shown.Shown.{Shown}
-use Rattle.nv_script.specs.Outcomes.{Act, Reset, Send}
+use Rattle.nv_script.specs.Outcomes.{Act, Send}
 use Rattle.nv_script.specs.EachShown.{EachIsShown, IsListed, IsShown, place_of, places_of}
 use Rattle.nv_script.specs.Outcomes.{Exchange, Order, exchange_by, exchange_of, order_of}
 use Rattle.nv_script.specs.Orders.{errors_command, namespace_orders, orders_of_controller, orders_of_list}

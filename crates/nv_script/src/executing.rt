@@ -17,7 +17,6 @@ use nv_bus::Bus;
 use nv_line::{CtrlList, Line, LineFault, LineReader};
 use nv_print::{Fault, FaultCause, Memory, message};
 use nv_stream::{Sink, write_all};
-use std::alloc::Global;
 
 /// Writes a line's text, made before its first byte goes out. `fault` is the end of the run if the
 /// sink fails.
@@ -58,7 +57,6 @@ fn read_buffer<'a>(
 
 /// Executes one line. `None` is a line of more than 4,095 bytes.
 pub(crate) fn execute_line<B: Bus, O: Sink, M: Sink>(
-    alloc: Global,
     bus: &mut B,
     session: &mut Session,
     out: &mut O,
@@ -95,14 +93,18 @@ pub(crate) fn execute_line<B: Bus, O: Sink, M: Sink>(
                     line: session.number,
                     cause: FaultCause::Line(fault),
                 };
-                return print(messages, message(alloc, &fault), RunEnd::MessageWrite);
+                return print(
+                    messages,
+                    message(session.alloc, &fault),
+                    RunEnd::MessageWrite,
+                );
             }
         },
     };
     match said {
         Line::Skipped => Ok(()),
         Line::Request(request) => match perform(
-            alloc,
+            session.alloc,
             bus,
             &mut session.driver,
             &mut session.answers,
@@ -120,7 +122,11 @@ pub(crate) fn execute_line<B: Bus, O: Sink, M: Sink>(
                     line: session.number,
                     cause: FaultCause::Refused(status),
                 };
-                print(messages, message(alloc, &fault), RunEnd::MessageWrite)
+                print(
+                    messages,
+                    message(session.alloc, &fault),
+                    RunEnd::MessageWrite,
+                )
             }
         },
     }

@@ -87,11 +87,11 @@ impl Listing {
         let reply = answer?;
         match (command, &reply) {
             (Command::IdentifyController, Reply::Controller(identity)) => {
-                self.identity = *identity;
+                self.identity = *identity.get();
             }
             (Command::IdentifyNamespace { nsid }, Reply::Namespace(namespace)) => {
                 self.devices
-                    .push(Device::new(ctrl, *nsid, &self.identity, namespace))?;
+                    .push(Device::new(ctrl, *nsid, &self.identity, namespace.get()))?;
             }
             _ => {}
         }

@@ -14,7 +14,7 @@ pub(crate) fn log_command<'a>(entries: u32, reply: &Reply) -> Command<'a>
     ensures sendable { IsSendable result }
 {
     let kept = match reply {
-        Reply::Controller(controller) => u32::from(controller.elpe) + 1,
+        Reply::Controller(controller) => u32::from(controller.get().elpe) + 1,
         _ => 1,
     };
     let count = cmp::max(cmp::min(entries, kept), 1);

@@ -40,7 +40,6 @@ fn line_room(alloc: Global) -> Bump {
 
 /// Executes the lines that end in a piece of a script, and keeps what follows its last newline.
 fn feed<B: Bus, O: Sink, M: Sink>(
-    alloc: Global,
     bus: &mut B,
     session: &mut Session,
     out: &mut O,
@@ -65,12 +64,12 @@ fn feed<B: Bus, O: Sink, M: Sink>(
     ensures linked { IsLinked (B.meaning bus.new) session.new.driver }
     ensures number { OnOk result (session.new.number ≤ session.old.number + length piece.now) }
 {
-    let room = line_room(alloc);
-    let mut reader = LineReader::new(alloc, &room);
+    let room = line_room(session.alloc);
+    let mut reader = LineReader::new(session.alloc, &room);
     let mut rest = piece;
     while let Some(end) = memchr(b'\n', rest) {
         line.extend(&rest[..end]);
-        execute_line(alloc, bus, session, out, messages, &mut reader, line.line())?;
+        execute_line(bus, session, out, messages, &mut reader, line.line())?;
         line.clear();
         rest = &rest[end + 1..];
     }
@@ -80,7 +79,6 @@ fn feed<B: Bus, O: Sink, M: Sink>(
 
 /// Executes the last piece of a script, if it isn't empty.
 fn finish<B: Bus, O: Sink, M: Sink>(
-    alloc: Global,
     bus: &mut B,
     session: &mut Session,
     out: &mut O,
@@ -103,17 +101,16 @@ fn finish<B: Bus, O: Sink, M: Sink>(
         (O.state out.new).has_failed (M.state messages.new).has_failed }
     ensures linked { IsLinked (B.meaning bus.new) session.new.driver }
 {
-    let room = line_room(alloc);
-    let mut reader = LineReader::new(alloc, &room);
+    let room = line_room(session.alloc);
+    let mut reader = LineReader::new(session.alloc, &room);
     if !line.is_empty() {
-        execute_line(alloc, bus, session, out, messages, &mut reader, line.line())?;
+        execute_line(bus, session, out, messages, &mut reader, line.line())?;
     }
     Ok(session.status)
 }
 
 /// Runs a script with at most this many reads. Each line is executed when its newline is read.
 fn run_session<B: Bus, R: Source, O: Sink, M: Sink>(
-    alloc: Global,
     bus: &mut B,
     session: &mut Session,
     script: &mut R,
@@ -144,13 +141,13 @@ fn run_session<B: Bus, R: Source, O: Sink, M: Sink>(
             if call + 1 == reads {
                 return RunEnd::Read;
             }
-            return match finish(alloc, bus, session, out, messages, &line) {
+            return match finish(bus, session, out, messages, &line) {
                 Ok(status) => RunEnd::Status(status),
                 Err(cut) => cut,
             };
         }
         let piece = &piece[..count];
-        if let Err(cut) = feed(alloc, bus, session, out, messages, &mut line, piece) {
+        if let Err(cut) = feed(bus, session, out, messages, &mut line, piece) {
             return cut;
         }
     }
@@ -186,7 +183,7 @@ pub fn run_within<B: Bus, R: Source, O: Sink, M: Sink>(
     ensures bus { IsBus (B.meaning bus.new) }
 {
     match Session::begin(alloc, bus, geometry) {
-        Ok(mut session) => run_session(alloc, bus, &mut session, script, out, messages, reads),
+        Ok(mut session) => run_session(bus, &mut session, script, out, messages, reads),
         Err(end) => end,
     }
 }

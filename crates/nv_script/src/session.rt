@@ -29,11 +29,12 @@ impl Answers {
     }
 }
 
-/// The state of a run between two lines: the driver of its bus, storage for answers and for the
-/// controllers that a line lists, how many lines there were, and the status of the last one that
-/// has one.
+/// The state of a run between two lines: where it gets memory, the driver of its bus, storage for
+/// answers and for the controllers that a line lists, how many lines there were, and the status of
+/// the last one that has one.
 #[derive(Drop)]
 pub struct Session {
+    pub alloc: Global,
     pub driver: Driver,
     pub answers: Answers,
     pub listed: CtrlList,
@@ -76,6 +77,7 @@ impl Session {
         };
         let driver = Driver::bring_up(alloc, bus, geometry)?;
         Ok(Session {
+            alloc,
             driver,
             answers,
             listed: CtrlList::new(),

@@ -3,9 +3,9 @@
 ghost use Rattle.nv_bus.specs.Bus.{IsBus};
 
 use nv_controller::Machine;
-use nv_layout::{NsList, ThreeBits};
+use nv_layout::ThreeBits;
 use nv_script::{Geometry, GeometryField, OverRead, OverWrite, RunEnd, run};
-use nv_subsystem::{Command, DEMO, FeatureQuery, Reply, Subsystem};
+use nv_subsystem::{Command, DEMO, FeatureQuery, Reply, ReplyRoom, Subsystem};
 use std::alloc::Global;
 use std::process::Abort;
 use std::test::Fail;
@@ -91,11 +91,11 @@ fn expect_cache_off(rt: &impl Abort, machine: &Machine) {
         nsid: 0,
         cdw11: 0,
     });
-    let mut list = NsList::new();
+    let mut room = ReplyRoom::new();
     assert!(rt; machine.subsystem().controllers() == 2);
     assert!(rt;
         matches!(
-            machine.subsystem().answer(0, &get, &mut list),
+            machine.subsystem().answer(0, &get, &mut room),
             Ok(Reply::Number(0))
         )
     );

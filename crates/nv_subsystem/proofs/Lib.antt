@@ -1,5 +1,4 @@
 pub mod TaggedLaws
-pub mod AnswerLaws
 pub mod Filling
 pub mod WithController
 pub mod Capacities

@@ -2,6 +2,7 @@
 
 ghost use Rattle.std.specs.Prelude.{◌≡◌, ◌≤◌, ◌<◌, length, All};
 ghost use Rattle.nv_command.specs.Reply.{page_of};
+ghost use Rattle.nv_command.specs.declared.reply.Reply.TheVariants as reply;
 ghost use Rattle.nv_model.specs.WellFormed.{blocks};
 ghost use Rattle.nv_model.specs.Identify.{active_list_reply, active_namespace, active_reply};
 ghost use Rattle.nv_model.specs.Identify.{active_rows, allocated_list_reply};
@@ -14,7 +15,7 @@ ghost use Rattle.nv_model.specs.inner.Conditions.{Checks};
 use crate::nsid_lists::{allocated_above, attached_above};
 use crate::row::refuse_if;
 use crate::subsystem::Subsystem;
-use nv_command::{BROADCAST_NSID, Refusal, Reply, StatusCode};
+use nv_command::{BROADCAST_NSID, Borrowed, Refusal, Reply, ReplyRoom, StatusCode};
 use nv_layout::{IdNs, Lbaf, NsList};
 use nv_model::{Format, Namespace};
 
@@ -76,17 +77,25 @@ impl Subsystem {
         }
     }
 
-    /// Returns the reply for an active namespace, or for the broadcast NSID what all have in
-    /// common.
-    pub(crate) fn active_reply<'a>(&self, ctrl: u16, nsid: u32) -> Reply<'a>
+    /// Returns the data for an active namespace, or for the broadcast NSID what all have in common.
+    fn active_data(&self, ctrl: u16, nsid: u32) -> IdNs
         requires { ctrl < length self.now.controllers }
-        ensures { result ≡ active_reply self.now ctrl nsid }
+        ensures { active_reply self.now ctrl nsid ≡ reply.Namespace result }
     {
         if nsid == BROADCAST_NSID {
-            Reply::Namespace(common(&self.formats, self.mc))
+            common(&self.formats, self.mc)
         } else {
-            Reply::Namespace(self.active(ctrl, nsid))
+            self.active(ctrl, nsid)
         }
+    }
+
+    /// Stores the reply for an active namespace.
+    pub(crate) fn keep_active(&self, ctrl: u16, nsid: u32, room: &mut ReplyRoom)
+        requires { ctrl < length self.now.controllers }
+        ensures { room.new ≡ active_reply self.now ctrl nsid }
+    {
+        let data = self.active_data(ctrl, nsid);
+        room.keep(&Reply::Namespace(Borrowed::new(&data)));
     }
 
     /// Writes the page of that reply.
@@ -94,18 +103,15 @@ impl Subsystem {
         requires { ctrl < length self.now.controllers }
         ensures { page.new ≡ page_of (active_reply self.now ctrl nsid) }
     {
-        if nsid == BROADCAST_NSID {
-            common(&self.formats, self.mc).put(page);
-        } else {
-            self.active(ctrl, nsid).put(page);
-        }
+        self.active_data(ctrl, nsid).put(page);
     }
 
-    /// Returns the reply for an allocated namespace.
-    pub(crate) fn allocated_reply<'a>(&self, nsid: u32) -> Reply<'a>
-        ensures { result ≡ allocated_reply self.now nsid }
+    /// Stores the reply for an allocated namespace.
+    pub(crate) fn keep_allocated(&self, nsid: u32, room: &mut ReplyRoom)
+        ensures { room.new ≡ allocated_reply self.now nsid }
     {
-        Reply::Namespace(self.allocated(nsid))
+        let data = self.allocated(nsid);
+        room.keep(&Reply::Namespace(Borrowed::new(&data)));
     }
 
     /// Writes the page of that reply.
@@ -115,49 +121,41 @@ impl Subsystem {
         self.allocated(nsid).put(page);
     }
 
-    /// Returns the reply with the NSIDs above `after` that are attached to a controller. It writes
-    /// them to `list`.
-    pub(crate) fn active_list_reply<'a>(
-        &self,
-        ctrl: u16,
-        after: u32,
-        list: &'a mut NsList,
-    ) -> Reply<'a>
+    /// Stores the reply with the NSIDs above `after` that are attached to a controller.
+    pub(crate) fn keep_active_list(&self, ctrl: u16, after: u32, room: &mut ReplyRoom)
         requires { ctrl < length self.now.controllers }
-        ensures { result ≡ active_list_reply self.now ctrl after }
+        ensures { room.new ≡ active_list_reply self.now ctrl after }
     {
-        attached_above(&self.controllers[ctrl as usize].attached, after, list);
-        Reply::List(list.ids())
+        let mut list = NsList::new();
+        attached_above(&self.controllers[ctrl as usize].attached, after, &mut list);
+        room.keep(&Reply::List(list.ids()));
     }
 
-    /// Writes the page of that reply, and its NSIDs to `list`.
-    pub(crate) fn put_active_list(
-        &self,
-        ctrl: u16,
-        after: u32,
-        list: &mut NsList,
-        page: &mut [u8; 4096],
-    )
+    /// Writes the page of that reply.
+    pub(crate) fn put_active_list(&self, ctrl: u16, after: u32, page: &mut [u8; 4096])
         requires { ctrl < length self.now.controllers }
         ensures { page.new ≡ page_of (active_list_reply self.now ctrl after) }
     {
-        attached_above(&self.controllers[ctrl as usize].attached, after, list);
+        let mut list = NsList::new();
+        attached_above(&self.controllers[ctrl as usize].attached, after, &mut list);
         list.put(page);
     }
 
-    /// Returns the reply with the allocated NSIDs above `after`. It writes them to `list`.
-    pub(crate) fn allocated_list_reply<'a>(&self, after: u32, list: &'a mut NsList) -> Reply<'a>
-        ensures { result ≡ allocated_list_reply self.now after }
+    /// Stores the reply with the allocated NSIDs above `after`.
+    pub(crate) fn keep_allocated_list(&self, after: u32, room: &mut ReplyRoom)
+        ensures { room.new ≡ allocated_list_reply self.now after }
     {
-        allocated_above(&self.slots, after, list);
-        Reply::List(list.ids())
+        let mut list = NsList::new();
+        allocated_above(&self.slots, after, &mut list);
+        room.keep(&Reply::List(list.ids()));
     }
 
-    /// Writes the page of that reply, and its NSIDs to `list`.
-    pub(crate) fn put_allocated_list(&self, after: u32, list: &mut NsList, page: &mut [u8; 4096])
+    /// Writes the page of that reply.
+    pub(crate) fn put_allocated_list(&self, after: u32, page: &mut [u8; 4096])
         ensures { page.new ≡ page_of (allocated_list_reply self.now after) }
     {
-        allocated_above(&self.slots, after, list);
+        let mut list = NsList::new();
+        allocated_above(&self.slots, after, &mut list);
         list.put(page);
     }
 }

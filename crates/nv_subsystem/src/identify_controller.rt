@@ -8,7 +8,7 @@ ghost use Rattle.nv_model.specs.IdentifyController.{id_ctrl_of, padded};
 
 use crate::controller::Controller;
 use crate::subsystem::Subsystem;
-use nv_command::Reply;
+use nv_command::{Borrowed, Reply, ReplyRoom};
 use nv_layout::IdCtrl;
 
 /// Returns a text with padding after it.
@@ -78,13 +78,15 @@ impl Subsystem {
         }
     }
 
-    /// Returns the reply with a controller's data.
-    pub(crate) fn controller_reply<'a>(&self, ctrl: u16) -> Reply<'a>
+    /// Stores the reply with a controller's data.
+    pub(crate) fn keep_controller(&self, ctrl: u16, room: &mut ReplyRoom)
         requires { ctrl < length self.now.controllers }
-        ensures { result ≡ controller_reply self.now ctrl }
+        ensures { room.new ≡ controller_reply self.now ctrl }
     {
-        Reply::Controller(self.id_ctrl(&self.controllers[ctrl as usize]))
+        let data = self.id_ctrl(&self.controllers[ctrl as usize]);
+        room.keep(&Reply::Controller(Borrowed::new(&data)));
     }
+
     /// Writes the page of that reply.
     pub(crate) fn put_controller(&self, ctrl: u16, page: &mut [u8; 4096])
         requires { ctrl < length self.now.controllers }

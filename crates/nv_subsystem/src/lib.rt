@@ -42,8 +42,8 @@ mod subsystem;
 mod told;
 
 pub use nv_command::{
-    BROADCAST_NSID, Command, DwordCount, ERROR_INFORMATION, FeatureQuery, FeatureSetting, HEALTH,
-    LogQuery, NewFormat, NewNamespace, Refusal, Reply, ReplyRoom, StatusCode,
+    BROADCAST_NSID, Borrowed, Command, DwordCount, ERROR_INFORMATION, FeatureQuery, FeatureSetting,
+    HEALTH, LogQuery, NewFormat, NewNamespace, Refusal, Reply, ReplyRoom, StatusCode,
 };
 pub use nv_file::{DEMO, Key, SubsystemError, TableName};
 pub use nv_layout::{ControllerIds, FourBits, NsList, ThreeBits};

@@ -12,7 +12,10 @@ ghost use Rattle.nv_model.specs.inner.Conditions.{Checks};
 use crate::controller::Controller;
 use crate::row::check;
 use crate::subsystem::Subsystem;
-use nv_command::{BROADCAST_NSID, ERROR_INFORMATION, HEALTH, LogQuery, Refusal, Reply, StatusCode};
+use nv_command::{
+    BROADCAST_NSID, Borrowed, ERROR_INFORMATION, HEALTH, LogQuery, Refusal, Reply, ReplyRoom,
+    StatusCode,
+};
 use nv_layout::{ErrorEntries, Smart};
 use nv_model::Row;
 
@@ -101,18 +104,20 @@ impl Subsystem {
         ])
     }
 
-    /// Returns the reply with a log of a controller.
-    pub(crate) fn log_reply(&self, ctrl: u16, lid: u8) -> Reply<'_>
+    /// Stores the reply with a log of a controller.
+    pub(crate) fn keep_log(&self, ctrl: u16, lid: u8, room: &mut ReplyRoom)
         requires { ctrl < length self.now.controllers }
-        ensures { result ≡ log_reply self.now ctrl lid }
+        ensures { room.new ≡ log_reply self.now ctrl lid }
     {
         let controller = &self.controllers[ctrl as usize];
         if lid == ERROR_INFORMATION {
-            Reply::Errors(controller.errors())
+            room.keep(&Reply::Errors(controller.errors()));
         } else {
-            Reply::Smart(controller.health())
+            let health = controller.health();
+            room.keep(&Reply::Smart(Borrowed::new(&health)));
         }
     }
+
     /// Fills `out` with the bytes of that log from `from` on, and with zeros past its end.
     pub fn fill_log(&self, ctrl: u16, lid: u8, from: usize, out: &mut [u8])
         requires { ctrl < length self.now.controllers }
@@ -122,7 +127,8 @@ impl Subsystem {
         if lid == ERROR_INFORMATION {
             controller.errors().fill(from, out);
         } else {
-            Reply::Smart(controller.health()).fill(from, out);
+            let health = controller.health();
+            Reply::Smart(Borrowed::new(&health)).fill(from, out);
         }
     }
 }

@@ -26,7 +26,7 @@ use crate::identify::check_list;
 use nv_bits::Slots;
 use nv_command::{Command, Refusal, Reply, ReplyRoom};
 use nv_file::{File, SubsystemError};
-use nv_layout::{ErrorEntry, NsList};
+use nv_layout::ErrorEntry;
 use nv_model::{Format, Namespace, Origin};
 use std::alloc::Global;
 use std::marker::Model;
@@ -186,25 +186,26 @@ impl Subsystem {
         }
     }
 
-    /// Returns the reply to a command that isn't refused. A list is written to `list`; a log is
-    /// borrowed.
-    fn reply<'a>(&'a self, ctrl: u16, command: &Command, list: &'a mut NsList) -> Reply<'a>
+    /// Stores the reply to a command that isn't refused.
+    fn keep_reply(&self, ctrl: u16, command: &Command, room: &mut ReplyRoom)
         requires { ctrl < length self.now.controllers }
-        ensures { result ≡ reply_of self.now ctrl command.now }
+        ensures { room.new ≡ reply_of self.now ctrl command.now }
     {
         match command {
-            Command::IdentifyController => self.controller_reply(ctrl),
-            Command::IdentifyNamespace { nsid } => self.active_reply(ctrl, *nsid),
-            Command::AllocatedNamespace { nsid } => self.allocated_reply(*nsid),
-            Command::ActiveList { after } => self.active_list_reply(ctrl, *after, list),
-            Command::AllocatedList { after } => self.allocated_list_reply(*after, list),
-            Command::Create(_) => Reply::Number(self.created_nsid()),
-            Command::Delete { nsid: _ } => Reply::Done,
-            Command::Attachment { .. } => Reply::Done,
-            Command::Format(_) => Reply::Done,
-            Command::GetFeature(asked) => Reply::Number(self.feature_number(ctrl, *asked)),
-            Command::SetFeature(_) => Reply::Done,
-            Command::GetLog(asked) => self.log_reply(ctrl, asked.lid),
+            Command::IdentifyController => self.keep_controller(ctrl, room),
+            Command::IdentifyNamespace { nsid } => self.keep_active(ctrl, *nsid, room),
+            Command::AllocatedNamespace { nsid } => self.keep_allocated(*nsid, room),
+            Command::ActiveList { after } => self.keep_active_list(ctrl, *after, room),
+            Command::AllocatedList { after } => self.keep_allocated_list(*after, room),
+            Command::Create(_) => room.keep(&Reply::Number(self.created_nsid())),
+            Command::Delete { nsid: _ } => room.keep(&Reply::Done),
+            Command::Attachment { .. } => room.keep(&Reply::Done),
+            Command::Format(_) => room.keep(&Reply::Done),
+            Command::GetFeature(asked) => {
+                room.keep(&Reply::Number(self.feature_number(ctrl, *asked)))
+            }
+            Command::SetFeature(_) => room.keep(&Reply::Done),
+            Command::GetLog(asked) => self.keep_log(ctrl, asked.lid, room),
         }
     }
 
@@ -265,13 +266,13 @@ impl Subsystem {
         self.count(ctrl);
     }
 
-    /// Returns the answer to a command of a controller, without its changes. A list is written to
-    /// `list`, whose contents don't matter before, nor after a refusal; a log is borrowed.
+    /// Returns the answer to a command of a controller, without its changes. The reply is stored in
+    /// `room`, whose contents don't matter after a refusal.
     pub fn answer<'a>(
-        &'a self,
+        &self,
         ctrl: u16,
         command: &Command,
-        list: &'a mut NsList,
+        room: &'a mut ReplyRoom,
     ) -> Result<Reply<'a>, Refusal>
         requires { ctrl < length self.now.controllers }
         ensures answer { result ≡ answer_to self.now ctrl command.now }
@@ -279,7 +280,8 @@ impl Subsystem {
             ≡ answer_to (untagged self.now) ctrl command.now }
     {
         self.check(ctrl, command)?;
-        Ok(self.reply(ctrl, command, list))
+        self.keep_reply(ctrl, command, room);
+        Ok(room.reply())
     }
 
     /// Completes a command that was answered: makes its changes, or records its refusal in the
@@ -320,14 +322,10 @@ impl Subsystem {
             ≡ (step (untagged self.old) ctrl command.now origin.cid).state }
         ensures well_formed { IsWellFormed self.old → IsWellFormed self.new }
     {
-        let mut list = NsList::new();
-        let refusal = match self.answer(ctrl, command, &mut list) {
-            Ok(reply) => {
-                room.keep(&reply);
-                None
-            }
-            Err(refusal) => Some(refusal),
-        };
+        let refusal = self.refusal(ctrl, command);
+        if refusal.is_none() {
+            self.keep_reply(ctrl, command, room);
+        }
         self.settle(ctrl, command, origin, refusal);
         match refusal {
             None => Ok(room.reply()),

@@ -8,7 +8,6 @@ ghost use Rattle.nv_model.specs.Meaning.{refusal_of, reply_of};
 
 use crate::subsystem::Subsystem;
 use nv_command::{Command, Refusal};
-use nv_layout::NsList;
 
 impl Subsystem {
     /// Returns the first refusal of a command of a controller, or none if it is accepted.
@@ -32,15 +31,8 @@ impl Subsystem {
     }
 
     /// Writes the page of the reply to an accepted command, and returns whether it has one. If it
-    /// has none, the contents of `page` don't matter afterwards, and neither do those of `list`,
-    /// before or after.
-    pub fn put_page(
-        &self,
-        ctrl: u16,
-        command: &Command,
-        list: &mut NsList,
-        page: &mut [u8; 4096],
-    ) -> bool
+    /// has none, the contents of `page` don't matter afterwards.
+    pub fn put_page(&self, ctrl: u16, command: &Command, page: &mut [u8; 4096]) -> bool
         requires { ctrl < length self.now.controllers }
         ensures { let bytes = page_of (reply_of self.now ctrl command.now) in
             MatchBool result (page.new ≡ bytes) (bytes ≡ []) }
@@ -49,8 +41,8 @@ impl Subsystem {
             Command::IdentifyController => self.put_controller(ctrl, page),
             Command::IdentifyNamespace { nsid } => self.put_active(ctrl, *nsid, page),
             Command::AllocatedNamespace { nsid } => self.put_allocated(*nsid, page),
-            Command::ActiveList { after } => self.put_active_list(ctrl, *after, list, page),
-            Command::AllocatedList { after } => self.put_allocated_list(*after, list, page),
+            Command::ActiveList { after } => self.put_active_list(ctrl, *after, page),
+            Command::AllocatedList { after } => self.put_allocated_list(*after, page),
             _ => return false,
         }
         true

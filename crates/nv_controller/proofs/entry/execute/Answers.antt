@@ -32,14 +32,14 @@ returns-clause-told g c = elim c.match-refusal.branch [
 pub returns-clause-moved : goal.returns-clause-moved
 returns-clause-moved g c = elim c.match-refusal.branch [
   | in-None w ↦
-      moved_reply c.args.command.now (places c.args.entry_data.now.spans) (g.M.HostMemory.bytes c.args.mem.now)
+      moved_reply c.args.command.now (places c.args.spans.now) (g.M.HostMemory.bytes c.args.mem.now)
       (g.M.HostMemory.bytes c.match-refusal.mem)
       (reply_of c.args.subsystem.now c.args.ctrl c.args.command.now) _
       (answered c.args.subsystem.now c.args.ctrl c.args.command.now c.args.origin.cid c.requires.well_formed
       (sym c.refusal-refusal.ensures ∙ w.in-None.is)).answer
       (ap g.M.HostMemory.bytes w.mem-is ∙ w.deliver.ensures.bytes)
   | in-Some w ↦
-      moved_none c.args.command.now (places c.args.entry_data.now.spans) (g.M.HostMemory.bytes c.args.mem.now)
+      moved_none c.args.command.now (places c.args.spans.now) (g.M.HostMemory.bytes c.args.mem.now)
       (g.M.HostMemory.bytes c.match-refusal.mem) _ _
       (refused_by c.args.subsystem.now c.args.ctrl c.args.command.now c.args.origin.cid _
       (sym c.refusal-refusal.ensures ∙ w.in-Some.is))

@@ -11,7 +11,7 @@ returns-in-Controller-clause-bound g c =
     (omega (
       arith,
       id_ctrl_json c.in-Controller.identity,
-      c.send_id_ctrl.ensures.texts,
+      rw (c.get.ensures) at c.send_id_ctrl.ensures.texts,
     ))) c.send_id_ctrl.ensures.value
 
 pub returns-in-Namespace-clause-bound : goal.returns-in-Namespace-clause-bound

@@ -8,12 +8,12 @@ use Rattle.nv_print.proofs.shown.string_of.Goals as goal
 pub returns-in-Controller-clause-bound : goal.returns-in-Controller-clause-bound
 returns-in-Controller-clause-bound c =
     text_within c.id_ctrl_text.result _ _ c.id_ctrl_text.ensures.value
-    (omega (arith, id_ctrl_text c.in-Controller.identity, c.id_ctrl_text.ensures.texts))
+    (omega (arith, id_ctrl_text c.get.result.now, c.id_ctrl_text.ensures.texts))
 
 pub returns-in-Namespace-clause-bound : goal.returns-in-Namespace-clause-bound
 returns-in-Namespace-clause-bound c =
     text_within c.namespace_text.result _ _ c.namespace_text.ensures
-    (omega (arith, namespace_text_length c.in-Namespace.namespace))
+    (omega (arith, namespace_text_length c.get-in-Namespace.result.now))
 
 pub returns-in-NsList-clause-bound : goal.returns-in-NsList-clause-bound
 returns-in-NsList-clause-bound c =
@@ -23,7 +23,7 @@ returns-in-NsList-clause-bound c =
 pub returns-in-Smart-clause-bound : goal.returns-in-Smart-clause-bound
 returns-in-Smart-clause-bound c =
     text_within c.smart_text.result _ _ c.smart_text.ensures
-    (omega (arith, smart_text c.in-Smart.smart))
+    (omega (arith, smart_text c.get-in-Smart.result.now))
 
 pub returns-in-Errors-clause-bound : goal.returns-in-Errors-clause-bound
 returns-in-Errors-clause-bound c =
