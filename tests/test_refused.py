@@ -23,6 +23,7 @@ class Refusing(Case):
 class EachAllocation(Refusing):
     script = b'list-ns /dev/nvme0\nid-ctrl /dev/nvme0 -o json\nlist\nsmart-log /dev/nvme1\n'
     request = (TOP / 'crates/nvme_device/stdin').read_bytes()
+    operations = b'subsystem\nbring_up\npassthrough 0 6 cdw10=2 room=8\nsaw\n'
     other_file = '--subsystem', 'examples/two_controllers.toml'
 
     def each(self, crate, *arguments, source, looks_itself=False):
@@ -53,6 +54,9 @@ class EachAllocation(Refusing):
 
     def test_device(self):
         self.each('nvme_device', source=self.request)
+
+    def test_bench(self):
+        self.each('nvme_bench', source=self.operations)
 
     def test_device_of_another_file(self):
         self.each('nvme_device', *self.other_file, source=self.request)

@@ -6,7 +6,8 @@ stands for N times HH, and a line `> include NAME` for the operations of the fil
 many commands are computed.
 
 `@sqe(KEY=NUMBER ..)`, `@cqe(..)` and `@error_entry(..)` stand for the bytes of such an entry, whose other fields are 0,
-and `@id_ns(..)` for the first bytes of the data that creates a namespace.
+and `@id_ns(..)` for the first bytes of the data that creates a namespace. `@enable(ctrl=NUMBER aqa=.. asq=.. acq=..
+cc=..)` stands for the register writes that enable a controller, as `saw` answers them.
 
 `@NAME` stands for the bytes of a subsystem file of examples/, such as `@demo.toml`, and `@NAME["OLD", "NEW"]` for those
 of the file with NEW in place of OLD. There may be more such pairs. `@"TEXT"` stands for the bytes of a text. In these
@@ -32,6 +33,7 @@ REPEATED = re.compile(r"\(([0-9a-f]{2})\*([0-9]+)\)")
 REPEATED_TEXT = re.compile(r"\(([^()]+)\*([0-9]+)\)")
 FILE = re.compile(r'@(?:([a-z_]+\.toml)(\[.*\])?|(".*"))')
 ENTRY = re.compile(r"@(sqe|cqe|error_entry|id_ns)\(([^()]*)\)")
+ENABLE = re.compile(r"@enable\(([^()]*)\)")
 
 # The places of the fields of entries, the lowest byte of each field first, and their keys in this order. Reserved
 # fields are 0. Sections "Submission Queue Entry - Command Format", "Completion Queue Entry", "Error Information (Log
@@ -44,10 +46,15 @@ LAYOUTS = {
 }
 
 
+def numbers_in(fields):
+    """Returns the number of each field."""
+    return {key: int(number, 0) for key, number in (field.split("=") for field in fields.split())}
+
+
 def entry_of(kind, fields):
     """Returns an entry's bytes, in hexadecimal digits."""
     layout, keys = LAYOUTS[kind]
-    values = {key: int(number, 0) for key, number in (field.split("=") for field in fields.split())}
+    values = numbers_in(fields)
     values["status_and_phase"] = values.pop("status", 0) << 1 | values.pop("phase", 0)
     values["flags"] = values.pop("fuse", 0) | values.pop("psdt", 0) << 6
     numbers = [values.pop(key, 0) for key in keys.split()]
@@ -59,6 +66,19 @@ def entry_of(kind, fields):
 def with_entries(text):
     """Returns the text with each entry written out."""
     return ENTRY.sub(lambda entry: entry_of(entry[1], entry[2]), text)
+
+
+def enabling(ctrl, aqa, asq, acq, cc):
+    """Returns the register writes that enable a controller: CC without EN, AQA, both halves of ASQ and of ACQ, and CC.
+    Sections "Register Definition" and "Controller Initialization"."""
+    addresses = (asq % 2**32, asq >> 32, acq % 2**32, acq >> 32)
+    writes = zip((0x14, 0x24, 0x28, 0x2C, 0x30, 0x34, 0x14), (0, aqa, *addresses, cc))
+    return ",".join(f"{ctrl:#x},{offset:#x},{dword:#x}" for offset, dword in writes)
+
+
+def with_writes(text):
+    """Returns the text with the writes of each `@enable` written out."""
+    return ENABLE.sub(lambda fields: enabling(**numbers_in(fields[1])), text)
 
 
 def with_repeats(text):
@@ -93,7 +113,7 @@ def with_file(text):
 
 
 def written_out(text):
-    return with_repeats(with_entries(with_file(text)))
+    return with_repeats(with_writes(with_entries(with_file(text))))
 
 
 def rows_of(path):

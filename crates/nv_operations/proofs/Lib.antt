@@ -6,3 +6,4 @@ pub mod ListLaws
 pub mod AnswerLaws
 pub mod DeviceLaws
 pub mod ReplyLaws
+pub mod SendingLaws

@@ -1,10 +1,9 @@
 -- The controllers of a subsystem with their driver: the answers of the operations on them, and what they leave.
-use Rattle.std.specs.Prelude.{◌≡◌, ℕ, ◌<◌, ◌≤◌, List, [], ◌∷◌, Option, Some, None, Result, Ok, Err, MatchResult}
-use Rattle.std.specs.Prelude.{codes, if◌then◌else◌, length, nat_lt}
+use Rattle.std.specs.Prelude.{◌≡◌, ℕ, ◌⊎◌, ◌<◌, ◌≤◌, List, [], ◌∷◌, Option, Some, None, MatchOption, Result, Ok}
+use Rattle.std.specs.Prelude.{Err, MatchResult, codes, if◌then◌else◌, length, nat_lt}
 use Rattle.nv_host.specs.Pages.{PagedBytes}
 use Rattle.nv_layout.specs.Status.{number_of_status}
 use Rattle.nv_layout.specs.declared.sqe.Sqe.{Sqe}
-use Rattle.nv_command.specs.Logs.{IsSendable}
 use Rattle.nv_command.specs.Received.{answer_received}
 use Rattle.nv_command.specs.declared.command.Command.{Command}
 use Rattle.nv_command.specs.declared.status_code.StatusCode.{StatusCode}
@@ -13,7 +12,8 @@ use Rattle.nv_bus.specs.Bus.{BusValue, IsBus, enabled_in}
 use Rattle.nv_bus.specs.Entry.{told_by}
 use Rattle.nv_bus.specs.declared.told.Told.{Told}
 use Rattle.nv_driver.specs.Alone.{IsReceived, asked_in, entry_step}
-use Rattle.nv_driver.specs.Driver.{HasEntryPages, after_command, after_reset, driver_with, pair_at}
+use Rattle.nv_driver.specs.Batch.{answers_of, state_after}
+use Rattle.nv_driver.specs.Driver.{HasEntryPages, after_command, after_commands, after_reset, driver_with, pair_at}
 use Rattle.nv_driver.specs.Layout.{pages_of_entry}
 use Rattle.nv_driver.specs.Registers.{banks_of}
 use Rattle.nv_driver.specs.Settled.{DriverValue}
@@ -24,17 +24,21 @@ use Rattle.nv_operations.specs.Field.{word_of}
 use Rattle.nv_operations.specs.Commands.{command_in}
 use Rattle.nv_operations.specs.Controllers.{Asked, powered_in}
 use Rattle.nv_operations.specs.Replies.{fields_of_answer}
+use Rattle.nv_operations.specs.Seen.{SeenValue, TellsSeen, nothing_seen}
+use Rattle.nv_operations.specs.Sending.{AreCommands, AreHeld, IsHeld, answers_from}
 use Rattle.nv_operations.specs.declared.controller_operation.ControllerOperation.{ControllerOperation}
 use Rattle.nv_operations.specs.ControllerOperations.{is_by_hand}
 use Rattle.nv_operations.specs.declared.driver_operation.DriverOperation.{DriverOperation}
-use Rattle.nv_operations.specs.declared.driver_operation.DriverOperation.TheVariants.{Admin, Passthrough, Reset}
+use Rattle.nv_operations.specs.declared.driver_operation.DriverOperation.TheVariants.{Admin, AdminAll, Passthrough}
+use Rattle.nv_operations.specs.declared.driver_operation.DriverOperation.TheVariants.{Reset, Saw}
 use Rattle.nv_operations.specs.declared.refusal.Refusal.{Refusal}
 use Rattle.nv_operations.specs.declared.refusal.Refusal.TheVariants as refusal
 
--- the controllers, and their driver, if they have one
+-- the controllers, their driver, if they have one, and what their bus saw of it
 pub record DeviceValue : Type 0 where
   pub bus : BusValue
   pub driver : Option DriverValue
+  pub seen : SeenValue
 
 -- the registers are as the driver left them, and its pages hold the data of any entry
 abbrev pub IsLeft : BusValue → Option DriverValue → Type 0
@@ -47,7 +51,7 @@ pub record IsDevice (b : BusValue) (driver : Option DriverValue) : Type 0 where
 
 -- the controllers of a file's subsystem after power on have no driver
 abbrev pub without_driver : Result BusValue Refusal → Result DeviceValue Refusal
-without_driver (Ok b) = Ok (record { bus = b; driver = None })
+without_driver (Ok b) = Ok (record { bus = b; driver = None; seen = nothing_seen })
 without_driver (Err r) = Err r
 
 abbrev pub device_of : List ℕ → Result DeviceValue Refusal
@@ -68,7 +72,8 @@ abbrev pub PerformsOn : ControllerOperation → List Field → DeviceValue → P
     → Result (List Field) Refusal → DeviceValue → PagedBytes → Type 0
 PerformsOn o fs old m outcome new m' =
     MatchResult (controller_in old.bus (word_of (codes "ctrl") fs))
-    (λ c. Asked o c fs old.bus m outcome new.bus m' × (new.driver ≡ driver_after o old.driver))
+    (λ c. Asked o c fs old.bus m outcome new.bus m'
+    × (new ≡ record old { bus = new.bus; driver = driver_after o old.driver }))
     (λ r. (outcome ≡ Err r) × (new ≡ old) × (m' ≡ m))
 
 -- ---- what the fields of a line ask for
@@ -193,22 +198,36 @@ abbrev pub SendsCommand : ℕ → Result Command StatusCode → List Field
 SendsCommand c (Ok k) fields b d b' d' = IsAnswered c k fields b d b' d'
 SendsCommand c (Err code) fields b d b' d' = ⊥
 
--- why a command isn't sent: the entry encodes none, or the command asks for a part of a log
-abbrev pub IsHeld : Result Command StatusCode → Refusal → DriverValue → ℕ → Type 0
-IsHeld (Err code) r d c = (r ≡ refusal.Status code) × (c < length d.pairs)
-IsHeld (Ok k) r d c = (r ≡ refusal.PartOfLog) × (c < length d.pairs) × (IsSendable k → ⊥)
-
-abbrev pub HoldsBack : Refusal → Option DriverValue → ℕ → Result Command StatusCode → Type 0
-HoldsBack refusal.NoDriver driver c k = Lacks refusal.NoDriver driver c
-HoldsBack refusal.NoController driver c k = Lacks refusal.NoController driver c
-HoldsBack r (Some d) c k = IsHeld k r d c
-HoldsBack r None c k = ⊥
+-- why nothing is sent: there is no driver, it doesn't have this controller, or something is held back
+abbrev pub HoldsBack : Refusal → Option DriverValue → ℕ → (Refusal → Type 0) → Type 0
+HoldsBack r None c Held = r ≡ refusal.NoDriver
+HoldsBack r (Some d) c Held =
+    ((r ≡ refusal.NoController) × (length d.pairs ≤ c)) ⊎ ((c < length d.pairs) × Held r)
 
 abbrev pub Administers : List Field → DeviceValue → Result (List Field) Refusal → DeviceValue → Type 0
 Administers fs old outcome new =
     let c = word_of (codes "ctrl") fs in
     MatchResult outcome (λ fields. ByDriver old new (SendsCommand c (command_in fs) fields))
-    (λ r. HoldsBack r old.driver c (command_in fs) × (new ≡ old))
+    (λ r. HoldsBack r old.driver c (IsHeld (command_in fs)) × (new ≡ old))
+
+-- commands were sent to controller c
+pub record AreAnswered (c : ℕ) (ks : List Command) (fields : List Field)
+    (b : BusValue) (d : DriverValue) (b' : BusValue) (d' : DriverValue) : Type 0 where
+  pub told : fields ≡ answers_from 0 (answers_of c b.state (pair_at d.pairs c).serial ks)
+  pub state : b'.state ≡ state_after c b.state (pair_at d.pairs c).serial ks
+  pub driver : d' ≡ after_commands d c (length ks)
+
+-- the commands of a line's entries were sent to controller c
+abbrev pub SendsCommands : ℕ → List Field → List Field
+    → BusValue → DriverValue → BusValue → DriverValue → Type 0
+SendsCommands c fs fields b d b' d' =
+    (ks : List Command) × AreCommands fs ks × AreAnswered c ks fields b d b' d'
+
+abbrev pub AdministersAll : List Field → DeviceValue → Result (List Field) Refusal → DeviceValue → Type 0
+AdministersAll fs old outcome new =
+    let c = word_of (codes "ctrl") fs in
+    MatchResult outcome (λ fields. ByDriver old new (SendsCommands c fs fields))
+    (λ r. HoldsBack r old.driver c (AreHeld fs) × (new ≡ old))
 
 abbrev pub Resets : List Field → DeviceValue → Result (List Field) Refusal → DeviceValue → Type 0
 Resets fs old outcome new =
@@ -216,9 +235,18 @@ Resets fs old outcome new =
     MatchResult outcome (λ fields. (fields ≡ []) × ByDriver old new (IsReset c))
     (λ r. Lacks r old.driver c × (new ≡ old))
 
+-- what the bus saw of the driver is told and forgotten
+abbrev pub Tells : DeviceValue → Result (List Field) Refusal → DeviceValue → Type 0
+Tells old outcome new =
+    MatchOption old.driver ((outcome ≡ Err refusal.NoDriver) × (new ≡ old))
+    (λ _. MatchResult outcome (λ fields. TellsSeen old.seen fields new.seen) (λ _. ⊥)
+    × (new ≡ record old { seen = new.seen }))
+
 -- the operation of the driver; if it is refused, nothing changes
 abbrev pub Drives : DriverOperation → List Field → DeviceValue → Result (List Field) Refusal
     → DeviceValue → Type 0
 Drives Admin fs old outcome new = Administers fs old outcome new
+Drives AdminAll fs old outcome new = AdministersAll fs old outcome new
 Drives Passthrough fs old outcome new = Sends fs old outcome new
 Drives Reset fs old outcome new = Resets fs old outcome new
+Drives Saw fs old outcome new = Tells old outcome new

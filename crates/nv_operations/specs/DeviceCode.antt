@@ -6,8 +6,10 @@ use Rattle.nv_controller.specs.BusCode.{bus_code}
 use Rattle.nv_driver.specs.Settled.{DriverValue}
 use Rattle.nv_driver.specs.contracts.driver.Driver as driver_type
 use Rattle.nv_operations.specs.Device.{DeviceValue}
+use Rattle.nv_operations.specs.Seen.{SeenValue}
+use Rattle.nv_operations.specs.contracts.seen.Seen as seen_type
 
 abbrev pub device_code : Coded DeviceValue
-device_code = code_by (BusValue × Option DriverValue)
-    (coded× bus_code (coded_option driver_type.the_row.coded))
-    (λ d. (d.bus, d.driver)) (λ p. record { bus = p.0; driver = p.1 }) (λ _. refl)
+device_code = code_by (BusValue × (Option DriverValue × SeenValue))
+    (coded× bus_code (coded× (coded_option driver_type.the_row.coded) seen_type.the_row.coded))
+    (λ d. (d.bus, (d.driver, d.seen))) (λ p. record { bus = p.0; driver = p.1.0; seen = p.1.1 }) (λ _. refl)

@@ -12,6 +12,8 @@ pub mod Records
 pub mod CommandFields
 pub mod Commands
 pub mod Replies
+pub mod Sending
+pub mod Seen
 pub mod HostRings
 pub mod DeviceRings
 pub mod Registers

@@ -78,7 +78,7 @@ operations =
     ++ Subsystem ∷ Controllers ∷ []
     ++ map Controller (asked.Read ∷ asked.Write ∷ asked.Turn ∷ asked.Counts ∷ asked.LogEntry ∷ [])
     ++ BringUp ∷ []
-    ++ map Driver (driven.Admin ∷ driven.Passthrough ∷ driven.Reset ∷ [])
+    ++ map Driver (driven.Admin ∷ driven.AdminAll ∷ driven.Passthrough ∷ driven.Reset ∷ driven.Saw ∷ [])
 
 abbrev pub operation_named : List ℕ → List ℕ → Option Operation
 operation_named first second = find (is_named first second) operations

@@ -52,3 +52,4 @@ refusal_text refusal.NoEntry = codes "no such entry"
 refusal_text (refusal.Geometry field) = codes "geometry: " ++ field_name field
 refusal_text refusal.NoDriver = codes "no driver"
 refusal_text refusal.PartOfLog = codes "part of a log"
+refusal_text refusal.Entries = codes "not 1 to 64 whole entries"

@@ -1,11 +1,12 @@
 //! The controllers of a subsystem with their driver.
 
-ghost use Rattle.std.specs.Prelude.{◌≡◌, ◌<◌, IfOk, Some, length};
+ghost use Rattle.std.specs.Prelude.{◌≡◌, ◌<◌, All, IfOk, Some, length};
 ghost use Rattle.nv_command.specs.Logs.{IsSendable};
 ghost use Rattle.nv_layout.specs.Sqe.{SqeFits};
 ghost use Rattle.nv_driver.specs.Geometry.{fault_of};
-ghost use Rattle.nv_operations.specs.Device.{Administers, BringsUp, Drives, IsAnswered, IsDevice};
-ghost use Rattle.nv_operations.specs.Device.{PerformsOn, Resets, Sends, SendsBy};
+ghost use Rattle.nv_operations.specs.Device.{Administers, AdministersAll, AreAnswered, BringsUp, Drives};
+ghost use Rattle.nv_operations.specs.Device.{IsAnswered, IsDevice, PerformsOn, Resets, Sends};
+ghost use Rattle.nv_operations.specs.Device.{SendsBy, Tells};
 ghost use Rattle.nv_operations.specs.Device.{device_of};
 ghost use Rattle.nv_operations.specs.Device.{controller_in, dword_or, entry_in, geometry_in, told_fields};
 
@@ -16,10 +17,14 @@ use crate::field::Field;
 use crate::fields::{Fields, array_of};
 use crate::items::Items;
 use crate::refusal::Refusal;
-use crate::replies::{answer_fields, is_sendable};
+use crate::replies::answer_fields;
+use crate::sending::{
+    all_fit, answers_fields, are_whole_entries, new_places, new_slots, read_commands, read_sendable,
+};
 use crate::value::Value;
+use crate::watched::Watched;
+use nv_bus::Bus;
 use nv_command::Command;
-use nv_controller::{Bus, Machine};
 use nv_driver::{AnswerSlot, Driver, DriverError, Geometry, Told};
 use nv_host::FlatMemory;
 use nv_layout::{CtrlList, Sqe};
@@ -30,7 +35,7 @@ use std::marker::Model;
 /// the controllers directly since.
 #[derive(Drop)]
 pub struct Device {
-    machine: Machine,
+    bus: Watched,
     driver: Option<Driver>,
 }
 
@@ -43,9 +48,9 @@ impl Model for Device {
 
     ghost coded = { device_code };
 
-    ghost view = { λ d. record { bus = d.machine; driver = d.driver } };
+    ghost view = { λ d. record { bus = d.bus.machine; driver = d.driver; seen = d.bus.seen } };
 
-    ghost invariant = { λ d. IsDevice d.machine d.driver };
+    ghost invariant = { λ d. IsDevice d.bus.machine d.driver };
 }
 
 /// Returns the number of an optional field, or else `otherwise`.
@@ -108,20 +113,20 @@ fn told_fields(alloc: Global, told: Told, came: Vec<u8>) -> Result<Fields, Alloc
 /// bytes that came.
 fn pass_through(
     alloc: Global,
-    machine: &mut Machine,
+    bus: &mut Watched,
     driver: &mut Driver,
     ctrl: u16,
     fields: &Fields,
 ) -> Result<Fields, AllocError>
     requires ctrl { ctrl < length driver.old.pairs }
-    requires device { IsDevice machine.old (Some driver.old) }
+    requires device { IsDevice bus.old.machine (Some driver.old) }
     ensures sent { IfOk result (λ told. SendsBy
-        ctrl fields.now told machine.old driver.old machine.new driver.new) }
-    ensures device { IsDevice machine.new (Some driver.new) }
+        ctrl fields.now told bus.old.machine driver.old bus.new.machine driver.new) }
+    ensures device { IsDevice bus.new.machine (Some driver.new) }
 {
     let mut came = vec![in alloc; 0u8; fields.qword("room") as usize]?;
     let told = driver.passthrough(
-        machine,
+        bus,
         ctrl,
         &entry_in(fields),
         fields.bytes("data"),
@@ -135,22 +140,44 @@ fn pass_through(
 #[tactic(auto, using(nv_driver::proofs::PassthroughLaws::room_stays))]
 fn send_command(
     alloc: Global,
-    machine: &mut Machine,
+    bus: &mut Watched,
     driver: &mut Driver,
     ctrl: u16,
     command: &Command,
 ) -> Result<Fields, AllocError>
     requires ctrl { ctrl < length driver.old.pairs }
-    requires device { IsDevice machine.old (Some driver.old) }
+    requires device { IsDevice bus.old.machine (Some driver.old) }
     requires sends { IsSendable command.now }
     ensures answered { IfOk result (λ told. IsAnswered
-        ctrl command.now told machine.old driver.old machine.new driver.new) }
-    ensures device { IsDevice machine.new (Some driver.new) }
+        ctrl command.now told bus.old.machine driver.old bus.new.machine driver.new) }
+    ensures device { IsDevice bus.new.machine (Some driver.new) }
 {
     command.fits();
     let mut slot = AnswerSlot::new();
-    let answer = driver.admin(machine, ctrl, command, &mut slot);
+    let answer = driver.admin(bus, ctrl, command, &mut slot);
     answer_fields(alloc, &answer)
+}
+
+/// Sends commands to a controller, and returns the fields of their replies.
+#[tactic(auto, using(nv_driver::proofs::PassthroughLaws::room_stays))]
+fn send_commands(
+    alloc: Global,
+    bus: &mut Watched,
+    driver: &mut Driver,
+    ctrl: u16,
+    commands: &[Command],
+) -> Result<Fields, AllocError>
+    requires ctrl { ctrl < length driver.old.pairs }
+    requires device { IsDevice bus.old.machine (Some driver.old) }
+    requires sends { All IsSendable commands.now }
+    ensures answered { IfOk result (λ told. AreAnswered
+        ctrl commands.now told bus.old.machine driver.old bus.new.machine driver.new) }
+    ensures device { IsDevice bus.new.machine (Some driver.new) }
+{
+    all_fit(commands);
+    let mut slots = new_slots(alloc, commands.len())?;
+    driver.admin_all(bus, ctrl, commands, slots.as_mut_slice());
+    answers_fields(alloc, slots.as_slice())
 }
 
 impl Device {
@@ -161,7 +188,7 @@ impl Device {
     {
         match power_on(alloc, file)? {
             Ok(machine) => Ok(Ok(Device {
-                machine,
+                bus: Watched::new(alloc, machine),
                 driver: None,
             })),
             Err(refusal) => Ok(Err(refusal)),
@@ -172,7 +199,7 @@ impl Device {
     pub(crate) fn controllers(&self) -> u16
         ensures { result ≡ length self.now.bus.banks }
     {
-        self.machine.controllers()
+        self.bus.controllers()
     }
 
     /// Returns the number of a controller, if there is such a controller.
@@ -203,10 +230,9 @@ impl Device {
             Ok(ctrl) => {
                 if operation.is_by_hand() {
                     self.driver = None;
-                    ask(alloc, &mut self.machine, memory, operation, ctrl, fields)
-                } else {
-                    ask(alloc, &mut self.machine, memory, operation, ctrl, fields)
                 }
+                let machine = &mut self.bus.machine;
+                ask(alloc, machine, memory, operation, ctrl, fields)
             }
             Err(refusal) => Ok(Err(refusal)),
         }
@@ -227,7 +253,8 @@ impl Device {
         if let Err(field) = geometry.check() {
             return Ok(Err(Refusal::Geometry(field)));
         }
-        match Driver::bring_up_for_entries(alloc, &mut self.machine, geometry) {
+        self.bus.begin(alloc)?;
+        match Driver::bring_up_for_entries(alloc, &mut self.bus, geometry) {
             Ok(driver) => {
                 let pages = driver.pages();
                 self.driver = Some(driver);
@@ -256,7 +283,7 @@ impl Device {
         if usize::from(ctrl) >= driver.controllers() {
             return Ok(Err(Refusal::NoController));
         }
-        Ok(Ok(pass_through(alloc, &mut self.machine, driver, ctrl, fields)?))
+        Ok(Ok(pass_through(alloc, &mut self.bus, driver, ctrl, fields)?))
     }
 
     /// Sends the command of an entry to a controller, and returns the fields of its reply.
@@ -276,14 +303,40 @@ impl Device {
         }
         let entry = Sqe::get(&array_of(fields.bytes("entry")));
         let mut place = CtrlList::new();
-        let command = match Command::of(&entry, fields.bytes("sent"), &mut place) {
-            Ok(command) => command,
-            Err(code) => return Ok(Err(Refusal::Status(code))),
-        };
-        if !is_sendable(&command) {
-            return Ok(Err(Refusal::PartOfLog));
+        match read_sendable(&entry, fields.bytes("sent"), &mut place) {
+            Ok(command) => Ok(Ok(send_command(alloc, &mut self.bus, driver, ctrl, &command)?)),
+            Err(refusal) => Ok(Err(refusal)),
         }
-        Ok(Ok(send_command(alloc, &mut self.machine, driver, ctrl, &command)?))
+    }
+
+    /// Sends the commands of several entries to a controller, and returns the fields of their
+    /// replies.
+    fn administer_all(
+        &mut self,
+        alloc: Global,
+        fields: &Fields,
+    ) -> Result<Result<Fields, Refusal>, AllocError>
+        ensures { IfOk result (λ outcome. AdministersAll fields.now self.old outcome self.new) }
+    {
+        let ctrl = fields.word("ctrl");
+        let Some(driver) = &mut self.driver else {
+            return Ok(Err(Refusal::NoDriver));
+        };
+        if usize::from(ctrl) >= driver.controllers() {
+            return Ok(Err(Refusal::NoController));
+        }
+        let len = fields.bytes("entries").len();
+        if !are_whole_entries(len) {
+            return Ok(Err(Refusal::Entries));
+        }
+        let mut places = new_places(alloc, len / 64)?;
+        match read_commands(alloc, fields, places.as_mut_slice())? {
+            Ok(commands) => {
+                let commands = commands.as_slice();
+                Ok(Ok(send_commands(alloc, &mut self.bus, driver, ctrl, commands)?))
+            }
+            Err(refusal) => Ok(Err(refusal)),
+        }
     }
 
     /// Resets a controller.
@@ -297,10 +350,20 @@ impl Device {
         if usize::from(ctrl) >= driver.controllers() {
             return Err(Refusal::NoController);
         }
-        match driver.reset(&mut self.machine, ctrl) {
+        match driver.reset(&mut self.bus, ctrl) {
             Ok(()) => Ok(Fields::new(alloc)),
             Err(_) => unreachable!(),
         }
+    }
+
+    /// Returns what the bus saw of the driver, as fields, and forgets it.
+    fn tell(&mut self, alloc: Global) -> Result<Result<Fields, Refusal>, AllocError>
+        ensures { IfOk result (λ outcome. Tells self.old outcome self.new) }
+    {
+        if self.driver.is_none() {
+            return Ok(Err(Refusal::NoDriver));
+        }
+        Ok(Ok(self.bus.seen.tell(alloc)?))
     }
 
     /// Performs an operation on the driver, if there is one and it has the controller.
@@ -315,8 +378,10 @@ impl Device {
     {
         match operation {
             DriverOperation::Admin => self.administer(alloc, fields),
+            DriverOperation::AdminAll => self.administer_all(alloc, fields),
             DriverOperation::Passthrough => self.send(alloc, fields),
             DriverOperation::Reset => Ok(self.reset(alloc, fields)),
+            DriverOperation::Saw => self.tell(alloc),
         }
     }
 }

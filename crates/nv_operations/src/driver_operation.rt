@@ -2,8 +2,8 @@
 
 ghost use Rattle.std.specs.Prelude.{◌≡◌, IfOk, map};
 ghost use Rattle.nv_operations.specs.Field.{fields_in};
-ghost use Rattle.nv_operations.specs.DriverOperations.{admin_rows, bring_up_rows, driver_rows, driver_word};
-ghost use Rattle.nv_operations.specs.DriverOperations.{passthrough_rows, reset_rows};
+ghost use Rattle.nv_operations.specs.DriverOperations.{admin_all_rows, admin_rows, bring_up_rows};
+ghost use Rattle.nv_operations.specs.DriverOperations.{driver_rows, driver_word, passthrough_rows, reset_rows};
 
 use crate::fields::Fields;
 use crate::reading::read_fields;
@@ -16,10 +16,14 @@ use std::alloc::{AllocError, Global};
 pub enum DriverOperation {
     /// Sends a command to a controller.
     Admin,
+    /// Sends several commands to a controller.
+    AdminAll,
     /// Sends an entry to a controller.
     Passthrough,
     /// Resets a controller.
     Reset,
+    /// Returns what the bus saw of the driver.
+    Saw,
 }
 
 /// Returns the rows of a geometry's fields.
@@ -46,6 +50,18 @@ fn admin_rows() -> [Row; 3]
         Row::word("ctrl").needed(),
         Row::bytes("entry", 64).needed(),
         Row::bytes("sent", 8192),
+    ]
+}
+
+/// Returns the rows for the entries of commands and the data that the host sends with them.
+#[tactic(auto, unfolding(crate::specs::DriverOperations::admin_all_rows))]
+fn admin_all_rows() -> [Row; 3]
+    ensures { result ≡ admin_all_rows }
+{
+    [
+        Row::word("ctrl").needed(),
+        Row::bytes("entries", 4096).needed(),
+        Row::bytes("sent", 262_144),
     ]
 }
 
@@ -84,8 +100,10 @@ impl DriverOperation {
     {
         match self {
             DriverOperation::Admin => "admin",
+            DriverOperation::AdminAll => "admin_all",
             DriverOperation::Passthrough => "passthrough",
             DriverOperation::Reset => "reset",
+            DriverOperation::Saw => "saw",
         }
     }
 
@@ -100,8 +118,10 @@ impl DriverOperation {
     {
         match self {
             DriverOperation::Admin => read_fields(alloc, &admin_rows(), words),
+            DriverOperation::AdminAll => read_fields(alloc, &admin_all_rows(), words),
             DriverOperation::Passthrough => read_fields(alloc, &passthrough_rows(), words),
             DriverOperation::Reset => read_fields(alloc, &reset_rows(), words),
+            DriverOperation::Saw => read_fields(alloc, &[], words),
         }
     }
 }

@@ -115,6 +115,14 @@ impl Fields {
         Ok(())
     }
 
+    /// Appends other fields.
+    pub(crate) fn append(&mut self, others: Fields) -> Result<(), AllocError>
+        ensures { IfOk result (λ _. self.new ≡ self.old ++ others) }
+    {
+        let mut others = others.fields;
+        self.fields.append(&mut others)
+    }
+
     /// Returns the fields as a slice.
     pub fn as_slice(&self) -> &[Field]
         ensures { result.now ≡ self.now }

@@ -34,11 +34,14 @@ mod registers;
 mod replies;
 mod rings;
 mod row;
+mod seen;
+mod sending;
 mod session;
 mod shown;
 mod slip;
 mod transfers;
 mod value;
+mod watched;
 mod words;
 
 pub use answering::{Request, read_line};

@@ -56,7 +56,7 @@ pub enum Operation {
 }
 
 /// All operations.
-const OPERATIONS: [Operation; 62] = [
+const OPERATIONS: [Operation; 64] = [
     Operation::Put(RecordKind::Sqe),
     Operation::Put(RecordKind::Cqe),
     Operation::Put(RecordKind::Status),
@@ -117,8 +117,10 @@ const OPERATIONS: [Operation; 62] = [
     Operation::Controller(ControllerOperation::LogEntry),
     Operation::BringUp,
     Operation::Driver(DriverOperation::Admin),
+    Operation::Driver(DriverOperation::AdminAll),
     Operation::Driver(DriverOperation::Passthrough),
     Operation::Driver(DriverOperation::Reset),
+    Operation::Driver(DriverOperation::Saw),
 ];
 
 impl Operation {

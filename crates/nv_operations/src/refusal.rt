@@ -64,6 +64,8 @@ pub enum Refusal {
     NoDriver,
     /// A command asks for a part of a log, which no driver can decode.
     PartOfLog,
+    /// Bytes aren't those of 1 to 64 entries.
+    Entries,
 }
 
 impl fmt::Display for Refusal {
@@ -102,6 +104,7 @@ impl fmt::Display for Refusal {
             Refusal::Geometry(field) => write!(f, "geometry: {field}"),
             Refusal::NoDriver => write!(f, "no driver"),
             Refusal::PartOfLog => write!(f, "part of a log"),
+            Refusal::Entries => write!(f, "not 1 to 64 whole entries"),
         }
     }
 }
