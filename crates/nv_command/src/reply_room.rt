@@ -87,24 +87,24 @@ impl ReplyRoom {
     pub fn keep(&mut self, reply: &Reply)
         ensures { self.new ≡ reply.now }
     {
-        self.held = match reply {
-            Reply::Controller(controller) => Held::Controller(*controller.get()),
-            Reply::Namespace(namespace) => Held::Namespace(*namespace.get()),
+        match reply {
+            Reply::Controller(controller) => self.held = Held::Controller(*controller.get()),
+            Reply::Namespace(namespace) => self.held = Held::Namespace(*namespace.get()),
             Reply::List(ids) => {
                 keep_ids(ids.as_slice(), &mut self.list);
-                Held::List
+                self.held = Held::List;
             }
-            Reply::Number(number) => Held::Number(*number),
-            Reply::Done => Held::Done,
+            Reply::Number(number) => self.held = Held::Number(*number),
+            Reply::Done => self.held = Held::Done,
             Reply::Errors(entries) => {
                 let present = keep_entries(entries, &mut self.entries);
-                Held::Errors {
+                self.held = Held::Errors {
                     count: entries.len(),
                     present,
-                }
+                };
             }
-            Reply::Smart(smart) => Held::Smart(*smart.get()),
-        };
+            Reply::Smart(smart) => self.held = Held::Smart(*smart.get()),
+        }
     }
 
     /// Reads the reply to a command from dword 0 of its completion and the data to the host, and
@@ -118,30 +118,31 @@ impl ReplyRoom {
         self.read_kind(command.form().reply, dword0, bytes);
     }
 
-    /// Reads and stores a reply of a kind.
+    /// Reads and stores a reply of a kind. Each case is stored where it is read, so that only its own
+    /// bytes are written.
     fn read_kind(&mut self, kind: ReplyKind, dword0: u32, bytes: &[u8])
         requires { IsSizeOf kind (length bytes.now) }
         ensures { self.new ≡ reply_by kind dword0 bytes.now }
     {
-        self.held = match kind {
-            ReplyKind::Controller => Held::Controller(IdCtrl::get(part_of(bytes))),
-            ReplyKind::Namespace => Held::Namespace(IdNs::get(part_of(bytes))),
+        match kind {
+            ReplyKind::Controller => self.held = Held::Controller(IdCtrl::get(part_of(bytes))),
+            ReplyKind::Namespace => self.held = Held::Namespace(IdNs::get(part_of(bytes))),
             ReplyKind::List => {
                 self.list.read(part_of(bytes));
-                Held::List
+                self.held = Held::List;
             }
-            ReplyKind::Number => Held::Number(dword0),
-            ReplyKind::Done => Held::Done,
+            ReplyKind::Number => self.held = Held::Number(dword0),
+            ReplyKind::Done => self.held = Held::Done,
             ReplyKind::Errors => {
                 let (chunks, _) = bytes.as_chunks();
                 let present = read_entries(chunks, &mut self.entries);
-                Held::Errors {
+                self.held = Held::Errors {
                     count: chunks.len(),
                     present,
-                }
+                };
             }
-            ReplyKind::Smart => Held::Smart(Smart::get(part_of(bytes))),
-        };
+            ReplyKind::Smart => self.held = Held::Smart(Smart::get(part_of(bytes))),
+        }
     }
 }
 

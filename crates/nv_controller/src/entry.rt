@@ -26,7 +26,7 @@ use nv_bus::Told;
 use nv_command::{Command, LogQuery, Refusal, Transfer};
 use nv_host::HostMemory;
 use nv_layout::{Cqe, Sqe, Status};
-use nv_prp::{Spans, write_out};
+use nv_prp::{Spans, copy_out, write_out};
 use nv_register::Rings;
 use nv_subsystem::{Origin, Subsystem};
 
@@ -87,13 +87,23 @@ fn deliver_page<M: HostMemory>(
     ensures len { length (M.bytes mem.new) ≡ length (M.bytes mem.old) }
     ensures page_len { M.page_len mem.new ≡ M.page_len mem.old }
 {
-    if let Transfer::ToHost(_) = command.transfer() {
+    let Transfer::ToHost(_) = command.transfer() else {
+        return;
+    };
+    if spans.as_slice().len() == 1 {
         let page = ReplyPage {
             subsystem,
             ctrl,
             command,
         };
         write_out(mem, spans, &page);
+        return;
+    }
+
+    // A page that lies in several parts is made beside them, so that it is made once.
+    let mut page = [0; 4096];
+    if subsystem.put_page(ctrl, command, &mut page) {
+        copy_out(mem, spans, &page);
     }
 }
 

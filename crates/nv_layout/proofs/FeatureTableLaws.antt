@@ -1,12 +1,11 @@
 -- Laws of the features in their table.
 use Rattle.std.proofs.Common.{◌≡◌, ◌∙◌, ℕ, ◌<◌, ◌^◌, ◌==◌, ◌&&◌, ◌||◌, Bool, true, false, bit_and}
-use Rattle.std.proofs.Common.{List, [], ◌∷◌, get_or, length, Option, Some, refl, sym, ap, arith}
+use Rattle.std.proofs.Common.{List, [], ◌∷◌, length, Option, Some, refl, sym, ap, arith}
 use Rattle.std.proofs.Common.{lit<, nat_lt}
-use Rattle.std.specs.Prelude.{All, find, if◌then◌else◌}
+use Rattle.std.specs.Prelude.{find, if◌then◌else◌}
 use Rattle.std.specs.List.{filter, list_any, list_all}
 use Rattle.std.proofs.lemmas.Bool.{and_parts, lt-ltb, ltb-true}
 use Rattle.std.proofs.lemmas.Bool.Decides.{nat_tests}
-use Rattle.std.proofs.lemmas.List.Folds.{list_any_at}
 use Rattle.std.proofs.lemmas.Nat.{and_assoc, and_comm, and_le_r}
 use Rattle.std.specs.Int.Bits.{and_self}
 use Rattle.nv_layout.specs.Feature.{feature_of, features, is_accepted, is_selector, is_value, row_of}

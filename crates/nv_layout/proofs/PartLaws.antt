@@ -32,7 +32,7 @@ IsSized (text at width bytes) = length bytes ≡ width
 pub times_suc : (w n : ℕ) → w * suc n ≡ w + w * n
 times_suc w n = omega arith
 
-length_each : (width : ℕ) (xs : List ℕ) → length (flat_map (little_bytes width) xs)
+pub length_each : (width : ℕ) (xs : List ℕ) → length (flat_map (little_bytes width) xs)
     ≡ width * length xs
 length_each width [] = sym (mul-zero width)
 length_each width (x ∷ xs) =

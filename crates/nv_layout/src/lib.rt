@@ -52,7 +52,7 @@ pub use few::{Few, Lent};
 pub use id_ctrl::IdCtrl;
 pub use id_ns::{IdNs, Lbaf};
 pub use narrow::{Below, FourBits, ThreeBits};
-pub use ns_list::{MOST_NSIDS, NamespaceIds, NsList};
+pub use ns_list::{MOST_NSIDS, NamespaceIds, NsList, add_nsid};
 pub use parts::{bits_of, to_bits};
 pub use smart::Smart;
 pub use sqe::Sqe;

@@ -173,11 +173,15 @@ abbrev pub ByDriver : DeviceValue → DeviceValue → (BusValue → DriverValue 
     → Type 0
 ByDriver old new Does = WithDrivers old.driver new.driver (λ d d'. Does old.bus d new.bus d')
 
+-- why nothing is sent: there is no driver, it doesn't have this controller, or something is held back
+abbrev pub HoldsBack : Refusal → Option DriverValue → ℕ → (Refusal → Type 0) → Type 0
+HoldsBack r None c Held = r ≡ refusal.NoDriver
+HoldsBack r (Some d) c Held =
+    ((r ≡ refusal.NoController) × (length d.pairs ≤ c)) ⊎ ((c < length d.pairs) × Held r)
+
 -- why it did nothing: there is no driver, or it doesn't have this controller
 abbrev pub Lacks : Refusal → Option DriverValue → ℕ → Type 0
-Lacks refusal.NoDriver None c = Unit {0}
-Lacks refusal.NoController (Some d) c = length d.pairs ≤ c
-Lacks r driver c = ⊥
+Lacks r driver c = HoldsBack r driver c (λ _. ⊥)
 
 abbrev pub Sends : List Field → DeviceValue → Result (List Field) Refusal → DeviceValue → Type 0
 Sends fs old outcome new =
@@ -197,12 +201,6 @@ abbrev pub SendsCommand : ℕ → Result Command StatusCode → List Field
     → BusValue → DriverValue → BusValue → DriverValue → Type 0
 SendsCommand c (Ok k) fields b d b' d' = IsAnswered c k fields b d b' d'
 SendsCommand c (Err code) fields b d b' d' = ⊥
-
--- why nothing is sent: there is no driver, it doesn't have this controller, or something is held back
-abbrev pub HoldsBack : Refusal → Option DriverValue → ℕ → (Refusal → Type 0) → Type 0
-HoldsBack r None c Held = r ≡ refusal.NoDriver
-HoldsBack r (Some d) c Held =
-    ((r ≡ refusal.NoController) × (length d.pairs ≤ c)) ⊎ ((c < length d.pairs) × Held r)
 
 abbrev pub Administers : List Field → DeviceValue → Result (List Field) Refusal → DeviceValue → Type 0
 Administers fs old outcome new =

@@ -76,9 +76,7 @@ pub(crate) fn new_places(alloc: Global, count: usize) -> Result<Vec<CtrlList>, A
     ensures { IfOk result (λ places. length places.items ≡ count) }
 {
     let mut places = Vec::new(alloc);
-    for _ in 0..count {
-        places.push(CtrlList::new())?;
-    }
+    places.resize_with(count, CtrlList::new)?;
     Ok(places)
 }
 
@@ -87,9 +85,7 @@ pub(crate) fn new_slots(alloc: Global, count: usize) -> Result<Vec<AnswerSlot>, 
     ensures { IfOk result (λ slots. length slots.items ≡ count) }
 {
     let mut slots = Vec::new(alloc);
-    for _ in 0..count {
-        slots.push(AnswerSlot::new())?;
-    }
+    slots.resize_with(count, AnswerSlot::new)?;
     Ok(slots)
 }
 

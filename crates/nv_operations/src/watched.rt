@@ -1,6 +1,6 @@
 //! A bus that records what its driver does.
 
-ghost use Rattle.std.specs.Prelude.{◌≡◌};
+ghost use Rattle.std.specs.Prelude.{◌≡◌, OnOk};
 ghost use Rattle.nv_operations.specs.Seen.{nothing_seen};
 
 use crate::seen::Seen;
@@ -50,12 +50,11 @@ impl Watched {
 
     /// Begins a record of a driver that is brought up next.
     pub(crate) fn begin(&mut self, alloc: Global) -> Result<(), AllocError>
-        ensures { self.new.machine ≡ self.old.machine }
+        ensures machine { self.new.machine ≡ self.old.machine }
+        ensures seen { OnOk result (self.new.seen ≡ nothing_seen) }
     {
         let mut copies = Vec::new(alloc);
-        for _ in 0..self.machine.controllers() {
-            copies.push(RegisterBank::new())?;
-        }
+        copies.resize_with(usize::from(self.machine.controllers()), RegisterBank::new)?;
         self.copies = copies;
         self.seen = Seen::new(alloc);
         Ok(())

@@ -12,7 +12,7 @@ ghost use Rattle.nv_model.specs.Identify.{lbafs_of, list_rows};
 ghost use Rattle.nv_model.specs.Conditions.{is_active};
 ghost use Rattle.nv_model.specs.inner.Conditions.{Checks};
 
-use crate::nsid_lists::{allocated_above, attached_above};
+use crate::nsid_lists::{list_above, put_above};
 use crate::row::refuse_if;
 use crate::subsystem::Subsystem;
 use nv_command::{BROADCAST_NSID, Borrowed, Refusal, Reply, ReplyRoom, StatusCode};
@@ -127,7 +127,7 @@ impl Subsystem {
         ensures { room.new ≡ active_list_reply self.now ctrl after }
     {
         let mut list = NsList::new();
-        attached_above(&self.controllers[ctrl as usize].attached, after, &mut list);
+        list_above(&self.controllers[ctrl as usize].attached, after, &mut list);
         room.keep(&Reply::List(list.ids()));
     }
 
@@ -136,9 +136,7 @@ impl Subsystem {
         requires { ctrl < length self.now.controllers }
         ensures { page.new ≡ page_of (active_list_reply self.now ctrl after) }
     {
-        let mut list = NsList::new();
-        attached_above(&self.controllers[ctrl as usize].attached, after, &mut list);
-        list.put(page);
+        put_above(&self.controllers[ctrl as usize].attached, after, page);
     }
 
     /// Stores the reply with the allocated NSIDs above `after`.
@@ -146,7 +144,7 @@ impl Subsystem {
         ensures { room.new ≡ allocated_list_reply self.now after }
     {
         let mut list = NsList::new();
-        allocated_above(&self.slots, after, &mut list);
+        list_above(&self.slots, after, &mut list);
         room.keep(&Reply::List(list.ids()));
     }
 
@@ -154,9 +152,7 @@ impl Subsystem {
     pub(crate) fn put_allocated_list(&self, after: u32, page: &mut [u8; 4096])
         ensures { page.new ≡ page_of (allocated_list_reply self.now after) }
     {
-        let mut list = NsList::new();
-        allocated_above(&self.slots, after, &mut list);
-        list.put(page);
+        put_above(&self.slots, after, page);
     }
 }
 

@@ -1,27 +1,75 @@
 //! Lists of NSIDs.
 
-ghost use Rattle.std.specs.Prelude.{◌≡◌, ◌≤◌, ◌<◌, length};
+ghost use Rattle.std.specs.Prelude.{◌≡◌, ◌≤◌, ◌<◌, ◌∷◌, [], List, MatchOption, ℕ, length};
 ghost use Rattle.std.specs.FinMap as map_of;
 ghost use Rattle.nv_bits.specs.Above.{above};
 ghost use Rattle.nv_model.specs.Conditions.{concerned};
 ghost use Rattle.nv_model.specs.State.{ascending};
 ghost use Rattle.nv_layout.specs.Limits.{most_nsids};
+ghost use Rattle.nv_layout.specs.NsList.{bytes_of_ns_list};
 
 use crate::subsystem::Subsystem;
 use nv_bits::{BitSet, Slots};
 use nv_command::BROADCAST_NSID;
-use nv_layout::NsList;
+use nv_layout::{NamespaceIds, NsList, add_nsid};
 use nv_model::Namespace;
 
-/// Writes the attached NSIDs above `after` to `list`.
-pub(crate) fn attached_above(attached: &BitSet, after: u32, list: &mut NsList)
-    requires { attached.now.count ≤ most_nsids }
-    ensures { list.new ≡ above after (ascending attached.now.members) }
+/// Numbers that can be listed in ascending order.
+pub(crate) trait Ascending {
+    /// The numbers in ascending order.
+    ghost listed: { Self → List ℕ };
+
+    /// The greatest number of them.
+    ghost most: { Self → ℕ };
+
+    /// Returns how many numbers there are.
+    fn len(&self) -> u32
+        ensures count { result ≡ length (listed self.now) }
+        ensures within { result ≤ most self.now };
+
+    /// Returns the lowest number above another.
+    fn next_above(&self, last: u32) -> Option<u32>
+        ensures { MatchOption result (above last (listed self.now) ≡ [])
+            (λ n. above last (listed self.now) ≡ n ∷ above n (listed self.now)) };
+}
+
+impl Ascending for BitSet {
+    ghost listed = { λ s. ascending s.members };
+
+    ghost most = { λ s. s.count };
+
+    fn len(&self) -> u32 {
+        BitSet::len(self)
+    }
+
+    fn next_above(&self, last: u32) -> Option<u32> {
+        BitSet::next_above(self, last)
+    }
+}
+
+impl Ascending for Slots<Namespace> {
+    ghost listed = { λ s. map_of.keys s.values };
+
+    ghost most = { λ s. s.count };
+
+    fn len(&self) -> u32 {
+        Slots::len(self)
+    }
+
+    fn next_above(&self, last: u32) -> Option<u32> {
+        Slots::next_above(self, last)
+    }
+}
+
+/// Writes the numbers above `after` to `list`.
+pub(crate) fn list_above<A: Ascending>(numbers: &A, after: u32, list: &mut NsList)
+    requires { A.most numbers.now ≤ most_nsids }
+    ensures { list.new ≡ above after (A.listed numbers.now) }
 {
     list.clear();
     let mut last = after;
-    for _ in 0..attached.len() {
-        let Some(nsid) = attached.next_above(last) else {
+    for _ in 0..numbers.len() {
+        let Some(nsid) = numbers.next_above(last) else {
             break;
         };
         list.push(nsid);
@@ -29,18 +77,18 @@ pub(crate) fn attached_above(attached: &BitSet, after: u32, list: &mut NsList)
     }
 }
 
-/// Writes the allocated NSIDs above `after` to `list`.
-pub(crate) fn allocated_above(slots: &Slots<Namespace>, after: u32, list: &mut NsList)
-    requires { slots.now.count ≤ most_nsids }
-    ensures { list.new ≡ above after (map_of.keys slots.now.values) }
+/// Writes the bytes of the list of the numbers above `after`.
+pub(crate) fn put_above<A: Ascending>(numbers: &A, after: u32, page: &mut [u8; 4096])
+    requires { A.most numbers.now ≤ most_nsids }
+    ensures { page.new ≡ bytes_of_ns_list (above after (A.listed numbers.now)) }
 {
-    list.clear();
+    NamespaceIds::new(&[]).put(page);
     let mut last = after;
-    for _ in 0..slots.len() {
-        let Some(nsid) = slots.next_above(last) else {
+    for count in 0..numbers.len() {
+        let Some(nsid) = numbers.next_above(last) else {
             break;
         };
-        list.push(nsid);
+        add_nsid(page, count as usize, nsid);
         last = nsid;
     }
 }
@@ -54,7 +102,7 @@ impl Subsystem {
     {
         let mut list = NsList::new();
         if nsid == BROADCAST_NSID {
-            attached_above(&self.controllers[ctrl as usize].attached, 0, &mut list);
+            list_above(&self.controllers[ctrl as usize].attached, 0, &mut list);
         } else {
             list.push(nsid);
         }

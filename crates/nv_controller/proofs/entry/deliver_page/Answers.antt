@@ -1,4 +1,4 @@
-use Rattle.std.proofs.Common.{◌∙◌, ap, arith, length, refl, sym}
+use Rattle.std.proofs.Common.{◌∙◌, ◌≡◌, ap, arith, length, refl, sym}
 use Rattle.std.proofs.lemmas.List.{nil_from_length}
 use Rattle.nv_command.specs.Command.{transfer_by}
 use Rattle.nv_command.proofs.TravelLaws.{replies_fit}
@@ -27,3 +27,9 @@ returns-in_default g c =
       len = refl;
       page_len = refl;
     }
+
+pub returns-else-put_page-clause-bytes : goal.returns-else-put_page-clause-bytes
+returns-else-put_page-clause-bytes g c =
+    let bytes = g.M.HostMemory.bytes c.args.mem.now in
+    let at = places c.args.spans.now in
+    nothing_written bytes at ∙ ap (written_at bytes at) (sym (c.requires.page ∙ c.if-put_page.ensures))

@@ -1,5 +1,0 @@
-use Rattle.nv_subsystem.proofs.NumbersAbove.{Lists}
-use Rattle.nv_subsystem.proofs.nsid_lists.attached_above.Given as goal
-
-abbrev pub invariant-loop : goal.invariant-loop
-invariant-loop l = Lists l.attached.members l.after l.list l.last l.counter
