@@ -1,21 +1,82 @@
--- An answer is read back from its completion and its data.
-use Rattle.std.proofs.Common.{◌≡◌, ℕ, ◌<◌, ◌^◌, Err, List, Ok, ap, lit<}
-use Rattle.std.proofs.Common.{refl, sym, ◌∙◌}
+-- Answers: that they are sound, how they are read back from a completion and its data, and how they stay.
+use Rattle.std.proofs.Common.{◌≡◌, ◌∙◌, ℕ, ◌<◌, ◌^◌, Err, None, Ok, false, Option, Some, arith, length, refl, List, ap}
+use Rattle.std.proofs.Common.{lit<, sym, subst, take}
+use Rattle.std.proofs.lemmas.Bool.Decides.{nat_tests}
+use Rattle.nv_layout.specs.Status.{StatusFits}
+use Rattle.nv_layout.specs.declared.status.Status.{Status}
+use Rattle.nv_command.proofs.RefusalLaws.{is_refusal-refusal_by}
+use Rattle.nv_command.specs.Refusal.{IsRefusal, refusal_by}
+use Rattle.nv_command.specs.Reply.{FitsRecord, IsReplyTo, data_of, dword0_of, reply_in}
+use Rattle.nv_command.specs.declared.command.Command.{Command}
+use Rattle.nv_command.specs.declared.refusal.Refusal.{Refusal}
+use Rattle.nv_command.specs.declared.transfer.Transfer.{Transfer}
+use Rattle.nv_model.specs.Conditions.{limit_of}
+use Rattle.nv_model.specs.Meaning.{refusal_of}
+use Rattle.nv_model.specs.State.{State}
+use Rattle.nv_model.specs.Step.{refused, step_by, with_refusal}
+use Rattle.nv_model.specs.WellFormed.{IsWellFormed}
+use Rattle.nv_model.proofs.ChangedAtLaws.{length-changed_at}
+use Rattle.nv_model.proofs.LimitLaws.{refused_limit, step_limit}
+use Rattle.nv_model.proofs.ReplyLaws.{reply_fits}
+use Rattle.nv_model.proofs.StepLaws.{refusal_fits, refused_keeps, step_controllers, step_keeps}
+use Rattle.nv_bus.specs.Entry.{asked_step, completion_with}
+use Rattle.nv_driver.specs.Answer.{Answer}
+use Rattle.nv_driver.specs.Request.{Asked, GoesBy, IsReadable, received_as}
+use Rattle.nv_driver.specs.Schedule.{is_success, Delivers, IsAnswered, Sent, answer_to, bytes_read, Holds, Setting}
+use Rattle.nv_driver.specs.Schedule.{World, places, slot, step_after}
 use Rattle.nv_layout.specs.Cqe.{CqeFits}
 use Rattle.nv_layout.specs.declared.cqe.Cqe.{Cqe}
 use Rattle.nv_command.specs.Received.{received}
 use Rattle.nv_command.specs.Logs.{without_phases}
-use Rattle.nv_command.specs.Reply.{FitsRecord, data_of, dword0_of, reply_in}
 use Rattle.nv_command.proofs.TravelLaws.{replies_travel}
 use Rattle.nv_command.specs.declared.reply.Reply.{Reply}
 use Rattle.nv_command.specs.declared.reply.Reply.TheVariants as reply
-use Rattle.nv_bus.specs.Entry.{completion_with}
 use Rattle.nv_bus.proofs.TagLaws.{dword0_tagged, tagged}
-use Rattle.nv_queue.specs.Slots.{posted_as}
-use Rattle.nv_driver.specs.Answer.{Answer}
-use Rattle.nv_driver.specs.Request.{Asked, IsReadable, received_as}
-use Rattle.nv_driver.specs.Schedule.{Delivers, IsAnswered, Sent, answer_to, bytes_read}
-use Rattle.nv_driver.proofs.AskedLaws.{IsAnswerTo}
+use Rattle.nv_queue.specs.Slots.{posted_as, completion_at}
+use Rattle.nv_prp.specs.Place.{read_at}
+use Rattle.nv_driver.proofs.DataLaws.{received_same}
+
+-- ---- the answer to what is asked for is sound, and the subsystem stays well formed
+
+-- a reply that its command can have and its record holds, or a status that is no success
+abbrev pub IsAnswerTo : Asked → Answer → Type 0
+IsAnswerTo (Ok k) (Ok r) = IsReplyTo k r × FitsRecord r
+IsAnswerTo (Err code) (Ok r) = ⊥
+IsAnswerTo asked (Err status) = StatusFits status × (is_success status ≡ false)
+
+no_success : (status : Status) → ((status.sct ≡ 0) × (status.sc ≡ 0) → ⊥) → is_success status ≡ false
+no_success status fails = grind (arith, nat_tests, fails)
+
+answer_by : (o : Option Refusal) (s : State) (c : ℕ) (k : Command) (cid : ℕ) → IsWellFormed s
+    → ((r : Refusal) → o ≡ Some r → IsRefusal r)
+    → IsAnswerTo (Ok k) (step_by o s c k cid).answer
+answer_by None s c k cid w fits = let f = reply_fits s c k w in (f.is_reply, f.fits)
+answer_by (Some r) s c k cid w fits = let f = fits r refl in (f.status, no_success r.status f.fails)
+
+pub answer_sound : (asked : Asked) (s : State) (c nsid cid : ℕ) → IsWellFormed s
+    → IsAnswerTo asked (asked_step asked s c nsid cid).answer
+answer_sound (Ok k) s c nsid cid w = answer_by (refusal_of s c k) s c k cid w (refusal_fits s c k)
+answer_sound (Err code) s c nsid cid w =
+    let f = is_refusal-refusal_by code in (f.status, no_success (refusal_by code).status f.fails)
+
+pub asked_keeps : (asked : Asked) (moves : Transfer) (s : State) (c nsid cid : ℕ) → GoesBy asked moves → nsid < 2 ^ 32
+    → cid < 2 ^ 16 → IsWellFormed s → IsWellFormed (asked_step asked s c nsid cid).state
+asked_keeps (Ok k) moves s c nsid cid goes a b w = step_keeps s c k cid goes.1 b w
+asked_keeps (Err code) moves s c nsid cid goes a b w =
+    refused_keeps s c nsid cid (refusal_by code) a b (is_refusal-refusal_by code) w
+
+pub asked_controllers : (asked : Asked) (s : State) (c nsid cid : ℕ)
+    → length (asked_step asked s c nsid cid).state.controllers ≡ length s.controllers
+asked_controllers (Ok k) s c nsid cid = step_controllers s c k cid
+asked_controllers (Err code) s c nsid cid =
+    length-changed_at _ (refused s c nsid cid (refusal_by code)).controllers c
+    ∙ length-changed_at (with_refusal nsid cid (refusal_by code)) s.controllers c
+
+-- the greatest length of the data of a command doesn't change
+pub asked_limit : (asked : Asked) (s : State) (c nsid cid d : ℕ)
+    → limit_of (asked_step asked s c nsid cid).state d ≡ limit_of s d
+asked_limit (Ok k) s c nsid cid d = step_limit s c k cid d
+asked_limit (Err code) s c nsid cid d = refused_limit s c nsid cid d (refusal_by code)
 
 -- ---- completions
 
@@ -28,14 +89,14 @@ dword0_fits reply.Done fits = lit< tt
 dword0_fits (reply.Errors es) fits = lit< tt
 dword0_fits (reply.Smart r) fits = lit< tt
 
-reply_fits : (asked : Asked) (r : Reply) → IsAnswerTo asked (Ok r) → FitsRecord r
-reply_fits (Ok k) r is = is.1
-reply_fits (Err code) r is = absurd is
+record_fits : (asked : Asked) (r : Reply) → IsAnswerTo asked (Ok r) → FitsRecord r
+record_fits (Ok k) r is = is.1
+record_fits (Err code) r is = absurd is
 
 pub completion_fits : (asked : Asked) (cid head : ℕ) (a : Answer) → cid < 2 ^ 16 → head < 2 ^ 16
     → IsAnswerTo asked a → CqeFits (completion_with cid head a)
 completion_fits asked cid head (Ok r) low below is = record {
-  command_specific = dword0_fits r (reply_fits asked r is);
+  command_specific = dword0_fits r (record_fits asked r is);
   sq_head = below;
   sq_identifier = lit< tt;
   cid = low;
@@ -75,3 +136,34 @@ answered page_size x mem c depth n cid head a here is delivered = record {
   reads = λ can. ap (λ q. answer_to x.request.asked q (bytes_read page_size x mem)) here
       ∙ reads_back x.request.asked (bytes_read page_size x mem) depth n cid head a can is delivered;
 }
+
+-- ---- answers that are held while the memory and the schedule change
+
+-- an answer is held as long as its completion and its data don't change
+answered_on : (page_size : ℕ) (x : Sent) (old new : List ℕ) (c e : Cqe) (a : Answer) → e ≡ c
+    → read_at new (places page_size x) ≡ read_at old (places page_size x)
+    → IsAnswered page_size x old c a → IsAnswered page_size x new e a
+answered_on page_size x old new c e a same bytes is =
+    let came : bytes_read page_size x new ≡ bytes_read page_size x old =
+    received_same x.request.transfer old new (places page_size x) bytes in
+    record {
+      dword0 = ap (λ (q : Cqe). q.command_specific) same ∙ is.dword0;
+      status = ap (λ (q : Cqe). q.status) same ∙ is.status;
+      bytes = subst (Delivers x.request.asked a) (sym came) is.bytes;
+      reads = λ can. ap (λ q. answer_to x.request.asked q (bytes_read page_size x new)) same
+          ∙ ap (answer_to x.request.asked c) came ∙ is.reads can;
+    }
+
+pub holds_on : (t : Setting) (s : State) (w v : World) (n : ℕ) (x : Sent)
+    → completion_at v.mem t.cq (slot t n) ≡ completion_at w.mem t.cq (slot t n)
+    → read_at v.mem (places t.page_size x) ≡ read_at w.mem (places t.page_size x)
+    → take n v.sent ≡ take n w.sent
+    → Holds t s w n x → Holds t s v n x
+holds_on t s w v n x completion bytes before h =
+    let stays = answered_on t.page_size x w.mem v.mem _ _ (step_after t.controller s w.sent n x).answer completion bytes
+    h.answer in
+    record {
+      answer = rw before stays;
+      cid = ap (λ (c : Cqe). c.cid) completion ∙ h.cid;
+      head = ap (λ (c : Cqe). c.sq_head) completion ∙ h.head;
+    }

@@ -1,6 +1,6 @@
 -- Commands one at a time: their answers, the state after them, and those of a list of commands.
 use Rattle.std.proofs.Common.{◌≡◌, ◌∙◌, ℕ, zero, suc, ◌+◌, ◌<◌, List, [], ◌∷◌, ◌++◌, add-one, ap, arith, get_or}
-use Rattle.std.proofs.Common.{length, map, refl, take, ◌-◌, ◌%◌, ◌≤◌, sym}
+use Rattle.std.proofs.Common.{length, map, refl, take, ◌%◌, ◌≤◌, sym}
 use Rattle.std.proofs.lemmas.List.{length-map, take-map, take-take}
 use Rattle.std.proofs.lemmas.Nat.{mod_below}
 use Rattle.nv_command.specs.declared.command.Command.{Command}
@@ -52,11 +52,6 @@ answer_at c s (x ∷ xs) (suc n) d e h = answer_at c (step_of c s (numbered x)).
 
 pub serial_next : (serial n : ℕ) → next_serial ((serial + n) % 65535) ≡ (serial + (n + 1)) % 65535
 serial_next serial n = omega arith
-
--- the command identifier of a command determines how many commands come after it, up to the next one
-pub distance_is : (serial k m : ℕ) → k ≤ m → m < k + 65535
-    → ((serial + m) % 65535 + 65535 - (serial + k) % 65535) % 65535 ≡ m - k
-distance_is serial k m order near = omega arith
 
 -- ---- the commands of a schedule
 

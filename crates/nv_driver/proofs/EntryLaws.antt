@@ -5,7 +5,7 @@ use Rattle.std.proofs.lemmas.Bool.{cases_lt, cases_eq}
 use Rattle.std.proofs.lemmas.List.{get_or_default}
 use Rattle.nv_host.specs.Bytes.{bytes_at}
 use Rattle.nv_host.proofs.PageLaws.{page_size_bounds}
-use Rattle.nv_layout.specs.Cqe.{cqe_of_bytes, CqeFits}
+use Rattle.nv_layout.specs.Cqe.{CqeFits}
 use Rattle.nv_layout.specs.declared.sqe.Sqe.{Sqe}
 use Rattle.nv_layout.specs.declared.cqe.Cqe.{Cqe}
 use Rattle.nv_prp.specs.Buffer.{KeepsList}
@@ -38,16 +38,14 @@ use Rattle.nv_driver.specs.Schedule.{number, own_pages, places, pointed, receive
 use Rattle.nv_driver.specs.Request.{Asked, GoesBy}
 use Rattle.nv_driver.specs.Schedule.{Delivers, Holds, IsAnswered, StaysNamed, bank_with, numbered, step_of}
 use Rattle.nv_driver.specs.Keeping.{IsOwn, Keeps, HasRings}
-use Rattle.nv_driver.proofs.AnswerLaws.{answered, completion_fits}
-use Rattle.nv_driver.proofs.AskedLaws.{IsAnswerTo, answer_sound, asked_controllers, asked_keeps}
-use Rattle.nv_driver.proofs.AskedLaws.{asked_limit}
+use Rattle.nv_driver.proofs.AnswerLaws.{answered, completion_fits, IsAnswerTo, answer_sound, asked_controllers}
+use Rattle.nv_driver.proofs.AnswerLaws.{asked_keeps, asked_limit, holds_on}
 use Rattle.nv_driver.proofs.DataLaws.{ArePlaces, received_back, received_same}
 use Rattle.nv_driver.proofs.CountLaws.{number_above, number_next, number_below, slot_inside, slots_differ}
 use Rattle.nv_driver.proofs.RegionLaws.{written_list, Stays, stays_apart, stays_beside}
 use Rattle.nv_driver.proofs.PointerLaws.{call_at, entry_call, stays_in}
-use Rattle.nv_driver.proofs.RegionLaws.{data_keeps, length-places, outside_part, ChangesOnlyAt, apart-sym}
-use Rattle.nv_driver.proofs.RegionLaws.{completion_keeps, holds_sent_on, submission_stays}
-use Rattle.nv_driver.proofs.HeldLaws.{holds_on}
+use Rattle.nv_driver.proofs.RegionLaws.{data_keeps, length-places, ChangesOnlyAt, apart-sym}
+use Rattle.nv_driver.proofs.RegionLaws.{completion_keeps, completion_same, holds_sent_on, submission_same}
 use Rattle.nv_driver.proofs.BatchLaws.{after_more}
 
 -- ---- which entry is taken
@@ -159,9 +157,7 @@ module _ (t : Setting) (x : Sent) (a : Answer) (old moved : List ℕ) (some : 0 
 
   pub moved_slot : (s : ℕ) → AreOutside t.page_size x t.cq (16 * t.depth) → s < t.depth
       → completion_at moved t.cq s ≡ completion_at old t.cq s
-  moved_slot s outside below =
-      ap cqe_of_bytes (moved_keeps (t.cq + 16 * s) 16
-      (outside_part t x t.cq (16 * t.depth) (t.cq + 16 * s) 16 outside (omega arith) (omega arith)))
+  moved_slot s outside below = completion_same t old moved s (moved_keeps t.cq (16 * t.depth) outside) below
 
   pub moved_list : AreDistinct (own_pages x) → KeepsList (pointed t.page_size x old) x.first x.second moved
   moved_list distinct = elim (moves_there x.request.asked (places t.page_size x) a old moved moves) [
@@ -359,7 +355,8 @@ module _ (t : Setting) (s : State) (w : World) (y : Scene) (d : Sent) (k : Keeps
         apart = k.apart;
         named = named_on;
         waiting = λ i e from high.
-            submission_stays t x w.mem y.bytes (slot t i) only own.submissions p.rings (slot_inside t i some_slots.0)
+            submission_same t w.mem y.bytes (slot t i)
+            (only t.sq (64 * t.depth) own.submissions (grind (arith, p.rings))) (slot_inside t i some_slots.0)
             ∙ k.waiting i e (omega arith) high;
         to_send = λ i e from high.
             holds_sent_on t (get_or w.sent i e) w.mem y.bytes

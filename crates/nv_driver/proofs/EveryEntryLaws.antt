@@ -1,6 +1,6 @@
 -- Every entry with any data from the host is a request.
 use Rattle.std.proofs.Common.{◌≡◌, ◌∙◌, ◌<◌, ◌≤◌, ◌==◌, ◌^◌, ◌%◌, ℕ, Bool, true, false, Err, List, Ok, Result, ap}
-use Rattle.std.proofs.Common.{arith}
+use Rattle.std.proofs.Common.{[], arith}
 use Rattle.std.proofs.Common.{lit<, lit≤, refl, subst, sym}
 use Rattle.std.specs.Prelude.{if◌then◌else◌}
 use Rattle.nv_layout.specs.Sqe.{SqeFits}
@@ -35,38 +35,28 @@ use Rattle.nv_driver.proofs.PaddingLaws.{length-padded}
 abbrev elsewhere : Sqe → (cid prp1 prp2 : ℕ) → Sqe
 elsewhere e cid prp1 prp2 = record e { cid = cid; prp1 = prp1; prp2 = prp2 }
 
-same_transfer : (r : Result Opcode StatusCode) (e : Sqe) (cid p q : ℕ)
-    → (r >>= (λ o. transfer_as o (elsewhere e cid p q))) ≡ (r >>= (λ o. transfer_as o e))
-same_transfer (Ok Identify) e cid p q = refl
-same_transfer (Ok NamespaceManagement) e cid p q = refl
-same_transfer (Ok NamespaceAttachment) e cid p q = refl
-same_transfer (Ok FormatNvm) e cid p q = refl
-same_transfer (Ok GetFeatures) e cid p q = refl
-same_transfer (Ok SetFeatures) e cid p q = refl
-same_transfer (Ok GetLogPage) e cid p q = refl
-same_transfer (Err code) e cid p q = refl
-
-same_command : (r : Result Opcode StatusCode) (e : Sqe) (cid p q : ℕ) (bytes : List ℕ)
-    → (r >>= (λ o. command_as o (elsewhere e cid p q) bytes)) ≡ (r >>= (λ o. command_as o e bytes))
-same_command (Ok Identify) e cid p q bytes = refl
-same_command (Ok NamespaceManagement) e cid p q bytes = refl
-same_command (Ok NamespaceAttachment) e cid p q bytes = refl
-same_command (Ok FormatNvm) e cid p q bytes = refl
-same_command (Ok GetFeatures) e cid p q bytes = refl
-same_command (Ok SetFeatures) e cid p q bytes = refl
-same_command (Ok GetLogPage) e cid p q bytes = refl
-same_command (Err code) e cid p q bytes = refl
+same_decoding : (r : Result Opcode StatusCode) (e : Sqe) (cid p q : ℕ) (bytes : List ℕ)
+    → ((r >>= (λ o. transfer_as o (elsewhere e cid p q))) ≡ (r >>= (λ o. transfer_as o e)))
+    × ((r >>= (λ o. command_as o (elsewhere e cid p q) bytes)) ≡ (r >>= (λ o. command_as o e bytes)))
+same_decoding (Ok Identify) e cid p q bytes = (refl, refl)
+same_decoding (Ok NamespaceManagement) e cid p q bytes = (refl, refl)
+same_decoding (Ok NamespaceAttachment) e cid p q bytes = (refl, refl)
+same_decoding (Ok FormatNvm) e cid p q bytes = (refl, refl)
+same_decoding (Ok GetFeatures) e cid p q bytes = (refl, refl)
+same_decoding (Ok SetFeatures) e cid p q bytes = (refl, refl)
+same_decoding (Ok GetLogPage) e cid p q bytes = (refl, refl)
+same_decoding (Err code) e cid p q bytes = (refl, refl)
 
 same_moves : (limit : ℕ) (e : Sqe) (cid p q : ℕ) → moves_of limit (elsewhere e cid p q) ≡ moves_of limit e
 same_moves limit e cid p q =
-    ap (λ (r : Result Transfer StatusCode). r >>= within limit) (same_transfer (opcode_of e) e cid p q)
+    ap (λ (r : Result Transfer StatusCode). r >>= within limit) (same_decoding (opcode_of e) e cid p q []).0
 
 same_asked : (limit : ℕ) (e : Sqe) (cid p q : ℕ) (bytes : List ℕ)
     → asked_by limit (elsewhere e cid p q) bytes ≡ asked_by limit e bytes
 same_asked limit e cid p q bytes =
     ap (λ (r : Result Transfer StatusCode). r >>= (λ m. command_of (elsewhere e cid p q) bytes))
     (same_moves limit e cid p q)
-    ∙ ap (λ (a : Asked). moves_of limit e >>= (λ m. a)) (same_command (opcode_of e) e cid p q bytes)
+    ∙ ap (λ (a : Asked). moves_of limit e >>= (λ m. a)) (same_decoding (opcode_of e) e cid p q bytes).1
 
 -- ---- the data of a command is transferred as that of its entry
 

@@ -1,13 +1,11 @@
 -- A single request: how it begins, and the state after it was answered.
 use Rattle.std.specs.Prelude.{slice_set}
-use Rattle.std.proofs.Common.{◌≡◌, ◌∙◌, ℕ, ◌+◌, ◌*◌, ◌<◌, ◌≤◌, List, [], ◌∷◌, ap, arith, get_or, inl, length}
-use Rattle.std.proofs.Common.{Err, Ok, refl, slice_index, subst, sym, take}
+use Rattle.std.proofs.Common.{[], ◌≡◌, ◌∙◌, ℕ, ◌+◌, ◌*◌, ◌<◌, ◌≤◌, List, ◌∷◌, ap, arith, get_or, inl, length}
+use Rattle.std.proofs.Common.{Err, Ok, refl, subst, sym}
 use Rattle.std.proofs.Math.Nat.{mul-le-mul_right}
-use Rattle.std.proofs.lemmas.List.{get_or-take, get_or_default, length-take-le}
-use Rattle.nv_host.specs.Pages.{HasPage}
-use Rattle.nv_prp.specs.Buffer.{IsApart, buffer_places}
+use Rattle.nv_prp.specs.Buffer.{buffer_places}
 use Rattle.nv_queue.specs.Numbers.{next, slot_of}
-use Rattle.nv_queue.specs.Rings.{IsSubmitFull, SubmitNumbers, collected_one, known_to, told_all}
+use Rattle.nv_queue.specs.Rings.{IsSubmitFull, collected_one, known_to, told_all}
 use Rattle.nv_queue.specs.Slots.{awaited_completion}
 use Rattle.nv_layout.specs.declared.cqe.Cqe.{Cqe}
 use Rattle.nv_layout.specs.declared.status.Status.{Status}
@@ -17,36 +15,35 @@ use Rattle.nv_bus.specs.Bus.{BusValue, IsBus, bank_at}
 use Rattle.nv_bus.specs.Turn as T
 use Rattle.nv_bus.specs.Entry.{status_in, told_by}
 use Rattle.nv_bus.specs.Call.{asked_by, length_of}
-use Rattle.nv_model.specs.Conditions.{limit_of}
+use Rattle.nv_model.specs.Conditions.{greatest_limit, limit_of}
 use Rattle.nv_model.proofs.LimitLaws.{limit_bounds}
 use Rattle.nv_layout.specs.Sqe.{SqeFits}
 use Rattle.nv_layout.specs.declared.sqe.Sqe.{Sqe}
-use Rattle.nv_command.specs.declared.transfer.Transfer.{Transfer}
 use Rattle.nv_driver.specs.inner.Alone.{AreFrom, IsAnsweredBy, IsExchanged, KeepsBelow, Side, answered_way, came_with}
 use Rattle.nv_driver.specs.inner.Alone.{one_way, side}
 use Rattle.nv_driver.specs.Alone.{Comes, IsReceived, asked_in, entry_step}
 use Rattle.nv_driver.specs.Answer.{Answer}
 use Rattle.nv_driver.specs.Exchange.{IsReady}
 use Rattle.nv_driver.specs.Quiet.{pair_value}
-use Rattle.nv_driver.specs.Layout.{offset_for, pages_of_entry}
+use Rattle.nv_driver.specs.Layout.{data_count, pages_of_entry}
 use Rattle.nv_driver.specs.Request.{Asked, IsRequest, padded, request_for, sent_for, transfer_for}
 use Rattle.nv_driver.specs.Schedule.{AreOutside, Delivers, IsAnswered, MaySubmit, Sent, Setting, bytes_read, numbered}
 use Rattle.nv_driver.specs.Schedule.{own_pages, received_from, slot, step_of}
-use Rattle.nv_driver.specs.Submitting.{RequestPlace, place_in, sent_at}
+use Rattle.nv_driver.specs.Submitting.{RequestPlace, place_from, sent_at}
 use Rattle.nv_driver.specs.inner.Submitting.{IsPlaceFor, IsSubmittedAt, request_as}
 use Rattle.nv_driver.specs.UnderWay.{IsOnWay, Run, run_of, setting_of, way, world_of}
 use Rattle.nv_driver.specs.declared.geometry.Geometry.{Geometry}
 use Rattle.nv_driver.specs.declared.outgoing.Outgoing.{Outgoing}
 use Rattle.nv_driver.specs.declared.queue_pair.QueuePair.{QueuePair as QueuePairFields}
-use Rattle.nv_driver.proofs.AskedLaws.{IsAnswerTo, answer_sound}
-use Rattle.nv_driver.proofs.CountLaws.{number_above, number_next}
+use Rattle.nv_driver.proofs.AnswerLaws.{IsAnswerTo, answer_sound}
 use Rattle.nv_driver.proofs.EveryEntryLaws.{every_entry}
+use Rattle.nv_driver.proofs.OnWayLaws as W
 use Rattle.nv_driver.proofs.OnWayLaws.{answer_next, begins, collects_on, completion_is, first_way, held, ready_after}
 use Rattle.nv_driver.proofs.OnWayLaws.{rings, submits_on, tells, turned}
 use Rattle.nv_driver.proofs.PaddingLaws.{length-padded}
-use Rattle.nv_driver.proofs.PointerLaws.{entry_pages_few}
-use Rattle.nv_driver.proofs.QuietLaws.{submit_ring_is}
-use Rattle.nv_driver.proofs.SubmittingLaws.{first_two, place_fits, requests_same, submitted_as}
+use Rattle.nv_driver.proofs.ShareLaws.{data_fits, length-pages, page_at, place_fits}
+use Rattle.nv_driver.proofs.QuietLaws.{others_kept}
+use Rattle.nv_driver.proofs.SubmittingLaws.{requests_same, submitted_as}
 
 abbrev told : ℕ → Status → Told
 told dword0 status = record { dword0 = dword0; status = status }
@@ -131,7 +128,7 @@ module _ {g : Geometry} {bus : BusValue} {c : ℕ} {l : QueuePairFields} {bytes 
 
   -- nothing was reported yet
   pub submitted : {now1 : ℕ} → now1 ≡ now → IsOnWay (one_way run sent) bus l' now1 mem
-  submitted page = submits_on (begins [] ready) refl b.sub may b.size page
+  submitted page = submits_on (begins [] ready) b.sub may b.size page
 
   -- ---- the end
 
@@ -147,23 +144,9 @@ module _ {g : Geometry} {bus : BusValue} {c : ℕ} {l : QueuePairFields} {bytes 
     -- what is before the request's pages and outside the queue pair doesn't change
     pub others_stay : KeepsBelow (at.first * g.page_size) g.page_size (pair_value l) bytes after
     others_stay from n low apart =
-        let laid = ready.laid in
-        by.on_way.others.same from n (record {
-          submissions = aside l.submission.base (64 * l.submission.depth)
-              (omega (arith, laid.rings, laid.pages, from_first)) (omega arith);
-          completions = aside l.completion.base (16 * l.submission.depth)
-              (omega (arith, laid.pages, from_first)) (omega (arith, laid.rings));
-          pages = λ i d from_zero h. let zero : i ≡ 0 = omega arith in
-              subst (λ j. AreOutside g.page_size (get_or (sent ∷ []) j d) from n) (sym zero)
-              (outside_before g.page_size at.first sent from n b.can.first low);
-        })
-      where
-        from_first : l.pages.first * g.page_size ≤ (l.pages.first + l.pages.count) * g.page_size
-        from_first = mul-le-mul_right g.page_size (omega arith)
-
-        aside : (base size : ℕ) → base + size ≤ (l.pages.first + l.pages.count) * g.page_size
-            → l.submission.base ≤ base → IsApart base size from n
-        aside base size high low = let laid = ready.laid in grind (arith, apart, laid.rings, laid.pages)
+        others_kept ready by.on_way.others from n apart (λ i d h. let zero : i ≡ 0 = omega arith in
+        subst (λ j. AreOutside g.page_size (get_or (sent ∷ []) j d) from n) (sym zero)
+        (outside_before g.page_size at.first sent from n b.can.first low))
 
     -- the data that comes back is received
     received_by : (n : ℕ) {size : ℕ} {out : List ℕ} → size ≡ g.page_size
@@ -185,15 +168,13 @@ module _ {g : Geometry} {bus : BusValue} {c : ℕ} {l : QueuePairFields} {bytes 
         }
 
     -- the complete state after the exchange
-    pub exchanged : (n : ℕ) {out : List ℕ} → q'.pages ≡ l'.pages
-        → out ≡ padded n (came_with completion.status
+    pub exchanged : (n : ℕ) {out : List ℕ} → out ≡ padded n (came_with completion.status
         (received_from (transfer_for e) after
         (buffer_places now' at.pages at.offset (length_of (transfer_for e)))))
         → IsExchanged g c e given at.first (side bus l now bytes) (side bus' q' now' after)
         (told completion.command_specific completion.status) out
-    exchanged n pages filled =
-        let again = ready_after 1 by.on_way refl refl refl refl refl
-        (pages ∙ ap (λ (o : QueuePairFields). o.pages) b.sub.pair) in
+    exchanged n filled =
+        let again = ready_after 1 by.on_way refl refl refl refl refl in
         record {
           answer = told_is;
           received = received_by n (page_is ∙ ready.page_size) filled;
@@ -211,24 +192,14 @@ module _ {g : Geometry} {bus : BusValue} {c : ℕ} {l : QueuePairFields} {bytes 
 module _ {g : Geometry} {bus : BusValue} {c : ℕ} {l : QueuePairFields} {bytes : List ℕ} {now : ℕ}
     (ready : IsReady g bus c l now bytes) where
   pub ring_inside : l.submission.base + 64 * l.submission.depth ≤ length bytes
-  ring_inside = let laid = ready.laid in omega (arith, laid.rings, laid.pages, laid.inside)
+  ring_inside = W.slots_inside (W.begins [] ready)
 
   pub has_slot : ¬ IsSubmitFull l.submission
-  has_slot full =
-      let t = setting_of (run_of g c bus l bytes []) in
-      let deep = ready.laid.deep in
-      let is = subst IsSubmitFull
-      (submit_ring_is g c (limit_of bus.state c) bytes l ready.quiet ready.laid.number) full in
-      let far = number_above t 0 0 (omega (arith, deep.0)) (omega arith) (omega (arith, deep.0)) in
-      omega (arith, is, far, deep.0)
+  has_slot = W.has_slot (W.begins [] ready) (omega (arith, ready.laid.deep.0))
 
   pub tail_is : {tail : ℕ} → tail ≡ slot_of l.submission.depth (next l.submission.depth l.submission.submitted)
       → tail ≡ slot (setting_of (run_of g c bus l bytes [])) 1
-  tail_is is =
-      let t = setting_of (run_of g c bus l bytes []) in
-      is ∙ ap (λ (o : SubmitNumbers). slot_of o.depth (next o.depth o.submitted))
-      (submit_ring_is g c (limit_of bus.state c) bytes l ready.quiet ready.laid.number)
-      ∙ ap (slot_of t.depth) (number_next t 0)
+  tail_is = W.tail_after (W.begins [] ready)
 
 -- the tail doorbell was rung for a request, and the controller had a turn, which took it
 pub did : {r : Run} {x : Sent} {l : QueuePairFields} {now now' c value count : ℕ} {bytes mem : List ℕ}
@@ -254,8 +225,7 @@ pub ends : {r : Run} {x : Sent} {bus bus' : BusValue} {l l1 l' : QueuePairFields
     → (IsBus bus → IsBus bus') → IsAnsweredBy r x q bus' l' now mem
 ends {r} {x} {bus' = bus'} {now = now} {mem = mem} {q = q} u is first last same put state banks lawful =
     let one : 0 < 1 = omega arith in
-    let next = collects_on u one is (ap (λ (o : QueuePairFields). o.submission) first)
-    (ap (λ (o : QueuePairFields). o.completion) first) (ap (λ (o : QueuePairFields). o.serial) first) in
+    let next = collects_on u one is first in
     record {
       collected = answer_next u one;
       on_way = subst (λ p. IsOnWay (answered_way r x (answer_next u one)) bus' p now mem) (sym last)
@@ -267,56 +237,34 @@ ends {r} {x} {bus' = bus'} {now = now} {mem = mem} {q = q} u is first last same 
 -- ---- the place of its data
 
 -- an entry can be exchanged, with its data in consecutive pages from this one on
-pub can_exchange : {g : Geometry} {c first n : ℕ} {e : Sqe} {m : Transfer} (count : ℕ) (numbers : List ℕ)
-    {at : RequestPlace} {bus : BusValue} {l : QueuePairFields} {now : ℕ} {bytes : List ℕ}
-    → IsReady g bus c l now bytes → SqeFits e → m ≡ transfer_for e → n ≡ length_of m
-    → ((i : ℕ) → i < count + 2 → slice_index numbers i ≡ first + i) → length numbers ≡ 259
-    → at ≡ place_in g numbers count n → offset_for g n + n ≤ count * g.page_size
-    → count + 2 ≤ pages_of_entry g.page_size
+pub can_exchange : {g : Geometry} {c first : ℕ} {e : Sqe} {bus : BusValue} {l : QueuePairFields} {now : ℕ}
+    {bytes : List ℕ} → IsReady g bus c l now bytes → SqeFits e
+    → length_of (transfer_for e) ≤ greatest_limit
     → (first + pages_of_entry g.page_size) * g.page_size ≤ length bytes → l.pages.first + l.pages.count ≤ first
-    → CanExchange g c e at (side bus l now bytes)
-can_exchange {g} {first = first} {n = n} count numbers {now = now} {bytes = bytes}
-    ready fits moves long each size is enough few inside last =
-    let room : count + 2 ≤ length numbers = omega (
-      arith,
-      few,
-      entry_pages_few g.page_size ready.geometry.page_size,
-      size,
-    ) in
-    let many = length-take-le (count + 2) numbers room in
-    let two = first_two numbers count (omega (arith, room)) in
-    let page : (i d : ℕ) → i < length (take (count + 2) numbers) → get_or (take (count + 2) numbers) i d ≡ first + i =
-    λ i d low. get_or-take (count + 2) numbers i d (omega (arith, many))
-    ∙ get_or_default numbers i d 0 (omega (arith, room, many)) ∙ each i (omega (arith, many)) in
-    let has : (i d : ℕ) → i < length (take (count + 2) numbers)
-    → HasPage bytes g.page_size (get_or (take (count + 2) numbers) i d) =
-    λ i d low. let end : first + i + 1 ≤ first + pages_of_entry g.page_size = omega (arith, many, few) in
-    subst (HasPage bytes g.page_size) (sym (page i d low))
-    (omega (arith, mul-le-mul_right g.page_size end, inside)) in
-    rw is (record {
+    → CanExchange g c e (place_from g first (length_of (transfer_for e))) (side bus l now bytes)
+can_exchange {g} {first = first} {e = e} {now = now} {bytes = bytes} ready fits few inside last =
+    let n = length_of (transfer_for e) in
+    let all = (data_fits g n greatest_limit ready.geometry few).1 in
+    let end : first + data_count g n + 2 ≤ first + pages_of_entry g.page_size = omega (arith, all) in
+    record {
       ready = ready;
       fits = fits;
-      place = rw (ap length_of (sym moves), ← long) (place_fits g numbers count n bytes now ready.geometry
-          ready.page_size room has (λ i j d before h same.
-          absurd (omega (arith, page i d (omega arith), page j d h, same))) enough);
-      first = λ i d h. omega (
-        arith,
-        each 0 (omega arith),
-        ap (λ xs. get_or xs i d) (sym two) ∙ page i d (omega (arith, ap (λ (xs : List ℕ). length xs) (sym two), h)),
-      );
-      last = omega (arith, last, each 0 (omega arith));
-    })
+      place = place_fits g first n bytes now ready.geometry ready.page_size
+          (omega (arith, mul-le-mul_right g.page_size end, inside));
+      first = λ i d h. omega (arith, page_at g first n i d (omega (arith, h, length-pages g first n)));
+      last = last;
+    }
 
 -- the entry was submitted
 pub begun_by : {g : Geometry} {bus : BusValue} {c : ℕ} {l : QueuePairFields} {bytes : List ℕ} {e : Sqe} {given : List ℕ}
-    {at : RequestPlace} {now : ℕ} {l' : QueuePairFields} {mem : List ℕ} (q : Outgoing)
+    {at at' : RequestPlace} {now : ℕ} {l' : QueuePairFields} {mem : List ℕ} (q : Outgoing)
     → CanExchange g c e at (side bus l now bytes) → q.entry ≡ e → q.transfer ≡ transfer_for e
-    → q.sends.now ≡ sent_for (transfer_for e) given
-    → ((asked : Asked) → IsSubmittedAt now at (request_as q asked) l l' bytes mem) → length mem ≡ length bytes
+    → q.sends.now ≡ sent_for (transfer_for e) given → at' ≡ at
+    → ((asked : Asked) → IsSubmittedAt now at' (request_as q asked) l l' bytes mem) → length mem ≡ length bytes
     → IsBegun g bus c l bytes e given at now l' mem
-begun_by {bus = bus} {c = c} {e = e} {given = given} q can entry moves sends sub size = record {
+begun_by {bus = bus} {c = c} {e = e} {given = given} q can entry moves sends place sub size = record {
   can = can;
-  sub = submitted_as can.ready.page_size refl (requests_same entry moves sends) refl
+  sub = submitted_as can.ready.page_size place (requests_same entry moves sends)
       (sub (asked_by (limit_of bus.state c) e (sent_for (transfer_for e) given)));
   size = size;
 }

@@ -17,7 +17,7 @@ use Rattle.nv_driver.specs.Schedule.{device_rings, number, bank_with, slot}
 use Rattle.nv_driver.specs.Schedule.{Bell, Collect, Holds, Tell}
 use Rattle.nv_driver.proofs.CountLaws.{head_told, number_above, number_below, numbers_differ, slot_inside, tail_rung}
 use Rattle.nv_driver.specs.Keeping.{AreInOrder, Keeps}
-use Rattle.nv_driver.proofs.HeldLaws.{holds_on}
+use Rattle.nv_driver.proofs.AnswerLaws.{holds_on}
 use Rattle.nv_driver.proofs.BatchLaws.{answer_at}
 
 -- ---- the beginning

@@ -69,11 +69,7 @@ pub serials_reset : (d after : DriverValue) (c : ℕ) → after ≡ after_reset 
 serials_reset d after c is =
     ap serials_of is ∙ map-set_same serial d.pairs c (renewed_pair (pair_at d.pairs c)) no_pair refl
 
--- neither changes the number of queue pairs
-pub reset_pairs : (d after : DriverValue) (c : ℕ) → after ≡ after_reset d c → length after.pairs ≡ length d.pairs
-reset_pairs d after c e = ap (λ (x : DriverValue). length x.pairs) e
-    ∙ length-set d.pairs c (renewed_pair (pair_at d.pairs c))
-
+-- a command doesn't change the number of queue pairs
 pub same_pairs : (d after : DriverValue) (c : ℕ) → after ≡ after_command d c → length after.pairs ≡ length d.pairs
 same_pairs d after c e = ap (λ (x : DriverValue). length x.pairs) e
     ∙ length-set d.pairs c (after_one (pair_at d.pairs c))

@@ -1,6 +1,6 @@
 -- Requests on their way: what submissions, doorbells, turns and collections leave.
 use Rattle.std.specs.Prelude.{slice_set}
-use Rattle.std.proofs.Common.{min, ◌≡◌, ◌∙◌, ℕ, ◌+◌, ◌-◌, ◌*◌, ◌<◌, ◌≤◌, ◌==◌, ◌++◌, ◌∷◌, Bool, List, [], ap, arith}
+use Rattle.std.proofs.Common.{[], min, ◌≡◌, ◌∙◌, ℕ, ◌+◌, ◌-◌, ◌*◌, ◌<◌, ◌≤◌, ◌==◌, ◌++◌, ◌∷◌, Bool, List, ap, arith}
 use Rattle.std.proofs.Common.{false, get_or, inl, length, length-append, not, refl, subst, sym, true}
 use Rattle.std.proofs.Math.ListN.{length-set}
 use Rattle.std.proofs.lemmas.Bool.Decides.{nat_tests}
@@ -8,8 +8,8 @@ use Rattle.std.proofs.lemmas.List.{get_or-set_same, set-get_or, set-set}
 use Rattle.std.proofs.lemmas.Nat.{mod_below}
 use Rattle.nv_layout.specs.declared.cqe.Cqe.{Cqe}
 use Rattle.nv_queue.proofs.KeptLaws.{between_kept, first_kept}
-use Rattle.nv_queue.specs.Numbers.{IsSlotBetween, first_in_slot, slot_of}
-use Rattle.nv_queue.specs.Rings.{collected_one, known_to, submitted_one, told_all}
+use Rattle.nv_queue.specs.Numbers.{IsSlotBetween, first_in_slot, next, slot_of}
+use Rattle.nv_queue.specs.Rings.{IsSubmitFull, collected_one, known_to, submitted_one, told_all}
 use Rattle.nv_queue.specs.Slots.{IsAwaitedThere, awaited_completion, completion_at, with_submission}
 use Rattle.nv_register.specs.RegisterBank.{new_bank, with_register_at}
 use Rattle.nv_register.specs.declared.register_bank.RegisterBank.{RegisterBank}
@@ -31,7 +31,7 @@ use Rattle.nv_driver.specs.UnderWay.{world_of}
 use Rattle.nv_driver.specs.declared.geometry.Geometry.{Geometry}
 use Rattle.nv_driver.specs.declared.queue_pair.QueuePair.{QueuePair as QueuePairFields}
 use Rattle.nv_driver.proofs.BatchLaws.{serial_next}
-use Rattle.nv_driver.proofs.CountLaws.{number_below, number_next}
+use Rattle.nv_driver.proofs.CountLaws.{number_above, number_below, number_next}
 use Rattle.nv_driver.proofs.KeptLaws.{bell_keeps, collect_keeps, idle_keeps, is_found, tell_keeps}
 use Rattle.nv_driver.proofs.QuietLaws.{beginning, collect_ring_is, is_idle, submit_ring_is}
 use Rattle.nv_driver.proofs.ScheduleLaws.{bell_others, collect_others, others_now, submit_others, tell_others}
@@ -93,7 +93,7 @@ begins {g} {c} {bus} {l} {now} {bytes} ks ready =
       lawful = ready.bus;
       banks = sym (set-get_or bus.banks c new_bank);
       pair = pairs_same (submit_ring_is g c (limit_of bus.state c) bytes l ready.quiet ready.laid.number)
-          (collect_ring_is g c (limit_of bus.state c) bytes l ready.quiet ready.laid.number) serial refl;
+          (collect_ring_is g c (limit_of bus.state c) bytes l ready.quiet ready.laid.number) serial;
     }
 
 module _ {w : Way} {bus : BusValue} {l : QueuePairFields} {now : ℕ} {bytes : List ℕ}
@@ -109,22 +109,20 @@ module _ {w : Way} {bus : BusValue} {l : QueuePairFields} {now : ℕ} {bytes : L
 
   -- ---- a submission
 
-  pub submits_on : {now' : ℕ} {at : RequestPlace} {q : Request} {old l' : QueuePairFields} {mem : List ℕ}
-      → old ≡ record l { pages = old.pages }
-      → (sub : IsSubmittedAt w.run.geometry.page_size at q old l' bytes mem)
-      → MaySubmit t world (sent_at at q old.serial sub.prp1 sub.prp2) → length mem ≡ length bytes → now' ≡ now
+  pub submits_on : {now' : ℕ} {at : RequestPlace} {q : Request} {l' : QueuePairFields} {mem : List ℕ}
+      (sub : IsSubmittedAt w.run.geometry.page_size at q l l' bytes mem)
+      → MaySubmit t world (sent_at at q l.serial sub.prp1 sub.prp2) → length mem ≡ length bytes → now' ≡ now
       → IsOnWay (record w {
         course = record w.course {
-          sent = w.course.sent ++ sent_at at q old.serial sub.prp1 sub.prp2 ∷ [];
+          sent = w.course.sent ++ sent_at at q l.serial sub.prp1 sub.prp2 ∷ [];
         };
       }) bus l' now' mem
-  submits_on {now'} {at} {q} {old} {l'} {mem} same sub may size page =
-      let x = sent_at at q old.serial sub.prp1 sub.prp2 in
+  submits_on {now'} {at} {q} {l'} {mem} sub may size page =
+      let x = sent_at at q l.serial sub.prp1 sub.prp2 in
       let m = length w.course.sent in
       let k = length w.course.answers in
       let v = record w { course = record w.course { sent = w.course.sent ++ x ∷ [] } } in
-      let is = same ∙ ap (λ (o : QueuePairFields). record o { pages = old.pages }) u.pair in
-      let ring : old.submission ≡ submit_ring t m k = ap (λ (o : QueuePairFields). o.submission) is in
+      let ring : l.submission ≡ submit_ring t m k = ap (λ (o : QueuePairFields). o.submission) u.pair in
       let put = sub.mem ∙ ap (λ r. with_submission sub.ready r (entry x)) ring in
       let more : m + 1 ≡ length (w.course.sent ++ x ∷ []) = sym (length-append w.course.sent (x ∷ [])) in
       let happens : Happens t (Submit x) world (world_of v bus mem) =
@@ -140,11 +138,28 @@ module _ {w : Way} {bus : BusValue} {l : QueuePairFields} {now : ℕ} {bytes : L
         pair = sub.pair ∙ ap (λ (o : QueuePairFields). record o {
           submission = submitted_one o.submission;
           serial = next_serial o.serial;
-        }) is
+        }) u.pair
             ∙ pairs_same (ap (λ n. record (submit_ring t m k) { submitted = n }) (number_next t m)
-            ∙ ap (λ n. submit_ring t n k) more) refl (serial_next w.run.pair.serial m ∙ ap (serial_at w.run) more)
-            (sym (ap (λ (o : QueuePairFields). o.pages) sub.pair));
+            ∙ ap (λ n. submit_ring t n k) more) refl (serial_next w.run.pair.serial m ∙ ap (serial_at w.run) more);
       }
+
+  pub slots_inside : l.submission.base + 64 * l.submission.depth ≤ length bytes
+  slots_inside = rw (ap (λ (o : QueuePairFields). o.submission) u.pair) u.keeps.placed.submissions
+
+  pub has_slot : length w.course.sent + 1 < length w.course.answers + t.depth → ¬ IsSubmitFull l.submission
+  has_slot free full =
+      let c = u.keeps.counts in
+      let far = number_above t (length w.course.answers) (length w.course.sent) (omega (arith, u.begun.laid.deep.0))
+      (omega (arith, c.collected, c.done, c.rung)) (omega (arith, free)) in
+      let is = subst IsSubmitFull (ap (λ (o : QueuePairFields). o.submission) u.pair) full in
+      omega (arith, far, is, free)
+
+  -- the tail after one more request
+  pub tail_after : {tail : ℕ} → tail ≡ slot_of l.submission.depth (next l.submission.depth l.submission.submitted)
+      → tail ≡ slot t (length w.course.sent + 1)
+  tail_after is =
+      is ∙ ap (λ (o : QueuePairFields). slot_of o.submission.depth (next o.submission.depth o.submission.submitted))
+      u.pair ∙ ap (slot_of t.depth) (number_next t (length w.course.sent))
 
   -- ---- doorbells
 
@@ -204,7 +219,7 @@ module _ {w : Way} {bus : BusValue} {l : QueuePairFields} {now : ℕ} {bytes : L
         lawful = lawful u.lawful;
         banks = is.1;
         pair = ap (λ (o : QueuePairFields). record o { completion = told_all o.completion }) u.pair
-            ∙ pairs_same refl (ap (λ e. record (collect_ring t n n) { untold = e }) (none_untold n)) refl refl;
+            ∙ pairs_same refl (ap (λ e. record (collect_ring t n n) { untold = e }) (none_untold n)) refl;
       }
 
   -- all collected answers were reported
@@ -228,7 +243,7 @@ module _ {w : Way} {bus : BusValue} {l : QueuePairFields} {now : ℕ} {bytes : L
         lawful = lawful u.lawful;
         banks = rw banks u.banks;
         pair = ap (λ (o : QueuePairFields). record o { completion = told_all o.completion }) u.pair
-            ∙ pairs_same refl (ap (λ e. record (collect_ring t n n) { untold = e }) (none_untold n)) refl refl;
+            ∙ pairs_same refl (ap (λ e. record (collect_ring t n n) { untold = e }) (none_untold n)) refl;
       }
 
   -- the head doorbell was rung if anything was to be reported
@@ -278,9 +293,6 @@ module _ {w : Way} {bus : BusValue} {l : QueuePairFields} {now : ℕ} {bytes : L
 
   -- ---- a collection
 
-  pub slots_inside : l.submission.base + 64 * l.submission.depth ≤ length bytes
-  slots_inside = rw (ap (λ (o : QueuePairFields). o.submission) u.pair) u.keeps.placed.submissions
-
   pub ring_inside : l.completion.base + 16 * l.completion.depth ≤ length bytes
   ring_inside =
       rw (ap (λ (o : QueuePairFields). o.completion) u.pair) u.keeps.placed.completions
@@ -321,11 +333,10 @@ module _ {w : Way} {bus : BusValue} {l : QueuePairFields} {now : ℕ} {bytes : L
     answer_next = answer_awaited t world next_one
 
     pub collects_on : {l' : QueuePairFields} {q : Cqe} → q ≡ awaited_completion bytes l.completion
-        → l'.submission ≡ known_to l.submission q.sq_head → l'.completion ≡ collected_one l.completion
-        → l'.serial ≡ l.serial
+        → l' ≡ record l { submission = known_to l.submission q.sq_head; completion = collected_one l.completion }
         → IsOnWay (record w { course = record w.course { answers = w.course.answers ++ answer_next ∷ [] } }) bus l'
         now bytes
-    collects_on {l'} {q} is submission completion serial =
+    collects_on {l'} {q} is first =
         let m = length w.course.sent in
         let k = length w.course.answers in
         let v = record w { course = record w.course { answers = w.course.answers ++ answer_next ∷ [] } } in
@@ -350,11 +361,12 @@ module _ {w : Way} {bus : BusValue} {l : QueuePairFields} {now : ℕ} {bytes : L
           others = collect_others t 0 w.run.bytes world (world_of v bus bytes) u.others happens;
           lawful = u.lawful;
           banks = u.banks;
-          pair = pairs_same (submission ∙ ap (λ (o : QueuePairFields). known_to o.submission q.sq_head) u.pair ∙ ring
-              ∙ ap (submit_ring t m) one_more)
-              (completion ∙ ap (λ (o : QueuePairFields). collected_one o.completion) u.pair ∙ collected
-              ∙ ap (λ n. collect_ring t n w.told) one_more) (serial ∙ ap (λ (o : QueuePairFields). o.serial) u.pair)
-              refl;
+          pair = first ∙ ap (λ (o : QueuePairFields). record o {
+            submission = known_to o.submission q.sq_head;
+            completion = collected_one o.completion;
+          }) u.pair
+              ∙ pairs_same (ring ∙ ap (submit_ring t m) one_more)
+              (collected ∙ ap (λ n. collect_ring t n w.told) one_more) refl;
         }
 
 -- ---- the end
@@ -362,17 +374,17 @@ module _ {w : Way} {bus : BusValue} {l : QueuePairFields} {now : ℕ} {bytes : L
 -- all n requests were executed, and their answers collected and reported
 pub ready_after : {w : Way} {bus : BusValue} {l : QueuePairFields} {now : ℕ} {bytes : List ℕ} (n : ℕ)
     → IsOnWay w bus l now bytes → length w.course.sent ≡ n → length w.course.answers ≡ n → w.rung ≡ n → w.done ≡ n
-    → w.told ≡ n → l.pages ≡ w.run.pair.pages
+    → w.told ≡ n
     → IsReady w.run.geometry bus w.run.controller l now bytes
-    × (l ≡ pair_at w.run n n n w.run.pair.pages)
-ready_after {w} {bus} {l} {now} {bytes} n u sent collected rung done told pages =
+    × (l ≡ pair_at w.run n n n)
+ready_after {w} {bus} {l} {now} {bytes} n u sent collected rung done told =
     let r = w.run in
     let t = setting_of r in
     let begun = u.begun in
     let laid = begun.laid in
     let deep = laid.deep in
-    let is : l ≡ pair_at r n n n r.pair.pages =
-    u.pair ∙ pairs_same (rw (sent, collected) refl) (rw (collected, told) refl) (ap (serial_at r) sent) pages in (
+    let is : l ≡ pair_at r n n n =
+    u.pair ∙ pairs_same (rw (sent, collected) refl) (rw (collected, told) refl) (ap (serial_at r) sent) in (
       subst (λ q. IsReady r.geometry bus r.controller q now bytes) (sym is) (record {
         geometry = begun.geometry;
         page_size = u.page_size;
@@ -384,7 +396,7 @@ ready_after {w} {bus} {l} {now} {bytes} n u sent collected rung done told pages 
           collected = refl;
           told = refl;
           untold = sym (none_untold n);
-          free = begun.quiet.free;
+          numbered = begun.quiet.numbered;
         };
         laid = record {
           deep = deep;

@@ -1,12 +1,12 @@
 -- Bytes with zeros after them.
 use Rattle.std.specs.Prelude.{if◌then◌else◌}
-use Rattle.std.proofs.Common.{◌≡◌, ◌∙◌, ℕ, ◌+◌, ◌<◌, ◌≤◌, ◌++◌, Bool, List, [], ap, arith, false, get_or, inl, inr}
-use Rattle.std.proofs.Common.{◌*◌, ◌/◌, ◌%◌, drop, length, length-append, length-take, refl, replicate, set}
+use Rattle.std.proofs.Common.{◌≡◌, ◌∙◌, ℕ, ◌+◌, ◌-◌, ◌<◌, ◌≤◌, ◌++◌, Bool, List, [], ap, arith, false, get_or, inl, inr}
+use Rattle.std.proofs.Common.{◌*◌, ◌/◌, ◌%◌, drop, length, length-append, length-take, refl, replicate}
 use Rattle.std.proofs.Common.{slice_index, sym, take, true}
 use Rattle.std.proofs.Math.Nat.{div-eq_of_lt, mod-eq_of_lt}
-use Rattle.std.proofs.lemmas.Bool.{cases_eq, cases_lt}
+use Rattle.std.proofs.lemmas.Bool.{cases_lt}
 use Rattle.std.proofs.lemmas.Grind.{same_number_lists}
-use Rattle.std.proofs.lemmas.List.{get_or-map, get_or-set_other, get_or-set_same, get_or-take, get_or_append_left}
+use Rattle.std.proofs.lemmas.List.{get_or-map, get_or-take}
 use Rattle.std.proofs.lemmas.List.{get_or_past, length-replicate, take-append-le}
 use Rattle.nv_host.specs.Bytes.{bytes_at}
 use Rattle.nv_host.proofs.BytesLaws.{length-bytes_at}
@@ -43,30 +43,13 @@ padded_by n out bytes size first =
     (λ i below. let low : i < n = omega arith in
     first i low ∙ sym (get_or-take n (bytes ++ replicate n 0) i 0 low ∙ get_or-past bytes 0 n i))
 
--- one more byte
-pub first_more : (n : ℕ) (bytes out : List ℕ) (x : ℕ) → n < length out → x ≡ get_or bytes n 0 → HasFirst n bytes out
-    → HasFirst (n + 1) bytes (set out n x)
-first_more n bytes out x below is first i low =
-    elim (cases_eq i n) [
-      | inl same ↦ ap (λ k. get_or (set out n x) k 0) same ∙ get_or-set_same out n x 0 below ∙ is
-          ∙ ap (λ k. get_or bytes k 0) (sym same)
-      | inr other ↦ get_or-set_other out n i x 0 other ∙ first i (omega (arith, other))
-    ]
-
--- the first bytes don't change, and those from there on are 0
-pub record IsZeroed (from at : ℕ) (old out : List ℕ) : Type 0 where
-  pub kept : (i : ℕ) → i < from → get_or out i 0 ≡ get_or old i 0
-  pub zeros : (i : ℕ) → from ≤ i → i < at → get_or out i 0 ≡ 0
-
-pub zero_more : (from at : ℕ) (old out : List ℕ) → from ≤ at → at < length out → IsZeroed from at old out
-    → IsZeroed from (at + 1) old (set out at 0)
-zero_more from at old out order below z = record {
-  kept = λ i low. get_or-set_other out at i 0 0 (λ same. absurd (omega arith)) ∙ z.kept i low;
-  zeros = λ i high low. elim (cases_eq i at) [
-    | inl same ↦ ap (λ k. get_or (set out at 0) k 0) same ∙ get_or-set_same out at 0 0 below
-    | inr other ↦ get_or-set_other out at i 0 0 other ∙ z.zeros i high (omega (arith, other))
-  ];
-}
+-- bytes and zeros after the last one
+pub zeros_after : (n k : ℕ) (bytes : List ℕ) → k ≡ n - length bytes → length bytes ≤ n
+    → bytes ++ replicate k 0 ≡ padded n bytes
+zeros_after n k bytes rest few =
+    padded_by n (bytes ++ replicate k 0) bytes
+    (omega (arith, length-append bytes (replicate k 0), length-replicate {A = ℕ} k 0, rest))
+    (λ i below. get_or-past bytes 0 k i)
 
 -- ---- reading from a buffer
 
@@ -111,19 +94,23 @@ in_one_page mem page_size pages offset len low inside =
 pub ruleset one_page = (in_one_page, page_size_bounds)
 
 -- the first bytes were read into a slice, whose rest was zeroed
-pub padded_read : (mem : List ℕ) (page_size : ℕ) (pages : List ℕ) (offset len count n : ℕ) (rest out : List ℕ)
-    → count ≤ len → length out ≡ n → (count < n → len ≤ count)
-    → IsZeroed count n (read_at mem (buffer_places page_size pages offset count) ++ rest) out
+pub padded_read : (mem : List ℕ) (page_size : ℕ) (pages : List ℕ) (offset len count n k : ℕ) (out : List ℕ)
+    → count ≤ len → count ≤ n → (count < n → len ≤ count) → k ≡ n - count
+    → out ≡ read_at mem (buffer_places page_size pages offset count) ++ replicate k 0
     → out ≡ padded n (read_at mem (buffer_places page_size pages offset len))
-padded_read mem page_size pages offset len count n rest out few size all z =
+padded_read mem page_size pages offset len count n k out few room all rest is =
     let part = read_at mem (buffer_places page_size pages offset count) in
     let whole = read_at mem (buffer_places page_size pages offset len) in
-    padded_by n out whole size (λ i below. elim (cases_lt i count) [
-      | inl low ↦ z.kept i low
-          ∙ get_or_append_left part rest 0 i (omega (arith, length-read mem page_size pages offset count))
-          ∙ read_first mem page_size pages offset count i low
+    let here = length-read mem page_size pages offset count in
+    let size = ap (λ (xs : List ℕ). length xs) is in
+    padded_by n out whole
+    (omega (arith, size, length-append part (replicate k 0), length-replicate {A = ℕ} k 0, here, rest, room))
+    (λ i below.
+    ap (λ xs. get_or xs i 0) is ∙ get_or-past part 0 k i
+    ∙ elim (cases_lt i count) [
+      | inl low ↦ read_first mem page_size pages offset count i low
           ∙ sym (read_first mem page_size pages offset len i (omega arith))
-      | inr past ↦ z.zeros i past below
+      | inr past ↦ get_or_past part i 0 (omega (arith, here))
           ∙ sym (get_or_past whole i 0 (omega (arith, length-read mem page_size pages offset len, all (omega arith))))
     ])
 

@@ -1,8 +1,8 @@
 -- A queue pair without outstanding commands: the schedule that begins there, and its state after a schedule has ended.
-use Rattle.std.proofs.Common.{◌≡◌, ℕ, ◌+◌, ◌-◌, ◌*◌, ◌<◌, ◌≤◌, All, Bool, List, [], ap, arith, false, get_or}
+use Rattle.std.proofs.Common.{[], ◌≡◌, ℕ, ◌+◌, ◌-◌, ◌*◌, ◌<◌, ◌≤◌, All, Bool, List, ap, arith, false, get_or}
 use Rattle.std.proofs.Common.{inr, length, refl}
 use Rattle.std.proofs.Math.Nat.{mul-le-mul_right}
-use Rattle.nv_host.specs.PageSets.{IsOf, Pages}
+use Rattle.nv_host.specs.Bytes.{bytes_at}
 use Rattle.nv_prp.specs.Buffer.{IsApart}
 use Rattle.nv_queue.specs.Rings.{CollectNumbers}
 use Rattle.nv_model.specs.Conditions.{limit_of}
@@ -14,8 +14,11 @@ use Rattle.nv_driver.specs.Keeping.{OthersStay}
 use Rattle.nv_driver.specs.Quiet.{IsQuiet, pair_value}
 use Rattle.nv_driver.specs.Schedule.{bank_with, device_rings, AreOutside, IsIdle, Sent, Setting, World, collect_ring}
 use Rattle.nv_driver.specs.Schedule.{own_pages, submit_ring}
+use Rattle.nv_driver.specs.Settled.{end_of}
+use Rattle.nv_driver.specs.Share.{IsOf}
 use Rattle.nv_driver.specs.UnderWay.{setting}
 use Rattle.nv_driver.specs.declared.geometry.Geometry.{Geometry}
+use Rattle.nv_driver.specs.declared.share.PageRange.{PageRange}
 use Rattle.nv_driver.specs.declared.queue_pair.QueuePair.{QueuePair as QueuePairFields}
 use Rattle.nv_driver.proofs.KeptLaws.{number_zero}
 
@@ -67,7 +70,7 @@ collect_ring_is g c limit bytes l quiet below =
 -- ---- the end
 
 -- a part outside a queue pair overlaps none of its rings and pages
-outside_pair : (s : Pages) (x : Sent) (page_size sq from n : ℕ)
+outside_pair : (s : PageRange) (x : Sent) (page_size sq from n : ℕ)
     → ((i d : ℕ) → i < length (own_pages x) → IsOf s.first s.count (get_or (own_pages x) i d))
     → sq ≤ s.first * page_size → sq ≤ (s.first + s.count) * page_size
     → IsApart sq ((s.first + s.count) * page_size - sq) from n → AreOutside page_size x from n
@@ -75,24 +78,34 @@ outside_pair s x page_size sq from n own low high apart i d h =
     let last : get_or (own_pages x) i d + 1 ≤ s.first + s.count = omega (arith, (own i d h).1) in
     grind (arith, apart, low, mul-le-mul_right page_size (own i d h).0, mul-le-mul_right page_size last)
 
--- each command's pages were from the queue pair's set
+-- bytes outside a queue pair and outside the pages of its requests don't change
 pub others_kept : {g : Geometry} {b : BusValue} {c limit : ℕ} {l : QueuePairFields} {now : ℕ} {bytes : List ℕ}
     {w : World} → IsReady g b c l now bytes → OthersStay (setting g c limit (pair_value l)) 0 bytes w
-    → ((i : ℕ) (d : Sent) → i < length w.sent
-    → All (λ p. IsOf l.pages.first l.pages.count p) (own_pages (get_or w.sent i d)))
-    → KeepsOthers g.page_size (pair_value l) bytes w.mem
-others_kept {g} {b} {c} {limit} {l} {now} {bytes} {w} r others own from n apart =
+    → (from n : ℕ) → IsApart l.submission.base (end_of g.page_size (pair_value l) - l.submission.base) from n
+    → ((i : ℕ) (d : Sent) → i < length w.sent → AreOutside g.page_size (get_or w.sent i d) from n)
+    → bytes_at w.mem from n ≡ bytes_at bytes from n
+others_kept {g} {l = l} r others from n apart outside =
     let laid = r.laid in
     others.same from n (record {
       submissions = aside l.submission.base (64 * l.submission.depth)
           (omega (arith, laid.rings, laid.pages)) (omega arith);
       completions = aside l.completion.base (16 * l.submission.depth)
           (omega (arith, laid.pages)) (omega (arith, laid.rings));
-      pages = λ i d low h.
-          outside_pair l.pages (get_or w.sent i d) g.page_size l.submission.base from n (own i d h)
-          (omega (arith, laid.rings, laid.pages)) (omega (arith, laid.rings, laid.pages)) apart;
+      pages = λ i d low h. outside i d h;
     })
   where
     aside : (base size : ℕ) → base + size ≤ (l.pages.first + l.pages.count) * g.page_size
         → l.submission.base ≤ base → IsApart base size from n
     aside base size high low = let laid = r.laid in grind (arith, apart, laid.rings, laid.pages)
+
+-- if each request's pages were the queue pair's, nothing else changes
+pub all_others_kept : {g : Geometry} {b : BusValue} {c limit : ℕ} {l : QueuePairFields} {now : ℕ} {bytes : List ℕ}
+    {w : World} → IsReady g b c l now bytes → OthersStay (setting g c limit (pair_value l)) 0 bytes w
+    → ((i : ℕ) (d : Sent) → i < length w.sent
+    → All (λ p. IsOf l.pages.first l.pages.count p) (own_pages (get_or w.sent i d)))
+    → KeepsOthers g.page_size (pair_value l) bytes w.mem
+all_others_kept {g} {l = l} {w = w} r others own from n apart =
+    let laid = r.laid in
+    others_kept r others from n apart (λ i d h.
+    outside_pair l.pages (get_or w.sent i d) g.page_size l.submission.base from n (own i d h)
+    (omega (arith, laid.rings, laid.pages)) (omega (arith, laid.rings, laid.pages)) apart)

@@ -1,5 +1,6 @@
 -- Parts of the memory that don't overlap a command's pages, its list or a slot of a ring.
-use Rattle.std.proofs.Common.{◌≡◌, ◌≢◌, ◌∙◌, ◌⊎◌, ℕ, suc, ◌+◌, ◌*◌, ◌/◌, ◌<◌, ◌≤◌, List, ap, arith, get_or, inl, inr}
+use Rattle.std.proofs.Common.{◌≡◌, ◌≢◌, ◌∙◌, ◌⊎◌, ℕ, suc, ◌+◌, ◌-◌, ◌*◌, ◌/◌, ◌<◌, ◌≤◌, List, ap, arith, get_or, inl}
+use Rattle.std.proofs.Common.{inr}
 use Rattle.std.proofs.Common.{length, sym}
 use Rattle.std.proofs.Math.Nat.{mul-le-mul_right}
 use Rattle.std.proofs.lemmas.Bool.{cases_lt}
@@ -7,7 +8,7 @@ use Rattle.std.proofs.lemmas.Grind.{same_number_lists}
 use Rattle.std.proofs.lemmas.List.{get_or-map}
 use Rattle.std.proofs.lemmas.Nat.{div_below, mod_below}
 use Rattle.nv_host.specs.Bytes.{bytes_at}
-use Rattle.nv_host.proofs.BytesLaws.{bytes_at-with_after, bytes_at-with_before}
+use Rattle.nv_host.proofs.BytesLaws.{bytes_at-bytes_at, bytes_at-with_after, bytes_at-with_before}
 use Rattle.nv_layout.specs.Cqe.{bytes_of_cqe, cqe_of_bytes}
 use Rattle.nv_layout.proofs.RecordLaws.{length-bytes_of_cqe, length-bytes_of_sqe}
 use Rattle.nv_layout.specs.Sqe.{bytes_of_sqe, sqe_of_bytes}
@@ -25,7 +26,7 @@ use Rattle.nv_queue.specs.Slots.{completion_at, completion_place, put_as, submis
 use Rattle.nv_queue.specs.Slots.{with_completion, with_submission}
 use Rattle.nv_queue.proofs.SlotLaws.{slot_within}
 use Rattle.nv_driver.specs.Schedule.{AreApart, AreOutside, HoldsSent, Sent, Setting, data_length, own_pages, places}
-use Rattle.nv_driver.specs.Schedule.{pointed}
+use Rattle.nv_driver.specs.Schedule.{PagesStay, pointed}
 use Rattle.nv_driver.proofs.DataLaws.{ArePlaces, sent_same}
 
 -- ---- places and pages
@@ -77,15 +78,6 @@ pages_apart page_size p q differ =
 other_page : (page_size p q place : ℕ) → p ≢ q → p * page_size ≤ place
     → place < p * page_size + page_size → IsOutside page_size q place 1
 other_page page_size p q place differ low high = grind (arith, pages_apart page_size p q differ)
-
--- if two commands have no page in common, the pages of one don't contain any byte of the other's data
-pub place_outside : (t : Setting) (x y : Sent) (k : ℕ) → 0 < t.page_size
-    → x.offset + data_length x ≤ length x.pages * t.page_size
-    → AreApart x y → k < data_length x → AreOutside t.page_size y (get_or (places t.page_size x) k 0) 1
-place_outside t x y k some enough apart below i d inside =
-    let page = place_page t.page_size x.pages x.offset (data_length x) k some enough below in
-    other_page t.page_size (get_or x.pages page.index 0) (get_or (own_pages y) i d) (get_or (places t.page_size x) k 0)
-    (apart (suc (suc page.index)) 0 (let h = page.is_one in omega arith) i d inside) page.from page.to
 
 pub apart-sym : (x y : Sent) → AreApart x y → AreApart y x
 apart-sym x y apart i d h j e low same = apart j e low i d h (sym same)
@@ -171,70 +163,35 @@ read_keeps old new at same =
     ∙ (sym (byte_at new (get_or at k 0)) ∙ ap (λ bytes. get_or bytes 0 0) (same k below) ∙ byte_at old (get_or at k 0))
     ∙ sym (get_or-map (λ p. get_or old p 0) at k 0 0 below))
 
-place_apart : (place from n : ℕ) → IsBeside place from n → IsApart from n place 1
-place_apart place from n beside = grind arith
-
--- the data of a command doesn't change if only bytes outside its pages change
-pub data_beside : (t : Setting) (x : Sent) (base n : ℕ) (old new : List ℕ) → 0 < t.page_size
-    → x.offset + data_length x ≤ length x.pages * t.page_size → AreOutside t.page_size x base n
-    → ChangesOnly base n old new
-    → read_at new (places t.page_size x) ≡ read_at old (places t.page_size x)
-data_beside t x base n old new some enough outside only =
-    let size = length-places t.page_size x in
-    let at = places t.page_size x in
-    read_keeps old new at
-    (λ k below. only (get_or at k 0) 1
-    (place_apart (get_or at k 0) base n
-    (place_beside t.page_size x base n k some enough outside (omega arith))))
-
 -- ---- what a command's pages and one ring change
-
--- a part of what is outside the pages is outside them
-pub outside_part : (t : Setting) (x : Sent) (from n a k : ℕ) → AreOutside t.page_size x from n
-    → from ≤ a → a + k ≤ from + n → AreOutside t.page_size x a k
-outside_part t x from n a k outside low high i d h = grind (arith, outside i d h)
 
 -- only the pages of x and the n bytes from `base` on change
 abbrev pub ChangesOnlyAt : Setting → Sent → ℕ → ℕ → List ℕ → List ℕ → Type 0
 ChangesOnlyAt t x base n old new =
     (from k : ℕ) → AreOutside t.page_size x from k → IsApart base n from k → bytes_at new from k ≡ bytes_at old from k
 
--- a part doesn't change if it is outside the pages and those n bytes
-part_keeps : (t : Setting) (x : Sent) (old new : List ℕ) (base n from size at k : ℕ) → ChangesOnlyAt t x base n old new
-    → AreOutside t.page_size x from size → IsApart base n from size → from ≤ at → at + k ≤ from + size
-    → bytes_at new at k ≡ bytes_at old at k
-part_keeps t x old new base n from size at k only outside apart low high =
-    only at k (outside_part t x from size at k outside low high) (grind (arith, apart))
+-- a part of bytes that don't change
+part_same : (old new : List ℕ) (from n part k : ℕ) → bytes_at new from n ≡ bytes_at old from n → from ≤ part
+    → part + k ≤ from + n → bytes_at new part k ≡ bytes_at old part k
+part_same old new from n part k same low high =
+    let at : from + (part - from) ≡ part = omega arith in
+    let inside : part - from + k ≤ n = omega arith in
+    ap (λ i. bytes_at new i k) (sym at) ∙ sym (bytes_at-bytes_at new from n (part - from) k inside)
+    ∙ ap (λ m. bytes_at m (part - from) k) same
+    ∙ bytes_at-bytes_at old from n (part - from) k inside ∙ ap (λ i. bytes_at old i k) at
 
--- a slot of one ring doesn't change if only the other ring and pages outside both change
-pub completion_stays : (t : Setting) (x : Sent) (old new : List ℕ) (s : ℕ)
-    → ChangesOnlyAt t x t.sq (64 * t.depth) old new → AreOutside t.page_size x t.cq (16 * t.depth)
-    → IsApart t.sq (64 * t.depth) t.cq (16 * t.depth) → s < t.depth
-    → completion_at new t.cq s ≡ completion_at old t.cq s
-completion_stays t x old new s only outside rings below =
-    ap cqe_of_bytes (part_keeps t x old new t.sq (64 * t.depth) t.cq (16 * t.depth) (t.cq + 16 * s) 16
-    only outside rings (omega arith) (omega arith))
-
-pub submission_stays : (t : Setting) (x : Sent) (old new : List ℕ) (s : ℕ)
-    → ChangesOnlyAt t x t.cq (16 * t.depth) old new → AreOutside t.page_size x t.sq (64 * t.depth)
-    → IsApart t.sq (64 * t.depth) t.cq (16 * t.depth) → s < t.depth
+-- a slot of a ring whose bytes don't change
+pub submission_same : (t : Setting) (old new : List ℕ) (s : ℕ)
+    → bytes_at new t.sq (64 * t.depth) ≡ bytes_at old t.sq (64 * t.depth) → s < t.depth
     → submission_at new t.sq s ≡ submission_at old t.sq s
-submission_stays t x old new s only outside rings below =
-    ap sqe_of_bytes (part_keeps t x old new t.cq (16 * t.depth) t.sq (64 * t.depth) (t.sq + 64 * s) 64 only outside
-    (grind (arith, rings)) (omega arith) (omega arith))
+submission_same t old new s same below =
+    ap sqe_of_bytes (part_same old new t.sq (64 * t.depth) (t.sq + 64 * s) 64 same (omega arith) (omega arith))
 
--- the data of another command doesn't change
-pub data_stays : (t : Setting) (x y : Sent) (base n : ℕ) (old new : List ℕ) → 0 < t.page_size
-    → y.offset + data_length y ≤ length y.pages * t.page_size → ChangesOnlyAt t x base n old new
-    → AreApart y x → AreOutside t.page_size y base n
-    → read_at new (places t.page_size y) ≡ read_at old (places t.page_size y)
-data_stays t x y base n old new some enough only apart outside =
-    let size = length-places t.page_size y in
-    read_keeps old new (places t.page_size y)
-    (λ k below. let inside : k < data_length y = omega arith in
-    only (get_or (places t.page_size y) k 0) 1 (place_outside t y x k some enough apart inside)
-    (place_apart (get_or (places t.page_size y) k 0) base n
-    (place_beside t.page_size y base n k some enough outside inside)))
+pub completion_same : (t : Setting) (old new : List ℕ) (s : ℕ)
+    → bytes_at new t.cq (16 * t.depth) ≡ bytes_at old t.cq (16 * t.depth) → s < t.depth
+    → completion_at new t.cq s ≡ completion_at old t.cq s
+completion_same t old new s same below =
+    ap cqe_of_bytes (part_same old new t.cq (16 * t.depth) (t.cq + 16 * s) 16 same (omega arith) (omega arith))
 
 -- what the host sends doesn't change if the data doesn't
 pub holds_sent_on : (t : Setting) (x : Sent) (old new : List ℕ)
@@ -245,21 +202,6 @@ holds_sent_on t x old new same holds =
 
 -- ---- the pages of a command's list
 
--- a page of the list doesn't change
-abbrev PageStays : ℕ → Sent → List ℕ → List ℕ → ℕ → Type 0
-PageStays page_size x old new i =
-    bytes_at new (get_or (own_pages x) i 0 * page_size) page_size ≡ bytes_at old
-    (get_or (own_pages x) i 0 * page_size) page_size
-
-both_stay : (page_size : ℕ) (x : Sent) (old new : List ℕ) → length new ≡ length old
-    → ((i : ℕ) → i < 2 → PageStays page_size x old new i)
-    → KeepsList (pointed page_size x old) x.first x.second new
-both_stay page_size x old new len same = record {
-  len = len;
-  in_first = λ many. same 0 (omega arith);
-  in_second = λ many. same 1 (omega arith);
-}
-
 -- another page's bytes are outside a page
 whole_page : (page_size p q : ℕ) → p ≢ q → IsOutside page_size q (p * page_size) page_size
 whole_page page_size p q differ = grind (arith, pages_apart page_size p q differ)
@@ -268,42 +210,30 @@ whole_page page_size p q differ = grind (arith, pages_apart page_size p q differ
 pub written_list : (page_size : ℕ) (x : Sent) (bytes written : List ℕ) → 0 < page_size
     → x.offset + data_length x ≤ length x.pages * page_size → AreDistinct (own_pages x)
     → KeepsList (pointed page_size x bytes) x.first x.second (written_at bytes (places page_size x) written)
-written_list page_size x bytes written some enough distinct =
-    both_stay page_size x bytes _ (length-written_at bytes (places page_size x) written)
-    (λ i low. let page = get_or (own_pages x) i 0 in
-    part_stays bytes (places page_size x) written (page * page_size) page_size
-    (λ k below. let size = length-places page_size x in
-    let at = get_or (places page_size x) k 0 in
-    let one = place_page page_size x.pages x.offset (data_length x) k some enough (omega arith) in
-    let inside = one.is_one in
-    grind (
-      arith,
-      other_page page_size (get_or x.pages one.index 0) page at
-          (λ same. distinct i (suc (suc one.index)) 0 (omega arith) (omega arith) (sym same)) one.from one.to,
-    )))
+written_list page_size x bytes written some enough distinct = record {
+  len = length-written_at bytes (places page_size x) written;
+  in_first = λ many. page_stays 0 (omega arith);
+  in_second = λ many. page_stays 1 (omega arith);
+}
+  where
+    page_stays : (i : ℕ) → i < 2
+        → bytes_at (written_at bytes (places page_size x) written) (get_or (own_pages x) i 0 * page_size) page_size
+        ≡ bytes_at bytes (get_or (own_pages x) i 0 * page_size) page_size
+    page_stays i low =
+        let page = get_or (own_pages x) i 0 in
+        part_stays bytes (places page_size x) written (page * page_size) page_size
+        (λ k below. let size = length-places page_size x in
+        let at = get_or (places page_size x) k 0 in
+        let one = place_page page_size x.pages x.offset (data_length x) k some enough (omega arith) in
+        let inside = one.is_one in
+        grind (
+          arith,
+          other_page page_size (get_or x.pages one.index 0) page at
+              (λ same. distinct i (suc (suc one.index)) 0 (omega arith) (omega arith) (sym same)) one.from one.to,
+        ))
 
 beside : (page_size page base n : ℕ) → IsOutside page_size page base n → IsApart base n (page * page_size) page_size
 beside page_size page base n outside = grind arith
-
--- the list doesn't change if only bytes outside its pages change
-list_beside : (t : Setting) (x : Sent) (base n : ℕ) (old new : List ℕ) → length new ≡ length old
-    → AreOutside t.page_size x base n → ChangesOnly base n old new
-    → KeepsList (pointed t.page_size x old) x.first x.second new
-list_beside t x base n old new len outside only =
-    both_stay t.page_size x old new len
-    (λ i low. let page = get_or (own_pages x) i 0 in
-    only (page * t.page_size) t.page_size (beside t.page_size page base n (outside i 0 (omega arith))))
-
--- the list doesn't change if another command's pages change
-list_stays : (t : Setting) (x y : Sent) (base n : ℕ) (old new : List ℕ) → length new ≡ length old
-    → ChangesOnlyAt t x base n old new → AreApart y x → AreOutside t.page_size y base n
-    → KeepsList (pointed t.page_size y old) y.first y.second new
-list_stays t x y base n old new len only apart outside =
-    both_stay t.page_size y old new len
-    (λ i low. let page = get_or (own_pages y) i 0 in
-    only (page * t.page_size) t.page_size
-    (λ j d h. whole_page t.page_size page (get_or (own_pages x) j d) (apart i 0 (omega arith) j d h))
-    (beside t.page_size page base n (outside i 0 (omega arith))))
 
 -- ---- a command's list and its data
 
@@ -311,21 +241,34 @@ pub record Stays (t : Setting) (x : Sent) (old new : List ℕ) : Type 0 where
   pub list : KeepsList (pointed t.page_size x old) x.first x.second new
   pub read : read_at new (places t.page_size x) ≡ read_at old (places t.page_size x)
 
--- both don't change if only bytes outside the command's pages change
+-- both don't change if the command's pages don't
+pub same_stays : (t : Setting) (x : Sent) (old new : List ℕ) → 0 < t.page_size → length new ≡ length old
+    → x.offset + data_length x ≤ length x.pages * t.page_size → PagesStay t.page_size x old new → Stays t x old new
+same_stays t x old new some len enough same = record {
+  list = record { len = len; in_first = λ many. same 0 0 (omega arith); in_second = λ many. same 1 0 (omega arith) };
+  read = read_keeps old new (places t.page_size x) (λ k below.
+      let size = length-places t.page_size x in
+      let page = place_page t.page_size x.pages x.offset (data_length x) k some enough (omega arith) in
+      let inside = page.is_one in
+      part_same old new (get_or x.pages page.index 0 * t.page_size) t.page_size (get_or (places t.page_size x) k 0) 1
+      (same (suc (suc page.index)) 0 (omega arith)) page.from (omega (arith, page.to)));
+}
+
+-- or if only bytes outside them change
 pub stays_beside : (t : Setting) (x : Sent) (base n : ℕ) (old new : List ℕ) → 0 < t.page_size
     → length new ≡ length old → x.offset + data_length x ≤ length x.pages * t.page_size
     → AreOutside t.page_size x base n → ChangesOnly base n old new → Stays t x old new
-stays_beside t x base n old new some len enough outside only = record {
-  list = list_beside t x base n old new len outside only;
-  read = data_beside t x base n old new some enough outside only;
-}
+stays_beside t x base n old new some len enough outside only =
+    same_stays t x old new some len enough (λ i d h. let page = get_or (own_pages x) i d in
+    only (page * t.page_size) t.page_size (beside t.page_size page base n (outside i d h)))
 
--- both don't change even if another command's pages change
+-- even if another command's pages change too
 pub stays_apart : (t : Setting) (x y : Sent) (base n : ℕ) (old new : List ℕ) → 0 < t.page_size
     → length new ≡ length old → ChangesOnlyAt t x base n old new
     → y.offset + data_length y ≤ length y.pages * t.page_size → AreApart y x → AreOutside t.page_size y base n
     → Stays t y old new
-stays_apart t x y base n old new some len only enough apart outside = record {
-  list = list_stays t x y base n old new len only apart outside;
-  read = data_stays t x y base n old new some enough only apart outside;
-}
+stays_apart t x y base n old new some len only enough apart outside =
+    same_stays t y old new some len enough (λ i d h. let page = get_or (own_pages y) i d in
+    only (page * t.page_size) t.page_size
+    (λ j e low. whole_page t.page_size page (get_or (own_pages x) j e) (apart i d h j e low))
+    (beside t.page_size page base n (outside i d h)))

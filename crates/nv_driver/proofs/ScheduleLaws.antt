@@ -1,26 +1,20 @@
 -- Bytes that don't change, writes elsewhere, and every schedule.
 use Rattle.std.proofs.Common.{◌≡◌, ◌∙◌, ℕ, ◌+◌, ◌≤◌, List, [], ◌∷◌, ◌++◌, arith, get_or, inl, inr, length}
-use Rattle.std.proofs.Common.{length-append, refl, subst, sym, suc, ◌-◌, ◌*◌, ◌<◌, ap, ◌≢◌, All}
+use Rattle.std.proofs.Common.{length-append, refl, subst, sym, suc, ◌<◌, ap, ◌≢◌, All}
 use Rattle.std.proofs.lemmas.List.{get_or_append_left, get_or_push}
-use Rattle.nv_host.specs.Bytes.{bytes_at}
-use Rattle.nv_host.proofs.BytesLaws.{bytes_at-bytes_at}
 use Rattle.nv_host.proofs.PageLaws.{page_size_bounds}
-use Rattle.nv_layout.specs.Cqe.{cqe_of_bytes}
-use Rattle.nv_layout.specs.Sqe.{sqe_of_bytes}
 use Rattle.nv_layout.specs.declared.cqe.Cqe.{Cqe}
-use Rattle.nv_queue.specs.Slots.{completion_at, submission_at}
 use Rattle.nv_model.specs.State.{State}
 use Rattle.nv_driver.specs.Schedule.{AreOthers, AreOutside, Bell, Collect, Happens, IsPrepared, Sent, Setting, Submit}
-use Rattle.nv_driver.specs.Schedule.{Tell, Turn, World, answer_awaited, Elsewhere, LeavesOutstanding, PagesStay}
-use Rattle.nv_driver.specs.Schedule.{data_length, places, slot, Event, EveryScheduleIsSerial, IsSerial, Runs}
+use Rattle.nv_driver.specs.Schedule.{Tell, Turn, World, answer_awaited, Elsewhere, LeavesOutstanding}
+use Rattle.nv_driver.specs.Schedule.{slot, Event, EveryScheduleIsSerial, IsSerial, Runs}
 use Rattle.nv_driver.specs.Keeping.{Keeps, OthersStay, HasRings}
 use Rattle.nv_driver.proofs.SubmitLaws.{changes_only, mem_after, submit_keeps}
 use Rattle.nv_driver.proofs.TurnLaws.{turn_leaves, turn_keeps, turn_takes}
 use Rattle.nv_driver.proofs.CountLaws.{slot_inside}
-use Rattle.nv_driver.proofs.HeldLaws.{holds_on}
-use Rattle.nv_driver.proofs.RegionLaws.{Stays}
+use Rattle.nv_driver.proofs.AnswerLaws.{holds_on}
 use Rattle.nv_driver.proofs.PointerLaws.{stays_in}
-use Rattle.nv_driver.proofs.RegionLaws.{holds_sent_on, length-places, place_page, read_keeps}
+use Rattle.nv_driver.proofs.RegionLaws.{completion_same, holds_sent_on, same_stays, submission_same}
 use Rattle.nv_driver.proofs.KeptLaws.{bell_keeps, collect_keeps, idle_keeps, is_found, tell_keeps}
 
 -- ---- bytes that don't change as long as the host doesn't write elsewhere
@@ -99,42 +93,6 @@ submit_others t s first old x w w' keeps stay happens =
 
 -- ---- the host writes elsewhere
 
--- a part of bytes that don't change
-part_same : (old new : List ℕ) (from n part k : ℕ) → bytes_at new from n ≡ bytes_at old from n → from ≤ part
-    → part + k ≤ from + n → bytes_at new part k ≡ bytes_at old part k
-part_same old new from n part k same low high =
-    let at : from + (part - from) ≡ part = omega arith in
-    let inside : part - from + k ≤ n = omega arith in
-    ap (λ i. bytes_at new i k) (sym at) ∙ sym (bytes_at-bytes_at new from n (part - from) k inside)
-    ∙ ap (λ m. bytes_at m (part - from) k) same
-    ∙ bytes_at-bytes_at old from n (part - from) k inside ∙ ap (λ i. bytes_at old i k) at
-
--- the data of a command, and its list
-same_stays : (t : Setting) (x : Sent) (old new : List ℕ) → 0 < t.page_size → length new ≡ length old
-    → x.offset + data_length x ≤ length x.pages * t.page_size → PagesStay t.page_size x old new → Stays t x old new
-same_stays t x old new some len enough same = record {
-  list = record { len = len; in_first = λ many. same 0 0 (omega arith); in_second = λ many. same 1 0 (omega arith) };
-  read = read_keeps old new (places t.page_size x) (λ k below.
-      let size = length-places t.page_size x in
-      let page = place_page t.page_size x.pages x.offset (data_length x) k some enough (omega arith) in
-      let inside = page.is_one in
-      part_same old new (get_or x.pages page.index 0 * t.page_size) t.page_size (get_or (places t.page_size x) k 0) 1
-      (same (suc (suc page.index)) 0 (omega arith)) page.from (omega (arith, page.to)));
-}
-
--- the slots
-submission_same : (t : Setting) (w : World) (new : List ℕ) (s : ℕ) → LeavesOutstanding t w new → s < t.depth
-    → submission_at new t.sq s ≡ submission_at w.mem t.sq s
-submission_same t w new s leaves below =
-    ap sqe_of_bytes
-    (part_same w.mem new t.sq (64 * t.depth) (t.sq + 64 * s) 64 leaves.submissions (omega arith) (omega arith))
-
-completion_same : (t : Setting) (w : World) (new : List ℕ) (s : ℕ) → LeavesOutstanding t w new → s < t.depth
-    → completion_at new t.cq s ≡ completion_at w.mem t.cq s
-completion_same t w new s leaves below =
-    ap cqe_of_bytes
-    (part_same w.mem new t.cq (16 * t.depth) (t.cq + 16 * s) 16 leaves.completions (omega arith) (omega arith))
-
 written : (t : Setting) (s : State) (w : World) (new : List ℕ) → Keeps t s w → LeavesOutstanding t w new
     → Keeps t s (record w { mem = new })
 written t s w new k leaves =
@@ -159,15 +117,17 @@ written t s w new k leaves =
       named = λ n d from below.
           stays_in t.page_size (get_or w.sent n d) w.mem new (stays n d from below).list (k.named n d from below);
       waiting = λ n d from below.
-          submission_same t w new (slot t n) leaves (slot_inside t n some_slots) ∙ k.waiting n d from below;
+          submission_same t w.mem new (slot t n) leaves.submissions (slot_inside t n some_slots)
+          ∙ k.waiting n d from below;
       to_send = λ n d from below.
           holds_sent_on t (get_or w.sent n d) w.mem new (stays n d (omega (arith, c.collected)) below).read
           (k.to_send n d from below);
       held = λ n d from below.
           holds_on t s w (record w { mem = new }) n (get_or w.sent n d)
-          (completion_same t w new (slot t n) leaves (slot_inside t n some_slots))
+          (completion_same t w.mem new (slot t n) leaves.completions (slot_inside t n some_slots))
           (stays n d from (omega (arith, c.done, c.rung))).read refl (k.held n d from below);
-      tags = λ slot below. ap (λ (e : Cqe). e.phase) (completion_same t w new slot leaves below) ∙ k.tags slot below;
+      tags = λ slot below. ap (λ (e : Cqe). e.phase) (completion_same t w.mem new slot leaves.completions below)
+          ∙ k.tags slot below;
       answers = k.answers;
     }
 

@@ -3,22 +3,23 @@ use Rattle.std.proofs.Common.{◌≡◌, ◌∙◌, ℕ, ◌+◌, ◌*◌, ◌<�
 use Rattle.std.proofs.Common.{length-append, subst, sym}
 use Rattle.std.proofs.lemmas.Bool.{cases_lt}
 use Rattle.std.proofs.lemmas.List.{get_or_append_left, get_or_push, take-append-le}
+use Rattle.nv_host.specs.Bytes.{bytes_at}
 use Rattle.nv_host.proofs.PageLaws.{page_size_bounds}
-use Rattle.nv_layout.specs.Sqe.{SqeFits, sqe_of_bytes}
+use Rattle.nv_layout.specs.Sqe.{SqeFits}
 use Rattle.nv_prp.proofs.BufferLaws.{rest_distinct}
 use Rattle.nv_queue.proofs.SlotLaws.{length-with_submission, push_written}
 use Rattle.nv_queue.specs.Slots.{submission_at, with_submission}
 use Rattle.nv_model.specs.State.{State}
 use Rattle.nv_driver.specs.Request.{IsReadable}
-use Rattle.nv_driver.specs.Schedule.{AreApart, AreOutside, Happens, Holds, HoldsSent, IsPrepared, MaySubmit, Sent}
+use Rattle.nv_driver.specs.Schedule.{AreApart, Happens, Holds, HoldsSent, IsPrepared, MaySubmit, Sent}
 use Rattle.nv_driver.specs.Schedule.{Setting, StaysNamed, Submit, World, after, answers_to, entry, slot, submit_ring}
 use Rattle.nv_driver.proofs.CountLaws.{slot_inside, slots_differ}
-use Rattle.nv_driver.proofs.HeldLaws.{holds_on}
+use Rattle.nv_driver.proofs.AnswerLaws.{holds_on}
 use Rattle.nv_driver.specs.Keeping.{HasRings, IsOwn, Keeps}
 use Rattle.nv_driver.proofs.RegionLaws.{Stays, stays_apart, stays_beside}
 use Rattle.nv_driver.proofs.PointerLaws.{stays_in}
-use Rattle.nv_driver.proofs.RegionLaws.{ChangesOnlyAt, buffer_data, completion_stays, holds_sent_on, outside_part}
-use Rattle.nv_driver.proofs.RegionLaws.{submission_keeps}
+use Rattle.nv_driver.proofs.RegionLaws.{ChangesOnlyAt, buffer_data, completion_same, holds_sent_on, submission_keeps}
+use Rattle.nv_driver.proofs.RegionLaws.{submission_same}
 use Rattle.nv_driver.proofs.BatchLaws.{answers-append, length-answers}
 
 -- the memory after a submission
@@ -36,14 +37,6 @@ pub changes_only : (t : Setting) (w : World) (x : Sent) (ready : List ℕ) → 0
 changes_only t w x ready some inside prepared from n outside apart =
     submission_keeps ready (submit_ring t (length w.sent) (length w.answers)) (entry x) from n some
     inside apart ∙ prepared.others from n outside
-
--- a submission slot doesn't change while the pages of a command are prepared
-slot_stays : (t : Setting) (x : Sent) (old ready : List ℕ) (s : ℕ)
-    → IsPrepared t.page_size x old ready → AreOutside t.page_size x t.sq (64 * t.depth) → s < t.depth
-    → submission_at ready t.sq s ≡ submission_at old t.sq s
-slot_stays t x old ready s prepared outside below =
-    ap sqe_of_bytes (prepared.others (t.sq + 64 * s) 64
-    (outside_part t x t.sq (64 * t.depth) (t.sq + 64 * s) 64 outside (omega arith) (omega arith)))
 
 -- ---- the command that is submitted
 
@@ -119,6 +112,9 @@ module _ (t : Setting) (s : State) (x : Sent) (w : World) (ready : List ℕ) (k 
   only : ChangesOnlyAt t x t.sq (64 * t.depth) w.mem next.mem
   only = changes_only t w x ready some_slots inside prepared
 
+  completions_stay : bytes_at next.mem t.cq (16 * t.depth) ≡ bytes_at w.mem t.cq (16 * t.depth)
+  completions_stay = only t.cq (16 * t.depth) may.completions k.placed.rings
+
   -- its own list and data since its pages were prepared, and those of others
   own_stays : Stays t x ready next.mem
   own_stays = stays_beside t x t.sq (64 * t.depth) ready next.mem some (length-after t w x ready some_slots inside)
@@ -143,7 +139,8 @@ module _ (t : Setting) (s : State) (x : Sent) (w : World) (ready : List ℕ) (k 
       let low = slot_inside t n some_slots in
       written.others (slot t n) low
       (λ e. slots_differ t n (length w.sent) below (omega (arith, c.few, c.collected)) (sym e))
-      ∙ slot_stays t x w.mem ready (slot t n) prepared may.submissions low ∙ k.waiting n d from below)
+      ∙ submission_same t w.mem ready (slot t n) (prepared.others t.sq (64 * t.depth) may.submissions) low
+      ∙ k.waiting n d from below)
       written.here
 
   held_still : (n : ℕ) (d : Sent) → length w.answers ≤ n → n < w.done → Holds t s next n (get_or next.sent n d)
@@ -152,8 +149,8 @@ module _ (t : Setting) (s : State) (x : Sent) (w : World) (ready : List ℕ) (k 
       let y = get_or w.sent n d in
       let early : n < length w.sent = omega (arith, c.done, c.rung) in
       subst (Holds t s next n) (sym (get_or_append_left w.sent (x ∷ []) d n early))
-      (holds_on t s w next n y (completion_stays t x w.mem next.mem (slot t n) only may.completions
-      k.placed.rings (slot_inside t n some_slots))
+      (holds_on t s w next n y (completion_same t w.mem next.mem (slot t n) completions_stay
+      (slot_inside t n some_slots))
       (other_stays n d from early).read
       (take-append-le n w.sent (x ∷ []) (omega arith))
       (k.held n d from below))
@@ -187,8 +184,8 @@ module _ (t : Setting) (s : State) (x : Sent) (w : World) (ready : List ℕ) (k 
             (other_stays n d (omega (arith, c.collected)) below).read (k.to_send n d from below))
             (holds_sent_on t x ready next.mem own_stays.read prepared.sent);
         held = held_still;
-        tags = λ slot below. ap (λ e. e.phase) (completion_stays t x w.mem next.mem slot only
-            may.completions k.placed.rings below) ∙ k.tags slot below;
+        tags = λ slot below. ap (λ e. e.phase) (completion_same t w.mem next.mem slot completions_stay below)
+            ∙ k.tags slot below;
         answers = λ n below d e can.
             let all = answers_to t.controller s w.sent in
             let early : n < length w.sent = omega (arith, c.collected, c.done, c.rung) in

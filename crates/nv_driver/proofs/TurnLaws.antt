@@ -119,10 +119,10 @@ pub record IsTurn (t : Setting) (s : State) (w : World) (most count : ℕ) (z : 
   pub left : z ≡ site last.state (bank_with t last.rings) last.bytes
   pub number : count ≡ turn_count most (now t w)
 
-by_rings : (t : Setting) (s : State) (w : World) (most count : ℕ) (z : Site) → Keeps t s w
-    → BankTurn t.page_size t.controller most count (site w.state (bank_with t (now t w)) w.mem) z
-    → IsTurn t s w most count z
-by_rings t s w most count z k turn =
+pub is_turn : (t : Setting) (s : State) (w : World) (most count : ℕ) (z : Site) → Keeps t s w
+    → BankTurn t.page_size t.controller most count (site w.state w.bank w.mem) z → IsTurn t s w most count z
+is_turn t s w most count z k by_bank =
+    let turn = subst (λ p. BankTurn t.page_size t.controller most count (site w.state p w.mem) z) k.bank by_bank in
     let last = turn.0 in
     let counted = turn_count_is t.page_size t.controller most count (scene w.state (now t w) w.mem)
     last turn.1 (rings_lie t s w k) turn.2 in
@@ -132,12 +132,6 @@ by_rings t s w most count z k turn =
       left = turn.3 ∙ ap (λ b. site last.state (ready_bank (bank_with t (now t w)) last.rings b) last.bytes) counted.1;
       number = counted.0;
     }
-
-pub is_turn : (t : Setting) (s : State) (w : World) (most count : ℕ) (z : Site) → Keeps t s w
-    → BankTurn t.page_size t.controller most count (site w.state w.bank w.mem) z → IsTurn t s w most count z
-is_turn t s w most count z k turn =
-    by_rings t s w most count z k (subst (λ p. BankTurn t.page_size t.controller most count
-    (site w.state p w.mem) z) k.bank turn)
 
 pub turn_keeps : (t : Setting) (s : State) (most : ℕ) (w w' : World) → Keeps t s w
     → Happens t (Turn most) w w' → Keeps t s w'

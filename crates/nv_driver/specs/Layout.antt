@@ -23,6 +23,10 @@ most_bytes = 16384
 abbrev pub offset_for : Geometry → ℕ → ℕ
 offset_for g len = if len == 0 then 0 else g.offset
 
+-- how many pages `len` bytes of data lie in
+abbrev pub data_count : Geometry → ℕ → ℕ
+data_count g len = div_ceil (offset_for g len + len) g.page_size
+
 -- the greatest number of pages for `most` bytes: one more if they begin inside a page, and two for
 -- a PRP list that begins inside a page
 abbrev pub pages_for : ℕ → ℕ → ℕ

@@ -6,7 +6,7 @@ pub mod Layout
 pub mod Quiet
 pub mod Settled
 pub mod Registers
-pub mod CommandPages
+pub mod Share
 pub mod Schedule
 pub mod Keeping
 pub mod Answer

@@ -1,12 +1,9 @@
 -- A request that a driver submitted, and where its data lies.
-use Rattle.std.specs.Prelude.{ℕ, List, drop, slice_index, take}
-use Rattle.nv_command.specs.Command.{transfer_by}
-use Rattle.nv_command.specs.declared.command.Command.{Command}
-use Rattle.nv_bus.specs.Call.{length_of}
-use Rattle.nv_driver.specs.Layout.{offset_for}
-use Rattle.nv_driver.specs.Request.{Request, request_of}
+use Rattle.std.specs.Prelude.{ℕ, ◌+◌, List}
+use Rattle.std.specs.List.{range_with_len}
+use Rattle.nv_driver.specs.Layout.{data_count, offset_for}
+use Rattle.nv_driver.specs.Request.{Request}
 use Rattle.nv_driver.specs.Schedule.{Sent}
-use Rattle.nv_driver.specs.declared.command_pages.CommandPages.{CommandPages}
 use Rattle.nv_driver.specs.declared.geometry.Geometry.{Geometry}
 
 -- the numbers of its data pages, the offset of its data in the first one, and the place for a list
@@ -17,13 +14,13 @@ pub record RequestPlace : Type 0 where
   pub second : ℕ
   pub list_offset : ℕ
 
--- `len` bytes in the `count` pages that follow the two of a list
-abbrev pub place_in : Geometry → List ℕ → (count len : ℕ) → RequestPlace
-place_in g numbers count len = record {
-  pages = take count (drop 2 numbers);
+-- `len` bytes in consecutive pages from this one on: two for a list, and then those of the data
+abbrev pub place_from : Geometry → (first len : ℕ) → RequestPlace
+place_from g first len = record {
+  pages = range_with_len (first + 2) (data_count g len);
   offset = offset_for g len;
-  first = slice_index numbers 0;
-  second = slice_index numbers 1;
+  first = first;
+  second = first + 1;
   list_offset = g.list_offset;
 }
 
@@ -40,10 +37,3 @@ sent_at at q cid prp1 prp2 = record {
   prp1 = prp1;
   prp2 = prp2;
 }
-
--- a command with its pages
-abbrev pub place_by : Geometry → Command → CommandPages → RequestPlace
-place_by g k own = place_in g own.numbers own.data_pages (length_of (transfer_by k))
-
-abbrev pub sent_by : Geometry → Command → ℕ → CommandPages → ℕ → ℕ → Sent
-sent_by g k cid own prp1 prp2 = sent_at (place_by g k own) (request_of k) cid prp1 prp2

@@ -1,30 +1,30 @@
 -- Requests of one controller on their way, of which several are outstanding.
-use Rattle.std.specs.Prelude.{◌≡◌, ℕ, ◌+◌, ◌%◌, ◌<◌, ◌≤◌, All, List, [], ◌++◌, ◌∷◌, Option, None}
-use Rattle.std.specs.Prelude.{Some, drop, length, map, slice_index_or, slice_set, take}
-use Rattle.nv_host.specs.PageSets.{IsOf, Pages}
+use Rattle.std.specs.Prelude.{◌≡◌, ℕ, ◌+◌, ◌%◌, ◌<◌, ◌≤◌, All, List, length, map, slice_index_or}
+use Rattle.std.specs.Prelude.{slice_set, take}
+use Rattle.nv_command.specs.Command.{transfer_by}
 use Rattle.nv_command.specs.declared.command.Command.{Command}
 use Rattle.nv_register.specs.declared.register_bank.RegisterBank.{RegisterBank}
 use Rattle.nv_model.specs.Conditions.{limit_of}
 use Rattle.nv_model.specs.Ranges.{serial_count}
 use Rattle.nv_model.specs.State.{State}
 use Rattle.nv_bus.specs.Bus.{BusValue, IsBus, bank_at}
+use Rattle.nv_bus.specs.Call.{length_of}
 use Rattle.nv_driver.specs.Batch.{from_serial}
-use Rattle.nv_driver.specs.CommandPages.{AreTaken, without}
 use Rattle.nv_driver.specs.Exchange.{IsReady}
 use Rattle.nv_driver.specs.Keeping.{Keeps, OthersStay}
 use Rattle.nv_driver.specs.QueuePair.{QueuePair, idle_bank}
-use Rattle.nv_driver.specs.Layout.{pages_of_command}
 use Rattle.nv_driver.specs.Quiet.{pair_value}
 use Rattle.nv_driver.specs.Registers.{mps_of}
 use Rattle.nv_driver.specs.Answer.{Answer}
-use Rattle.nv_driver.specs.Request.{CanBeSent}
+use Rattle.nv_driver.specs.Request.{CanBeSent, request_of}
 use Rattle.nv_driver.specs.Schedule.{Numbered, Sent, Setting, World, collect_ring, numbered, own_pages}
 use Rattle.nv_driver.specs.Schedule.{submit_ring}
-use Rattle.nv_driver.specs.Submitting.{sent_by}
+use Rattle.nv_driver.specs.Share.{IsOf, first_page, share_count}
+use Rattle.nv_driver.specs.Submitting.{place_from, sent_at}
 use Rattle.nv_driver.specs.declared.batch.Batch.{Batch}
-use Rattle.nv_driver.specs.declared.command_pages.CommandPages.{CommandPages}
 use Rattle.nv_driver.specs.declared.geometry.Geometry.{Geometry}
 use Rattle.nv_driver.specs.declared.queue_pair.QueuePair.{QueuePair as QueuePairFields}
+use Rattle.nv_driver.specs.declared.share.Share.{Share}
 
 -- the schedule of a queue pair's controller, from its next command on
 abbrev pub setting : Geometry → (c limit : ℕ) → QueuePair → Setting
@@ -98,13 +98,13 @@ world_by w s p bytes = record {
 abbrev pub world_of : Way → BusValue → List ℕ → World
 world_of w bus bytes = world_by w bus.state (bank_at bus.banks w.run.controller) bytes
 
--- the queue pair by how many requests were sent, collected and reported, and which pages are left
-abbrev pub pair_at : Run → (sent collected told : ℕ) → Pages → QueuePairFields
-pair_at r sent collected told pages = record {
+-- the queue pair by how many requests were sent, collected and reported
+abbrev pub pair_at : Run → (sent collected told : ℕ) → QueuePairFields
+pair_at r sent collected told = record {
   submission = submit_ring (setting_of r) sent collected;
   completion = collect_ring (setting_of r) collected told;
   serial = serial_at r sent;
-  pages = pages;
+  pages = r.pair.pages;
 }
 
 -- they are on their way over a bus, a queue pair and a memory
@@ -119,40 +119,28 @@ pub record IsOnWay (w : Way) (bus : BusValue) (l : QueuePairFields) (now : ℕ) 
   pub lawful : IsBus bus
   pub banks : bus.banks
       ≡ slice_set w.run.bus.banks w.run.controller (bank_at bus.banks w.run.controller)
-  pub pair : l ≡ pair_at w.run (length w.course.sent) (length w.course.answers) w.told l.pages
+  pub pair : l ≡ pair_at w.run (length w.course.sent) (length w.course.answers) w.told
 
 -- ---- a list of commands
 
--- the pages of commands, one after another
-abbrev pub pages_of_all : List Sent → List ℕ
-pages_of_all [] = []
-pages_of_all (x ∷ xs) = own_pages x ++ pages_of_all xs
+-- the share of command n
+abbrev pub share : Run → ℕ → Share
+share r n = record { geometry = r.geometry; pages = r.pair.pages; number = n }
 
--- an outstanding command in its slot of the window
-pub record IsKept (r : Run) (o : Option CommandPages) (x : Sent) : Type 0 where
-  pub one : CommandPages
-  pub is_one : o ≡ Some one
+-- command n was sent with its data in its share of the pages
+pub record IsKept (r : Run) (n : ℕ) (x : Sent) : Type 0 where
   pub command : Command
-  pub sent : x ≡ sent_by r.geometry command x.cid one x.prp1 x.prp2
-  pub few : one.data_pages + 2 ≤ pages_of_command r.geometry.page_size
-  pub seven : length one.numbers ≡ 7
+  pub sent : x ≡ sent_at (place_from r.geometry (first_page (share r n)) (length_of (transfer_by command)))
+      (request_of command) x.cid x.prp1 x.prp2
+  pub own : All (λ p. IsOf (first_page (share r n)) (share_count (share r n)) p) (own_pages x)
 
--- the slots of the window, by the numbers of the commands modulo 16
-abbrev pub kept_at : List (Option CommandPages) → ℕ → Option CommandPages
-kept_at places n = slice_index_or places (n % 16) None
-
--- the run's first m commands were sent, and those from k on have their slots and pages
-pub record HasSent (r : Run) (m k : ℕ) (places : List (Option CommandPages)) (xs : List Sent)
-    : Type 0 where
+-- the run's first m commands were sent, of which those from k on are outstanding
+pub record HasSent (r : Run) (m k : ℕ) (xs : List Sent) : Type 0 where
   pub window : m ≤ k + r.geometry.window
   pub some : m ≤ length r.commands
   pub sent : length xs ≡ m
   pub commands : map numbered xs ≡ take m (numbered_of r)
-  pub kept : (n : ℕ) (d : Sent) → k ≤ n → n < m
-      → IsKept r (kept_at places n) (slice_index_or xs n d)
-  pub taken : AreTaken r.pair.pages (pages_of_all (drop k xs))
-  pub own : (n : ℕ) (d : Sent) → n < m
-      → All (λ p. IsOf r.pair.pages.first r.pair.pages.count p) (own_pages (slice_index_or xs n d))
+  pub kept : (n : ℕ) (d : Sent) → n < m → IsKept r n (slice_index_or xs n d)
 
 -- a list of commands of which some were sent, and some answers were collected
 pub record IsUnderWay (r : Run) (bells turns : ℕ) (b : Batch) (bus : BusValue) (l : QueuePairFields)
@@ -163,8 +151,6 @@ pub record IsUnderWay (r : Run) (bells turns : ℕ) (b : Batch) (bus : BusValue)
   pub can : All CanBeSent r.commands
   pub geometry : b.geometry ≡ r.geometry
   pub controller : b.ctrl ≡ r.controller
-  pub room : length b.outstanding ≡ 16
-  pub has : HasSent r b.sent b.collected b.outstanding course.sent
+  pub has : HasSent r b.sent b.collected course.sent
   pub open has use *
   pub collected : length course.answers ≡ b.collected
-  pub left : l.pages ≡ without r.pair.pages (pages_of_all (drop b.collected course.sent))

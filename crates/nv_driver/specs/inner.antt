@@ -1,12 +1,11 @@
 -- What no public contract reaches. Contracts of private functions use it, in other crates too.
 pub mod Alone
-pub mod CommandPages
 pub mod Driver
 pub mod Exchange
-pub mod Layout
 pub mod Linked
 pub mod Pace
 pub mod Registers
 pub mod Schedule
+pub mod Share
 pub mod Submitting
 pub mod UnderWay

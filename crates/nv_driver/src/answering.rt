@@ -1,6 +1,6 @@
 //! The answer to one command.
 
-ghost use Rattle.std.specs.Prelude.{◌≡◌, ◌<◌, ◌≤◌, Ok, length};
+ghost use Rattle.std.specs.Prelude.{◌≡◌, ◌≤◌, Ok, length};
 ghost use Rattle.nv_command.specs.Command.{transfer_by};
 ghost use Rattle.nv_command.specs.Logs.{IsSendable};
 ghost use Rattle.nv_command.specs.Reply.{reply_in};
@@ -8,10 +8,17 @@ ghost use Rattle.nv_bus.specs.Call.{length_of};
 ghost use Rattle.nv_prp.specs.Buffer.{IsBuffer, buffer_places};
 ghost use Rattle.nv_prp.specs.Place.{read_at};
 ghost use Rattle.nv_driver.specs.Layout.{most_bytes};
+ghost use Rattle.nv_driver.specs.Share.{first_page};
+ghost use Rattle.nv_driver.specs.inner.Share.{HasShares};
+ghost use Rattle.nv_driver.specs.inner.Submitting.{places_from};
 ghost use Rattle.nv_driver.specs.Schedule.{answer_from, received_from};
 
 use crate::answer_slot::AnswerSlot;
+use crate::data_place::DataPlace;
+use crate::host_side::HostSide;
+use crate::request_pages::command_pages;
 use crate::scratch::Scratch;
+use crate::share::Share;
 use nv_command::{Command, Transfer};
 use nv_host::HostMemory;
 use nv_layout::Cqe;
@@ -23,7 +30,7 @@ use nv_prp::{Buffer, Spans, copy_in};
 fn read_sent<'a, M: HostMemory>(
     mem: &'a M,
     buffer: &Buffer,
-    len: u64,
+    len: u32,
     spans: &mut Spans,
     data: &'a mut [u8; 16384],
 ) -> &'a [u8]
@@ -34,7 +41,6 @@ fn read_sent<'a, M: HostMemory>(
         (buffer_places (M.page_len mem.now) buffer.now.pages.now buffer.now.offset len) }
     ensures len { length result.now ≡ len }
 {
-    let len = len as u32;
     let page_size = mem.page_size();
     let end = buffer.offset + len;
     let in_one_page = 0 < len && end <= page_size;
@@ -49,28 +55,30 @@ fn read_sent<'a, M: HostMemory>(
 }
 
 /// Reads the reply to a command from dword 0 of its completion and the data that the controller
-/// sent to its buffer.
-#[tactic(auto, using(crate::proofs::DataLaws::shape_as, crate::proofs::DataLaws::most))]
+/// sent to its pages.
 fn read_reply<M: HostMemory>(
-    mem: &M,
-    buffer: &Buffer,
+    host: &mut HostSide<M>,
+    share: &Share,
     command: &Command,
     dword0: u32,
     slot: &mut AnswerSlot,
-    scratch: &mut Scratch,
 )
     requires sends { IsSendable command.now }
-    requires buffer { IsBuffer (M.bytes mem.now) (M.page_len mem.now)
-        buffer.now.pages.now buffer.now.offset (length_of (transfer_by command.now)) }
-    ensures { slot.new ≡ Ok (reply_in command.now dword0
-        (received_from (transfer_by command.now) (M.bytes mem.now) (buffer_places
-        (M.page_len mem.now) buffer.now.pages.now buffer.now.offset
-        (length_of (transfer_by command.now))))) }
+    requires share { HasShares share.now (M.page_len host.old.mem) (M.bytes host.old.mem) }
+    ensures reply { slot.new ≡ Ok (reply_in command.now dword0 (received_from
+        (transfer_by command.now) (M.bytes host.old.mem) (places_from share.now.geometry
+        (first_page share.now) (length_of (transfer_by command.now))))) }
+    ensures mem { host.new.mem ≡ host.old.mem }
 {
     match command.transfer() {
         Transfer::ToHost(len) => {
-            let Scratch { spans, data, .. } = scratch;
-            let sent = read_sent(mem, buffer, len, spans, data);
+            let len = len as u32;
+            let geometry = share.geometry;
+            let count = geometry.data_pages(len);
+            let pages = command_pages(share.first_page());
+            let place = DataPlace::new(&pages, count, geometry, len);
+            let Scratch { spans, data, .. } = &mut host.scratch;
+            let sent = read_sent(&host.mem, &place.buffer, len, spans, data);
             slot.read(command, dword0, sent);
         }
         Transfer::NoData => slot.read(command, dword0, &[]),
@@ -79,27 +87,25 @@ fn read_reply<M: HostMemory>(
 }
 
 /// Stores the answer to a command in its slot, from its completion and the data that the controller
-/// sent to its buffer. Section "Completion Queue Entry".
+/// sent to its pages. Section "Completion Queue Entry".
 pub(crate) fn answer<M: HostMemory>(
-    mem: &M,
-    buffer: &Buffer,
+    host: &mut HostSide<M>,
+    share: &Share,
     command: &Command,
     completion: &Cqe,
     slot: &mut AnswerSlot,
-    scratch: &mut Scratch,
 )
     requires sends { IsSendable command.now }
-    requires buffer { IsBuffer (M.bytes mem.now) (M.page_len mem.now)
-        buffer.now.pages.now buffer.now.offset (length_of (transfer_by command.now)) }
-    ensures { slot.new ≡ answer_from command.now completion.now
-        (received_from (transfer_by command.now) (M.bytes mem.now) (buffer_places
-        (M.page_len mem.now) buffer.now.pages.now buffer.now.offset
-        (length_of (transfer_by command.now)))) }
+    requires share { HasShares share.now (M.page_len host.old.mem) (M.bytes host.old.mem) }
+    ensures answer { slot.new ≡ answer_from command.now completion.now (received_from
+        (transfer_by command.now) (M.bytes host.old.mem) (places_from share.now.geometry
+        (first_page share.now) (length_of (transfer_by command.now)))) }
+    ensures mem { host.new.mem ≡ host.old.mem }
 {
     if !completion.status.is_success() {
         slot.refuse(completion.status);
         return;
     }
     let dword0 = completion.command_specific;
-    read_reply(mem, buffer, command, dword0, slot, scratch);
+    read_reply(host, share, command, dword0, slot);
 }

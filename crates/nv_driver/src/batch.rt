@@ -1,61 +1,40 @@
 //! A list of commands and their answers, with several commands outstanding.
 
-ghost use Rattle.std.specs.Prelude.{◌≡◌, ℕ, ◌+◌, ◌-◌, ◌%◌, ◌<◌, All, MatchOption, false, length};
-ghost use Rattle.std.specs.Prelude.{None, min, slice_set, true};
+ghost use Rattle.std.specs.Prelude.{◌≡◌, ℕ, ◌+◌, ◌<◌, All, length, min};
+ghost use Rattle.std.specs.Prelude.{slice_set};
 ghost use Rattle.nv_bus.specs.Bus.{BusValue, IsBus, bank_at};
-ghost use Rattle.nv_queue.specs.Numbers.{slot_of};
-ghost use Rattle.nv_queue.specs.Rings.{told_all};
-ghost use Rattle.nv_register.specs.RegisterBank.{with_register_at};
-ghost use Rattle.nv_model.specs.Ranges.{serial_count};
 ghost use Rattle.nv_driver.specs.Batch.{answers_of, state_after};
 ghost use Rattle.nv_driver.specs.Exchange.{IsReady, after_some};
 ghost use Rattle.nv_driver.specs.inner.Exchange.{KeepsOthers};
 ghost use Rattle.nv_driver.specs.Quiet.{pair_value};
 ghost use Rattle.nv_driver.specs.Request.{CanBeSent};
-ghost use Rattle.nv_driver.specs.Schedule.{slot};
 ghost use Rattle.nv_driver.specs.inner.UnderWay.{HasAnswers};
-ghost use Rattle.nv_driver.specs.UnderWay.{IsUnderWay, Run, run_of, setting_of};
-ghost use Rattle.nv_driver.specs.inner.Pace.{IsToldByPace, IsToldInTime, taken_by_turn};
+ghost use Rattle.nv_driver.specs.UnderWay.{IsUnderWay, Run, run_of};
+ghost use Rattle.nv_driver.specs.inner.Pace.{IsTold, IsToldByPace, IsToldInTime, taken_by_turn};
 
 use crate::answer_slot::AnswerSlot;
 use crate::answering::answer;
 use crate::checked_geometry::CheckedGeometry;
 use crate::collecting::next_completion;
-use crate::command_pages::CommandPages;
 use crate::host_side::HostSide;
-use crate::outgoing::length_of;
 use crate::queue_pair::QueuePair;
+use crate::share::Share;
 use crate::submitting::submit_command;
 use crate::target::Target;
 use nv_bus::Bus;
 use nv_command::Command;
 use nv_host::HostMemory;
-use nv_model::SERIALS;
 use nv_register::offset;
 
-/// The greatest number of commands that are outstanding at a time.
-const MOST: usize = 16;
-
 /// The progress of a list of commands of one controller: how many were sent, how many answers were
-/// collected, and how many of these the head doorbell has reported. The pages of the outstanding
-/// commands are stored at the commands' numbers modulo 16.
+/// collected, and how many of these the head doorbell has reported.
 #[derive(Drop)]
 pub struct Batch {
     ctrl: u16,
     geometry: CheckedGeometry,
-    outstanding: [Option<CommandPages>; MOST],
     sent: usize,
     collected: usize,
     told: usize,
-}
-
-/// Returns how many commands come after the one with identifier `cid` until the one with `next`.
-/// Section "Submission Queue Entry", Command Identifier.
-fn distance(cid: u16, next: u16) -> usize
-    requires cid { cid < serial_count }
-    ensures { result ≡ (next + serial_count - cid) % serial_count }
-{
-    ((u32::from(next) + u32::from(SERIALS) - u32::from(cid)) % u32::from(SERIALS)) as usize
 }
 
 impl Batch {
@@ -63,7 +42,6 @@ impl Batch {
     fn new(target: Target) -> Batch
         ensures ctrl { result.ctrl ≡ target.ctrl }
         ensures geometry { result.geometry ≡ target.geometry }
-        ensures outstanding { length result.outstanding ≡ 16 }
         ensures sent { result.sent ≡ 0 }
         ensures collected { result.collected ≡ 0 }
         ensures told { result.told ≡ 0 }
@@ -71,53 +49,14 @@ impl Batch {
         Batch {
             ctrl: target.ctrl,
             geometry: target.geometry,
-            outstanding: [None; MOST],
             sent: 0,
             collected: 0,
             told: 0,
         }
     }
 
-    /// Submits commands until as many as the geometry allows are outstanding, or none is left.
-    /// Returns the new tail if it submitted any.
-    fn fill<M: HostMemory>(
-        &mut self,
-        host: &mut HostSide<M>,
-        pair: &mut QueuePair,
-        commands: &[Command],
-    ) -> Option<u16>
-        ghost run: { Run }
-        requires commands { commands.now ≡ run.commands }
-        requires under_way { (b : BusValue) × IsUnderWay run self.old.sent self.old.collected
-            self.old b pair.old (M.page_len host.old.mem) (M.bytes host.old.mem) }
-        ensures under_way { (b : BusValue) → IsUnderWay run self.old.sent self.old.collected
-            self.old b pair.old (M.page_len host.old.mem) (M.bytes host.old.mem)
-            → IsUnderWay run self.old.sent self.old.collected
-            self.new b pair.new (M.page_len host.new.mem) (M.bytes host.new.mem) }
-        ensures tail { MatchOption result (self.new.sent ≡ self.old.sent)
-            (λ tail. tail ≡ slot (setting_of run) self.new.sent) }
-        ensures sent { self.new.sent ≡ min (self.old.collected + self.old.geometry.window)
-            (length commands.now) }
-        ensures some { self.old.collected < length commands.now
-            → self.old.collected < self.new.sent }
-        ensures collected { self.new.collected ≡ self.old.collected }
-        ensures told { self.new.told ≡ self.old.told }
-    {
-        let geometry = self.geometry;
-        let room = usize::from(geometry.window) - (self.sent - self.collected);
-        let end = self.sent + room.min(commands.len() - self.sent);
-        let mut tail = None;
-        for number in self.sent..end {
-            let (pages, next) = submit_command(host, pair, geometry, &commands[number]);
-            self.outstanding[number % MOST] = Some(pages);
-            self.sent += 1;
-            tail = Some(next);
-        }
-        tail
-    }
-
-    /// Submits what can be submitted, and rings the tail doorbell if it submitted any. Section
-    /// "Submission Queue y Tail Doorbell".
+    /// Submits commands until as many as the geometry allows are outstanding, or none is left, and
+    /// rings the tail doorbell if it submitted any. Section "Submission Queue y Tail Doorbell".
     fn send<B: Bus, M: HostMemory>(
         &mut self,
         bus: &mut B,
@@ -131,15 +70,25 @@ impl Batch {
             (B.meaning bus.old) pair.old (M.page_len host.old.mem) (M.bytes host.old.mem) }
         ensures under_way { IsUnderWay run self.new.sent self.new.collected self.new
             (B.meaning bus.new) pair.new (M.page_len host.new.mem) (M.bytes host.new.mem) }
-        ensures sent { self.new.sent ≡ min (self.old.collected + self.old.geometry.window)
-            (length commands.now) }
-        ensures some { self.old.collected < length commands.now
-            → self.old.collected < self.new.sent }
-        ensures collected { self.new.collected ≡ self.old.collected }
-        ensures told { self.new.told ≡ self.old.told }
-        ensures geometry { self.new.geometry ≡ self.old.geometry }
+        ensures batch { self.new ≡ record self.old {
+          sent = min (self.old.collected + self.old.geometry.window) (length commands.now);
+        } }
     {
-        if let Some(tail) = self.fill(host, pair, commands) {
+        let geometry = self.geometry;
+        let room = usize::from(geometry.window) - (self.sent - self.collected);
+        let end = self.sent + room.min(commands.len() - self.sent);
+        let mut tail = None;
+        for number in self.sent..end {
+            let share = Share {
+                geometry,
+                pages: pair.pages,
+                number,
+            };
+            let next = submit_command(host, pair, &share, &commands[number]);
+            self.sent += 1;
+            tail = Some(next);
+        }
+        if let Some(tail) = tail {
             bus.write32(self.ctrl, offset::TAIL_DOORBELL, u32::from(tail));
         }
     }
@@ -148,18 +97,8 @@ impl Batch {
     /// Queue y Head Doorbell".
     fn tell<B: Bus>(&mut self, bus: &mut B, pair: &mut QueuePair)
         requires ctrl { self.old.ctrl < length (B.meaning bus.old).banks }
-        ensures batch { self.new ≡ record self.old { told = self.old.collected } }
-        ensures pair { pair.new ≡ record pair.old {
-          completion = told_all pair.old.completion;
-        } }
-        ensures state { (B.meaning bus.new).state ≡ (B.meaning bus.old).state }
-        ensures bus { IsBus (B.meaning bus.old) → IsBus (B.meaning bus.new) }
-        ensures told { pair.old.completion.untold ≡ true → (B.meaning bus.new).banks
-            ≡ slice_set (B.meaning bus.old).banks self.old.ctrl (with_register_at
-            (bank_at (B.meaning bus.old).banks self.old.ctrl) 0x1004
-            (slot_of pair.old.completion.depth pair.old.completion.collected)) }
-        ensures silent { pair.old.completion.untold ≡ false
-            → (B.meaning bus.new).banks ≡ (B.meaning bus.old).banks }
+        ensures { IsTold self.old pair.old (B.meaning bus.old)
+            self.new pair.new (B.meaning bus.new) }
     {
         if let Some(head) = pair.completion.head_to_tell() {
             bus.write32(self.ctrl, offset::HEAD_DOORBELL, u32::from(head));
@@ -167,8 +106,8 @@ impl Batch {
         self.told = self.collected;
     }
 
-    /// Collects the next answer, which belongs to the command whose identifier is in the
-    /// completion, and frees the command's pages. Section "Completion Queue Entry".
+    /// Collects the next answer, which is that of the first outstanding command: turns take the
+    /// entries of a queue in their order. Section "Completion Queue Entry".
     fn collect_one<M: HostMemory>(
         &mut self,
         host: &mut HostSide<M>,
@@ -190,20 +129,14 @@ impl Batch {
         ensures batch { self.new ≡ record self.old { collected = self.old.collected + 1 } }
     {
         let completion = next_completion(&host.mem, pair);
-        let number = self.sent - distance(completion.cid, pair.serial);
-        let pages = self.outstanding[number % MOST].unwrap();
-        pages.give(&mut pair.pages);
-        let command = &commands[number];
-        let len = length_of(command.transfer());
-        let place = pages.place(self.geometry, len);
-        answer(
-            &host.mem,
-            &place.buffer,
-            command,
-            &completion,
-            &mut answers[number],
-            &mut host.scratch,
-        );
+        let number = self.collected;
+        let share = Share {
+            geometry: self.geometry,
+            pages: pair.pages,
+            number,
+        };
+        let slot = &mut answers[number];
+        answer(host, &share, &commands[number], &completion, slot);
         self.collected += 1;
     }
 

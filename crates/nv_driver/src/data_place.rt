@@ -1,10 +1,12 @@
 //! The place of a request's data: pages of the host's memory, of which the first two are for a list.
 
-ghost use Rattle.std.specs.Prelude.{◌≡◌, ◌+◌, ◌*◌, ◌<◌, ◌≤◌, length};
+ghost use Rattle.std.specs.List.{range_with_len};
+ghost use Rattle.std.specs.Prelude.{◌≡◌, ℕ, ◌+◌, ◌*◌, ◌<◌, ◌≤◌, length, take};
 ghost use Rattle.nv_model.specs.Conditions.{greatest_limit};
 ghost use Rattle.nv_prp.specs.Buffer.{KeepsOutside, StaysFor};
 ghost use Rattle.nv_prp.specs.Transfer.{data_pages, transfer};
-ghost use Rattle.nv_driver.specs.Submitting.{place_in};
+ghost use Rattle.nv_driver.specs.Layout.{data_count};
+ghost use Rattle.nv_driver.specs.Submitting.{place_from};
 ghost use Rattle.nv_driver.specs.inner.Submitting.{IsPlaceFor, place_of};
 
 use crate::checked_geometry::CheckedGeometry;
@@ -26,8 +28,10 @@ impl<'a> DataPlace<'a> {
         geometry: CheckedGeometry,
         len: u32,
     ) -> DataPlace<'a>
+        requires count { count ≡ data_count geometry len }
         requires long { count + 2 ≤ length pages.now }
-        ensures { place_of result ≡ place_in geometry pages.now count len }
+        ensures { (first : ℕ) → take (count + 2) pages.now ≡ range_with_len first (count + 2)
+            → place_of result ≡ place_from geometry first len }
     {
         DataPlace {
             buffer: Buffer {

@@ -9,7 +9,6 @@ ghost use Rattle.nv_driver.specs.inner.Alone.{came_with};
 ghost use Rattle.nv_driver.specs.Request.{padded};
 ghost use Rattle.nv_driver.specs.Schedule.{is_success, received_from};
 
-use crate::padding::zero_from;
 use nv_command::Transfer;
 use nv_host::HostMemory;
 use nv_layout::Status;
@@ -51,6 +50,7 @@ pub(crate) fn receive<M: HostMemory>(
     let len = received_length(transfer, status) as usize;
     let count = out.len().min(len);
     buffer.spans(mem, count as u32, spans);
-    copy_in(mem, spans, &mut out[..count]);
-    zero_from(out, count);
+    let (filled, rest) = out.split_at_mut(count);
+    copy_in(mem, spans, filled);
+    rest.fill(0);
 }

@@ -1,12 +1,13 @@
 //! Where each controller's rings and pages lie in the host's memory.
 
-ghost use Rattle.std.specs.Prelude.{◌≡◌, ℕ, ◌+◌, ◌*◌, ◌^◌, ◌<◌, ◌≤◌, if◌then◌else◌};
+ghost use Rattle.std.specs.Prelude.{◌≡◌, ◌+◌, ◌*◌, ◌^◌, ◌<◌, ◌≤◌, if◌then◌else◌};
 ghost use Rattle.nv_model.specs.Conditions.{greatest_limit};
 ghost use Rattle.nv_driver.specs.Geometry.{IsGeometry};
 ghost use Rattle.nv_driver.specs.Layout.{completion_pages, pages_of_entry, pair_of, pair_pages, pages_of};
-ghost use Rattle.nv_driver.specs.Layout.{offset_for, pages_for, set_pages, submission_pages};
+ghost use Rattle.nv_driver.specs.Layout.{data_count, offset_for, set_pages, submission_pages};
 
 use crate::checked_geometry::CheckedGeometry;
+use crate::share::PageRange;
 
 /// The greatest length of a command's data, in bytes.
 const MOST_BYTES: u32 = 16_384;
@@ -26,8 +27,8 @@ pub struct Place {
     pub sq: u64,
     /// The address of the completion ring.
     pub cq: u64,
-    pub first_page: u32,
-    pub page_count: u32,
+    /// The pages of its commands.
+    pub pages: PageRange,
 }
 
 impl CheckedGeometry {
@@ -76,22 +77,19 @@ impl CheckedGeometry {
         u32::from(controllers) * self.pair_pages()
     }
 
-    /// Returns how many pages an entry takes that is sent unchanged.
+    /// Returns how many pages follow those of the controllers: those of an entry that is sent
+    /// unchanged if they are wanted.
     #[tactic(auto, using(crate::proofs::PointerLaws::entry_pages_few))]
-    fn entry_pages(self) -> u32
-        ensures pages { result ≡ pages_of_entry self.page_size }
-        ensures few { result ≤ 259 }
-    {
-        MOST_ENTRY_BYTES.div_ceil(self.page_size) + MORE_PAGES
-    }
-
-    /// Returns how many pages follow those of the controllers: an entry's if they are wanted.
     pub(crate) fn more_pages(self, with_entries: bool) -> u32
         ensures pages { result
             ≡ (if with_entries then pages_of_entry self.page_size else 0) }
         ensures few { result ≤ 259 }
     {
-        if with_entries { self.entry_pages() } else { 0 }
+        if with_entries {
+            MOST_ENTRY_BYTES.div_ceil(self.page_size) + MORE_PAGES
+        } else {
+            0
+        }
     }
 
     /// Returns where data of `len` bytes begins in its first page.
@@ -102,38 +100,35 @@ impl CheckedGeometry {
         if len == 0 { 0 } else { self.offset }
     }
 
-    /// Returns how many pages `len` bytes of data lie in, which is 0 if `len` is 0. With two pages
-    /// for a list they are no more than the pages for `most` bytes.
+    /// Returns how many pages `len` bytes of data lie in, which is 0 if `len` is 0.
     pub(crate) fn data_pages(self, len: u32) -> usize
-        ghost most: { ℕ }
-        requires len { len ≤ most }
-        requires most { most ≤ greatest_limit }
+        requires { len ≤ greatest_limit }
+        ensures count { result ≡ data_count self len }
         ensures keeps { IsGeometry self }
-        ensures enough { offset_for self len + len ≤ result * self.page_size }
-        ensures none { len ≡ 0 → result ≡ 0 }
-        ensures few { result + 2 ≤ pages_for most self.page_size }
     {
         (self.offset_for(len) + len).div_ceil(self.page_size) as usize
     }
 
-    /// Returns where the rings and pages of a controller lie. The number of the page after them
-    /// also fits 32 bits.
+    /// Returns where the rings and pages of a controller lie. The numbers of the next pages also
+    /// fit 32 bits.
     #[tactic(auto, using(crate::proofs::LayoutLaws::lay))]
     pub(crate) fn place(self, ctrl: u16) -> Place
         requires ctrl { ctrl < 16 }
         ensures sq { result.sq ≡ (pair_of self ctrl).sq }
         ensures cq { result.cq ≡ (pair_of self ctrl).cq }
-        ensures first_page { result.first_page ≡ (pair_of self ctrl).first_page }
-        ensures page_count { result.page_count ≡ (pair_of self ctrl).page_count }
-        ensures numbered { result.first_page + result.page_count < 2 ^ 32 }
+        ensures first_page { result.pages.first ≡ (pair_of self ctrl).first_page }
+        ensures page_count { result.pages.count ≡ (pair_of self ctrl).page_count }
+        ensures numbered { result.pages.first + result.pages.count + 7 ≤ 2 ^ 32 }
     {
         let first = u32::from(ctrl) * self.pair_pages();
         let second = first + self.submission_pages();
         Place {
             sq: u64::from(first) * u64::from(self.page_size),
             cq: u64::from(second) * u64::from(self.page_size),
-            first_page: second + self.completion_pages(),
-            page_count: self.set_pages(),
+            pages: PageRange {
+                first: second + self.completion_pages(),
+                count: self.set_pages(),
+            },
         }
     }
 }

@@ -8,7 +8,6 @@ ghost use Rattle.nv_model.specs.Conditions.{greatest_limit};
 ghost use Rattle.nv_driver.specs.Request.{CanBeSent, sent_for, transfer_for};
 
 use crate::layout::MOST_ENTRY_BYTES;
-use crate::padding::pad;
 use nv_command::{Command, Transfer};
 use nv_layout::Sqe;
 
@@ -88,7 +87,9 @@ fn padded_for<'a>(transfer: Transfer, bytes: &'a [u8], page: &'a mut [u8; 4096])
                 return &bytes[..len];
             }
             let sent = &mut page[..len];
-            pad(sent, bytes);
+            let (given, rest) = sent.split_at_mut(bytes.len());
+            given.copy_from_slice(bytes);
+            rest.fill(0);
             sent
         }
     }

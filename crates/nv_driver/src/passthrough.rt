@@ -11,10 +11,10 @@ ghost use Rattle.nv_driver.specs.UnderWay.{IsOnWay, Run, setting_of};
 use crate::collecting::next_completion;
 use crate::data_place::DataPlace;
 use crate::entry_data::receive;
-use crate::entry_pages::pages_from;
 use crate::host_side::HostSide;
 use crate::outgoing::{Outgoing, length_of};
 use crate::queue_pair::QueuePair;
+use crate::request_pages::entry_pages;
 use crate::scratch::Scratch;
 use crate::submitting::submit;
 use crate::target::Target;
@@ -37,7 +37,6 @@ fn complete<B: Bus, M: HostMemory>(
     ensures answered { (r : Run) (x : Sent) → IsOnWay (one_way r x) (B.meaning bus.old) pair.old
         (M.page_len mem.old) (M.bytes mem.old) → ctrl ≡ r.controller → tail ≡ slot (setting_of r) 1
         → IsAnsweredBy r x result (B.meaning bus.new) pair.new (M.page_len mem.new) (M.bytes mem.new) }
-    ensures pages { pair.new.pages ≡ pair.old.pages }
 {
     bus.write32(ctrl, offset::TAIL_DOORBELL, u32::from(tail));
     bus.turn(ctrl, mem, 1);
@@ -87,7 +86,7 @@ pub(crate) fn exchange_entry<B: Bus, M: HostMemory>(
     let request = Outgoing::of_entry(passed.entry, passed.bytes, page);
     let len = length_of(request.transfer);
     let count = geometry.data_pages(len);
-    let pages = pages_from(passed.first_page, count + 2);
+    let pages = entry_pages(passed.first_page, count + 2);
     let place = DataPlace::new(&pages, count, geometry, len);
     let tail = submit(mem, pair, &place, &request, spans);
     let completion = complete(bus, target.ctrl, mem, pair, tail);

@@ -8,7 +8,8 @@ ghost use Rattle.nv_driver.specs.Layout.{pair_of, pairs_of};
 ghost use Rattle.nv_driver.specs.Quiet.{IsQuiet, pair_value};
 
 use crate::checked_geometry::CheckedGeometry;
-use nv_host::{HostMemory, Memory, PageSet};
+use crate::share::PageRange;
+use nv_host::{HostMemory, Memory};
 use nv_queue::{CompletionRing, SubmitRing};
 use std::alloc::Global;
 
@@ -19,29 +20,24 @@ pub struct QueuePair {
     pub completion: CompletionRing,
     /// The command identifier of the next command.
     pub serial: u16,
-    /// The pages that no outstanding command has.
-    pub pages: PageSet,
+    /// The pages of the outstanding commands.
+    pub pages: PageRange,
 }
 
 impl QueuePair {
-    /// Creates the queue pair of a controller before its first command. The page set has a bit for
-    /// each page.
-    pub(crate) fn new(
-        alloc: Global,
-        geometry: CheckedGeometry,
-        ctrl: u16,
-    ) -> Result<QueuePair, Memory>
+    /// Creates the queue pair of a controller before its first command.
+    pub(crate) fn new(geometry: CheckedGeometry, ctrl: u16) -> QueuePair
         requires ctrl { ctrl < 16 }
-        ensures quiet { IfOk result IsQuiet }
-        ensures pair { IfOk result (λ l. pair_value l ≡ pair_of geometry ctrl) }
+        ensures quiet { IsQuiet result }
+        ensures pair { pair_value result ≡ pair_of geometry ctrl }
     {
         let place = geometry.place(ctrl);
-        Ok(QueuePair {
+        QueuePair {
             submission: SubmitRing::new(place.sq, geometry.depth),
             completion: CompletionRing::new(place.cq, geometry.depth),
             serial: 0,
-            pages: PageSet::new(alloc, place.first_page, place.page_count)?,
-        })
+            pages: place.pages,
+        }
     }
 
     /// Makes the rings begin anew, after it zeroes the completion ring. No command must be
@@ -78,8 +74,7 @@ pub(crate) fn new_pairs(
 {
     let mut pairs = Vec::new(alloc);
     for ctrl in 0..controllers {
-        let pair = QueuePair::new(alloc, geometry, ctrl)?;
-        if pairs.push(pair).is_err() {
+        if pairs.push(QueuePair::new(geometry, ctrl)).is_err() {
             return Err(Memory);
         }
     }

@@ -1,27 +1,28 @@
 //! Submitting one request.
 
 ghost use Rattle.std.specs.Prelude.{◌≡◌, ◌+◌, ◌*◌, ◌<◌, ◌≤◌, length};
-ghost use Rattle.std.specs.FinSet as set;
 ghost use Rattle.nv_prp.specs.Buffer.{IsBuffer, buffer_places};
 ghost use Rattle.nv_prp.specs.Place.{written_at};
-ghost use Rattle.nv_command.specs.Command.{bytes_from_host};
+ghost use Rattle.nv_command.specs.Command.{bytes_from_host, transfer_by};
 ghost use Rattle.nv_bus.specs.Call.{length_of};
 ghost use Rattle.nv_queue.specs.Numbers.{next, slot_of};
 ghost use Rattle.nv_queue.specs.Rings.{IsSubmitFull};
 ghost use Rattle.nv_model.specs.Conditions.{greatest_limit};
 ghost use Rattle.nv_model.specs.Ranges.{serial_count};
-ghost use Rattle.nv_driver.specs.Layout.{pages_of_command};
-ghost use Rattle.nv_driver.specs.Request.{Asked, CanBeSent};
-ghost use Rattle.nv_driver.specs.inner.Submitting.{IsPlaceFor, IsSubmitted, IsSubmittedAt};
+ghost use Rattle.nv_driver.specs.Request.{Asked, CanBeSent, request_of};
+ghost use Rattle.nv_driver.specs.Share.{first_page};
+ghost use Rattle.nv_driver.specs.inner.Share.{HasShares};
+ghost use Rattle.nv_driver.specs.Submitting.{place_from};
+ghost use Rattle.nv_driver.specs.inner.Submitting.{IsPlaceFor, IsSubmittedAt};
 ghost use Rattle.nv_driver.specs.inner.Submitting.{place_of, request_as};
 
-use crate::checked_geometry::CheckedGeometry;
-use crate::command_pages::CommandPages;
 use crate::data_place::{DataPlace, point_to};
 use crate::host_side::HostSide;
 use crate::outgoing::{Outgoing, length_of};
 use crate::queue_pair::QueuePair;
+use crate::request_pages::command_pages;
 use crate::scratch::Scratch;
+use crate::share::Share;
 use nv_command::Command;
 use nv_host::HostMemory;
 use nv_model::SERIALS;
@@ -89,26 +90,23 @@ pub(crate) fn submit<M: HostMemory>(
     tail
 }
 
-/// Takes the pages of a command from those of its queue pair, and submits it. Returns its pages and
-/// the new tail.
+/// Submits a command with its list and its data in its share of the pages. Returns the new tail.
 pub(crate) fn submit_command<M: HostMemory>(
     host: &mut HostSide<M>,
     pair: &mut QueuePair,
-    geometry: CheckedGeometry,
+    share: &Share,
     command: &Command,
-) -> (CommandPages, u16)
-    requires page { M.page_len host.old.mem ≡ geometry.page_size }
+) -> u16
+    requires share { HasShares share.now (M.page_len host.old.mem) (M.bytes host.old.mem) }
     requires can { CanBeSent command.now }
     requires serial { pair.old.serial < serial_count }
-    requires pages { pages_of_command geometry.page_size ≤ set.len pair.old.pages.members }
-    requires inside { (pair.old.pages.first + pair.old.pages.count) * geometry.page_size
-        ≤ length (M.bytes host.old.mem) }
     requires ring { pair.old.submission.base + 64 * pair.old.submission.depth
         ≤ length (M.bytes host.old.mem) }
     requires free { ¬ IsSubmitFull pair.old.submission }
-    ensures submitted { IsSubmitted geometry command.now result.0 pair.old pair.new
-        (M.bytes host.old.mem) (M.bytes host.new.mem) }
-    ensures tail { result.1 ≡ slot_of pair.old.submission.depth
+    ensures submitted { IsSubmittedAt share.now.geometry.page_size (place_from share.now.geometry
+        (first_page share.now) (length_of (transfer_by command.now))) (request_of command.now)
+        pair.old pair.new (M.bytes host.old.mem) (M.bytes host.new.mem) }
+    ensures tail { result ≡ slot_of pair.old.submission.depth
         (next pair.old.submission.depth pair.old.submission.submitted) }
     ensures len { length (M.bytes host.new.mem) ≡ length (M.bytes host.old.mem) }
     ensures page { M.page_len host.new.mem ≡ M.page_len host.old.mem }
@@ -117,8 +115,9 @@ pub(crate) fn submit_command<M: HostMemory>(
     let Scratch { spans, page, .. } = scratch;
     let request = Outgoing::of_command(command, page);
     let len = length_of(request.transfer);
-    let pages = CommandPages::take(&mut pair.pages, geometry.data_pages(len));
-    let place = pages.place(geometry, len);
-    let tail = submit(mem, pair, &place, &request, spans);
-    (pages, tail)
+    let geometry = share.geometry;
+    let count = geometry.data_pages(len);
+    let pages = command_pages(share.first_page());
+    let place = DataPlace::new(&pages, count, geometry, len);
+    submit(mem, pair, &place, &request, spans)
 }

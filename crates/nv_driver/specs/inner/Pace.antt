@@ -1,7 +1,12 @@
 -- How many commands of a list are executed at a time: what a turn takes, and when the head doorbell is rung.
-use Rattle.std.specs.Prelude.{◌≡◌, ℕ, ◌+◌, ◌-◌, ◌*◌, ◌<◌, min}
+use Rattle.std.specs.Prelude.{◌≡◌, ℕ, ◌+◌, ◌-◌, ◌*◌, ◌<◌, false, min, slice_set, true}
+use Rattle.nv_queue.specs.Numbers.{slot_of}
+use Rattle.nv_queue.specs.Rings.{told_all}
+use Rattle.nv_register.specs.RegisterBank.{with_register_at}
+use Rattle.nv_bus.specs.Bus.{BusValue, IsBus, bank_at}
 use Rattle.nv_driver.specs.UnderWay.{Run}
 use Rattle.nv_driver.specs.declared.batch.Batch.{Batch}
+use Rattle.nv_driver.specs.declared.queue_pair.QueuePair.{QueuePair as QueuePairFields}
 
 -- a turn takes the commands that are waiting, but no more than the pace, and no more than have a
 -- free slot for their completions
@@ -18,3 +23,14 @@ IsToldInTime b = b.collected < b.told + b.geometry.pace
 -- pace were collected
 abbrev pub IsToldByPace : ℕ → ℕ → ℕ → Type 0
 IsToldByPace pace before after = (times : ℕ) × (after ≡ before + times * pace)
+
+-- the head doorbell was rung if there was an answer to report, and all collected answers are reported
+pub record IsTold (b : Batch) (l : QueuePairFields) (m : BusValue) (b' : Batch) (l' : QueuePairFields) (m' : BusValue)
+    : Type 0 where
+  pub batch : b' ≡ record b { told = b.collected }
+  pub pair : l' ≡ record l { completion = told_all l.completion }
+  pub state : m'.state ≡ m.state
+  pub bus : IsBus m → IsBus m'
+  pub told : l.completion.untold ≡ true → m'.banks ≡ slice_set m.banks b.ctrl
+      (with_register_at (bank_at m.banks b.ctrl) 0x1004 (slot_of l.completion.depth l.completion.collected))
+  pub silent : l.completion.untold ≡ false → m'.banks ≡ m.banks

@@ -1,27 +1,20 @@
 -- A request that a driver submitted, and where its data lies: what no public contract reaches.
-use Rattle.std.specs.Prelude.{◌≡◌, ℕ, ◌+◌, ◌*◌, ◌≤◌, List, ◌∷◌, length}
-use Rattle.std.specs.FinSet as set
+use Rattle.std.specs.Prelude.{◌≡◌, ℕ, List, ◌∷◌}
 use Rattle.nv_host.specs.Pages.{IsPageSize}
-use Rattle.nv_prp.specs.Buffer.{IsBuffer, IsListPlace}
+use Rattle.nv_prp.specs.Buffer.{IsBuffer, IsListPlace, buffer_places}
 use Rattle.nv_prp.specs.Place.{AreDistinct}
 use Rattle.nv_queue.specs.Rings.{submitted_one}
 use Rattle.nv_queue.specs.Slots.{with_submission}
-use Rattle.nv_command.specs.Command.{transfer_by}
-use Rattle.nv_command.specs.declared.command.Command.{Command}
 use Rattle.nv_bus.specs.Call.{length_of}
 use Rattle.nv_model.specs.Step.{next_serial}
-use Rattle.nv_driver.specs.inner.CommandPages.{AreLowest, all_pages}
-use Rattle.nv_driver.specs.CommandPages.{AreTaken, without}
-use Rattle.nv_driver.specs.Layout.{offset_for, pages_of_command}
-use Rattle.nv_driver.specs.Request.{Asked, Request, request_of}
+use Rattle.nv_driver.specs.Request.{Asked, Request}
 use Rattle.nv_driver.specs.inner.Schedule.{IsListedAtPlace}
 use Rattle.nv_driver.specs.Schedule.{IsPrepared, entry}
-use Rattle.nv_driver.specs.declared.command_pages.CommandPages.{CommandPages}
 use Rattle.nv_driver.specs.declared.data_place.DataPlace.{DataPlace}
 use Rattle.nv_driver.specs.declared.geometry.Geometry.{Geometry}
 use Rattle.nv_driver.specs.declared.outgoing.Outgoing.{Outgoing}
 use Rattle.nv_driver.specs.declared.queue_pair.QueuePair.{QueuePair as QueuePairFields}
-use Rattle.nv_driver.specs.Submitting.{RequestPlace, place_by, sent_at}
+use Rattle.nv_driver.specs.Submitting.{RequestPlace, place_from, sent_at}
 
 abbrev pub place_of : DataPlace → RequestPlace
 place_of p = record {
@@ -31,6 +24,11 @@ place_of p = record {
   second = p.list.second;
   list_offset = p.list.offset;
 }
+
+-- the places of `len` bytes in consecutive pages from this one on
+abbrev pub places_from : Geometry → (first len : ℕ) → List ℕ
+places_from g first len =
+    let at = place_from g first len in buffer_places g.page_size at.pages at.offset len
 
 -- a request that asks for this
 abbrev pub request_as : Outgoing → Asked → Request
@@ -63,18 +61,3 @@ pub record IsSubmittedAt (page_size : ℕ) (at : RequestPlace) (q : Request)
     submission = submitted_one old.submission;
     serial = next_serial old.serial;
   }
-
--- the command's pages were taken, and it was submitted; a command without data has no pages for it
-pub record IsSubmitted (g : Geometry) (k : Command) (own : CommandPages) (old new : QueuePairFields)
-    (before after : List ℕ) : Type 0 where
-  pub few : own.data_pages + 2 ≤ pages_of_command g.page_size
-  pub seven : length own.numbers ≡ 7
-  pub taken : AreTaken old.pages (all_pages own)
-  pub lowest : AreLowest old.pages (all_pages own)
-  pub enough : offset_for g (length_of (transfer_by k)) + length_of (transfer_by k)
-      ≤ own.data_pages * g.page_size
-  pub none : length_of (transfer_by k) ≡ 0 → own.data_pages ≡ 0
-  pub free : set.len new.pages.members + (own.data_pages + 2) ≡ set.len old.pages.members
-  pub one : IsSubmittedAt g.page_size (place_by g k own) (request_of k)
-      (record old { pages = without old.pages (all_pages own) }) new before after
-  pub open one use *

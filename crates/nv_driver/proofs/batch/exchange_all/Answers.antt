@@ -1,16 +1,16 @@
 use Rattle.std.proofs.Common.{◌∙◌, ap, arith, rules, subst, sym}
 use Rattle.nv_driver.specs.UnderWay.{Run}
 use Rattle.nv_driver.specs.inner.UnderWay.{HasAnswers}
+use Rattle.nv_driver.specs.declared.batch.Batch.{Batch}
 use Rattle.nv_driver.specs.declared.geometry.Geometry.{Geometry}
-use Rattle.nv_driver.proofs.EndLaws.{all_collected, answers_all, begins_all, ends_all}
-use Rattle.nv_driver.proofs.RoundLaws.{comes_further}
+use Rattle.nv_driver.proofs.RoundLaws.{all_collected, answers_all, begins_all, ends_all, comes_further}
 use Rattle.nv_driver.proofs.batch.exchange_all.Goals as goal
 
 pub loop-batch-init : goal.loop-batch-init
 loop-batch-init g c =
     let asked = c.requires.1.1 in
     let b = c.new-batch.ensures in
-    let begun = begins_all asked.0 asked.1.0 asked.1.1.0 asked.1.1.1 b.ctrl b.geometry b.outstanding
+    let begun = begins_all asked.0 asked.1.0 asked.1.1.0 asked.1.1.1 b.ctrl b.geometry
     b.sent b.collected b.told in
     let u = begun.under_way in
     record {
@@ -22,7 +22,12 @@ loop-batch-init g c =
 pub turn-requires : goal.turn-requires
 turn-requires g c κs within =
     let i = c.loop-batch.invariant in
-    let s = c.send.ensures in (
+    let s = c.send.ensures in
+    let collected = ap (λ (b : Batch). b.collected) s.batch in
+    let sent = ap (λ (b : Batch). b.sent) s.batch in
+    let told = ap (λ (b : Batch). b.told) s.batch in
+    let pace = ap (λ (b : Batch). b.geometry.pace) s.batch in
+    let window = ap (λ (q : Geometry). q.window) i.under_way.geometry in (
       search rules,
       (
         search rules,
@@ -31,10 +36,10 @@ turn-requires g c κs within =
           (
             s.under_way,
             (
-              subst (λ n. HasAnswers g.run n c.loop-batch.answers) (sym s.collected) i.answers,
+              subst (λ n. HasAnswers g.run n c.loop-batch.answers) (sym collected) i.answers,
               (
-                omega (arith, s.some (omega (arith, c.loop-batch-test.true)), s.collected),
-                omega (arith, i.near, s.told, s.collected, ap (λ (q : Geometry). q.pace) s.geometry),
+                omega (arith, c.loop-batch-test.true, sent, collected, window, i.under_way.begun.geometry.window.0),
+                omega (arith, i.near, told, collected, pace),
               ),
             ),
           ),
@@ -46,9 +51,11 @@ pub loop-batch-smaller : goal.loop-batch-smaller
 loop-batch-smaller g c =
     let s = c.send.ensures in
     let e = c.turn.ensures in
+    let collected = ap (λ (b : Batch). b.collected) s.batch in
+    let told = ap (λ (b : Batch). b.told) s.batch in
     comes_further _ c.loop-batch.batch c.turn.new.self (omega (arith, c.loop-batch-test.true))
-    (omega (arith, e.count, s.collected)) (λ same. let none = e.none (same ∙ sym s.collected) in
-    (omega (arith, none.0, s.told, s.collected), none.1 ∙ s.collected))
+    (omega (arith, e.count, collected)) (λ same. let none = e.none (same ∙ sym collected) in
+    (omega (arith, none.0, told, collected), none.1 ∙ collected))
 
 pub returns-clause-answers : goal.returns-clause-answers
 returns-clause-answers g c =

@@ -25,4 +25,4 @@ returns-clause-value g c = is_awaited c.unwrap-completion.ensures c.poll.ensures
 
 pub returns-clause-pair : goal.returns-clause-pair
 returns-clause-pair g c =
-    pairs_same c.freed.ensures (in_some _ _ c.unwrap-completion.ensures c.poll.ensures.collected) refl refl
+    pairs_same c.freed.ensures (in_some _ _ c.unwrap-completion.ensures c.poll.ensures.collected) refl

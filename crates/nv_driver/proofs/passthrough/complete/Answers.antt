@@ -27,13 +27,15 @@ next_completion-completion-requires-clause-freed g c =
     freed_between (did asked.2 asked.3 (c.from.ensures ∙ asked.4) b.state b.banks b.bus t.turn t.bus t.len t.page)
     (omega arith)
 
-pub returns-in-Some-clause-answered : goal.returns-in-Some-clause-answered
-returns-in-Some-clause-answered g c r x u0 same put =
-    let b = c.write32.ensures in
-    let t = c.turn.ensures in
-    let u = did u0 same (c.from.ensures ∙ put) b.state b.banks b.bus t.turn t.bus t.len t.page in
-    let e = c.next_completion-completion.ensures in
-    let h = c.write32-in-Some.ensures in
-    let s = c.in-Some.ensures in
-    ends u e.value e.pair (pairs_same refl s.told refl refl) same (c.from-in-Some.ensures ∙ s.head) h.state h.banks
-    h.bus
+pub returns-in-Some : goal.returns-in-Some
+returns-in-Some g c = record {
+  answered = λ r x u0 same put.
+      let b = c.write32.ensures in
+      let t = c.turn.ensures in
+      let u = did u0 same (c.from.ensures ∙ put) b.state b.banks b.bus t.turn t.bus t.len t.page in
+      let e = c.next_completion-completion.ensures in
+      let h = c.write32-in-Some.ensures in
+      let s = c.in-Some.ensures in
+      ends u e.value e.pair (pairs_same refl s.told refl) same (c.from-in-Some.ensures ∙ s.head) h.state h.banks
+      h.bus;
+}

@@ -42,5 +42,5 @@ returns-clause-submitted g c asked =
       list = rw (b.page, len) at b.list;
       pointer = λ none. b.none (len ∙ none);
       mem = on_ok c.push.result c.unwrap-tail.result ok c.push.ensures.bytes;
-      pair = pairs_same (on_ok c.push.result c.unwrap-tail.result ok c.push.ensures.submitted) refl refl refl;
+      pair = pairs_same (on_ok c.push.result c.unwrap-tail.result ok c.push.ensures.submitted) refl refl;
     }

@@ -1,26 +1,67 @@
-use Rattle.std.proofs.Common.{◌∙◌, sym}
-use Rattle.nv_driver.proofs.OnWayLaws.{has_bank}
+use Rattle.std.proofs.Common.{◌∙◌, ◌+◌, List, ap, arith, length, sym}
+use Rattle.nv_command.specs.declared.command.Command.{Command}
+use Rattle.nv_driver.specs.Schedule.{slot}
+use Rattle.nv_driver.specs.UnderWay.{setting_of}
+use Rattle.nv_driver.specs.declared.batch.Batch.{Batch}
+use Rattle.nv_driver.specs.declared.geometry.Geometry.{Geometry}
+use Rattle.nv_driver.proofs.OnWayLaws.{has_bank, slots_inside}
 use Rattle.nv_driver.proofs.RoundLaws.{rings}
+use Rattle.nv_driver.proofs.UnderWayLaws.{can_at, has_slot, serial_below, share_is, shares_now, submits_at}
+use Rattle.nv_driver.proofs.UnderWayLaws.{tail_after}
 use Rattle.nv_driver.proofs.batch.Batch.send.Goals as goal
 
+pub submit_command-next-requires-clause-share : goal.submit_command-next-requires-clause-share
+submit_command-next-requires-clause-share g c =
+    let u = c.loop-number.invariant.under_way in
+    rw (share_is u c.requires.1.1.1.geometry c.loop-number.number) (shares_now u c.loop-number.number)
+
+pub submit_command-next-requires-clause-can : goal.submit_command-next-requires-clause-can
+submit_command-next-requires-clause-can g c =
+    let first = c.requires.1.1.1 in
+    let many = ap (λ (ks : List Command). length ks) c.requires.1.1.0 in
+    can_at _ first.can c.requires.1.1.0 c.index-commands-number.is (omega (arith, first.some))
+
+pub submit_command-next-requires-clause-serial : goal.submit_command-next-requires-clause-serial
+submit_command-next-requires-clause-serial g c = serial_below c.loop-number.invariant.under_way
+
+pub submit_command-next-requires-clause-ring : goal.submit_command-next-requires-clause-ring
+submit_command-next-requires-clause-ring g c =
+    let u = c.loop-number.invariant.under_way in slots_inside u.on_way
+
+pub submit_command-next-requires-clause-free : goal.submit_command-next-requires-clause-free
+submit_command-next-requires-clause-free g c =
+    let i = c.loop-number.invariant in
+    let window = ap (λ (q : Geometry). q.window) (c.geometry.view_is ∙ c.requires.1.1.1.geometry) in
+    let sent = ap (λ (b : Batch). b.sent) i.batch in
+    let collected = ap (λ (b : Batch). b.collected) i.batch in
+    has_slot i.under_way (omega arith)
+
+pub loop-number-preserved : goal.loop-number-preserved
+loop-number-preserved g c =
+    let i = c.loop-number.invariant in
+    let first = c.requires.1.1.1 in
+    let number = c.loop-number.number in
+    let window = ap (λ (q : Geometry). q.window) (c.geometry.view_is ∙ first.geometry) in
+    let many = ap (λ (ks : List Command). length ks) c.requires.1.1.0 in
+    let sent = ap (λ (b : Batch). b.sent) i.batch in
+    let collected = ap (λ (b : Batch). b.collected) i.batch in
+    let next = c.submit_command-next.ensures in
+    record {
+      under_way = submits_at i.under_way _ sent (omega arith) (share_is i.under_way first.geometry number)
+          next.submitted c.requires.1.1.0 c.index-commands-number.is (omega (arith, first.some)) next.len next.page;
+      batch = ap (λ (b : Batch). record b { sent = b.sent + 1 }) i.batch;
+      from = omega arith;
+      tail = tail_after i.under_way sent next.tail;
+    }
+
 pub write32-requires : goal.write32-requires
-write32-requires g c =
-    let u = c.in-Some.ensures.under_way _ c.requires.1.1.1 in rw (u.controller) (has_bank u.on_way)
+write32-requires g c = let u = c.loop-number.invariant.under_way in rw (u.controller) (has_bank u.on_way)
 
 pub returns-in-Some-clause-under_way : goal.returns-in-Some-clause-under_way
 returns-in-Some-clause-under_way g c =
-    let f = c.in-Some.ensures in
+    let i = c.loop-number.invariant in
     let w = c.write32.ensures in
-    rw (← f.collected) at (rings (f.under_way _ c.requires.1.1.1) c.from.ensures f.tail w.state w.banks w.bus)
-
-pub returns-in-Some-clause-geometry : goal.returns-in-Some-clause-geometry
-returns-in-Some-clause-geometry g c =
-    let old = c.requires.1.1.1 in let new = c.in-Some.ensures.under_way _ old in new.geometry ∙ sym old.geometry
-
-pub returns-in_default-clause-under_way : goal.returns-in_default-clause-under_way
-returns-in_default-clause-under_way g c =
-    let f = c.in_default.ensures in rw (← f.tail, ← f.collected) at (f.under_way _ c.requires.1.1.1)
-
-pub returns-in_default-clause-geometry : goal.returns-in_default-clause-geometry
-returns-in_default-clause-geometry g c =
-    let old = c.requires.1.1.1 in let new = c.in_default.ensures.under_way _ old in new.geometry ∙ sym old.geometry
+    let sent = ap (λ (b : Batch). b.sent) i.batch in
+    let collected = ap (λ (b : Batch). b.collected) i.batch in
+    rw (← collected) at (rings i.under_way c.from-in-Some.ensures
+    ((rw (c.in-Some.is) at i.tail) ∙ ap (slot (setting_of g.run)) (sym sent)) w.state w.banks w.bus)

@@ -1,4 +1,13 @@
+use Rattle.std.proofs.Common.{◌≡◌, ◌≤◌, MatchOption}
+use Rattle.nv_driver.specs.Schedule.{slot}
+use Rattle.nv_driver.specs.UnderWay.{IsUnderWay, setting_of}
 use Rattle.nv_driver.proofs.batch.Batch.send.Given as goal
 
-abbrev pub ghost-fill : goal.ghost-fill
-ghost-fill g a = g.run
+abbrev pub invariant-loop-number : goal.invariant-loop-number
+invariant-loop-number g l = record {
+  under_way : IsUnderWay g.run l.fn.self.sent l.fn.self.collected l.self (g.B.Bus.meaning l.bus) l.pair
+      (g.M.HostMemory.page_len l.host.mem) (g.M.HostMemory.bytes l.host.mem);
+  batch : l.self ≡ record l.fn.self { sent = l.number };
+  from : l.fn.self.sent ≤ l.number;
+  tail : MatchOption l.tail (l.number ≡ l.fn.self.sent) (λ tail. tail ≡ slot (setting_of g.run) l.number);
+}

@@ -1,8 +1,0 @@
-use Rattle.std.proofs.Common.{◌≡◌, length, take}
-use Rattle.nv_driver.specs.inner.CommandPages.{AreLowest}
-use Rattle.nv_driver.proofs.PageSetLaws.{Taking}
-use Rattle.nv_driver.proofs.command_pages.CommandPages.take.Given as goal
-
-abbrev pub invariant-loop-at : goal.invariant-loop-at
-invariant-loop-at l = Taking l.fn.free l.free (take l.at l.numbers)
-    × AreLowest l.fn.free (take l.at l.numbers) × (length l.numbers ≡ 7)
