@@ -1,6 +1,6 @@
 -- From the result of a call to its length.
 use Rattle.std.proofs.Common.{◌≡◌, ℕ, ◌≤◌, List, Result, Ok, Err, length, string_bytes}
-use Rattle.std.specs.Prelude.{OnOk, String}
+use Rattle.std.specs.Prelude.{String}
 use Rattle.std.specs.Result.{IfOk}
 use Rattle.std.specs.declared.alloc.Global.{Global}
 
@@ -8,7 +8,3 @@ pub text_within : {E : Type 0} (r : Result (String Global) E) (text : List ℕ) 
     → IfOk r (λ t. string_bytes t ≡ text) → length text ≤ n → IfOk r (λ t. length (string_bytes t) ≤ n)
 text_within (Ok t) text n is h = rw is h
 text_within (Err e) text n is h = tt
-
-pub both_ok : {T E : Type 0} (P Q : Type 0) (r : Result T E) → OnOk r P → OnOk r Q → OnOk r (P × Q)
-both_ok P Q (Ok x) p q = (p, q)
-both_ok P Q (Err e) p q = tt

@@ -143,3 +143,10 @@ device_json_length d has_20 has_40 node nsid bytes block_size =
       decimal_short d.bytes bytes,
       decimal_short d.block_size block_size,
     )
+
+-- the same, with the length of its node's name
+pub device_lengths : (d : Device) → length d.serial ≡ 20 → length d.model ≡ 40 → d.controller < 2 ^ 64
+    → d.nsid < 2 ^ 64 → d.bytes < 2 ^ 64 → d.block_size < 2 ^ 64
+    → length (compact_text (object_of (fields_of_device d))) ≤ 511
+device_lengths d has_20 has_40 controller nsid bytes block_size =
+    device_json_length d has_20 has_40 (node_short d.controller d.nsid controller nsid) nsid bytes block_size

@@ -14,20 +14,20 @@ pub and_last : {x y : Field} → x ≡ y → x ∷ [] ≡ y ∷ []
 and_last e = ap (λ x. x ∷ []) e
 
 -- a text that was added to twice, and more often
-pub two_more : (text a b : List ℕ) → (text ++ a) ++ b ≡ text ++ (a ++ b)
+pub two_more : {A : Type 0} (text a b : List A) → (text ++ a) ++ b ≡ text ++ (a ++ b)
 two_more text a b = append_assoc text a b
 
-pub three_more : (text a b c : List ℕ) → ((text ++ a) ++ b) ++ c ≡ text ++ (a ++ (b ++ c))
+pub three_more : {A : Type 0} (text a b c : List A) → ((text ++ a) ++ b) ++ c ≡ text ++ (a ++ (b ++ c))
 three_more text a b c = append_assoc (text ++ a) b c ∙ append_assoc text a (b ++ c)
 
-pub four_more : (text a b c d : List ℕ) → (((text ++ a) ++ b) ++ c) ++ d ≡ text ++ (a ++ (b ++ (c ++ d)))
+pub four_more : {A : Type 0} (text a b c d : List A) → (((text ++ a) ++ b) ++ c) ++ d ≡ text ++ (a ++ (b ++ (c ++ d)))
 four_more text a b c d = three_more (text ++ a) b c d ∙ append_assoc text a (b ++ (c ++ d))
 
-pub five_more : (text a b c d e : List ℕ)
+pub five_more : {A : Type 0} (text a b c d e : List A)
     → ((((text ++ a) ++ b) ++ c) ++ d) ++ e ≡ text ++ (a ++ (b ++ (c ++ (d ++ e))))
 five_more text a b c d e = four_more (text ++ a) b c d e ∙ append_assoc text a (b ++ (c ++ (d ++ e)))
 
-pub six_more : (text a b c d e f : List ℕ)
+pub six_more : {A : Type 0} (text a b c d e f : List A)
     → (((((text ++ a) ++ b) ++ c) ++ d) ++ e) ++ f ≡ text ++ (a ++ (b ++ (c ++ (d ++ (e ++ f)))))
 six_more text a b c d e f = five_more (text ++ a) b c d e f ∙ append_assoc text a (b ++ (c ++ (d ++ (e ++ f))))
 
@@ -42,11 +42,10 @@ format_more text word number colon fields mark end =
 
 -- a text to which the columns of a device were added
 pub columns_more : (text a b c d e f : List ℕ)
-    → ((((((((text ++ (a ++ 32 ∷ [])) ++ (b ++ 32 ∷ [])) ++ (c ++ 32 ∷ [])) ++ d) ++ 32 ∷ []) ++ e) ++ 32 ∷ []) ++ f)
-    ++ 10 ∷ []
+    → ((((((text ++ (a ++ 32 ∷ [])) ++ (b ++ 32 ∷ [])) ++ (c ++ 32 ∷ [])) ++ d) ++ 32 ∷ e) ++ 32 ∷ f) ++ 10 ∷ []
     ≡ text ++ (a ++ (32 ∷ b ++ (32 ∷ c ++ (32 ∷ d ++ (32 ∷ e ++ (32 ∷ f ++ 10 ∷ []))))))
 columns_more text a b c d e f =
-    six_more (((text ++ (a ++ 32 ∷ [])) ++ (b ++ 32 ∷ [])) ++ (c ++ 32 ∷ [])) d (32 ∷ []) e (32 ∷ []) f (10 ∷ [])
+    four_more (((text ++ (a ++ 32 ∷ [])) ++ (b ++ 32 ∷ [])) ++ (c ++ 32 ∷ [])) d (32 ∷ e) (32 ∷ f) (10 ∷ [])
     ∙ four_more text (a ++ 32 ∷ []) (b ++ 32 ∷ []) (c ++ 32 ∷ []) (d ++ (32 ∷ e ++ (32 ∷ f ++ 10 ∷ [])))
     ∙ ap (λ t. text ++ t)
     (append_assoc a (32 ∷ []) _
@@ -55,7 +54,7 @@ columns_more text a b c d e f =
     ∙ ap (λ t. b ++ 32 ∷ t) (append_assoc c (32 ∷ []) (d ++ (32 ∷ e ++ (32 ∷ f ++ 10 ∷ []))))))
 
 -- a text to which the texts of a list's elements were added, and one more
-pub flat_map_next : {A : Type 0} (f : A → List ℕ) (text : List ℕ) (xs : List A) (i : ℕ) (d : A) → i < length xs
+pub flat_map_next : {A B : Type 0} (f : A → List B) (text : List B) (xs : List A) (i : ℕ) (d : A) → i < length xs
     → (text ++ flat_map f (take i xs)) ++ f (get_or xs i d) ≡ text ++ flat_map f (take (i + 1) xs)
 flat_map_next f text xs i d h = flat_map_more f text (take i xs) (get_or xs i d)
     ∙ ap (λ ys. text ++ flat_map f ys) (sym (take_more xs i d h))

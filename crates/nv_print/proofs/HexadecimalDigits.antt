@@ -1,14 +1,14 @@
 -- Hexadecimal digits, written from the last to the first.
 use Rattle.std.proofs.Common.{◌≡◌, ◌∙◌, ℕ, zero, suc, ◌-◌, ◌/◌, ◌%◌, ◌<◌, ◌≤◌, ap, arith, refl, Bool, true, false}
 use Rattle.std.proofs.Common.{List, [], ◌∷◌, drop, length, length-set, set, take}
-use Rattle.std.specs.Prelude.{◌==◌, if◌then◌else◌}
+use Rattle.std.specs.Prelude.{◌==◌, if◌then◌else◌, replicate}
 use Rattle.std.specs.Fmt.{digit_glyph, digits, digits_onto}
 use Rattle.std.specs.Str.{IsAscii, IsUtf8}
 use Rattle.std.proofs.lemmas.Bool.Decides.{nat_tests}
 use Rattle.std.proofs.lemmas.List.{length-drop, take_all}
-use Rattle.std.proofs.lemmas.Str.{IsUtf8-from_ascii}
+use Rattle.std.proofs.lemmas.Str.{IsAscii-append, IsUtf8-from_ascii}
 use Rattle.std.proofs.lemmas.Str.Ascii.{IsAscii-cons, IsAscii-nil}
-use Rattle.nv_print.specs.Text.{hexadecimal}
+use Rattle.nv_print.specs.Text.{hexadecimal, six_digits}
 
 abbrev last_digit : ℕ → ℕ
 last_digit n = digit_glyph false (n % 16)
@@ -83,3 +83,17 @@ hexadecimal_utf8 n =
     IsUtf8-from_ascii _
     (IsAscii-cons 48 (120 ∷ digits 16 false n) (omega arith)
     (IsAscii-cons 120 (digits 16 false n) (omega arith) (digits_ascii 64 n [] IsAscii-nil)))
+
+zeros_ascii : (k : ℕ) → IsAscii (replicate k 48)
+zeros_ascii zero = IsAscii-nil
+zeros_ascii (suc k) = IsAscii-cons 48 (replicate k 48) (omega arith) (zeros_ascii k)
+
+pub six_digits_utf8 : (n : ℕ) → IsUtf8 (six_digits n)
+unfolding digits
+six_digits_utf8 n =
+    IsUtf8-from_ascii _
+    (IsAscii-append (replicate (6 - length (digits 16 false n)) 48) (digits 16 false n)
+    (zeros_ascii (6 - length (digits 16 false n))) (digits_ascii 64 n [] IsAscii-nil))
+
+pub glyph_low : (n : ℕ) → n < 16 → digit_glyph false n < 128
+glyph_low n h = grind (arith, nat_tests)

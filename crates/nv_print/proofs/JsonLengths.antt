@@ -1,12 +1,11 @@
 -- How long the compact text of JSON is.
-use Rattle.std.proofs.Common.{◌≡◌, ℕ, suc, ◌+◌, ◌*◌, ◌<◌, ◌≤◌, arith, Bool, true, false, List, [], ◌∷◌, ◌++◌, length}
-use Rattle.std.proofs.Common.{length-append, get_or, map, take, nat_cmp, Ordering, Less, Equal, Greater}
+use Rattle.std.proofs.Common.{◌≡◌, ℕ, suc, ◌+◌, ◌*◌, ◌≤◌, arith, Bool, true, false, List, [], ◌∷◌, ◌++◌, length}
+use Rattle.std.proofs.Common.{length-append, map, nat_cmp, Ordering, Less, Equal, Greater}
 use Rattle.std.specs.List.{All}
-use Rattle.std.proofs.lemmas.List.{map_more}
 use Rattle.std.specs.Cmp.Lexicographic.{slice_cmp}
 use Rattle.std.specs.Ordering.{match_ordering}
 use Rattle.json.specs.Print.{quoted}
-use Rattle.serde_json.specs.Data.{Data, Members, no_members, member, put, array, object, no_items}
+use Rattle.serde_json.specs.Data.{Data, Members, no_members, member, put, array, object}
 use Rattle.serde_json.specs.View.{items_of}
 use Rattle.serde_json.specs.Written.{comma_if, compact_text, items_text, members_text}
 use Rattle.nv_print.specs.Field.{Field, object_of, shape_data, with_fields}
@@ -91,36 +90,3 @@ list_object_length key data_of most xs each =
       items_length data_of most false xs each,
       quoted_length key,
     )
-
--- one more item
-items_append_length : (later : Bool) (ds : List Data) (d : Data)
-    → length (items_text later (items_of (ds ++ d ∷ [])))
-    ≤ length (items_text later (items_of ds)) + (length (compact_text d) + 1)
-items_append_length later [] d =
-    omega (
-      arith,
-      comma_length later,
-      length-append (comma_if later) (compact_text d ++ items_text true no_items),
-      length-append (compact_text d) (items_text true no_items),
-    )
-items_append_length later (x ∷ ds) d = omega (
-  arith,
-  items_append_length true ds d,
-  length-append (comma_if later) (compact_text x ++ items_text true (items_of (ds ++ d ∷ []))),
-  length-append (compact_text x) (items_text true (items_of (ds ++ d ∷ []))),
-  length-append (comma_if later) (compact_text x ++ items_text true (items_of ds)),
-  length-append (compact_text x) (items_text true (items_of ds)),
-)
-
-pub items_next_length : {A : Type 0} (data_of : A → Data) (most : ℕ) (xs : List A) (i : ℕ) (d : A) → i < length xs
-    → length (compact_text (data_of (get_or xs i d))) ≤ most
-    → length (items_text false (items_of (map data_of (take i xs)))) ≤ 1 + (most + 1) * i
-    → length (items_text false (items_of (map data_of (take (i + 1) xs)))) ≤ 1 + (most + 1) * (i + 1)
-items_next_length data_of most xs i d h this old =
-    let more = items_append_length false (map data_of (take i xs)) (data_of (get_or xs i d)) in
-    rw (map_more data_of xs i d h) (omega arith)
-
--- an object of one list of values
-pub one_list_length : (key : List ℕ) (most : ℕ) (ds : List Data) → length (items_text false (items_of ds)) ≤ most
-    → length (compact_text (object (put key (array (items_of ds)) no_members))) ≤ 7 + (6 * length key + most)
-one_list_length key most ds h = omega (arith, put_length false key (array (items_of ds)) no_members, quoted_length key)

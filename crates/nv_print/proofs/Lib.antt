@@ -1,9 +1,7 @@
 pub mod HexadecimalDigits
 pub mod Padding
 pub mod Fields
-pub mod Items
-pub mod Sent
-pub mod NoFloats
+pub mod TokenLaws
 pub mod NumberedLines
 pub mod PrintableLaws
 pub mod Lengths
@@ -12,7 +10,6 @@ pub mod FieldLengths
 pub mod RecordLengths
 pub mod MessageLengths
 pub mod ListLengths
-pub mod ShownFacts
 pub mod DeviceLengths
 pub mod Bounds
 pub mod SentenceLengths

@@ -1,23 +1,12 @@
 -- Spaces in columns, and the text after a key.
-use Rattle.std.proofs.Common.{◌≡◌, ◌∙◌, ℕ, ◌+◌, ◌-◌, ◌^◌, ◌≤◌, zero, suc, ap, sym, refl, arith, false, List, []}
-use Rattle.std.proofs.Common.{◌∷◌, ◌++◌, append-nil, append_assoc, drop, length, length-append, take}
+use Rattle.std.proofs.Common.{◌≡◌, ◌∙◌, ℕ, ◌+◌, ◌-◌, ◌≤◌, zero, suc, ap, sym, refl, arith, List, []}
+use Rattle.std.proofs.Common.{◌∷◌, ◌++◌, append_assoc, drop, length, length-append, take}
 use Rattle.std.specs.Prelude.{codes, replicate}
 use Rattle.std.specs.Str.{IsAscii, IsCharBoundary}
 use Rattle.std.proofs.lemmas.List.{drop-append-le, drop-replicate, take-replicate}
 use Rattle.std.proofs.lemmas.Str.{IsAscii-append, IsCharBoundary-from_ascii}
 use Rattle.std.proofs.lemmas.Str.Ascii.{IsAscii-cons, IsAscii-nil}
-use Rattle.std.specs.Fmt.{char_count, format_spec, padded_integral}
-use lib.Utf8.{encode}
-use Rattle.nv_print.specs.Text.{left}
-
--- digits after zeros
-pub zero_padded : (width : ℕ) (ds : List ℕ)
-    → padded_integral (format_spec 32 0 4 width (2 ^ 64 - 1)) false [] ds ≡ replicate (width - length ds) 48 ++ ds
-unfolding padded_integral char_count encode
-zero_padded width ds =
-    let pad : width - length ds - 0 - 0 ≡ width - length ds = omega arith in
-    ap (λ (k : ℕ). replicate {A = ℕ} k 48 ++ (ds ++ [])) pad
-    ∙ ap (λ t. replicate (width - length ds) 48 ++ t) (append-nil ds)
+use Rattle.nv_print.specs.Text.{left, right}
 
 -- ---- spaces
 
@@ -55,6 +44,14 @@ pub node_more : (text shown : List ℕ) (gap : ℕ) → gap ≡ (18 - (length (t
 node_more text shown gap is =
     let same : gap ≡ (18 - length shown) + 1 = omega (arith, is, length-append text shown) in
     ap (λ (n : ℕ). (text ++ shown) ++ replicate {A = ℕ} n 32) same ∙ left_more text shown 18
+
+-- a text to which a space was added, and another at the right of a column
+pub column_more : (text shown : List ℕ) (width : ℕ)
+    → (text ++ replicate ((width - length shown) + 1) 32) ++ shown ≡ text ++ (32 ∷ right width shown)
+column_more text shown width =
+    let more : (width - length shown) + 1 ≡ suc (width - length shown) = omega arith in
+    append_assoc text (replicate ((width - length shown) + 1) 32) shown
+    ∙ ap (λ (n : ℕ). text ++ (replicate {A = ℕ} n 32 ++ shown)) more
 
 -- ---- between a key and its value
 

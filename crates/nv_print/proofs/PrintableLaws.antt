@@ -1,16 +1,17 @@
 -- The part of a text that is shown.
-use Rattle.std.proofs.Common.{◌≡◌, ◌∙◌, ℕ, ◌-◌, ◌<◌, ap, arith, false, true, List, length, take, get_or}
-use Rattle.std.specs.Prelude.{◌==◌}
+use Rattle.std.proofs.Common.{◌≡◌, ◌∙◌, ◌⊎◌, inl, inr, refl, ℕ, zero, suc, ◌+◌, ◌-◌, ◌<◌, ap, arith, Bool, false, true}
+use Rattle.std.proofs.Common.{List, [], ◌∷◌, ◌++◌, append-nil, append_assoc, length, length-append, take, get_or, sym}
+use Rattle.std.specs.Prelude.{◌==◌, cond, not, replicate}
 use Rattle.std.specs.Char.{is_ascii_whitespace}
 use Rattle.std.specs.List.{prefix_len, suffix_len, take_while}
 use Rattle.std.specs.Str.{IsAscii, IsTrimAsciiEnd, IsUtf8}
 use Rattle.std.proofs.lemmas.Bool.Decides.{nat_tests}
-use Rattle.std.proofs.lemmas.List.{get_or-take}
+use Rattle.std.proofs.lemmas.List.{get_or-take, replicate-append-replicate, reverse-append, take-append-le}
 use Rattle.std.proofs.lemmas.List.Folds.{length-prefix_len}
-use Rattle.std.proofs.lemmas.List.Sums.{prefix_len_passes, suffix_len_is}
+use Rattle.std.proofs.lemmas.List.Sums.{prefix_len_passes, suffix_len_is, take_while-cons}
 use Rattle.std.proofs.lemmas.Str.{IsUtf8-from_ascii, IsAscii-take}
 use Rattle.std.proofs.lemmas.Str.Ascii.{IsAscii-from_reads}
-use Rattle.nv_print.specs.Text.{is_printable, printable}
+use Rattle.nv_print.specs.Text.{is_printable, printable, without_trailing_spaces}
 
 pub each_printable : (bs : List ℕ) (k d : ℕ) → k < length (take_while is_printable bs)
     → is_printable (get_or (take_while is_printable bs) k d) ≡ true
@@ -43,3 +44,57 @@ printable_is_utf8 bs r is =
     let s : List ℕ = take_while is_printable bs in
     let ascii : IsAscii s = IsAscii-from_reads _ (length s) (omega arith) (λ k h. low _ (each_printable bs k 0 h)) in
     rw is (IsUtf8-from_ascii _ (IsAscii-take _ _ ascii))
+
+-- ---- spaces at the end
+
+one_more : (b : Bool) (y : ℕ) (text longer : List ℕ) → (longer ≡ text) ⊎ (longer ≡ text ++ 32 ∷ [])
+    → (cond b (y ∷ longer) [] ≡ cond b (y ∷ text) []) ⊎ (cond b (y ∷ longer) [] ≡ cond b (y ∷ text) [] ++ 32 ∷ [])
+one_more true y text longer (inl same) = inl (ap (λ t. y ∷ t) same)
+one_more true y text longer (inr more) = inr (ap (λ t. y ∷ t) more)
+one_more false y text longer h = inl refl
+
+-- a space more is shown, or it isn't reached
+space_more : (bs : List ℕ)
+    → (take_while is_printable (bs ++ 32 ∷ []) ≡ take_while is_printable bs)
+    ⊎ (take_while is_printable (bs ++ 32 ∷ []) ≡ take_while is_printable bs ++ 32 ∷ [])
+space_more [] = inr refl
+space_more (y ∷ bs) =
+    rw (take_while-cons is_printable y (bs ++ 32 ∷ []), take_while-cons is_printable y bs)
+    (one_more (is_printable y) y (take_while is_printable bs) (take_while is_printable (bs ++ 32 ∷ [])) (space_more bs))
+
+-- a space at the end is cut off
+space_cut : (text : List ℕ) → without_trailing_spaces (text ++ 32 ∷ []) ≡ without_trailing_spaces text
+space_cut text =
+    let spaces : suffix_len (λ b. b == 32) (text ++ 32 ∷ []) ≡ 1 + suffix_len (λ b. b == 32) text
+    = ap (prefix_len (λ b. b == 32)) (reverse-append text (32 ∷ [])) in
+    let left : length (text ++ 32 ∷ []) - suffix_len (λ b. b == 32) (text ++ 32 ∷ [])
+    ≡ length text - suffix_len (λ b. b == 32) text
+    = omega (arith, spaces, length-append text (32 ∷ [])) in
+    ap (λ n. take n (text ++ 32 ∷ [])) left ∙ take-append-le _ text (32 ∷ []) (omega arith)
+
+printable_space : (bs : List ℕ) → printable (bs ++ 32 ∷ []) ≡ printable bs
+printable_space bs = elim (space_more bs) [
+  | inl same ↦ ap without_trailing_spaces same
+  | inr more ↦ ap without_trailing_spaces more ∙ space_cut (take_while is_printable bs)
+]
+
+pub printable_padded : (k : ℕ) (bs : List ℕ) → printable (bs ++ replicate k 32) ≡ printable bs
+printable_padded zero bs = ap printable (append-nil bs)
+printable_padded (suc k) bs =
+    ap printable (sym (append_assoc bs (32 ∷ []) (replicate k 32)))
+    ∙ printable_padded k (bs ++ 32 ∷ [])
+    ∙ printable_space bs
+
+-- eight spaces more were cut off
+pub padding_next : (bytes rest before last : List ℕ) (m n : ℕ) → rest ≡ before ++ last → last ≡ replicate 8 32
+    → bytes ≡ rest ++ replicate m 32 → n ≡ 8 + m → bytes ≡ before ++ replicate n 32
+padding_next bytes rest before last m n split spaces old more =
+    old
+    ∙ ap (λ t. t ++ replicate m 32) (split ∙ ap (λ t. before ++ t) spaces)
+    ∙ append_assoc before (replicate 8 32) (replicate m 32)
+    ∙ ap (λ t. before ++ t) (replicate-append-replicate 8 m 32)
+    ∙ ap (λ k. before ++ replicate k 32) (sym more)
+
+pub equal : (same : Bool) → false ≡ not same → true ≡ same
+equal true e = refl
+equal false e = sym e

@@ -1,3 +1,3 @@
 -- What no public contract reaches. Contracts of private functions use it, in other crates too.
 pub mod Records
-pub mod Sends
+pub mod Tokens

@@ -50,3 +50,16 @@ pub(crate) fn push_right(text: &mut String, number: u64, width: usize) -> Result
     push_spaces(text, width.saturating_sub(digits.len()))?;
     text.push_str(digits)
 }
+
+/// Adds a space, and a number at the right of a column of `width` characters.
+#[tactic(auto, using(crate::proofs::Padding::column_more))]
+pub(crate) fn push_column(text: &mut String, number: u64, width: usize) -> Result<(), AllocError>
+    requires { width ≤ 40 }
+    ensures { IfOk result
+        (λ _. string_bytes text.new ≡ string_bytes text.old ++ (32 ∷ right width (decimal number))) }
+{
+    let mut buffer = Buffer::new();
+    let digits = buffer.format(number);
+    push_spaces(text, width.saturating_sub(digits.len()) + 1)?;
+    text.push_str(digits)
+}

@@ -1,20 +1,21 @@
 //! What is shown of devices: a line in columns for each, or an object.
 
-ghost use Rattle.std.specs.Prelude.{◌≡◌, ◌≤◌, ◌+◌, ◌*◌, ◌∷◌, ◌++◌, [], IfOk, OnOk, length, string_bytes};
-ghost use Rattle.serde_json.specs.Data.{no_members};
-ghost use Rattle.serde_json.specs.Events.{SendsValue};
+ghost use Rattle.std.specs.Prelude.{◌≡◌, ◌≤◌, ◌+◌, ◌*◌, ◌∷◌, ◌++◌, [], IfOk, OnOk, flat_map};
+ghost use Rattle.std.specs.Prelude.{length, string_bytes};
+ghost use Rattle.std.specs.List.{All};
 ghost use Rattle.serde_json.specs.Written.{compact_text};
 ghost use Rattle.nv_print.specs.Devices.{device_line, devices_data, devices_text, fields_of_device};
 ghost use Rattle.nv_print.specs.Devices.{node_of};
-ghost use Rattle.nv_print.specs.Field.{members_of, object_of};
-ghost use Rattle.nv_print.specs.Text.{left};
-ghost use Rattle.nv_print.specs.inner.Sends.{before};
+ghost use Rattle.nv_print.specs.Field.{object_of};
+ghost use Rattle.nv_print.specs.Text.{left, printable};
+ghost use Rattle.nv_print.specs.inner.Tokens.{Adds, data_tokens};
 
-use crate::column::{push_decimal, push_left, push_right, push_spaces};
+use crate::column::{push_column, push_decimal, push_left, push_right, push_spaces};
 use crate::device::Device;
-use crate::field::{Field, send_object};
-use crate::printable::printable;
-use serde::Serializer;
+use crate::device_texts::DeviceTexts;
+use crate::field::{write_decimal, write_text};
+use itoa::Buffer;
+use json::Writer;
 use std::alloc::{AllocError, Global};
 
 /// Adds the name of the node of a controller's namespace to a text.
@@ -27,18 +28,6 @@ fn push_node(text: &mut String, controller: u16, nsid: u32) -> Result<(), AllocE
     push_decimal(text, u64::from(controller))?;
     text.push_str("n")?;
     push_decimal(text, u64::from(nsid))
-}
-
-/// Returns the name of the node of a controller's namespace.
-#[tactic(auto, using(crate::proofs::DeviceLengths::node_short))]
-fn node_of(alloc: Global, controller: u16, nsid: u32) -> Result<String, AllocError>
-    ensures value { IfOk result (λ node. string_bytes node ≡ node_of controller nsid) }
-    ensures bound { length (node_of controller nsid) ≤ 64 }
-{
-    // Room for the longest.
-    let mut node = String::with_capacity(alloc, 25)?;
-    push_node(&mut node, controller, nsid)?;
-    Ok(node)
 }
 
 /// Adds the name of the node at the left of a column of 18 characters, and a space.
@@ -54,9 +43,16 @@ fn push_node_column(text: &mut String, controller: u16, nsid: u32) -> Result<(),
     push_spaces(text, 18usize.saturating_sub(len) + 1)
 }
 
-/// Adds the line of a device to a text.
+/// Adds the line of a device with these texts to a text.
 #[tactic(auto, using(crate::proofs::DeviceLengths::device_line_length))]
-fn push_device(text: &mut String, device: &Device) -> Result<(), AllocError>
+fn push_device(
+    text: &mut String,
+    device: &Device,
+    serial: &str,
+    model: &str,
+) -> Result<(), AllocError>
+    requires serial { serial.now ≡ printable device.now.serial }
+    requires model { model.now ≡ printable device.now.model }
     ensures value { IfOk result
         (λ _. string_bytes text.new ≡ string_bytes text.old ++ device_line device.now) }
     ensures bound { OnOk result (length (device_line device.now) ≤ 512) }
@@ -69,13 +65,11 @@ fn push_device(text: &mut String, device: &Device) -> Result<(), AllocError>
         ..
     } = *device;
     push_node_column(text, controller, nsid)?;
-    push_left(text, printable(&device.serial), 20)?;
-    push_left(text, printable(&device.model), 40)?;
+    push_left(text, serial, 20)?;
+    push_left(text, model, 40)?;
     push_right(text, u64::from(nsid), 10)?;
-    text.push_str(" ")?;
-    push_right(text, bytes, 20)?;
-    text.push_str(" ")?;
-    push_right(text, block_size, 6)?;
+    push_column(text, bytes, 20)?;
+    push_column(text, block_size, 6)?;
     text.push_str("\n")?;
     Ok(())
 }
@@ -88,66 +82,93 @@ pub(crate) fn devices_text(alloc: Global, devices: &[Device]) -> Result<String, 
 {
     // Room for what most lines take.
     let mut text = String::with_capacity(alloc, devices.len().saturating_mul(128))?;
+    let mut last = None;
     for device in devices {
-        push_device(&mut text, device)?;
+        let texts = DeviceTexts::of(device, last);
+        push_device(&mut text, device, texts.serial, texts.model)?;
+        last = Some(texts);
     }
     Ok(text)
 }
 
-/// The fields of a device, whose node has this name, in the order of their keys.
-#[tactic(auto, using(crate::proofs::DeviceLengths::device_json_length))]
-fn device_members<'a>(node: &'a str, device: &'a Device) -> [Field<'a>; 6]
-    requires name { node.now ≡ node_of device.now.controller device.now.nsid }
-    requires short { length node.now ≤ 64 }
-    ensures value { members_of (fields_of_device device.now) ≡ before result no_members }
-    ensures bound { length (compact_text (object_of (fields_of_device device.now))) ≤ 511 }
+/// Writes the object of a device with these texts, whose members are in the order of their keys.
+/// `node` and `digits` are room for the name of its node and for a number.
+#[tactic(auto, using(crate::proofs::DeviceLengths::device_lengths))]
+fn write_device(
+    device: &Device,
+    serial: &str,
+    model: &str,
+    node: &mut String,
+    digits: &mut Buffer,
+    out: &mut Writer,
+) -> Result<(), AllocError>
+    requires serial { serial.now ≡ printable device.now.serial }
+    requires model { model.now ≡ printable device.now.model }
+    ensures value { OnOk result
+        (Adds (data_tokens (object_of (fields_of_device device.now))) out.old out.new) }
+    ensures bound { OnOk result
+        (length (compact_text (object_of (fields_of_device device.now))) ≤ 511) }
 {
     let Device {
+        controller,
         nsid,
         bytes,
         block_size,
         ..
     } = *device;
-    [
-        Field::decimal("block_size", block_size),
-        Field::decimal("bytes", bytes),
-        Field::ascii("model", &device.model),
-        Field::decimal("namespace", u64::from(nsid)),
-        Field::text("node", node),
-        Field::ascii("serial", &device.serial),
-    ]
+    node.clear();
+    push_node(node, controller, nsid)?;
+    out.begin_object()?;
+    write_decimal("block_size", block_size, digits, out)?;
+    write_decimal("bytes", bytes, digits, out)?;
+    write_text("model", model, out)?;
+    write_decimal("namespace", u64::from(nsid), digits, out)?;
+    write_text("node", node, out)?;
+    write_text("serial", serial, out)?;
+    out.end_object()
 }
 
-/// Sends the object of a device to a writer of JSON.
-fn send_device<S: Serializer>(device: &Device, alloc: Global, out: &mut S) -> Result<(), S::Error>
-    ensures value { OnOk result (SendsValue (object_of (fields_of_device device.now))
-        (S.written out.old) (S.written out.new)) }
-    ensures bound { OnOk result
-        (length (compact_text (object_of (fields_of_device device.now))) ≤ 511) }
-{
-    let Ok(node) = node_of(alloc, device.controller, device.nsid) else {
-        return Err(out.custom("no memory"));
-    };
-    send_object(&device_members(&node, device), alloc, out)
-}
-
-/// Sends devices to a writer of JSON.
-pub(crate) fn send_devices<S: Serializer>(
-    devices: &[Device],
-    alloc: Global,
-    out: &mut S,
-) -> Result<(), S::Error>
+/// Writes the objects of devices.
+fn write_each(alloc: Global, devices: &[Device], out: &mut Writer) -> Result<(), AllocError>
     ensures value { OnOk result
-        (SendsValue (devices_data devices.now) (S.written out.old) (S.written out.new)) }
+        (Adds (flat_map (λ d. data_tokens (object_of (fields_of_device d))) devices.now)
+        out.old out.new) }
+    ensures bound { OnOk result
+        (All (λ d. length (compact_text (object_of (fields_of_device d))) ≤ 511) devices.now) }
+{
+    // Room for the longest.
+    let mut node = String::with_capacity(alloc, 25)?;
+    let mut digits = Buffer::new();
+    let mut last = None;
+    for device in devices {
+        let texts = DeviceTexts::of(device, last);
+        write_device(
+            device,
+            texts.serial,
+            texts.model,
+            &mut node,
+            &mut digits,
+            out,
+        )?;
+        last = Some(texts);
+    }
+    Ok(())
+}
+
+/// Writes the object of devices.
+pub(crate) fn write_devices(
+    alloc: Global,
+    devices: &[Device],
+    out: &mut Writer,
+) -> Result<(), AllocError>
+    ensures value { OnOk result (Adds (data_tokens (devices_data devices.now)) out.old out.new) }
     ensures bound { OnOk result
         (length (compact_text (devices_data devices.now)) ≤ 65000 + 512 * length devices.now) }
 {
-    out.begin_map(Some(1))?;
+    out.begin_object()?;
     out.key("devices")?;
-    out.begin_seq(Some(devices.len()))?;
-    for device in devices {
-        send_device(device, alloc, out)?;
-    }
-    out.end_seq()?;
-    out.end_map()
+    out.begin_array()?;
+    write_each(alloc, devices, out)?;
+    out.end_array()?;
+    out.end_object()
 }

@@ -2,20 +2,18 @@
 
 ghost use Rattle.std.specs.Prelude.{◌≡◌, ◌-◌, ◌++◌, [], IfOk, OnOk, codes, flat_map, length};
 ghost use Rattle.std.specs.Prelude.{replicate, string_bytes};
-ghost use Rattle.serde.specs.Event.{WritesEach};
-ghost use Rattle.serde_json.specs.Data.{no_members, object};
-ghost use Rattle.serde_json.specs.Events.{SendsValue};
+ghost use Rattle.serde_json.specs.Data.{no_members, number, object, unsigned};
 ghost use Rattle.nv_print.specs.Field.{as_text, field, field_line, fields_text, in_decimal};
 ghost use Rattle.nv_print.specs.Field.{in_hexadecimal, in_six_digits, shape_data};
 ghost use Rattle.nv_print.specs.Field.{shape_of, shape_text, wide};
 ghost use Rattle.nv_print.specs.Records.{field_within};
 ghost use Rattle.nv_print.specs.Text.{printable};
-ghost use Rattle.nv_print.specs.inner.Sends.{SendsField, before};
+ghost use Rattle.nv_print.specs.inner.Tokens.{Adds, before, data_tokens, field_tokens};
 
-use crate::hexadecimal::{SixDigits, push_hexadecimal};
+use crate::hexadecimal::{push_hexadecimal, push_six_digits, write_six_digits};
 use crate::printable::printable;
 use itoa::Buffer;
-use serde::Serializer;
+use json::Writer;
 use std::alloc::{AllocError, Global};
 use std::marker::Model;
 
@@ -42,41 +40,59 @@ impl<'a> FieldValue<'a> {
             FieldValue::Decimal(number) => text.push_str(digits.format(number)),
             FieldValue::Hexadecimal(number) => push_hexadecimal(text, number),
             FieldValue::Wide(number) => text.push_str(digits.format(number)),
-            FieldValue::SixDigits(number) => {
-                let number = SixDigits(number);
-                write!(text, "{number}")
-            }
+            FieldValue::SixDigits(number) => push_six_digits(text, number),
             FieldValue::Text(shown) => text.push_str(shown),
         }
     }
 
-    /// Serializes it. A number of sixteen bytes is a string, because readers of JSON round such
+    /// Writes it as JSON. A number of sixteen bytes is a string, because readers of JSON round such
     /// numbers.
-    fn send<S: Serializer>(&self, alloc: Global, out: &mut S) -> Result<(), S::Error>
-        ensures { OnOk result
-            (SendsValue (shape_data (shape_of self.now)) (S.written out.old) (S.written out.new)) }
+    fn write(&self, out: &mut Writer) -> Result<(), AllocError>
+        ensures { OnOk result (Adds (data_tokens (shape_data (shape_of self.now))) out.old out.new) }
     {
         let mut digits = Buffer::new();
         match *self {
-            FieldValue::Decimal(number) => out.u64(number),
-            FieldValue::Hexadecimal(number) => out.u64(number),
-            FieldValue::Wide(number) => out.str(digits.format(number)),
-            FieldValue::SixDigits(number) => send_six_digits(number, alloc, out),
-            FieldValue::Text(shown) => out.str(shown),
+            FieldValue::Decimal(number) => write_number(number, &mut digits, out),
+            FieldValue::Hexadecimal(number) => write_number(number, &mut digits, out),
+            FieldValue::Wide(number) => out.string(digits.format(number)),
+            FieldValue::SixDigits(number) => write_six_digits(number, out),
+            FieldValue::Text(shown) => out.string(shown),
         }
     }
 }
 
-/// Serializes a number as a string of six hexadecimal digits.
-fn send_six_digits<S: Serializer>(number: u32, alloc: Global, out: &mut S) -> Result<(), S::Error>
-    ensures { OnOk result
-        (SendsValue (shape_data (in_six_digits number)) (S.written out.old) (S.written out.new)) }
+/// Writes a number as JSON. `digits` is room for its digits. It is inlined, because a long list
+/// would make a call for each element.
+#[inline(always)]
+pub(crate) fn write_number(
+    value: u64,
+    digits: &mut Buffer,
+    out: &mut Writer,
+) -> Result<(), AllocError>
+    ensures { OnOk result (Adds (data_tokens (number (unsigned value))) out.old out.new) }
 {
-    let number = SixDigits(number);
-    let Ok(digits) = format!(in alloc; "{number}") else {
-        return Err(out.custom("no memory"));
-    };
-    out.str(&digits)
+    out.number(digits.format(value))
+}
+
+/// Writes a member of an object with a number. `digits` is room for its digits.
+pub(crate) fn write_decimal(
+    key: &str,
+    value: u64,
+    digits: &mut Buffer,
+    out: &mut Writer,
+) -> Result<(), AllocError>
+    ensures { OnOk result (Adds (field_tokens (field key.now (in_decimal value))) out.old out.new) }
+{
+    out.key(key)?;
+    write_number(value, digits, out)
+}
+
+/// Writes a member of an object with a text.
+pub(crate) fn write_text(key: &str, text: &str, out: &mut Writer) -> Result<(), AllocError>
+    ensures { OnOk result (Adds (field_tokens (field key.now (as_text text.now))) out.old out.new) }
+{
+    out.key(key)?;
+    out.string(text)
 }
 
 /// Returns what is between a key and its value: spaces up to column 20, a colon and a space.
@@ -182,12 +198,13 @@ impl<'a> Field<'a> {
         self.value.push(text)
     }
 
-    /// Serializes its key and its value.
-    fn send<S: Serializer>(&self, alloc: Global, out: &mut S) -> Result<(), S::Error>
-        ensures { OnOk result (SendsField self.now (S.written out.old) (S.written out.new)) }
+    /// Writes its key and its value as a member of an object.
+    #[tactic(auto, using(crate::proofs::Fields::two_more))]
+    fn write(&self, out: &mut Writer) -> Result<(), AllocError>
+        ensures { OnOk result (Adds (field_tokens self.now) out.old out.new) }
     {
         out.key(self.key)?;
-        self.value.send(alloc, out)
+        self.value.write(out)
     }
 }
 
@@ -225,31 +242,23 @@ pub(crate) fn push_within(text: &mut String, fields: &[Field<'_>]) -> Result<(),
     Ok(())
 }
 
-/// Sends fields as members of an object, one after the other.
-pub(crate) fn send_fields<S: Serializer>(
-    fields: &[Field<'_>],
-    alloc: Global,
-    out: &mut S,
-) -> Result<(), S::Error>
-    ensures { OnOk result
-        (WritesEach SendsField fields.now (S.written out.old) (S.written out.new)) }
+/// Writes fields as members of an object, one after the other.
+#[tactic(auto, using(crate::proofs::Fields::flat_map_next))]
+pub(crate) fn write_fields(fields: &[Field<'_>], out: &mut Writer) -> Result<(), AllocError>
+    ensures { OnOk result (Adds (flat_map field_tokens fields.now) out.old out.new) }
 {
     for field in fields {
-        field.send(alloc, out)?;
+        field.write(out)?;
     }
     Ok(())
 }
 
-/// Sends an object, whose members these fields are in turn.
-pub(crate) fn send_object<S: Serializer>(
-    fields: &[Field<'_>],
-    alloc: Global,
-    out: &mut S,
-) -> Result<(), S::Error>
-    ensures { OnOk result (SendsValue (object (before fields.now no_members))
-        (S.written out.old) (S.written out.new)) }
+/// Writes an object, whose members these fields are in turn.
+pub(crate) fn write_object(fields: &[Field<'_>], out: &mut Writer) -> Result<(), AllocError>
+    ensures { OnOk result
+        (Adds (data_tokens (object (before fields.now no_members))) out.old out.new) }
 {
-    out.begin_map(Some(fields.len()))?;
-    send_fields(fields, alloc, out)?;
-    out.end_map()
+    out.begin_object()?;
+    write_fields(fields, out)?;
+    out.end_object()
 }

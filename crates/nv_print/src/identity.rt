@@ -1,15 +1,15 @@
 //! What Identify tells, as fields: of a controller, and of a namespace.
 
 ghost use Rattle.std.specs.Prelude.{◌≡◌, IfOk, OnOk, string_bytes};
-ghost use Rattle.serde_json.specs.Events.{SendsValue};
 ghost use Rattle.nv_print.specs.Field.{fields_text, object_of};
 ghost use Rattle.nv_print.specs.Records.{fields_of_id_ctrl, fields_of_id_ns, fields_of_lbaf};
 ghost use Rattle.nv_print.specs.inner.Records.{texts_length};
+ghost use Rattle.nv_print.specs.inner.Tokens.{Adds, data_tokens};
 
-use crate::field::{Field, fields_text, send_object};
+use crate::field::{Field, fields_text, write_object};
 use crate::members::{id_ctrl_members, lbaf_members};
+use json::Writer;
 use nv_layout::{IdCtrl, IdNs, Lbaf};
-use serde::Serializer;
 use std::alloc::{AllocError, Global};
 
 /// The fields of a controller ("Identify Controller data structure").
@@ -57,17 +57,13 @@ pub(crate) fn id_ctrl_text(alloc: Global, identity: &IdCtrl) -> Result<String, A
     fields_text(alloc, &id_ctrl_fields(identity))
 }
 
-/// Sends the object of a controller to a writer of JSON.
-pub(crate) fn send_id_ctrl<S: Serializer>(
-    identity: &IdCtrl,
-    alloc: Global,
-    out: &mut S,
-) -> Result<(), S::Error>
-    ensures value { OnOk result (SendsValue (object_of (fields_of_id_ctrl identity.now))
-        (S.written out.old) (S.written out.new)) }
+/// Writes the object of a controller.
+pub(crate) fn write_id_ctrl(identity: &IdCtrl, out: &mut Writer) -> Result<(), AllocError>
+    ensures value { OnOk result
+        (Adds (data_tokens (object_of (fields_of_id_ctrl identity.now))) out.old out.new) }
     ensures texts { texts_length identity.now ≡ 324 }
 {
-    send_object(&id_ctrl_members(identity), alloc, out)
+    write_object(&id_ctrl_members(identity), out)
 }
 
 /// The fields of a namespace before its formats ("Identify Namespace data structure").
@@ -102,14 +98,10 @@ pub(crate) fn lbaf_fields<'a>(format: &Lbaf) -> [Field<'a>; 3]
     ]
 }
 
-/// Sends the object of a format to a writer of JSON.
-pub(crate) fn send_lbaf<S: Serializer>(
-    format: &Lbaf,
-    alloc: Global,
-    out: &mut S,
-) -> Result<(), S::Error>
-    ensures { OnOk result (SendsValue (object_of (fields_of_lbaf format.now))
-        (S.written out.old) (S.written out.new)) }
+/// Writes the object of a format.
+pub(crate) fn write_lbaf(format: &Lbaf, out: &mut Writer) -> Result<(), AllocError>
+    ensures { OnOk result
+        (Adds (data_tokens (object_of (fields_of_lbaf format.now))) out.old out.new) }
 {
-    send_object(&lbaf_members(format), alloc, out)
+    write_object(&lbaf_members(format), out)
 }

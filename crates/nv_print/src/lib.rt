@@ -2,7 +2,7 @@
 //! a fault.
 //!
 //! A record is shown by its fields: as text in the order of the standard, and as JSON, which
-//! `serde_json` writes, in that of their keys.
+//! `json` writes, in that of their keys.
 //!
 //! Sections are named as in the NVM Express Base Specification, revision 1.4.
 #![tactic(auto)]
@@ -10,6 +10,7 @@
 mod column;
 mod device;
 mod device_list;
+mod device_texts;
 mod devices;
 mod fault;
 mod field;

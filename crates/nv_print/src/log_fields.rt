@@ -1,14 +1,14 @@
 //! What logs hold, as fields.
 
 ghost use Rattle.std.specs.Prelude.{◌≡◌, IfOk, OnOk, string_bytes};
-ghost use Rattle.serde_json.specs.Events.{SendsValue};
 ghost use Rattle.nv_print.specs.Field.{fields_text, object_of};
 ghost use Rattle.nv_print.specs.Records.{fields_of_entry, fields_of_smart};
+ghost use Rattle.nv_print.specs.inner.Tokens.{Adds, data_tokens};
 
-use crate::field::{Field, fields_text, send_object};
+use crate::field::{Field, fields_text, write_object};
 use crate::members::{entry_members, smart_members};
+use json::Writer;
 use nv_layout::{ErrorEntry, Smart};
-use serde::Serializer;
 use std::alloc::{AllocError, Global};
 
 /// The fields of a health log ("SMART / Health Information"): how a controller is, what it has done
@@ -52,16 +52,12 @@ pub(crate) fn smart_text(alloc: Global, smart: &Smart) -> Result<String, AllocEr
     fields_text(alloc, &smart_fields(smart))
 }
 
-/// Sends the object of a health log to a writer of JSON.
-pub(crate) fn send_smart<S: Serializer>(
-    smart: &Smart,
-    alloc: Global,
-    out: &mut S,
-) -> Result<(), S::Error>
-    ensures { OnOk result (SendsValue (object_of (fields_of_smart smart.now))
-        (S.written out.old) (S.written out.new)) }
+/// Writes the object of a health log.
+pub(crate) fn write_smart(smart: &Smart, out: &mut Writer) -> Result<(), AllocError>
+    ensures { OnOk result
+        (Adds (data_tokens (object_of (fields_of_smart smart.now))) out.old out.new) }
 {
-    send_object(&smart_members(smart), alloc, out)
+    write_object(&smart_members(smart), out)
 }
 
 /// The fields of an entry of an error log, but for its index ("Error Information").
@@ -82,14 +78,10 @@ pub(crate) fn entry_fields<'a>(entry: &ErrorEntry) -> [Field<'a>; 9]
     ]
 }
 
-/// Sends the object of an entry to a writer of JSON.
-pub(crate) fn send_entry<S: Serializer>(
-    entry: &ErrorEntry,
-    alloc: Global,
-    out: &mut S,
-) -> Result<(), S::Error>
-    ensures { OnOk result (SendsValue (object_of (fields_of_entry entry.now))
-        (S.written out.old) (S.written out.new)) }
+/// Writes the object of an entry.
+pub(crate) fn write_entry(entry: &ErrorEntry, out: &mut Writer) -> Result<(), AllocError>
+    ensures { OnOk result
+        (Adds (data_tokens (object_of (fields_of_entry entry.now))) out.old out.new) }
 {
-    send_object(&entry_members(entry), alloc, out)
+    write_object(&entry_members(entry), out)
 }

@@ -1,17 +1,13 @@
 //! How an error log is shown.
 
-ghost use Rattle.std.specs.Prelude.{◌≡◌, ◌++◌, ◌∷◌, [], IfOk, OnOk, filter, if◌then◌else◌};
-ghost use Rattle.std.specs.Prelude.{length, string_bytes};
-ghost use Rattle.serde.specs.Event.{WritesEach};
-ghost use Rattle.serde_json.specs.Events.{SendsValue};
-ghost use Rattle.nv_print.specs.Field.{object_of};
-ghost use Rattle.nv_print.specs.Records.{entries_data, entries_text, entry_text, fields_of_entry};
-ghost use Rattle.nv_print.specs.Records.{holds_error};
+ghost use Rattle.std.specs.Prelude.{◌≡◌, ◌++◌, IfOk, OnOk, flat_map, string_bytes};
+ghost use Rattle.nv_print.specs.Records.{entries_data, entries_text, entry_text, holds_error};
+ghost use Rattle.nv_print.specs.inner.Tokens.{Adds, data_tokens, error_tokens};
 
 use crate::field::{Field, push_fields};
-use crate::log_fields::{entry_fields, send_entry};
+use crate::log_fields::{entry_fields, write_entry};
+use json::Writer;
 use nv_layout::{ErrorEntries, ErrorEntry};
-use serde::Serializer;
 use std::alloc::{AllocError, Global};
 
 /// Returns whether an entry holds an error.
@@ -46,46 +42,35 @@ pub(crate) fn entries_text(alloc: Global, entries: &ErrorEntries<'_>) -> Result<
     Ok(text)
 }
 
-/// Returns how many entries hold an error.
-fn errors_count(entries: &ErrorEntries<'_>) -> usize
-    ensures { result ≡ length (filter holds_error entries.now) }
-{
-    let mut count = 0;
-    for index in 0..entries.present() {
-        if holds_error(&entries.get(index)) {
-            count += 1;
-        }
-    }
-    count
-}
-
-/// Serializes the object of an entry if it holds an error.
-fn send_error<S: Serializer>(entry: &ErrorEntry, alloc: Global, out: &mut S) -> Result<(), S::Error>
-    ensures { OnOk result (WritesEach SendsValue
-        (if holds_error entry.now then object_of (fields_of_entry entry.now) ∷ [] else [])
-        (S.written out.old) (S.written out.new)) }
+/// Writes the object of an entry if it holds an error.
+fn write_error(entry: &ErrorEntry, out: &mut Writer) -> Result<(), AllocError>
+    ensures { OnOk result (Adds (error_tokens entry.now) out.old out.new) }
 {
     if !holds_error(entry) {
         return Ok(());
     }
-    send_entry(entry, alloc, out)
+    write_entry(entry, out)
 }
 
-/// Serializes the entries of an error log that hold an error.
-pub(crate) fn send_entries<S: Serializer>(
-    entries: &ErrorEntries<'_>,
-    alloc: Global,
-    out: &mut S,
-) -> Result<(), S::Error>
-    ensures { OnOk result
-        (SendsValue (entries_data entries.now) (S.written out.old) (S.written out.new)) }
+/// Writes the objects of the entries of an error log that hold an error.
+#[tactic(auto, using(crate::proofs::Fields::flat_map_next))]
+fn write_errors(entries: &ErrorEntries<'_>, out: &mut Writer) -> Result<(), AllocError>
+    ensures { OnOk result (Adds (flat_map error_tokens entries.now) out.old out.new) }
 {
-    out.begin_map(Some(1))?;
-    out.key("errors")?;
-    out.begin_seq(Some(errors_count(entries)))?;
     for index in 0..entries.present() {
-        send_error(&entries.get(index), alloc, out)?;
+        write_error(&entries.get(index), out)?;
     }
-    out.end_seq()?;
-    out.end_map()
+    Ok(())
+}
+
+/// Writes the object of an error log.
+pub(crate) fn write_entries(entries: &ErrorEntries<'_>, out: &mut Writer) -> Result<(), AllocError>
+    ensures { OnOk result (Adds (data_tokens (entries_data entries.now)) out.old out.new) }
+{
+    out.begin_object()?;
+    out.key("errors")?;
+    out.begin_array()?;
+    write_errors(entries, out)?;
+    out.end_array()?;
+    out.end_object()
 }

@@ -6,7 +6,7 @@ ghost use Rattle.nv_print.specs.Field.{members_of};
 ghost use Rattle.nv_print.specs.Records.{fields_of_entry, fields_of_id_ctrl, fields_of_id_ns};
 ghost use Rattle.nv_print.specs.Records.{fields_of_lbaf, fields_of_smart};
 ghost use Rattle.nv_print.specs.inner.Records.{texts_length};
-ghost use Rattle.nv_print.specs.inner.Sends.{before};
+ghost use Rattle.nv_print.specs.inner.Tokens.{before};
 
 use crate::field::Field;
 use nv_layout::{ErrorEntry, IdCtrl, IdNs, Lbaf, Smart};

@@ -1,20 +1,18 @@
 //! How a namespace is shown: its fields, and its formats.
 
-ghost use Rattle.std.specs.Prelude.{◌≡◌, ◌++◌, IfOk, OnOk, map, string_bytes};
-ghost use Rattle.serde_json.specs.Data.{array};
-ghost use Rattle.serde_json.specs.Events.{SendsValue};
-ghost use Rattle.serde_json.specs.View.{items_of};
+ghost use Rattle.std.specs.Prelude.{◌≡◌, ◌++◌, IfOk, OnOk, flat_map, string_bytes};
 ghost use Rattle.nv_print.specs.Field.{object_of};
 ghost use Rattle.nv_print.specs.Records.{fields_of_lbaf, formats_of, lbaf_line, mark_of};
 ghost use Rattle.nv_print.specs.Records.{namespace_data, namespace_text};
 ghost use Rattle.nv_print.specs.Text.{lines_of};
+ghost use Rattle.nv_print.specs.inner.Tokens.{Adds, data_tokens};
 
 use crate::column::push_right;
-use crate::field::{push_fields, push_within, send_fields};
-use crate::identity::{id_ns_fields, lbaf_fields, send_lbaf};
+use crate::field::{push_fields, push_within, write_fields};
+use crate::identity::{id_ns_fields, lbaf_fields, write_lbaf};
 use crate::members::id_ns_members;
+use json::Writer;
 use nv_layout::{IdNs, Lbaf};
-use serde::Serializer;
 use std::alloc::{AllocError, Global};
 use std::cmp;
 
@@ -75,33 +73,30 @@ pub(crate) fn namespace_text(alloc: Global, namespace: &IdNs) -> Result<String, 
     Ok(text)
 }
 
-/// Serializes the list of a namespace's formats.
-fn send_formats<S: Serializer>(formats: &[Lbaf], alloc: Global, out: &mut S) -> Result<(), S::Error>
+/// Writes the objects of formats.
+#[tactic(auto, using(crate::proofs::Fields::flat_map_next))]
+fn write_formats(formats: &[Lbaf], out: &mut Writer) -> Result<(), AllocError>
     ensures { OnOk result
-        (SendsValue (array (items_of (map (λ f. object_of (fields_of_lbaf f)) formats.now)))
-        (S.written out.old) (S.written out.new)) }
+        (Adds (flat_map (λ f. data_tokens (object_of (fields_of_lbaf f))) formats.now)
+        out.old out.new) }
 {
-    out.begin_seq(Some(formats.len()))?;
     for format in formats {
-        send_lbaf(format, alloc, out)?;
+        write_lbaf(format, out)?;
     }
-    out.end_seq()
+    Ok(())
 }
 
-/// Serializes a namespace.
-pub(crate) fn send_namespace<S: Serializer>(
-    namespace: &IdNs,
-    alloc: Global,
-    out: &mut S,
-) -> Result<(), S::Error>
-    ensures { OnOk result
-        (SendsValue (namespace_data namespace.now) (S.written out.old) (S.written out.new)) }
+/// Writes the object of a namespace.
+pub(crate) fn write_namespace(namespace: &IdNs, out: &mut Writer) -> Result<(), AllocError>
+    ensures { OnOk result (Adds (data_tokens (namespace_data namespace.now)) out.old out.new) }
 {
     let (before_lbafs, after_lbafs) = id_ns_members(namespace);
-    out.begin_map(Some(before_lbafs.len() + 1 + after_lbafs.len()))?;
-    send_fields(&before_lbafs, alloc, out)?;
+    out.begin_object()?;
+    write_fields(&before_lbafs, out)?;
     out.key("lbafs")?;
-    send_formats(formats_of(namespace), alloc, out)?;
-    send_fields(&after_lbafs, alloc, out)?;
-    out.end_map()
+    out.begin_array()?;
+    write_formats(formats_of(namespace), out)?;
+    out.end_array()?;
+    write_fields(&after_lbafs, out)?;
+    out.end_object()
 }

@@ -1,23 +1,23 @@
 //! What a line shows, and its text and its JSON.
 
 ghost use Rattle.std.specs.Prelude.{◌≡◌, ◌<◌, ◌≤◌, IfOk, OnOk, length, string_bytes, true};
-ghost use Rattle.serde_json.specs.Events.{SendsValue};
 ghost use Rattle.serde_json.specs.Written.{compact_text};
 ghost use Rattle.nv_print.specs.Shown.{data_of, has_json, json_of, text_limit, text_of};
+ghost use Rattle.nv_print.specs.inner.Tokens.{Adds, data_tokens};
 
 use crate::device_list::DeviceList;
-use crate::devices::{devices_text, send_devices};
-use crate::identity::{id_ctrl_text, send_id_ctrl};
-use crate::log_fields::{send_smart, smart_text};
-use crate::logs::{entries_text, send_entries};
-use crate::namespace::{namespace_text, send_namespace};
-use crate::ns_list::{nsids_text, send_nsids};
+use crate::devices::{devices_text, write_devices};
+use crate::identity::{id_ctrl_text, write_id_ctrl};
+use crate::log_fields::{smart_text, write_smart};
+use crate::logs::{entries_text, write_entries};
+use crate::namespace::{namespace_text, write_namespace};
+use crate::ns_list::{nsids_text, write_nsids};
 use crate::select::Select;
 use crate::sentence::{feature_set, feature_value, reset, success};
+use json::Writer;
 use nv_command::Borrowed;
 use nv_host::Memory;
 use nv_layout::{ErrorEntries, Feature, IdCtrl, IdNs, NamespaceIds, Smart};
-use serde::{Described, Serialize, Serializer};
 use std::alloc::{AllocError, Global};
 
 /// What a line shows.
@@ -130,45 +130,42 @@ pub fn text(alloc: Global, shown: &Shown) -> Result<Vec<u8>, Memory>
     Ok(text.into_bytes())
 }
 
-/// Serializes what a line shows, or null if it has no JSON form.
-fn send<S: Serializer>(shown: &Shown, alloc: Global, out: &mut S) -> Result<(), S::Error>
-    ensures exact { OnOk result
-        (SendsValue (data_of shown.now) (S.written out.old) (S.written out.new)) }
+/// Writes what a line shows as JSON, or null if it has no JSON form.
+fn write(alloc: Global, shown: &Shown, out: &mut Writer) -> Result<(), AllocError>
+    ensures exact { OnOk result (Adds (data_tokens (data_of shown.now)) out.old out.new) }
     ensures bound { OnOk result
         (length (compact_text (data_of shown.now)) < text_limit shown.now) }
 {
     match shown {
-        Shown::Controller(identity) => send_id_ctrl(identity.get(), alloc, out),
-        Shown::Namespace(namespace) => send_namespace(namespace.get(), alloc, out),
-        Shown::NsList(nsids) => send_nsids(nsids.as_slice(), out),
-        Shown::Smart(smart) => send_smart(smart.get(), alloc, out),
-        Shown::Errors(entries) => send_entries(entries, alloc, out),
-        Shown::Devices(devices) => send_devices(devices.as_slice(), alloc, out),
-        _ => out.unit(),
+        Shown::Controller(identity) => write_id_ctrl(identity.get(), out),
+        Shown::Namespace(namespace) => write_namespace(namespace.get(), out),
+        Shown::NsList(nsids) => write_nsids(nsids.as_slice(), out),
+        Shown::Smart(smart) => write_smart(smart.get(), out),
+        Shown::Errors(entries) => write_entries(entries, out),
+        Shown::Devices(devices) => write_devices(alloc, devices.as_slice(), out),
+        _ => out.null(),
     }
 }
 
-/// What a line shows, for `serde_json`.
-#[derive(Clone, Copy)]
-struct ShownData<'a, 'b> {
-    shown: &'a Shown<'b>,
-    alloc: Global,
+/// Returns room for the JSON of most values, in bytes.
+fn room_of(shown: &Shown) -> usize {
+    let room = match shown {
+        Shown::NsList(nsids) => nsids.as_slice().len().saturating_mul(8),
+        Shown::Devices(devices) => devices.as_slice().len().saturating_mul(128),
+        Shown::Errors(entries) => entries.present().saturating_mul(128),
+        _ => 960,
+    };
+    room.saturating_add(64)
 }
 
-impl Described for ShownData<'_, '_> {
-    ghost use Rattle.std.specs.Prelude.{◌<◌, length};
-    ghost use Rattle.serde_json.specs.Events.{SendsValue};
-    ghost use Rattle.serde_json.specs.Written.{compact_text};
-    ghost use Rattle.nv_print.specs.Shown.{data_of, text_limit};
-
-    ghost writes = { λ j old new. SendsValue (data_of j.shown.now) old new
-        × (length (compact_text (data_of j.shown.now)) < text_limit j.shown.now) };
-}
-
-impl Serialize for ShownData<'_, '_> {
-    fn serialize<S: Serializer>(&self, out: &mut S) -> Result<(), S::Error> {
-        send(self.shown, self.alloc, out)
-    }
+/// Returns the JSON of what a line shows, without a newline.
+fn compact(alloc: Global, shown: &Shown) -> Result<Vec<u8>, AllocError>
+    ensures exact { IfOk result (λ bytes. bytes.items ≡ compact_text (data_of shown.now)) }
+    ensures bound { IfOk result (λ bytes. length bytes.items < text_limit shown.now) }
+{
+    let mut out = Writer::new(Vec::with_capacity(alloc, room_of(shown))?);
+    write(alloc, shown, &mut out)?;
+    Ok(out.into_inner())
 }
 
 /// Returns the JSON of what a line shows, and a newline.
@@ -177,12 +174,11 @@ pub fn json(alloc: Global, shown: &Shown) -> Result<Vec<u8>, Memory>
     ensures exact { IfOk result (λ bytes. bytes.items ≡ json_of shown.now) }
     ensures bound { IfOk result (λ bytes. length bytes.items ≤ text_limit shown.now) }
 {
-    // Everything that is sent has a form in JSON, so only memory can fail.
-    let Ok(mut text) = serde_json::to_string(alloc, &ShownData { shown, alloc }) else {
+    let Ok(mut bytes) = compact(alloc, shown) else {
         return Err(Memory);
     };
-    let Ok(()) = text.push('\n') else {
+    let Ok(()) = bytes.push(b'\n') else {
         return Err(Memory);
     };
-    Ok(text.into_bytes())
+    Ok(bytes)
 }

@@ -1,0 +1,160 @@
+-- The tokens of objects and of lists, from those of their parts.
+use Rattle.std.proofs.Common.{◌≡◌, ◌∙◌, ℕ, ◌+◌, ◌<◌, ap, append_assoc, refl, subst, sym, Bool, true, false}
+use Rattle.std.proofs.Common.{List, [], ◌∷◌, ◌++◌, get_or, length, map, take}
+use Rattle.std.specs.Prelude.{codes, filter, flat_map, if◌then◌else◌}
+use Rattle.std.proofs.lemmas.List.Folds.{flat_map-map}
+use Rattle.json.specs.Token as json
+use Rattle.json.specs.Token.{Token}
+use Rattle.json.specs.Tree.{items_tokens, members_tokens}
+use Rattle.json.specs.Written.{Written}
+use Rattle.serde_json.specs.Data.{Data, Members, array, member, no_members, object, put}
+use Rattle.serde_json.specs.View.{items_of}
+use Rattle.serde_json.specs.Written.{items_outline, members_outline}
+use Rattle.nv_layout.specs.declared.error_entry.ErrorEntry.{ErrorEntry}
+use Rattle.nv_print.specs.Devices.{fields_of_device, node_of}
+use Rattle.nv_print.specs.Field.{Field, as_text, field, in_decimal, object_of}
+use Rattle.nv_print.specs.Records.{fields_of_entry, holds_error}
+use Rattle.nv_print.specs.Text.{printable}
+use Rattle.nv_print.specs.declared.device.Device.{Device}
+use Rattle.nv_print.specs.inner.Tokens.{Adds, before, data_tokens, error_tokens, field_tokens}
+use Rattle.nv_print.proofs.Fields.{flat_map_next}
+
+-- ---- tokens that are added in turn
+
+pub both_added : (ts us : List Token) (old mid new : Written) → Adds ts old mid → Adds us mid new
+    → Adds (ts ++ us) old new
+both_added ts us old mid new first second =
+    (second.0 ∙ first.0, second.1 ∙ ap (λ all. all ++ us) first.1 ∙ append_assoc old.tokens ts us)
+
+-- the tokens of a list's elements, and of one more
+pub next_added : {A : Type 0} (f : A → List Token) (xs : List A) (i : ℕ) (d : A) (old mid new : Written) → i < length xs
+    → Adds (flat_map f (take i xs)) old mid → Adds (f (get_or xs i d)) mid new
+    → Adds (flat_map f (take (i + 1) xs)) old new
+next_added f xs i d old mid new h these this = (
+  this.0 ∙ these.0,
+  this.1 ∙ ap (λ all. all ++ f (get_or xs i d)) these.1 ∙ flat_map_next f old.tokens xs i d h,
+)
+
+-- ---- objects
+
+-- the tokens of members, with the closing bracket
+abbrev tokens_of_members : Members → List Token
+tokens_of_members ms = members_tokens (members_outline ms)
+
+-- fields, and other members after them
+fields_before : (fields : List Field) (ms : Members)
+    → flat_map field_tokens fields ++ tokens_of_members ms ≡ tokens_of_members (before fields ms)
+fields_before [] ms = refl
+fields_before (f ∷ fields) ms =
+    append_assoc (field_tokens f) (flat_map field_tokens fields) (tokens_of_members ms)
+    ∙ ap (λ ts. field_tokens f ++ ts) (fields_before fields ms)
+
+-- an object of fields
+pub object_added : (fields : List Field) (old first last new : Written) → Adds (json.begin_object ∷ []) old first
+    → Adds (flat_map field_tokens fields) first last → Adds (json.end_object ∷ []) last new
+    → Adds (data_tokens (object (before fields no_members))) old new
+object_added fields old first last new begun added ended =
+    subst (λ ts. Adds (json.begin_object ∷ ts) old new) (fields_before fields no_members)
+    (both_added (json.begin_object ∷ []) _ old first new begun
+    (both_added (flat_map field_tokens fields) (json.end_object ∷ []) first last new added ended))
+
+-- the object of a device, whose members are in the order of their keys
+pub device_added : (d : Device) (old opened a b c e f g new : Written) → Adds (json.begin_object ∷ []) old opened
+    → Adds (field_tokens (field (codes "block_size") (in_decimal d.block_size))) opened a
+    → Adds (field_tokens (field (codes "bytes") (in_decimal d.bytes))) a b
+    → Adds (field_tokens (field (codes "model") (as_text (printable d.model)))) b c
+    → Adds (field_tokens (field (codes "namespace") (in_decimal d.nsid))) c e
+    → Adds (field_tokens (field (codes "node") (as_text (node_of d.controller d.nsid)))) e f
+    → Adds (field_tokens (field (codes "serial") (as_text (printable d.serial)))) f g
+    → Adds (json.end_object ∷ []) g new → Adds (data_tokens (object_of (fields_of_device d))) old new
+unfolding fields_of_device
+device_added d old opened a b c e f g new begun block_size bytes model nsid node serial ended =
+    both_added (json.begin_object ∷ []) _ old opened new begun
+    (both_added _ _ opened a new block_size
+    (both_added _ _ a b new bytes
+    (both_added _ _ b c new model
+    (both_added _ _ c e new nsid
+    (both_added _ _ e f new node
+    (both_added _ _ f g new serial ended))))))
+
+-- ---- lists
+
+items : (ds : List Data) → items_tokens (items_outline (items_of ds)) ≡ flat_map data_tokens ds ++ json.end_array ∷ []
+items [] = refl
+items (d ∷ ds) =
+    ap (λ ts. data_tokens d ++ ts) (items ds)
+    ∙ sym (append_assoc (data_tokens d) (flat_map data_tokens ds) (json.end_array ∷ []))
+
+-- the elements of a list, its closing bracket, and more tokens
+list_before : {A : Type 0} (data_of : A → Data) (xs : List A) (more : List Token)
+    → flat_map (λ x. data_tokens (data_of x)) xs ++ json.end_array ∷ more
+    ≡ items_tokens (items_outline (items_of (map data_of xs))) ++ more
+list_before data_of xs more =
+    ap (λ ts. ts ++ json.end_array ∷ more) (sym (flat_map-map data_tokens data_of xs))
+    ∙ sym (append_assoc (flat_map data_tokens (map data_of xs)) (json.end_array ∷ []) more)
+    ∙ ap (λ ts. ts ++ more) (sym (items (map data_of xs)))
+
+-- a list under a key, and more tokens
+member_added : {A : Type 0} (key : List ℕ) (data_of : A → Data) (xs : List A) (more : List Token)
+    (old named first last after new : Written) → Adds (json.key key ∷ []) old named
+    → Adds (json.begin_array ∷ []) named first → Adds (flat_map (λ x. data_tokens (data_of x)) xs) first last
+    → Adds (json.end_array ∷ []) last after → Adds more after new
+    → Adds (json.key key ∷ (data_tokens (array (items_of (map data_of xs))) ++ more)) old new
+member_added key data_of xs more old named first last after new name begun added ended others =
+    subst (λ ts. Adds (json.key key ∷ json.begin_array ∷ ts) old new) (list_before data_of xs more)
+    (both_added (json.key key ∷ []) _ old named new name
+    (both_added (json.begin_array ∷ []) _ named first new begun
+    (both_added (flat_map (λ x. data_tokens (data_of x)) xs) _ first last new added
+    (both_added (json.end_array ∷ []) more last after new ended others))))
+
+-- an object of one list
+pub list_added : {A : Type 0} (key : List ℕ) (data_of : A → Data) (xs : List A)
+    (old opened named first last after new : Written) → Adds (json.begin_object ∷ []) old opened
+    → Adds (json.key key ∷ []) opened named → Adds (json.begin_array ∷ []) named first
+    → Adds (flat_map (λ x. data_tokens (data_of x)) xs) first last
+    → Adds (json.end_array ∷ []) last after → Adds (json.end_object ∷ []) after new
+    → Adds (data_tokens (object (put key (array (items_of (map data_of xs))) no_members))) old new
+list_added key data_of xs old opened named first last after new begun name list_begun added list_ended ended =
+    both_added (json.begin_object ∷ []) _ old opened new begun
+    (member_added key data_of xs (json.end_object ∷ []) opened named first last after new name list_begun added
+    list_ended ended)
+
+-- an object of fields, among which a list stands
+pub among_added : {A : Type 0} (key : List ℕ) (data_of : A → Data) (xs : List A) (some others : List Field)
+    (old opened start named first last after end new : Written) → Adds (json.begin_object ∷ []) old opened
+    → Adds (flat_map field_tokens some) opened start
+    → Adds (json.key key ∷ []) start named → Adds (json.begin_array ∷ []) named first
+    → Adds (flat_map (λ x. data_tokens (data_of x)) xs) first last
+    → Adds (json.end_array ∷ []) last after → Adds (flat_map field_tokens others) after end
+    → Adds (json.end_object ∷ []) end new
+    → Adds (data_tokens (object (before some
+    (member key (array (items_of (map data_of xs))) (before others no_members))))) old new
+among_added key data_of xs some others old opened start named first last after end new begun some_added name list_begun
+    added list_ended others_added ended =
+    let rest =
+    subst (λ ts. Adds ts after new) (fields_before others no_members)
+    (both_added (flat_map field_tokens others) (json.end_object ∷ []) after end new others_added ended) in
+    let from_list =
+    member_added key data_of xs (tokens_of_members (before others no_members)) start named first last after new name
+    list_begun added list_ended rest in
+    both_added (json.begin_object ∷ []) _ old opened new begun
+    (subst (λ ts. Adds ts opened new)
+    (fields_before some (member key (array (items_of (map data_of xs))) (before others no_members)))
+    (both_added (flat_map field_tokens some) _ opened start new some_added from_list))
+
+-- ---- entries of an error log
+
+chosen : (b : Bool) (e : ErrorEntry) (es : List ErrorEntry)
+    → (if b then data_tokens (object_of (fields_of_entry e)) else [])
+    ++ flat_map (λ e. data_tokens (object_of (fields_of_entry e))) es
+    ≡ flat_map (λ e. data_tokens (object_of (fields_of_entry e))) (if b then e ∷ es else es)
+chosen true e es = refl
+chosen false e es = refl
+
+-- those that hold an error
+pub errors_are : (es : List ErrorEntry)
+    → flat_map error_tokens es
+    ≡ flat_map (λ e. data_tokens (object_of (fields_of_entry e))) (filter holds_error es)
+errors_are [] = refl
+errors_are (e ∷ es) =
+    ap (λ ts. error_tokens e ++ ts) (errors_are es) ∙ chosen (holds_error e) e (filter holds_error es)

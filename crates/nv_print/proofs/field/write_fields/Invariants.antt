@@ -1,0 +1,7 @@
+use Rattle.std.proofs.Common.{take}
+use Rattle.std.specs.Prelude.{flat_map}
+use Rattle.nv_print.specs.inner.Tokens.{Adds, field_tokens}
+use Rattle.nv_print.proofs.field.write_fields.Given as goal
+
+abbrev pub invariant-loop-field : goal.invariant-loop-field
+invariant-loop-field l = Adds (flat_map field_tokens (take l.field-index l.fields)) l.fn.out l.out

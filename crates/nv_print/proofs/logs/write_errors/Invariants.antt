@@ -1,0 +1,7 @@
+use Rattle.std.proofs.Common.{take}
+use Rattle.std.specs.Prelude.{flat_map}
+use Rattle.nv_print.specs.inner.Tokens.{Adds, error_tokens}
+use Rattle.nv_print.proofs.logs.write_errors.Given as goal
+
+abbrev pub invariant-loop-index : goal.invariant-loop-index
+invariant-loop-index l = Adds (flat_map error_tokens (take l.index l.entries)) l.fn.out l.out
