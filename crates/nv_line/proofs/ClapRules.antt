@@ -11,7 +11,6 @@ use Rattle.clap.specs.Words.{App, BuildsOrBreaks, IsAmong, Kinds, Row, Text, app
 use Rattle.clap.specs.Words.{is_buildable, is_simple, is_simple_and_free, matches_of}
 use Rattle.clap.specs.declared.error.kind.ErrorKind.{ErrorKind}
 use Rattle.clap.specs.declared.error.kind.ErrorKind.TheVariants as kind
-use Rattle.nv_layout.specs.UnlessMemory.{IsUnlessMemory}
 use Rattle.nv_line.specs.ClapRule.{IsAppOf, IsMade, app_for, clap_rows, is_taken, rows_of_words}
 use Rattle.nv_line.specs.declared.clap_rule.MadeCommand.{MadeCommand}
 use Rattle.nv_line.specs.declared.fault.LineFault.{LineFault}
@@ -129,7 +128,3 @@ refused v ws a k e (inr among) n =
 
 pub made_more : (xs : List MadeCommand) (x : MadeCommand) → All IsMade xs → IsMade x → All IsMade (xs ++ x ∷ [])
 made_more xs x h m = All-push IsMade xs x h m
-
-pub rows_by : {X : Type 0} (view : X → List Row) (r : Result X LineFault) (v w : Verb) (ws : List Text) → v ≡ w
-    → IsUnlessMemory fault.Memory view r (rows_of_words v ws) → IsUnlessMemory fault.Memory view r (rows_of_words w ws)
-rows_by view r v w ws e h = subst (λ x. IsUnlessMemory fault.Memory view r (rows_of_words x ws)) e h

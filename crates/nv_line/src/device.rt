@@ -1,7 +1,7 @@
 //! The paths of devices.
 
 ghost use Rattle.std.specs.Prelude.{◌≡◌, ◌<◌, IfSome};
-ghost use Rattle.nv_line.specs.Device.{address_of, controller_index, device_of};
+ghost use Rattle.nv_line.specs.Device.{controller_index, device_of};
 
 use crate::number::plain;
 
@@ -29,35 +29,16 @@ fn controller_index(text: &str, controllers: u16) -> Option<u16>
     }
 }
 
-/// Reads X or XnY.
-fn address(text: &str, controllers: u16) -> Option<Device>
-    ensures value { result ≡ address_of controllers text.now }
-    ensures known { IfSome result (λ d. d.controller < controllers) }
-{
-    match text.split_once('n') {
-        None => {
-            let controller = controller_index(text, controllers)?;
-            Some(Device {
-                controller,
-                nsid: None,
-            })
-        }
-        Some((x, y)) => {
-            let controller = controller_index(x, controllers)?;
-            let nsid = plain(y, 1, NSID_LIMIT)? as u32;
-            Some(Device {
-                controller,
-                nsid: Some(nsid),
-            })
-        }
-    }
-}
-
 /// Reads `/dev/nvmeX` or `/dev/nvmeXnY`.
 pub(crate) fn read_device(text: &str, controllers: u16) -> Option<Device>
     ensures value { result ≡ device_of controllers text.now }
     ensures known { IfSome result (λ d. d.controller < controllers) }
 {
-    let rest = text.strip_prefix("/dev/nvme")?;
-    address(rest, controllers)
+    let address = text.strip_prefix("/dev/nvme")?;
+    let (x, nsid) = match address.split_once('n') {
+        Some((x, y)) => (x, Some(plain(y, 1, NSID_LIMIT)? as u32)),
+        None => (address, None),
+    };
+    let controller = controller_index(x, controllers)?;
+    Some(Device { controller, nsid })
 }

@@ -19,7 +19,6 @@ mod identify;
 mod line;
 mod line_reader;
 mod logs;
-mod made_commands;
 mod management;
 mod number;
 mod option;

@@ -4,9 +4,9 @@ ghost use Rattle.std.specs.Prelude.{IfOk};
 ghost use Rattle.nv_line.specs.Line.{IsKnown, reading};
 ghost use Rattle.nv_layout.specs.UnlessMemory.{IsUnlessMemory};
 
+use crate::clap_rule::MadeCommands;
 use crate::fault::LineFault;
 use crate::line::{LINE_LIMIT, Line};
-use crate::made_commands::MadeCommands;
 use crate::request::read_request;
 use crate::word::{is_skipped_line, split_words, without_program};
 use bumpalo::Bump;

@@ -31,23 +31,12 @@ fn numeral(text: &str) -> Option<u64>
     digits(text, 10)
 }
 
-/// Returns the value if it is from `least` to `most`.
-fn within(least: u64, most: u64, value: u64) -> Option<u64>
-    ensures { result ≡ within least most value }
-{
-    if least <= value && value <= most {
-        Some(value)
-    } else {
-        None
-    }
-}
-
 /// Returns a number from `least` to `most`, which is written in decimal, in hexadecimal after `0x`
 /// or `0X`, or in octal after `0`, and without a sign.
 pub fn parse_number(text: &str, least: u64, most: u64) -> Option<u64>
     ensures { result ≡ number_in least most text.now }
 {
-    within(least, most, numeral(text)?)
+    numeral(text).filter(|value| least <= *value && *value <= most)
 }
 
 /// Returns a number from `least` to `most`, which is written in decimal and without leading zeros.
@@ -58,5 +47,5 @@ pub(crate) fn plain(text: &str, least: u64, most: u64) -> Option<u64>
     if bytes.len() > 1 && bytes[0] == b'0' {
         return None;
     }
-    within(least, most, digits(text, 10)?)
+    digits(text, 10).filter(|value| least <= *value && *value <= most)
 }

@@ -2,7 +2,7 @@
 
 ghost use Rattle.std.specs.Prelude.{◌≡◌, ◌≤◌, IfSome};
 ghost use Rattle.nv_line.specs.inner.OptionName.{IsSound};
-ghost use Rattle.nv_line.specs.OptionName.{fallback_of, is_required, name_of};
+ghost use Rattle.nv_line.specs.OptionName.{fallback_of, name_of};
 
 use crate::device::Device;
 use std::fmt;
@@ -96,13 +96,6 @@ pub struct NumberOption {
 }
 
 impl NumberOption {
-    /// Returns whether there is no such value, so that `clap` reports the option if it is missing.
-    pub(crate) fn is_required(&self) -> bool
-        ensures { result ≡ is_required self.now }
-    {
-        !self.takes_path && self.default.is_none()
-    }
-
     /// Returns the value if the option isn't given.
     pub(crate) fn fallback(&self, device: Device) -> Option<u64>
         requires { IsSound self.now }

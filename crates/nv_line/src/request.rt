@@ -4,16 +4,15 @@ ghost use Rattle.std.specs.Prelude.{◌≡◌, ◌<◌, IfOk, map};
 ghost use Rattle.clap.specs.Words.{found_of, rows_of};
 ghost use Rattle.nv_line.specs.Ask.{IsAskable};
 ghost use Rattle.nv_layout.specs.UnlessMemory.{IsUnlessMemory};
-ghost use Rattle.nv_line.specs.Request.{IsQueryKnown, ask_of, device_in, query_of, request_of};
+ghost use Rattle.nv_line.specs.Request.{IsQueryKnown, ask_of, request_of};
 
-use crate::clap_rule::text_of;
+use crate::clap_rule::{MadeCommands, text_of};
 use crate::device::{Device, read_device};
 use crate::fault::LineFault;
 use crate::features::{get_feature, set_feature};
 use crate::format::format;
 use crate::identify::{id_ns, list_ns};
 use crate::logs::{error_log, smart_log};
-use crate::made_commands::MadeCommands;
 use crate::management::{attachment, create_ns, delete_ns};
 use crate::option_value::read_format;
 use crate::output_format::OutputFormat;
@@ -50,17 +49,9 @@ pub struct Request<'a> {
     pub format: OutputFormat,
 }
 
-/// Returns the device that the line names.
-fn chosen_device(matches: &ArgMatches<'_>, controllers: u16) -> Result<Device, LineFault>
-    ensures value { result ≡ device_in controllers (rows_of (found_of matches.now)) }
-    ensures known { IfOk result (λ d. d.controller < controllers) }
-{
-    let text = text_of(matches, "device").unwrap_or("");
-    read_device(text, controllers).ok_or(LineFault::Device)
-}
-
 /// Reads what a command word asks for at a device. Listed controllers are written to `place`, whose
 /// contents don't matter before.
+#[inline(always)]
 fn read_ask<'a>(
     matches: &ArgMatches<'_>,
     verb: DeviceVerb,
@@ -87,29 +78,6 @@ fn read_ask<'a>(
     }
 }
 
-/// Reads what a command word asks for, and which controllers are asked.
-fn read_query<'a>(
-    matches: &ArgMatches<'_>,
-    verb: Verb,
-    controllers: u16,
-    place: &'a mut CtrlList,
-) -> Result<Query<'a>, LineFault>
-    ensures value { result ≡ query_of controllers verb (rows_of (found_of matches.now)) }
-    ensures known { IfOk result (IsQueryKnown controllers) }
-{
-    match verb {
-        Verb::Of(verb) => {
-            let device = chosen_device(matches, controllers)?;
-            let ask = read_ask(matches, verb, device, place)?;
-            Ok(Query::One {
-                controller: device.controller,
-                ask,
-            })
-        }
-        Verb::List => Ok(Query::List),
-    }
-}
-
 /// Reads what the words of a command line ask for. Listed controllers are written to `place`, whose
 /// contents don't matter before.
 pub(crate) fn read_request<'w, 'a>(
@@ -128,6 +96,17 @@ pub(crate) fn read_request<'w, 'a>(
     let verb = Verb::of(words[0]).ok_or(LineFault::Usage)?;
     let matches = commands.matches(verb, words)?;
     let format = read_format(&matches, OUTPUT_FORMAT)?;
-    let query = read_query(&matches, verb, controllers, place)?;
+    let query = match verb {
+        Verb::Of(verb) => {
+            let path = text_of(&matches, "device").unwrap_or("");
+            let device = read_device(path, controllers).ok_or(LineFault::Device)?;
+            let ask = read_ask(&matches, verb, device, place)?;
+            Query::One {
+                controller: device.controller,
+                ask,
+            }
+        }
+        Verb::List => Query::List,
+    };
     Ok(Request { query, format })
 }

@@ -1,8 +1,8 @@
 //! The command words, each with its options: the table of all commands.
 
 ghost use Rattle.std.specs.Prelude.{◌≡◌, Some};
-ghost use Rattle.nv_line.specs.Options.{device_options_of, options_of};
-ghost use Rattle.nv_line.specs.Verb.{device_word_of, verb_of, word_of};
+ghost use Rattle.nv_line.specs.Options.{options_of};
+ghost use Rattle.nv_line.specs.Verb.{verb_of, word_of};
 
 use crate::device::NSID_LIMIT;
 use crate::option::{
@@ -300,58 +300,25 @@ pub enum Verb {
     List,
 }
 
-impl DeviceVerb {
-    /// Returns the word of the command in a script.
-    fn word<'a>(self) -> &'a str
-        ensures value { result.now ≡ device_word_of self }
-        ensures found { verb_of (device_word_of self) ≡ Some (Verb.Of self) }
-    {
-        match self {
-            DeviceVerb::IdCtrl => "id-ctrl",
-            DeviceVerb::IdNs => "id-ns",
-            DeviceVerb::ListNs => "list-ns",
-            DeviceVerb::CreateNs => "create-ns",
-            DeviceVerb::AttachNs => "attach-ns",
-            DeviceVerb::DetachNs => "detach-ns",
-            DeviceVerb::DeleteNs => "delete-ns",
-            DeviceVerb::Format => "format",
-            DeviceVerb::GetFeature => "get-feature",
-            DeviceVerb::SetFeature => "set-feature",
-            DeviceVerb::SmartLog => "smart-log",
-            DeviceVerb::ErrorLog => "error-log",
-            DeviceVerb::Reset => "reset",
-        }
-    }
-
-    /// Returns its options, in order.
-    fn options(self) -> &'static [CommandOption]
-        ensures { result.now ≡ device_options_of self }
-    {
-        match self {
-            DeviceVerb::IdCtrl => FORMAT_ALONE.as_slice(),
-            DeviceVerb::IdNs => ID_NS.as_slice(),
-            DeviceVerb::ListNs => LIST_NS.as_slice(),
-            DeviceVerb::CreateNs => CREATE_NS.as_slice(),
-            DeviceVerb::AttachNs | DeviceVerb::DetachNs => ATTACHMENT.as_slice(),
-            DeviceVerb::DeleteNs => DELETE_NS.as_slice(),
-            DeviceVerb::Format => FORMAT.as_slice(),
-            DeviceVerb::GetFeature => GET_FEATURE.as_slice(),
-            DeviceVerb::SetFeature => SET_FEATURE.as_slice(),
-            DeviceVerb::SmartLog => SMART_LOG.as_slice(),
-            DeviceVerb::ErrorLog => ERROR_LOG.as_slice(),
-            DeviceVerb::Reset => RESET.as_slice(),
-        }
-    }
-}
-
 impl Verb {
     /// Returns the word of the command in a script.
     pub(crate) fn word<'a>(self) -> &'a str
-        ensures value { result.now ≡ word_of self }
-        ensures found { verb_of (word_of self) ≡ Some self }
+        ensures { result.now ≡ word_of self }
     {
         match self {
-            Verb::Of(verb) => verb.word(),
+            Verb::Of(DeviceVerb::IdCtrl) => "id-ctrl",
+            Verb::Of(DeviceVerb::IdNs) => "id-ns",
+            Verb::Of(DeviceVerb::ListNs) => "list-ns",
+            Verb::Of(DeviceVerb::CreateNs) => "create-ns",
+            Verb::Of(DeviceVerb::AttachNs) => "attach-ns",
+            Verb::Of(DeviceVerb::DetachNs) => "detach-ns",
+            Verb::Of(DeviceVerb::DeleteNs) => "delete-ns",
+            Verb::Of(DeviceVerb::Format) => "format",
+            Verb::Of(DeviceVerb::GetFeature) => "get-feature",
+            Verb::Of(DeviceVerb::SetFeature) => "set-feature",
+            Verb::Of(DeviceVerb::SmartLog) => "smart-log",
+            Verb::Of(DeviceVerb::ErrorLog) => "error-log",
+            Verb::Of(DeviceVerb::Reset) => "reset",
             Verb::List => "list",
         }
     }
@@ -361,8 +328,18 @@ impl Verb {
         ensures { result.now ≡ options_of self }
     {
         match self {
-            Verb::Of(verb) => verb.options(),
-            Verb::List => FORMAT_ALONE.as_slice(),
+            Verb::Of(DeviceVerb::IdCtrl) | Verb::List => FORMAT_ALONE.as_slice(),
+            Verb::Of(DeviceVerb::IdNs) => ID_NS.as_slice(),
+            Verb::Of(DeviceVerb::ListNs) => LIST_NS.as_slice(),
+            Verb::Of(DeviceVerb::CreateNs) => CREATE_NS.as_slice(),
+            Verb::Of(DeviceVerb::AttachNs | DeviceVerb::DetachNs) => ATTACHMENT.as_slice(),
+            Verb::Of(DeviceVerb::DeleteNs) => DELETE_NS.as_slice(),
+            Verb::Of(DeviceVerb::Format) => FORMAT.as_slice(),
+            Verb::Of(DeviceVerb::GetFeature) => GET_FEATURE.as_slice(),
+            Verb::Of(DeviceVerb::SetFeature) => SET_FEATURE.as_slice(),
+            Verb::Of(DeviceVerb::SmartLog) => SMART_LOG.as_slice(),
+            Verb::Of(DeviceVerb::ErrorLog) => ERROR_LOG.as_slice(),
+            Verb::Of(DeviceVerb::Reset) => RESET.as_slice(),
         }
     }
 

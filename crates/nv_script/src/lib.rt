@@ -21,5 +21,5 @@ pub use nv_line::{
 pub use nv_stream::{
     Held, OverHeld, OverRead, OverWrite, READ_SIZE, Retrying, Sink, SinkAfter, Source, SourceAfter,
 };
-pub use running::{READ_LIMIT, run, run_within};
+pub use running::{READ_LIMIT, RunOptions, run, run_within};
 pub use shown::each_is_shown;

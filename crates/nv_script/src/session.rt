@@ -4,7 +4,7 @@ use crate::ends::RunEnd;
 use nv_bus::Bus;
 use nv_driver::{AnswerSlot, Driver, Geometry};
 use nv_line::CtrlList;
-use std::alloc::{AllocError, Global};
+use std::alloc::Global;
 use std::array;
 
 /// How many namespaces a controller is asked for at a time.
@@ -16,17 +16,6 @@ pub struct Answers {
     pub first: AnswerSlot,
     pub second: AnswerSlot,
     pub batch: Box<[AnswerSlot; BATCH]>,
-}
-
-impl Answers {
-    /// Creates storage without answers.
-    fn new(alloc: Global) -> Result<Answers, AllocError> {
-        Ok(Answers {
-            first: AnswerSlot::new(),
-            second: AnswerSlot::new(),
-            batch: Box::new(alloc, array::from_fn(|_| AnswerSlot::new()))?,
-        })
-    }
 }
 
 /// The state of a run between two lines: where it gets memory, the driver of its bus, storage for
@@ -72,14 +61,18 @@ impl Session {
         if let Err(field) = geometry.check() {
             return Err(RunEnd::Geometry(field));
         }
-        let Ok(answers) = Answers::new(alloc) else {
+        let Ok(batch) = Box::new(alloc, array::from_fn(|_| AnswerSlot::new())) else {
             return Err(RunEnd::Memory);
         };
         let driver = Driver::bring_up(alloc, bus, geometry)?;
         Ok(Session {
             alloc,
             driver,
-            answers,
+            answers: Answers {
+                first: AnswerSlot::new(),
+                second: AnswerSlot::new(),
+                batch,
+            },
             listed: CtrlList::new(),
             number: 0,
             status: 0,
