@@ -1,4 +1,4 @@
-use Rattle.std.proofs.Common.{◌≡◌, ℕ, ◌+◌, ◌-◌, ◌<◌, ◌≤◌, List, ◌++◌, take, drop, length, sym}
+use Rattle.std.proofs.Common.{◌≡◌, ℕ, ◌+◌, ◌<◌, ◌≤◌, List, ◌++◌, take, drop, length, sym}
 use Rattle.std.proofs.Common.{◌∙◌, ap, arith, length-append, length-take, length-drop}
 use Rattle.std.proofs.lemmas.List.{take_at, drop_at, length-take-le, same_lists, places}
 use Rattle.std.proofs.lemmas.List.{get_or-take, get_or-drop, get_or_append_left}
@@ -52,15 +52,6 @@ bytes_at-bytes_at m a n i k h =
     same_lists _ _
     (simp (length-take, length-drop) (omega arith))
     (λ j x l. grind (arith, places))
-
--- a part that contains all bytes that are written
-pub bytes_at-with_inside : (m : List ℕ) (a : ℕ) (d : List ℕ) (b n : ℕ) → b ≤ a → a + length d ≤ b
-    + n → b + n ≤ length m → bytes_at (with_bytes m a d) b n ≡ with_bytes (bytes_at m b n) (a - b) d
-unfolding bytes_at with_bytes
-bytes_at-with_inside m a d b n h i j =
-    same_lists _ _
-    (simp (length-append, length-take, length-drop) (omega arith))
-    (λ k x l. grind (arith, places))
 
 -- the length doesn't change; a name that an attribute can use
 pub length_with_bytes : (m : List ℕ) (a : ℕ) (d : List ℕ) → a + length d ≤ length m

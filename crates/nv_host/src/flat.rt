@@ -1,9 +1,9 @@
 //! A host's memory in one vector.
 
-ghost use Rattle.std.specs.Prelude.{◌≡◌, ◌*◌, IfOk, refl, replicate};
+ghost use Rattle.std.specs.Prelude.{◌≡◌, ◌*◌, IfOk, replicate};
 ghost use Rattle.nv_host.specs.Pages.{IsPageSize};
 
-use crate::range::{fill, load, page, store};
+use crate::range::end_of_range;
 use crate::{HostMemory, Memory, OutOfMemoryRange, Payload};
 use std::alloc::Global;
 use std::marker::Model;
@@ -50,6 +50,7 @@ impl FlatMemory {
     }
 }
 
+#[tactic(auto, unfolding(crate::specs::Bytes::bytes_at, crate::specs::Bytes::with_bytes))]
 impl HostMemory for FlatMemory {
     ghost bytes = { λ m. m.bytes };
 
@@ -64,18 +65,24 @@ impl HostMemory for FlatMemory {
     }
 
     fn load(&self, addr: u64, out: &mut [u8]) -> Result<(), OutOfMemoryRange> {
-        load(&self.bytes, addr, out)
+        let end = end_of_range(self.bytes.len(), addr, out.len())?;
+        out.copy_from_slice(&self.bytes[addr as usize..end]);
+        Ok(())
     }
 
     fn store(&mut self, addr: u64, source: &[u8]) -> Result<(), OutOfMemoryRange> {
-        store(&mut self.bytes, addr, source)
+        let end = end_of_range(self.bytes.len(), addr, source.len())?;
+        self.bytes[addr as usize..end].copy_from_slice(source);
+        Ok(())
     }
 
     fn fill<P: Payload>(&mut self, addr: u64, payload: &P, from: usize, len: usize) {
-        fill(&mut self.bytes, addr, payload, from, len)
+        let start = addr as usize;
+        payload.fill(from, &mut self.bytes[start..start + len]);
     }
 
     fn page(&self, n: u32) -> &[u8] {
-        page(&self.bytes, self.page_size, n)
+        let start = n as usize * self.page_size as usize;
+        &self.bytes[start..start + self.page_size as usize]
     }
 }

@@ -4,7 +4,7 @@ ghost use Rattle.std.specs.Prelude.{◌≡◌, ◌*◌, IsTrue, length};
 ghost use Rattle.std.specs.Borrow.{GName};
 ghost use Rattle.nv_host.specs.Pages.{are_pages, is_page_size};
 
-use crate::range::{fill, load, page, store};
+use crate::range::end_of_range;
 use crate::{HostMemory, OutOfMemoryRange, Payload};
 use std::marker::{Brand, PhantomData};
 
@@ -67,12 +67,13 @@ impl<'a, L: Loan> LentMemory<'a, L> {
     }
 }
 
-#[tactic(auto, unfolding(crate::specs::Pages::IsPageSize))]
+#[tactic(auto, unfolding(crate::specs::Bytes::bytes_at, crate::specs::Bytes::with_bytes))]
 impl<'a, L: Loan> HostMemory for LentMemory<'a, L> {
     ghost bytes = { λ m. m.bytes.now };
 
     ghost page_len = { λ m. m.page_size };
 
+    #[tactic(auto, unfolding(crate::specs::Pages::IsPageSize))]
     fn page_size(&self) -> u32 {
         self.page_size
     }
@@ -82,18 +83,24 @@ impl<'a, L: Loan> HostMemory for LentMemory<'a, L> {
     }
 
     fn load(&self, addr: u64, out: &mut [u8]) -> Result<(), OutOfMemoryRange> {
-        load(self.bytes, addr, out)
+        let end = end_of_range(self.bytes.len(), addr, out.len())?;
+        out.copy_from_slice(&self.bytes[addr as usize..end]);
+        Ok(())
     }
 
     fn store(&mut self, addr: u64, source: &[u8]) -> Result<(), OutOfMemoryRange> {
-        store(self.bytes, addr, source)
+        let end = end_of_range(self.bytes.len(), addr, source.len())?;
+        self.bytes[addr as usize..end].copy_from_slice(source);
+        Ok(())
     }
 
     fn fill<P: Payload>(&mut self, addr: u64, payload: &P, from: usize, len: usize) {
-        fill(self.bytes, addr, payload, from, len)
+        let start = addr as usize;
+        payload.fill(from, &mut self.bytes[start..start + len]);
     }
 
     fn page(&self, n: u32) -> &[u8] {
-        page(self.bytes, self.page_size, n)
+        let start = n as usize * self.page_size as usize;
+        &self.bytes[start..start + self.page_size as usize]
     }
 }

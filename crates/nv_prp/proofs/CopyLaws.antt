@@ -2,7 +2,7 @@
 use Rattle.std.proofs.Common.{append-nil, append_assoc, ◌≡◌, ◌∙◌, ℕ, ◌+◌, ◌≤◌, List, [], ◌++◌, ap, arith, drop, length}
 use Rattle.std.proofs.Common.{length-append, length-drop, length-take, sym, take, add-one, zero, suc, ◌<◌, ◌∷◌, get_or}
 use Rattle.std.proofs.Common.{refl, set, subst}
-use Rattle.std.proofs.Math.Seq.{take-add, take-suc}
+use Rattle.std.proofs.Math.Seq.{take-suc}
 use Rattle.std.proofs.lemmas.List.{drop-drop, places as item_places, same_lists, take-append-drop, drop_all, drop_more}
 use Rattle.std.proofs.lemmas.List.{take_all, get_or-drop, get_or-map, get_or-take, length-take-le, map-append}
 use Rattle.std.proofs.lemmas.List.{set_split}
@@ -26,21 +26,11 @@ unfolding with_bytes
 with_more m a xs ys inside =
     same_lists _ _ (simp (length-append, length-take, length-drop) (omega arith)) (λ k d h. grind (arith, item_places))
 
--- ---- the next part of a range
+-- ---- a part of a range
 
 pub read_part : (m : List ℕ) (q p s k : ℕ) → s + k ≤ p → take k (drop s (bytes_at m q p)) ≡ bytes_at m (q + s) k
 unfolding bytes_at
 read_part m q p s k within = bytes_at-bytes_at m q p s k within
-
-pub read_more : (m : List ℕ) (a i n : ℕ) → bytes_at m a (i + n) ≡ bytes_at m a i ++ bytes_at m (a + i) n
-unfolding bytes_at
-read_more m a i n = take-add i n (drop a m) ∙ ap (λ l. take i (drop a m) ++ take n l) (drop-drop i a m)
-
-pub none_read : (m : List ℕ) (a : ℕ) → bytes_at m a 0 ≡ []
-unfolding bytes_at
-none_read m a = refl
-
-pub ruleset reads = (read_part, read_more, none_read, take-put_mid, length-bytes_at, length-take, length-drop)
 
 -- ---- the next span, and those after it
 
@@ -89,6 +79,17 @@ read_left bytes spans i inside below =
     let rest = places (drop (i + 1) spans) in
     ap (λ l. read_at bytes l) (places_left spans i below) ∙ map-append (λ p. get_or bytes p 0) (span_places s) rest
     ∙ ap (λ l. l ++ read_at bytes rest) (read_span bytes s (next_inside _ spans i inside below))
+
+-- one span, of which each byte lies in a page
+pub one_span : (bytes : List ℕ) (spans : List Span) → LieIn (length bytes) spans → length spans ≡ 1
+    → read_at bytes (places spans) ≡ bytes_at bytes (get_or spans 0 none).address (get_or spans 0 none).len
+unfolding read_at places
+one_span bytes spans inside one =
+    let h : 0 < length spans = omega arith in
+    read_left bytes spans 0 inside h
+    ∙ ap (λ l. bytes_at bytes (get_or spans 0 none).address (get_or spans 0 none).len ++ read_at bytes l)
+    (none_left spans 1 (omega arith))
+    ∙ append-nil _
 
 pub read_none : (bytes : List ℕ) → read_at bytes [] ≡ []
 unfolding read_at
@@ -163,3 +164,5 @@ pub ruleset lefts = (
   append-nil,
   append_assoc,
 )
+
+pub ruleset viewed = (one_span, next_inside, read_part, length-take, length-drop, length-bytes_at)

@@ -56,6 +56,8 @@ next_page j size = grind arith
 pub first_bytes_rise : (t : PrpTransfer) (j : ℕ) → first_byte t j ≤ first_byte t (j + 1)
 first_bytes_rise t j = omega (arith, next_page j t.page_size)
 
+pub ruleset first_bytes = (first_bytes_rise, page_times, next_page, page_size_bounds)
+
 -- a byte of page j is as far from the page's first byte as in the transfer
 place_after_first : (t : PrpTransfer) (j k : ℕ) → 0 < t.page_size → j < data_pages t
     → k < first_byte t (j + 1) - first_byte t j

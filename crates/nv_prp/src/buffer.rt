@@ -1,8 +1,7 @@
 //! Buffers in pages of the host's memory.
 
-ghost use Rattle.std.specs.Prelude.{◌≡◌, ◌+◌, ◌-◌, ◌%◌, ◌<◌, ◌≤◌, length, min};
-ghost use Rattle.nv_host.specs.Pages.{IsPageSize};
-ghost use Rattle.nv_prp.specs.Buffer.{IsBuffer, buffer_place, buffer_places};
+ghost use Rattle.std.specs.Prelude.{◌≡◌, ◌≤◌, length};
+ghost use Rattle.nv_prp.specs.Buffer.{IsBuffer, buffer_places};
 ghost use Rattle.nv_prp.specs.Place.{LieIn, places};
 ghost use Rattle.nv_prp.specs.Transfer.{most_bytes};
 
@@ -21,36 +20,11 @@ pub struct Buffer<'a> {
 }
 
 impl Buffer<'_> {
-    /// Returns the span from byte `from` of the buffer to the end of its page, but of at most
-    /// `most` bytes.
-    #[tactic(auto, using(crate::proofs::BufferSpanLaws::one_span))]
-    fn span<M: HostMemory>(&self, mem: &M, from: u32, most: u32) -> Span
-        requires some { 0 < most }
-        requires limit { from + most ≤ most_bytes }
-        requires buffer { IsBuffer (M.bytes mem.now)
-            (M.page_len mem.now) self.now.pages.now self.now.offset (from + most) }
-        ensures address { result.address ≡ buffer_place
-            (M.page_len mem.now) self.now.pages.now self.now.offset from }
-        ensures len { result.len ≡ min most
-            (M.page_len mem.now - (self.now.offset + from) % M.page_len mem.now) }
-        ensures inside { result.address + result.len ≤ length (M.bytes mem.now) }
-        ensures some { 0 < result.len }
-        ensures size { IsPageSize (M.page_len mem.now) }
-    {
-        let page_size = mem.page_size();
-        let at = self.offset + from;
-        let start = at % page_size;
-        Span {
-            address: page_address(mem, self.pages[(at / page_size) as usize]) + u64::from(start),
-            len: min(most, page_size - start),
-        }
-    }
-
     /// Finds where the first `len` bytes of the buffer lie in the memory, at most 1,048,576 of
     /// them: one span for each page that holds any.
     ///
     /// The pages must lie in the memory, and hold `len` bytes from the buffer's offset on.
-    #[tactic(auto, using(crate::proofs::BufferSpanLaws::spans))]
+    #[tactic(auto, using(crate::proofs::BufferSpanLaws::spans, crate::proofs::BufferSpanLaws::one_span))]
     pub fn spans<M: HostMemory>(&self, mem: &M, len: u32, spans: &mut Spans)
         requires limit { len ≤ most_bytes }
         requires buffer { IsBuffer (M.bytes mem.now)
@@ -60,10 +34,17 @@ impl Buffer<'_> {
         ensures len { length (places spans.new) ≡ len }
         ensures inside { LieIn (length (M.bytes mem.now)) spans.new }
     {
+        let page_size = mem.page_size();
         spans.clear();
         let mut done = 0;
         while done < len {
-            let span = self.span(mem, done, len - done);
+            let at = self.offset + done;
+            let start = at % page_size;
+            let page = page_address(mem, self.pages[(at / page_size) as usize]);
+            let span = Span {
+                address: page + u64::from(start),
+                len: min(len - done, page_size - start),
+            };
             spans.push(span);
             done += span.len;
         }

@@ -4,8 +4,9 @@
 //! The host calls [`build`] for the pages of a buffer, and puts the two entries that it returns
 //! into a command. The controller calls [`walk`] with these entries to find the spans of memory
 //! that they describe; [`copy_out`] writes data to the host's memory there, and [`copy_in`] reads
-//! data from it. [`write_out`] writes a [`Payload`], whose bytes are made as they are needed. The
-//! host finds the spans of its own pages with [`Buffer::spans`].
+//! data from it. [`write_out`] writes a [`Payload`], whose bytes are made as they are needed, and
+//! [`view_in`] lends data where it lies, if that is in one page. The host finds the spans of its own
+//! pages with [`Buffer::spans`].
 //!
 //! ```text
 //! let buffer = Buffer { pages: &[5, 9, 3], offset: 4 };
@@ -31,13 +32,12 @@ mod law;
 mod list_shape;
 mod pointer;
 mod prp_entry;
-mod range;
 mod spans;
 mod walker;
 
 pub use buffer::Buffer;
 pub use builder::{ListPlace, build};
-pub use copy::{copy_in, copy_out, write_out};
+pub use copy::{copy_in, copy_out, view_in, write_out};
 pub use error::PrpError;
 pub use law::{build_then_walk, copy_out_then_in, written_one_by_one};
 pub use spans::{Span, Spans};

@@ -1,6 +1,6 @@
 //! The data pointer of a command, and the pages in which its bytes lie.
 
-ghost use Rattle.std.specs.Prelude.{◌≡◌, ◌+◌, ◌-◌, ◌%◌, ◌*◌, ◌/◌, ◌<◌, ◌≤◌, ◌^◌, length, min};
+ghost use Rattle.std.specs.Prelude.{◌≡◌, ◌+◌, ◌-◌, ◌%◌, ◌*◌, ◌/◌, ◌<◌, ◌≤◌, ◌^◌, min};
 ghost use Rattle.std.specs.Int.{div_ceil};
 ghost use Rattle.nv_host.specs.Pages.{IsPageSize};
 ghost use Rattle.nv_prp.specs.Transfer.{first_byte, most_bytes};
@@ -19,15 +19,6 @@ pub struct DataPointer {
     pub len: u32,
 }
 
-/// Returns the offset of an address in its page.
-#[tactic(auto, using(nv_host::proofs::PageLaws::page_size_bounds))]
-pub(crate) fn offset_in_page<M: HostMemory>(mem: &M, addr: u64) -> u32
-    ensures value { result ≡ addr % M.page_len mem.now }
-    ensures inside { result < M.page_len mem.now }
-{
-    (addr % u64::from(mem.page_size())) as u32
-}
-
 /// Returns how many Qwords there are from an address, a multiple of 8, to the end of its page.
 #[tactic(auto, using(crate::proofs::ListLaws::rooms))]
 pub(crate) fn qwords_in_page<M: HostMemory>(mem: &M, addr: u64) -> u32
@@ -36,7 +27,8 @@ pub(crate) fn qwords_in_page<M: HostMemory>(mem: &M, addr: u64) -> u32
     ensures some { 0 < result }
     ensures whole { addr + 8 * result ≡ addr - addr % M.page_len mem.now + M.page_len mem.now }
 {
-    (mem.page_size() - offset_in_page(mem, addr)) / 8
+    let page_size = mem.page_size();
+    (page_size - (addr % u64::from(page_size)) as u32) / 8
 }
 
 /// Returns the address of a page.
@@ -59,23 +51,12 @@ impl DataPointer {
         ensures few { result ≤ 257 }
     {
         let page_size = mem.page_size();
-        (offset_in_page(mem, self.prp1) + self.len).div_ceil(page_size)
-    }
-
-    /// Returns the index of a data page's first byte, or the number of bytes if there is no such
-    /// page.
-    #[tactic(auto, using(crate::proofs::PageLaws::page_times))]
-    fn first_byte<M: HostMemory>(self, mem: &M, page: u32) -> u32
-        requires { page ≤ 257 }
-        ensures { result ≡ first_byte (transfer_of (M.page_len mem.now)
-            (M.bytes mem.now) self) page }
-    {
-        let begin = (page * mem.page_size()).saturating_sub(offset_in_page(mem, self.prp1));
-        min(self.len, begin)
+        let offset = (self.prp1 % u64::from(page_size)) as u32;
+        (offset + self.len).div_ceil(page_size)
     }
 
     /// Returns the span of a data page, whose first byte is at `address`.
-    #[tactic(auto, using(crate::proofs::PageLaws::first_bytes_rise))]
+    #[tactic(auto, using(crate::proofs::PageLaws::first_bytes))]
     pub(crate) fn span<M: HostMemory>(self, mem: &M, page: u32, address: u64) -> Span
         requires { page < 257 }
         ensures { let t = transfer_of (M.page_len mem.now) (M.bytes mem.now) self in
@@ -84,9 +65,13 @@ impl DataPointer {
               len = first_byte t (page + 1) - first_byte t page;
             } }
     {
+        let page_size = mem.page_size();
+        let offset = (self.prp1 % u64::from(page_size)) as u32;
+        let first = min(self.len, (page * page_size).saturating_sub(offset));
+        let end = min(self.len, (page + 1) * page_size - offset);
         Span {
             address,
-            len: self.first_byte(mem, page + 1) - self.first_byte(mem, page),
+            len: end - first,
         }
     }
 }

@@ -29,17 +29,8 @@ pub(crate) fn check<M: HostMemory>(mem: &M, alignment: u32, entry: u64) -> Resul
     Ok(())
 }
 
-/// Checks that an entry is the address of a page of the memory.
-#[tactic(auto, using(nv_host::proofs::PageLaws::page_size_bounds))]
-pub(crate) fn check_page<M: HostMemory>(mem: &M, entry: u64) -> Result<(), PrpError>
-    ensures { let fault = entry_fault (M.page_len mem.now) (length (M.bytes mem.now))
-        (M.page_len mem.now) entry in
-        HasFault result fault }
-{
-    check(mem, mem.page_size(), entry)
-}
-
 /// Returns the page address in the Qword at an address of the memory.
+#[tactic(auto, using(nv_host::proofs::PageLaws::page_size_bounds), unfolding(crate::specs::Transfer::qword))]
 pub(crate) fn load_page_address<M: HostMemory>(mem: &M, addr: u64) -> Result<u64, PrpError>
     requires { addr + 8 ≤ length (M.bytes mem.now) }
     ensures value { IfOk result (λ entry. entry ≡ qword (M.bytes mem.now) addr) }
@@ -48,20 +39,11 @@ pub(crate) fn load_page_address<M: HostMemory>(mem: &M, addr: u64) -> Result<u64
         (M.page_len mem.now) entry in
         HasFault result fault }
 {
-    let entry = load_qword(mem, addr);
-    check_page(mem, entry)?;
-    Ok(entry)
-}
-
-/// Returns the Qword at an address.
-#[tactic(auto, unfolding(crate::specs::Transfer::qword))]
-fn load_qword<M: HostMemory>(mem: &M, addr: u64) -> u64
-    requires { addr + 8 ≤ length (M.bytes mem.now) }
-    ensures { result ≡ qword (M.bytes mem.now) addr }
-{
     let mut bytes = [0; 8];
     load_inside(mem, addr, &mut bytes);
-    u64::from_le_bytes(bytes)
+    let entry = u64::from_le_bytes(bytes);
+    check(mem, mem.page_size(), entry)?;
+    Ok(entry)
 }
 
 /// Writes a Qword at an address.

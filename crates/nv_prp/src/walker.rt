@@ -1,6 +1,6 @@
 //! Walks over a transfer's entries.
 
-ghost use Rattle.std.specs.Prelude.{◌≡◌, ◌+◌, ◌-◌, ◌/◌, ◌<◌, ◌≤◌, ◌↔◌, [], IfErr, IfOk, IsOk};
+ghost use Rattle.std.specs.Prelude.{◌≡◌, ◌+◌, ◌-◌, ◌<◌, ◌≤◌, ◌↔◌, [], IfErr, IfOk, IsOk};
 ghost use Rattle.std.specs.Prelude.{OnErr, OnOk, Some, length};
 ghost use Rattle.nv_host.specs.Pages.{IsPageSize};
 ghost use Rattle.nv_prp.specs.inner.ListWalk.{Comes, IsList, ListTurn};
@@ -12,7 +12,7 @@ ghost use Rattle.nv_prp.specs.Transfer.{transfer_places};
 
 use crate::list_shape::ListShape;
 use crate::pointer::{DataPointer, qwords_in_page};
-use crate::prp_entry::{check, check_page, load_page_address};
+use crate::prp_entry::{check, load_page_address};
 use crate::{PrpError, Spans};
 use nv_host::HostMemory;
 
@@ -76,7 +76,7 @@ fn walk_entries<M: HostMemory>(
     match pointer.data_pages(mem) {
         1 => Ok(()),
         2 => {
-            check_page(mem, pointer.prp2)?;
+            check(mem, mem.page_size(), pointer.prp2)?;
             spans.push(pointer.span(mem, 1, pointer.prp2));
             Ok(())
         }

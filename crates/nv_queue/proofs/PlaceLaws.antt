@@ -1,8 +1,7 @@
 -- The numbers of places in a ring.
 use Rattle.std.proofs.Common.{◌≡◌, ℕ, ◌+◌, ◌-◌, ◌*◌, ◌<◌, ◌≤◌, Bool, true, false, not, arith}
-use Rattle.nv_queue.specs.Numbers.{above, ahead, first_in_slot, next, phase_of, slot_of}
-use Rattle.nv_queue.specs.inner.Numbers.{number_of}
-use Rattle.nv_queue.proofs.NumberLaws.{ahead_cases, ahead_slot, next_cases, phase_high, phase_low}
+use Rattle.nv_queue.specs.Numbers.{above, ahead, first_in_slot, next, number_of, phase_of, slot_of}
+use Rattle.nv_queue.proofs.NumberLaws.{ahead_cases, ahead_slot, full_slots, next_cases, phase_high, phase_low}
 use Rattle.nv_queue.proofs.NumberLaws.{slot_high, slot_low}
 use Rattle.nv_queue.proofs.NumberLaws.{within_filled, within_freed, within_more, within_taken}
 
@@ -59,9 +58,9 @@ pub ruleset places = (slot_number_of, phase_number_of, number_below)
 -- the place of the next number, the way to a slot, and the first place with it
 pub ruleset steps = (step_wraps, step_stays)
 
-pub ruleset ways = (ahead_behind, ahead_before)
+pub ruleset ways = (ahead_behind, ahead_before, ahead_place, number_below)
 
 pub ruleset firsts = (first_behind, first_before)
 
 -- rings whose places moved
-pub ruleset rings = (places, within_more, within_taken, within_freed, within_filled)
+pub ruleset rings = (places, full_slots, within_more, within_taken, within_freed, within_filled)

@@ -1,9 +1,8 @@
 -- The contents of a ring's slots as entries are written.
 use Rattle.std.proofs.Common.{◌≡◌, ◌≢◌, ℕ, ◌+◌, ◌-◌, ◌*◌, ◌<◌, ◌≤◌, inl, inr, Bool, true, false}
 use Rattle.std.proofs.Common.{not}
-use Rattle.std.proofs.Common.{List, [], ◌∷◌, ◌++◌, length, slice_index_or, Option, None, Some}
-use Rattle.std.proofs.Common.{IfSome}
-use Rattle.std.proofs.Common.{IsSome, ◌↔◌, refl, sym, ap, ◌∙◌, arith}
+use Rattle.std.proofs.Common.{List, [], ◌∷◌, ◌++◌, length, slice_index_or, None, Some}
+use Rattle.std.proofs.Common.{◌↔◌, refl, sym, ap, ◌∙◌, arith}
 use Rattle.std.proofs.lemmas.Bool.{cases_lt}
 use Rattle.std.proofs.lemmas.Nat.{mod_below}
 use Rattle.std.proofs.lemmas.List.{get_or_append_left, get_or_push, length_push}
@@ -241,16 +240,16 @@ awaited_stands bytes ring posted k other p number l h holds =
     let slot = ap (slot_of ring.depth) number ∙ slot_kept ring.depth k in
     ap (completion_at bytes ring.base) slot ∙ holds.standing k other l h
 
-pub collects_posted : (bytes : List ℕ) (ring : CollectNumbers) (r : Option Cqe) → IsCollectRing ring
-    → (IsSome r ↔ IsAwaitedThere bytes ring) → IfSome r (λ c. c ≡ awaited_completion bytes ring)
-    → CollectsPosted bytes ring r
-collects_posted bytes ring None is awaited value posted k number l h holds =
-    let deep = is.deep in
-    let there = awaited_posted bytes ring posted k deep.0 number l h holds in
-    (((λ e. cc), (λ below. awaited.1 (there.1 below))), tt)
-collects_posted bytes ring (Some c) is awaited value posted k number l h holds =
-    let deep = is.deep in
-    let there = awaited_posted bytes ring posted k deep.0 number l h holds in
-    let below = there.0 (awaited.0 refl) in
-    let stands = awaited_stands bytes ring posted k c deep.0 number below h holds in
+pub collects_none : (bytes : List ℕ) (ring : CollectNumbers) → IsCollectRing ring
+    → ¬ IsAwaitedThere bytes ring → CollectsPosted bytes ring None
+collects_none bytes ring is away posted k number l h holds =
+    let there = awaited_posted bytes ring posted k is.deep.0 number l h holds in
+    (((λ e. cc), (λ below. absurd (away (there.1 below)))), tt)
+
+pub collects_one : (bytes : List ℕ) (ring : CollectNumbers) (c : Cqe) → IsCollectRing ring
+    → IsAwaitedThere bytes ring → c ≡ awaited_completion bytes ring
+    → CollectsPosted bytes ring (Some c)
+collects_one bytes ring c is there value posted k number l h holds =
+    let below = (awaited_posted bytes ring posted k is.deep.0 number l h holds).0 there in
+    let stands = awaited_stands bytes ring posted k c is.deep.0 number below h holds in
     (((λ e. below), (λ b. refl)), value ∙ stands)

@@ -2,7 +2,7 @@
 use Rattle.std.proofs.Common.{if◌then◌else◌, ◌≡◌, ◌≢◌, ℕ, ◌-◌, ◌*◌, ◌<◌, ◌≤◌, Bool, true}
 use Rattle.std.proofs.Common.{false}
 use Rattle.std.proofs.Common.{not, nat_lt, List, refl, sym, ◌∙◌, ap, arith, inl, inr, ◌⊎◌}
-use Rattle.std.proofs.Common.{Option, None, Some, IsSome, ◌↔◌}
+use Rattle.std.proofs.Common.{None, Some}
 use Rattle.std.proofs.lemmas.Bool.{cases_eq, cases_lt}
 use Rattle.std.proofs.lemmas.Bool.Decides.{nat_tests}
 use Rattle.nv_layout.specs.declared.cqe.Cqe.{Cqe}
@@ -13,7 +13,7 @@ use Rattle.nv_queue.specs.Rings.{CollectNumbers, IsCollectRing, PostNumbers}
 use Rattle.nv_queue.specs.Slots.{FindsByTags, HoldsTags, IsAwaitedThere, KeepsTags, completion_at}
 use Rattle.nv_queue.specs.Slots.{posted_as, with_completion}
 use Rattle.nv_queue.specs.inner.Slots.{WritesCompletion}
-use Rattle.nv_queue.proofs.SlotLaws.{holds_one_more, not_own, put_written}
+use Rattle.nv_queue.proofs.SlotLaws.{not_own, put_written}
 
 -- for numbers of the first pass, the slots below have tag 1, and for those of the second, the other slots
 tag_cases : (d n s : ℕ) → n < 2 * d
@@ -94,33 +94,26 @@ pub tag_there : (d n k : ℕ) → n < 2 * d → k < 2 * d → above d n k < d �
 tag_there d n k h i f o =
     grind (arith, nat_tests, slot_cases d k i, above_cases d n k h i, tag_cases d n (slot_of d k) h)
 
-pub finds_by_tags : (bytes : List ℕ) (ring : CollectNumbers) (r : Option Cqe) → IsCollectRing ring
-    → (IsSome r ↔ IsAwaitedThere bytes ring) → FindsByTags bytes ring r
-finds_by_tags bytes ring None is awaited posted h f tags =
+pub finds_none : (bytes : List ℕ) (ring : CollectNumbers) → IsCollectRing ring
+    → ¬ IsAwaitedThere bytes ring → FindsByTags bytes ring None
+finds_none bytes ring is away posted h f tags =
     let d = ring.depth in let k = ring.collected in
     let low = slot_below d k is.collected in (
       (λ e. elim (cases_eq posted k) [
         | inl same ↦ same
-        | inr o ↦
-            let there = tags (slot_of d k) low ∙ tag_there d posted k h is.collected f o in
-            absurd (none_found (awaited.1 there))
+        | inr o ↦ absurd (away (tags (slot_of d k) low ∙ tag_there d posted k h is.collected f o))
       ]),
       λ same. refl,
     )
-  where
-    none_found : IsSome {T = Cqe} None → ⊥
-    none_found e = cc
-finds_by_tags bytes ring (Some c) is awaited posted h f tags =
+
+pub finds_one : (bytes : List ℕ) (ring : CollectNumbers) (c : Cqe) → IsCollectRing ring
+    → IsAwaitedThere bytes ring → FindsByTags bytes ring (Some c)
+finds_one bytes ring c is there posted h f tags =
     let d = ring.depth in let k = ring.collected in
-    let low = slot_below d k is.collected in
-    let there : IsAwaitedThere bytes ring = awaited.0 refl in
     let here = tag_below_here d k is.collected in
-    let tag = tags (slot_of d k) low in (
+    let tag = tags (slot_of d k) (slot_below d k is.collected) in (
       (λ e. cc),
       λ same. absurd (
           not_own _ _ (tag ∙ (ap (λ n. tag_below d n (slot_of d k)) same ∙ here)) there
           ),
     )
-
--- what holds after a completion is posted, for the attribute of `put`
-pub ruleset posts = (holds_one_more, keeps_tags)

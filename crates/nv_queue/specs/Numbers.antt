@@ -24,6 +24,10 @@ phase_of depth n = (n / depth) % 2 == 0
 unfoldable pub next : ℕ → ℕ → ℕ
 next depth n = (n + 1) % (2 * depth)
 
+-- the number of a slot in the first or the second pass
+abbrev pub number_of : ℕ → ℕ → Bool → ℕ
+number_of depth slot second = if second then depth + slot else slot
+
 -- how far number a is above number b
 unfoldable pub above : ℕ → ℕ → ℕ → ℕ
 above depth a b = (a + 2 * depth - b) % (2 * depth)

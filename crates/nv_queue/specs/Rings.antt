@@ -1,6 +1,7 @@
 -- The four sides of a queue pair's rings: the address of a ring, how many slots it has, and its numbers.
 use Rattle.std.specs.Prelude.{◌≡◌, ℕ, ◌*◌, ◌<◌, Bool, false, true}
-use Rattle.nv_queue.specs.Numbers.{IsDepth, IsFull, IsWithinRing, first_in_slot, next}
+use Rattle.nv_queue.specs.Numbers.{IsDepth, IsFull, IsWithinRing, first_in_slot, next, number_of}
+use Rattle.nv_queue.specs.declared.ring.Ring.{Ring}
 
 -- the host's side of a submission ring: the number of the next submission, and the number below
 -- which the host knows that all submissions were taken
@@ -35,12 +36,25 @@ pub record PostNumbers : Type 0 where
   pub posted : ℕ
   pub told : ℕ
 
--- any of the four: its own number, and the number that one side last gave the other
-pub record RingNumbers : Type 0 where
-  pub base : ℕ
-  pub depth : ℕ
-  pub own : ℕ
-  pub told : ℕ
+-- ---- what each side keeps
+
+-- the numbers of a ring's places
+abbrev pub own_number : Ring → ℕ
+own_number ring = number_of ring.depth ring.own.slot ring.own.second
+
+abbrev pub told_number : Ring → ℕ
+told_number ring = number_of ring.depth ring.told.slot ring.told.second
+
+-- both places lie in the ring
+abbrev pub IsRing : Ring → Type 0
+IsRing ring = IsDepth ring.depth × (ring.own.slot < ring.depth) × (ring.told.slot < ring.depth)
+
+-- and the told number is behind the own one, or ahead of it
+abbrev pub IsToldBehind : Ring → Type 0
+IsToldBehind ring = IsRing ring × IsWithinRing ring.depth (told_number ring) (own_number ring)
+
+abbrev pub IsToldAhead : Ring → Type 0
+IsToldAhead ring = IsRing ring × IsWithinRing ring.depth (own_number ring) (told_number ring)
 
 -- ---- what holds for each ring
 
@@ -52,13 +66,6 @@ IsFetchRing ring = IsWithinRing ring.depth ring.fetched ring.rung
 
 abbrev pub IsPostRing : PostNumbers → Type 0
 IsPostRing ring = IsWithinRing ring.depth ring.told ring.posted
-
--- the told number is behind the own one, or ahead of it
-abbrev pub IsToldBehind : RingNumbers → Type 0
-IsToldBehind ring = IsWithinRing ring.depth ring.told ring.own
-
-abbrev pub IsToldAhead : RingNumbers → Type 0
-IsToldAhead ring = IsWithinRing ring.depth ring.own ring.told
 
 -- a host can collect more than a depth without ringing the doorbell, from a device that doesn't wait for it
 pub record IsCollectRing (ring : CollectNumbers) : Type 0 where

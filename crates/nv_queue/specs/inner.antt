@@ -1,4 +1,2 @@
 -- What no public contract reaches. Contracts of private functions use it, in other crates too.
-pub mod Numbers
-pub mod Rings
 pub mod Slots

@@ -9,7 +9,7 @@ ghost use Rattle.nv_queue.specs.Slots.{CollectsPosted, FindsByTags, HoldsTags};
 ghost use Rattle.nv_queue.specs.Slots.{IsAwaitedThere, awaited_completion};
 
 use crate::ring::Ring;
-use nv_host::{HostMemory, load_inside};
+use nv_host::{HostMemory, load_inside, size_of_memory, store_inside};
 use nv_layout::Cqe;
 use std::marker::Model;
 
@@ -23,19 +23,20 @@ pub struct CompletionRing {
 
 impl Model for CompletionRing {
     ghost use Rattle.std.specs.Prelude.{◌≡◌, false};
-    ghost use Rattle.nv_queue.specs.Rings.{CollectNumbers};
+    ghost use Rattle.nv_queue.specs.Rings.{CollectNumbers, IsRing, own_number, told_number};
 
     ghost Value = { CollectNumbers };
 
     ghost view = { λ r. record {
       base = r.ring.base;
       depth = r.ring.depth;
-      collected = r.ring.own;
-      told = r.ring.told;
+      collected = own_number r.ring;
+      told = told_number r.ring;
       untold = r.untold;
     } };
 
-    ghost invariant = { λ r. r.untold ≡ false → r.ring.own ≡ r.ring.told };
+    ghost invariant = { λ r. IsRing r.ring
+        × (r.untold ≡ false → own_number r.ring ≡ told_number r.ring) };
 }
 
 impl CompletionRing {
@@ -48,12 +49,10 @@ impl CompletionRing {
         ensures { result
             ≡ record { base = base; depth = depth; collected = 0; told = 0; untold = false } }
     {
-        let mut completions = CompletionRing {
+        CompletionRing {
             ring: Ring::new(base, depth),
             untold: false,
-        };
-        completions.renew();
-        completions
+        }
     }
 
     /// Begins anew: completion number 0 is awaited, and there is no head to write to the doorbell.
@@ -61,7 +60,7 @@ impl CompletionRing {
     pub fn renew(&mut self)
         ensures { self.new ≡ renewed_collect self.old }
     {
-        self.ring.renew();
+        self.ring = Ring::new(self.ring.base, self.ring.depth);
         self.untold = false;
     }
 
@@ -75,31 +74,17 @@ impl CompletionRing {
         ensures tags { HoldsTags (M.bytes mem.new) self.now.base self.now.depth 0 }
         ensures page { M.page_len mem.new ≡ M.page_len mem.old }
     {
-        self.ring.zero(mem);
-    }
-
-    /// Returns the completion in the awaited slot if it has the phase tag that is due.
-    #[tactic(auto, using(crate::proofs::NumberLaws::slot_below))]
-    fn peek<M: HostMemory>(&self, mem: &M) -> Option<Cqe>
-        requires { self.now.base + 16 * self.now.depth ≤ length (M.bytes mem.now) }
-        ensures awaited { IsSome result ↔ IsAwaitedThere (M.bytes mem.now) self.now }
-        ensures value { IfSome result (λ c. c ≡ awaited_completion (M.bytes mem.now) self.now) }
-        ensures ring { IsCollectRing self.now }
-    {
-        let due = self.ring.phase();
-        let mut bytes = [0; 16];
-        let addr = self.ring.address(mem, 16);
-        load_inside(mem, addr, &mut bytes);
-        let completion = Cqe::get(&bytes);
-        if completion.phase != due {
-            return None;
+        // The sums can't overflow because the slots lie in the memory.
+        let _bytes = size_of_memory(mem);
+        for slot in 0..self.ring.depth {
+            let addr = self.ring.base + 16 * u64::from(slot);
+            store_inside(mem, addr, &[0; 16]);
         }
-        Some(completion)
     }
 
     /// Collects the awaited completion, which was posted if and only if its slot has the phase tag
     /// of its number. Section "Completion Queue Entry". All slots must lie in the memory.
-    #[tactic(auto, using(crate::proofs::TagLaws::finds_by_tags))]
+    #[tactic(auto, using(crate::proofs::PlaceLaws::places))]
     pub fn poll<M: HostMemory>(&mut self, mem: &M) -> Option<Cqe>
         requires { self.old.base + 16 * self.old.depth ≤ length (M.bytes mem.now) }
         ensures awaited { IsSome result ↔ IsAwaitedThere (M.bytes mem.now) self.old }
@@ -110,16 +95,22 @@ impl CompletionRing {
         ensures collected { OnSome result (self.new ≡ collected_one self.old) }
         ensures none { IfNone result (self.new ≡ self.old) }
     {
-        let completion = self.peek(mem);
-        if completion.is_some() {
-            self.ring.step();
-            self.untold = true;
+        let mut bytes = [0; 16];
+        let addr = self.ring.address(mem, 16);
+        load_inside(mem, addr, &mut bytes);
+        let completion = Cqe::get(&bytes);
+        let due = !self.ring.own.second;
+        if completion.phase != due {
+            return None;
         }
-        completion
+        self.ring.own = self.ring.own.step(self.ring.depth);
+        self.untold = true;
+        Some(completion)
     }
 
     /// Returns the head to write to the head doorbell, and counts it as written. Returns none if
     /// nothing was collected since the last one. Section "Completion Queue y Head Doorbell".
+    #[tactic(auto, using(crate::proofs::PlaceLaws::places))]
     pub fn head_to_tell(&mut self) -> Option<u16>
         ensures none { IsNone result ↔ (self.old.untold ≡ false) }
         ensures all_told { IfNone result (self.old.collected ≡ self.old.told) }
@@ -129,8 +120,8 @@ impl CompletionRing {
         if !self.untold {
             return None;
         }
-        self.ring.tell();
+        self.ring.told = self.ring.own;
         self.untold = false;
-        Some(self.ring.slot())
+        Some(self.ring.own.slot)
     }
 }

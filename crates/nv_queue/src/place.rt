@@ -1,8 +1,7 @@
 //! Places in a ring.
 
-ghost use Rattle.std.specs.Prelude.{◌≡◌, ◌<◌, ◌↔◌, IsTrue, false};
-ghost use Rattle.nv_queue.specs.Numbers.{IsDepth, IsSlotBetween, above, ahead, first_in_slot, next};
-ghost use Rattle.nv_queue.specs.inner.Numbers.{number_of};
+ghost use Rattle.std.specs.Prelude.{◌≡◌, ◌<◌, ◌↔◌, IsTrue};
+ghost use Rattle.nv_queue.specs.Numbers.{IsDepth, IsSlotBetween, above, first_in_slot, next, number_of};
 
 /// A slot, and whether it is in the second of two passes over the ring.
 #[derive(Clone, Copy)]
@@ -12,16 +11,6 @@ pub struct Place {
 }
 
 impl Place {
-    /// Returns the place of number 0.
-    pub(crate) fn first() -> Place
-        ensures { result ≡ record { slot = 0; second = false } }
-    {
-        Place {
-            slot: 0,
-            second: false,
-        }
-    }
-
     /// Returns the place of the next number.
     #[tactic(auto, using(crate::proofs::PlaceLaws::steps))]
     pub(crate) fn step(self, depth: u16) -> Place
@@ -46,7 +35,7 @@ impl Place {
 
     /// Returns whether the way from here to `end`, ends included, passes a slot. `end` is less than
     /// `depth` ahead.
-    #[tactic(auto, using(crate::proofs::PlaceLaws::places, crate::proofs::PlaceLaws::ahead_place))]
+    #[tactic(auto, using(crate::proofs::PlaceLaws::ways))]
     pub(crate) fn meets(self, slot: u16, end: Place, depth: u16) -> bool
         requires depth { IsDepth depth }
         requires within { self.slot < depth }
@@ -56,21 +45,11 @@ impl Place {
         ensures { IsTrue result ↔ IsSlotBetween depth (number_of depth self.slot self.second)
             (number_of depth end.slot end.second) slot }
     {
-        slot < depth && self.ahead(slot, depth) <= self.ahead(end.slot, depth)
-    }
-
-    /// Returns how far ahead the next place with this slot is.
-    #[tactic(auto, using(crate::proofs::PlaceLaws::ways))]
-    fn ahead(self, slot: u16, depth: u16) -> u16
-        requires depth { IsDepth depth }
-        requires within { self.slot < depth }
-        requires slot { slot < depth }
-        ensures { result ≡ ahead depth (number_of depth self.slot self.second) slot }
-    {
-        if slot < self.slot {
-            slot + depth - self.slot
+        if self.slot <= end.slot {
+            self.slot <= slot && slot <= end.slot
         } else {
-            slot - self.slot
+            // the way leads from the last slot to the first one
+            self.slot <= slot && slot < depth || slot <= end.slot
         }
     }
 

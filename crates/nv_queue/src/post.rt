@@ -1,6 +1,6 @@
 //! The device's side of a completion ring.
 
-ghost use Rattle.std.specs.Prelude.{◌≡◌, ◌+◌, ◌*◌, ◌<◌, ◌≤◌, ◌↔◌, IsErr, IsTrue, OnErr, OnOk};
+ghost use Rattle.std.specs.Prelude.{◌≡◌, ◌+◌, ◌<◌, ◌≤◌, ◌↔◌, IsErr, IsTrue, OnErr, OnOk};
 ghost use Rattle.std.specs.Prelude.{length};
 ghost use Rattle.nv_queue.specs.Numbers.{IsDepth, IsSlotBetween, phase_of};
 ghost use Rattle.nv_queue.specs.Rings.{IsPostFull, IsPostRing, posted_one, renewed_post, told_to};
@@ -25,15 +25,15 @@ pub struct Post {
 }
 
 impl Model for Post {
-    ghost use Rattle.nv_queue.specs.Rings.{IsToldBehind, PostNumbers};
+    ghost use Rattle.nv_queue.specs.Rings.{IsToldBehind, PostNumbers, own_number, told_number};
 
     ghost Value = { PostNumbers };
 
     ghost view = { λ r. record {
       base = r.ring.base;
       depth = r.ring.depth;
-      posted = r.ring.own;
-      told = r.ring.told;
+      posted = own_number r.ring;
+      told = told_number r.ring;
     } };
 
     ghost invariant = { λ r. IsToldBehind r.ring };
@@ -46,11 +46,9 @@ impl Post {
         requires { IsDepth depth }
         ensures { result ≡ record { base = base; depth = depth; posted = 0; told = 0 } }
     {
-        let mut post = Post {
+        Post {
             ring: Ring::new(base, depth),
-        };
-        post.renew();
-        post
+        }
     }
 
     /// Begins anew: the next completion is number 0, and every slot is free.
@@ -58,41 +56,45 @@ impl Post {
     pub fn renew(&mut self)
         ensures { self.new ≡ renewed_post self.old }
     {
-        self.ring.renew();
+        self.ring = Ring::new(self.ring.base, self.ring.depth);
     }
 
     /// Performs a write to the head doorbell. A head is ignored unless freeing posted slots leads
     /// to it. Section "Completion Queue y Head Doorbell".
+    #[tactic(auto, using(crate::proofs::PlaceLaws::rings, crate::proofs::NumberLaws::ahead_slot))]
     pub fn head(&mut self, value: u32)
         ensures told { IsSlotBetween self.old.depth self.old.told self.old.posted value
             → self.new ≡ told_to self.old value }
         ensures ignored { ¬ IsSlotBetween self.old.depth self.old.told self.old.posted value
             → self.new ≡ self.old }
     {
-        if let Some(slot) = self.ring.named_slot(value)
-            && self.ring.may_free(slot)
+        if let Ok(slot) = u16::try_from(value)
+            && self.ring.told.meets(slot, self.ring.own, self.ring.depth)
         {
-            self.ring.free_to(slot);
+            self.ring.told = self.ring.told.reach(slot, self.ring.depth);
         }
     }
 
     /// Returns the phase tag of the next completion. Section "Completion Queue Entry".
+    #[tactic(auto, using(crate::proofs::PlaceLaws::places))]
     pub fn phase(&self) -> bool
         ensures { result ≡ phase_of self.now.depth self.now.posted }
     {
-        self.ring.phase()
+        !self.ring.own.second
     }
 
     /// Returns whether all slots but one hold completions that are not known to be collected.
     /// Section "Full Queue".
+    #[tactic(auto, using(crate::proofs::PlaceLaws::places, crate::proofs::NumberLaws::full_slots))]
     pub fn is_full(&self) -> bool
         ensures ring { IsPostRing self.now }
         ensures full { IsTrue result ↔ IsPostFull self.now }
     {
-        self.ring.is_full()
+        self.ring.own.step(self.ring.depth).slot == self.ring.told.slot
     }
 
     /// Returns whether the slot of the next completion lies in the memory, which `put` requires.
+    #[tactic(auto, using(crate::proofs::PlaceLaws::places))]
     pub fn fits<M: HostMemory>(&self, mem: &M) -> bool
         ensures { IsTrue result
             ↔ (completion_place self.now.base self.now.depth self.now.posted + 16
@@ -104,7 +106,7 @@ impl Post {
     /// Posts a completion with the phase tag that is due, whatever its own is. Only the bytes of
     /// its slot change, which must lie in the memory, as `fits` checks. If the ring is full,
     /// nothing changes.
-    #[tactic(auto, using(crate::proofs::TagLaws::posts))]
+    #[tactic(auto, using(crate::proofs::SlotLaws::holds_one_more, crate::proofs::PlaceLaws::rings))]
     pub fn put<M: HostMemory>(&mut self, mem: &mut M, completion: Cqe) -> Result<(), CqFull>
         requires { completion_place self.old.base self.old.depth self.old.posted + 16
             ≤ length (M.bytes mem.old) }
@@ -121,18 +123,19 @@ impl Post {
         ensures len { length (M.bytes mem.new) ≡ length (M.bytes mem.old) }
         ensures page { M.page_len mem.new ≡ M.page_len mem.old }
     {
-        if self.is_full() {
+        let next = self.ring.own.step(self.ring.depth);
+        if next.slot == self.ring.told.slot {
             return Err(CqFull);
         }
         let posted = Cqe {
-            phase: self.phase(),
+            phase: !self.ring.own.second,
             ..completion
         };
         let mut bytes = [0; 16];
         posted.put(&mut bytes);
         let addr = self.ring.address(mem, 16);
         store_inside(mem, addr, &bytes);
-        self.ring.step();
+        self.ring.own = next;
         Ok(())
     }
 }

@@ -26,15 +26,15 @@ pub struct SubmitRing {
 }
 
 impl Model for SubmitRing {
-    ghost use Rattle.nv_queue.specs.Rings.{IsToldBehind, SubmitNumbers};
+    ghost use Rattle.nv_queue.specs.Rings.{IsToldBehind, SubmitNumbers, own_number, told_number};
 
     ghost Value = { SubmitNumbers };
 
     ghost view = { λ r. record {
       base = r.ring.base;
       depth = r.ring.depth;
-      submitted = r.ring.own;
-      known = r.ring.told;
+      submitted = own_number r.ring;
+      known = told_number r.ring;
     } };
 
     ghost invariant = { λ r. IsToldBehind r.ring };
@@ -48,11 +48,9 @@ impl SubmitRing {
         requires { IsDepth depth }
         ensures { result ≡ record { base = base; depth = depth; submitted = 0; known = 0 } }
     {
-        let mut submissions = SubmitRing {
+        SubmitRing {
             ring: Ring::new(base, depth),
-        };
-        submissions.renew();
-        submissions
+        }
     }
 
     /// Begins anew: the next submission is number 0, and none is outstanding.
@@ -60,13 +58,13 @@ impl SubmitRing {
     pub fn renew(&mut self)
         ensures { self.new ≡ renewed_submit self.old }
     {
-        self.ring.renew();
+        self.ring = Ring::new(self.ring.base, self.ring.depth);
     }
 
     /// Submits a command, and returns the new tail, for the tail doorbell. The ring is full if all
     /// slots but one hold commands that are not known to be taken. Then nothing changes. All slots
     /// must lie in the memory.
-    #[tactic(auto, using(crate::proofs::NumberLaws::slot_below))]
+    #[tactic(auto, using(crate::proofs::PlaceLaws::rings))]
     pub fn push<M: HostMemory>(&mut self, mem: &mut M, command: &Sqe) -> Result<u16, RingFull>
         requires { self.old.base + 64 * self.old.depth ≤ length (M.bytes mem.old) }
         ensures full { IsErr result ↔ IsSubmitFull self.old }
@@ -80,33 +78,36 @@ impl SubmitRing {
         ensures len { length (M.bytes mem.new) ≡ length (M.bytes mem.old) }
         ensures page { M.page_len mem.new ≡ M.page_len mem.old }
     {
-        if self.ring.is_full() {
+        let next = self.ring.own.step(self.ring.depth);
+        if next.slot == self.ring.told.slot {
             return Err(RingFull);
         }
         let mut bytes = [0; 64];
         command.put(&mut bytes);
         let addr = self.ring.address(mem, 64);
         store_inside(mem, addr, &bytes);
-        self.ring.step();
-        Ok(self.ring.slot())
+        self.ring.own = next;
+        Ok(next.slot)
     }
 
     /// Returns whether a head lies between the known head and the tail, as the SQ head of each
     /// completion does. `freed` requires it.
+    #[tactic(auto, using(crate::proofs::PlaceLaws::places, crate::proofs::NumberLaws::ahead_slot))]
     pub fn may_free(&self, head: u16) -> bool
         ensures ring { IsSubmitRing self.now }
         ensures between { IsTrue result
             ↔ IsSlotBetween self.now.depth self.now.known self.now.submitted head }
     {
-        self.ring.may_free(head)
+        self.ring.told.meets(head, self.ring.own, self.ring.depth)
     }
 
     /// Performs the SQ head of a collected completion: the submissions before it were taken.
     /// `may_free` must hold for it.
+    #[tactic(auto, using(crate::proofs::PlaceLaws::rings))]
     pub fn freed(&mut self, head: u16)
         requires { IsSlotBetween self.old.depth self.old.known self.old.submitted head }
         ensures { self.new ≡ known_to self.old head }
     {
-        self.ring.free_to(head);
+        self.ring.told = self.ring.told.reach(head, self.ring.depth);
     }
 }

@@ -1,16 +1,14 @@
 //! What a host reads and writes of one controller.
 
-ghost use Rattle.std.specs.Prelude.{◌≡◌, ◌≤◌, true};
-ghost use Rattle.nv_register.specs.RegisterBank.{can_start, cc_of, is_queue, new_bank, new_rings};
-ghost use Rattle.nv_register.specs.RegisterBank.{start, stop, stops_at, stops_by, value_at};
-ghost use Rattle.nv_register.specs.RegisterBank.{value_of, with_cc};
-ghost use Rattle.nv_register.specs.RegisterBank.{with_head, with_high, with_low, with_register};
-ghost use Rattle.nv_register.specs.RegisterBank.{with_register_at, with_tail};
-ghost use Rattle.nv_register.specs.Readiness.{is_enabled, with_rings};
+ghost use Rattle.std.specs.Prelude.{◌≡◌, ◌≤◌};
+ghost use Rattle.nv_register.specs.RegisterBank.{can_start, is_queue, new_bank, start};
+ghost use Rattle.nv_register.specs.RegisterBank.{stops_at, value_at, with_cc, with_high, with_low};
+ghost use Rattle.nv_register.specs.RegisterBank.{with_register_at};
 
 use crate::admin_queue_attributes::AdminQueueAttributes;
 use crate::controller_configuration::{ControllerConfiguration, Sizes};
 use crate::controller_status::ControllerStatus;
+use crate::offset;
 use crate::readiness::Readiness;
 use crate::register::Register;
 use crate::rings::Rings;
@@ -78,32 +76,24 @@ impl RegisterBank {
         }
     }
 
-    /// Returns whether EN is 1. Section "Controller Configuration".
-    pub fn is_enabled(&self) -> bool
-        ensures { result ≡ is_enabled self.now.readiness }
+    /// Returns the dword at an offset in bytes, or 0 if no register begins there. Doorbells read 0.
+    pub fn read32(&self, offset: u32) -> u32
+        ensures { result ≡ value_at self.now offset }
     {
-        self.readiness.is_enabled()
-    }
-
-    /// Returns the value of CC.
-    fn configuration(&self) -> ControllerConfiguration
-        ensures { result ≡ cc_of self.now }
-    {
-        ControllerConfiguration {
-            en: self.is_enabled(),
-            sizes: self.sizes,
-        }
-    }
-
-    /// Returns the value of a register. Doorbells read 0.
-    fn value(&self, register: Register) -> u32
-        ensures { result ≡ value_of self.now register }
-    {
+        let Some(register) = Register::at(offset) else {
+            return 0;
+        };
         match register {
             Register::CapLow => CAP_LOW,
             Register::CapHigh => CAP_HIGH,
             Register::Vs => VS,
-            Register::Cc => self.configuration().dword(),
+            Register::Cc => {
+                let configuration = ControllerConfiguration {
+                    en: self.readiness.is_enabled(),
+                    sizes: self.sizes,
+                };
+                configuration.dword()
+            }
             Register::Csts => {
                 let status = ControllerStatus {
                     rdy: self.readiness.is_ready(),
@@ -120,16 +110,6 @@ impl RegisterBank {
         }
     }
 
-    /// Returns the dword at an offset in bytes, or 0 if no register begins there.
-    pub fn read32(&self, offset: u32) -> u32
-        ensures { result ≡ value_at self.now offset }
-    {
-        match Register::at(offset) {
-            Some(register) => self.value(register),
-            None => 0,
-        }
-    }
-
     /// Returns whether the controller becomes ready with these registers.
     fn can_start(&self) -> bool
         ensures { result ≡ can_start self.now }
@@ -139,25 +119,17 @@ impl RegisterBank {
             && is_queue(self.sizes, self.acq, self.aqa.acqs)
     }
 
-    /// Returns the rings that the registers make.
-    fn new_rings(&self) -> Rings
-        requires { can_start self.now ≡ true }
-        ensures { result ≡ new_rings self.now }
-    {
-        Rings {
-            page_size: self.sizes.page_size(),
-            submission: Fetch::new(self.asq, self.aqa.asqs + 1),
-            completion: Post::new(self.acq, self.aqa.acqs + 1),
-        }
-    }
-
-    /// Sets EN.
+    /// Sets EN, which creates the rings that the registers describe.
     fn start(&mut self)
         ensures { self.new ≡ start self.old }
     {
         self.readiness = if self.can_start() {
             Readiness::Ready {
-                rings: self.new_rings(),
+                rings: Rings {
+                    page_size: self.sizes.page_size(),
+                    submission: Fetch::new(self.asq, self.aqa.asqs + 1),
+                    completion: Post::new(self.acq, self.aqa.acqs + 1),
+                },
                 fatal: false,
             }
         } else {
@@ -165,20 +137,13 @@ impl RegisterBank {
         };
     }
 
-    /// Clears EN, and with it RDY and CFS.
-    fn stop(&mut self)
-        ensures { self.new ≡ stop self.old }
-    {
-        self.readiness = Readiness::Off;
-    }
-
-    /// Performs a write to CC. While EN is 1, only EN changes.
+    /// Performs a write to CC. While EN is 1, only EN changes. Clearing it clears RDY and CFS.
     fn configure(&mut self, cc: ControllerConfiguration)
         ensures { self.new ≡ with_cc self.old cc }
     {
-        if self.is_enabled() {
+        if self.readiness.is_enabled() {
             if !cc.en {
-                self.stop();
+                self.readiness = Readiness::Off;
             }
         } else {
             self.sizes = cc.sizes;
@@ -188,29 +153,25 @@ impl RegisterBank {
         }
     }
 
-    fn ring_tail(&mut self, tail: u32)
-        ensures { self.new
-            ≡ record self.old { readiness = with_rings (with_tail tail) self.old.readiness } }
+    /// Returns whether a write of a dword at an offset in bytes clears an EN that is 1, which
+    /// resets the controller. Section "Controller Configuration".
+    pub fn stops_at(&self, offset: u32, dword: u32) -> bool
+        ensures { result ≡ stops_at self.now offset dword }
     {
-        if let Readiness::Ready { rings, .. } = &mut self.readiness {
-            rings.ring_tail(tail);
-        }
+        offset == offset::CC
+            && self.readiness.is_enabled()
+            && !ControllerConfiguration::of(dword).en
     }
 
-    fn ring_head(&mut self, head: u32)
-        ensures { self.new
-            ≡ record self.old { readiness = with_rings (with_head head) self.old.readiness } }
+    /// Writes the dword at an offset in bytes. The write is ignored if no register begins there or
+    /// if the register is read-only. The registers of the admin queues don't change while EN is 1,
+    /// and doorbells are ignored if the controller is not ready.
+    pub fn write32(&mut self, offset: u32, dword: u32)
+        ensures { self.new ≡ with_register_at self.old offset dword }
     {
-        if let Readiness::Ready { rings, .. } = &mut self.readiness {
-            rings.ring_head(head);
-        }
-    }
-
-    /// Performs a write to a register. The registers of the admin queues don't change while EN is
-    /// 1.
-    fn set(&mut self, register: Register, dword: u32)
-        ensures { self.new ≡ with_register self.old register dword }
-    {
+        let Some(register) = Register::at(offset) else {
+            return;
+        };
         match register {
             Register::CapLow | Register::CapHigh | Register::Vs | Register::Csts => {}
             Register::Cc => self.configure(ControllerConfiguration::of(dword)),
@@ -219,45 +180,22 @@ impl RegisterBank {
             | Register::AsqHigh
             | Register::AcqLow
             | Register::AcqHigh
-                if self.is_enabled() => {}
+                if self.readiness.is_enabled() => {}
             Register::Aqa => self.aqa = AdminQueueAttributes::of(dword),
             Register::AsqLow => self.asq = low_dword_set(self.asq, dword),
             Register::AsqHigh => self.asq = high_dword_set(self.asq, dword),
             Register::AcqLow => self.acq = low_dword_set(self.acq, dword),
             Register::AcqHigh => self.acq = high_dword_set(self.acq, dword),
-            Register::TailDoorbell => self.ring_tail(dword),
-            Register::HeadDoorbell => self.ring_head(dword),
-        }
-    }
-
-    /// Returns whether a write to a register clears an EN that is 1.
-    fn stops_by(&self, register: Register, dword: u32) -> bool
-        ensures { result ≡ stops_by self.now register dword }
-    {
-        match register {
-            Register::Cc => self.is_enabled() && !ControllerConfiguration::of(dword).en,
-            _ => false,
-        }
-    }
-
-    /// Returns whether a write of a dword at an offset in bytes clears an EN that is 1, which
-    /// resets the controller. Section "Controller Configuration".
-    pub fn stops_at(&self, offset: u32, dword: u32) -> bool
-        ensures { result ≡ stops_at self.now offset dword }
-    {
-        match Register::at(offset) {
-            Some(register) => self.stops_by(register, dword),
-            None => false,
-        }
-    }
-
-    /// Writes the dword at an offset in bytes. The write is ignored if no register begins there or
-    /// if the register is read-only.
-    pub fn write32(&mut self, offset: u32, dword: u32)
-        ensures { self.new ≡ with_register_at self.old offset dword }
-    {
-        if let Some(register) = Register::at(offset) {
-            self.set(register, dword);
+            Register::TailDoorbell => {
+                if let Readiness::Ready { rings, .. } = &mut self.readiness {
+                    rings.submission.tail(dword);
+                }
+            }
+            Register::HeadDoorbell => {
+                if let Readiness::Ready { rings, .. } = &mut self.readiness {
+                    rings.completion.head(dword);
+                }
+            }
         }
     }
 }

@@ -1,25 +1,34 @@
-use Rattle.std.proofs.Common.{◌∙◌, ◌∷◌, [], ap, arith, length, length-append, subst, sym}
+use Rattle.std.proofs.Common.{◌≡◌, ◌∙◌, ◌+◌, ◌-◌, ◌%◌, ◌∷◌, [], ap, arith, length, length-append, min, subst, sym}
+use Rattle.nv_prp.specs.Buffer.{IsBuffer, buffer_place}
 use Rattle.nv_prp.specs.Place.{LieIn, places}
-use Rattle.nv_prp.proofs.BufferSpanLaws.{inside_more, next_page_begins, places_more}
+use Rattle.nv_prp.specs.declared.spans.Span.{Span}
+use Rattle.nv_prp.proofs.BufferSpanLaws.{address_of, inside_more, next_page_begins, places_more, rest_inside}
 use Rattle.nv_prp.proofs.buffer.Buffer.spans.Goals as goal
 
 pub loop-done-preserved : goal.loop-done-preserved
 loop-done-preserved g c =
     let size = g.M.HostMemory.page_len c.args.mem.now in
+    let pages = c.args.self.now.pages.now in
     let start = c.args.self.now.offset in
+    let done = c.loop-done.done in
     let i = c.loop-done.invariant in
-    let s = c.span-span.result in
-    let span = c.span-span.ensures in
+    let s : Span = record { address = c.page_address-page.result + c.from.result; len = c.min.result } in
+    let address : s.address ≡ buffer_place size pages start done = grind (arith, address_of) in
+    let len : s.len ≡ min (c.args.len - done) (size - (start + done) % size) = grind arith in
+    let left = c.args.len - done in
+    let all : c.args.len ≡ done + left = omega (arith, i.within) in
+    let bytes = g.M.HostMemory.bytes c.args.mem.now in
+    let buffer = subst (IsBuffer bytes size pages start) all c.requires.buffer in
+    let rest = rest_inside bytes pages size start done left (omega (arith, c.loop-done-test.true)) buffer in
     record {
-      within = omega (arith, span.len);
+      within = omega (arith, len);
       places = ap (λ xs. places xs) c.push.ensures
-          ∙ places_more size c.args.self.now.pages.now start c.loop-done.done c.loop-done.spans s
-          i.places span.address (omega (arith, span.len));
-      inside = subst (LieIn (length (g.M.HostMemory.bytes c.args.mem.now))) (sym c.push.ensures)
-          (inside_more _ c.loop-done.spans s i.inside span.inside);
+          ∙ places_more size pages start done c.loop-done.spans s i.places address (omega (arith, len));
+      inside = subst (LieIn (length bytes)) (sym c.push.ensures)
+          (inside_more _ c.loop-done.spans s i.inside (omega (arith, address, len, rest)));
       few = λ more.
-          let next = next_page_begins size start c.loop-done.done (length c.loop-done.spans) s.len
-          (omega (arith, c.requires.buffer.below)) (omega (arith, span.len, more))
+          let next = next_page_begins size start done (length c.loop-done.spans) s.len
+          (omega (arith, c.requires.buffer.below)) (omega (arith, len, more))
           (i.few (omega (arith, c.loop-done-test.true))) in
           omega (arith, next, ap length c.push.ensures, length-append c.loop-done.spans (s ∷ []));
     }

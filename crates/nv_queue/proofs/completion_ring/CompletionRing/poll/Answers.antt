@@ -1,12 +1,21 @@
-use Rattle.nv_queue.proofs.SlotLaws.{collects_posted}
+use Rattle.std.proofs.Common.{arith}
+use Rattle.nv_queue.proofs.PlaceLaws.{places}
+use Rattle.nv_queue.proofs.SlotLaws.{collects_none, collects_one}
+use Rattle.nv_queue.proofs.TagLaws.{finds_none, finds_one}
 use Rattle.nv_queue.proofs.completion_ring.CompletionRing.poll.Goals as goal
 
-pub returns-then-is_some-clause-posted : goal.returns-then-is_some-clause-posted
-returns-then-is_some-clause-posted g c =
-    let found = c.peek-completion.ensures in
-    collects_posted _ c.args.self.now c.peek-completion.result found.ring found.awaited found.value
+pub returns-then-completion-due-clause-posted : goal.returns-then-completion-due-clause-posted
+returns-then-completion-due-clause-posted g c =
+    collects_none _ c.args.self.now (grind (arith, places)) (grind (arith, places))
 
-pub returns-else-is_some-clause-posted : goal.returns-else-is_some-clause-posted
-returns-else-is_some-clause-posted g c =
-    let found = c.peek-completion.ensures in
-    collects_posted _ c.args.self.now c.peek-completion.result found.ring found.awaited found.value
+pub returns-then-completion-due-clause-tags : goal.returns-then-completion-due-clause-tags
+returns-then-completion-due-clause-tags g c =
+    finds_none _ c.args.self.now (grind (arith, places)) (grind (arith, places))
+
+pub returns-clause-posted : goal.returns-clause-posted
+returns-clause-posted g c =
+    collects_one _ c.args.self.now _ (grind (arith, places)) (grind (arith, places)) (grind (arith, places))
+
+pub returns-clause-tags : goal.returns-clause-tags
+returns-clause-tags g c =
+    finds_one _ c.args.self.now c.get-completion.result (grind (arith, places)) (grind (arith, places))

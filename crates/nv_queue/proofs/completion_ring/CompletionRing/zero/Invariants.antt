@@ -1,7 +1,7 @@
 use Rattle.std.proofs.Common.{◌≡◌, ◌*◌, length}
 use Rattle.std.specs.Prelude.{replicate}
 use Rattle.nv_host.specs.Bytes.{with_bytes}
-use Rattle.nv_queue.proofs.ring.Ring.zero.Given as goal
+use Rattle.nv_queue.proofs.completion_ring.CompletionRing.zero.Given as goal
 
 abbrev pub invariant-loop-slot : goal.invariant-loop-slot
 invariant-loop-slot g l = record {
