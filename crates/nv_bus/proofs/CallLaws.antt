@@ -1,15 +1,19 @@
 -- The places of an entry's data.
-use Rattle.std.proofs.Common.{◌≡◌, ◌∙◌, ℕ, zero, suc, ◌<◌, ◌≤◌, ◌==◌, nat_lt, Bool, true, false}
+use Rattle.std.proofs.Common.{◌≡◌, ◌∙◌, ℕ, zero, suc, ◌%◌, ◌^◌, ◌<◌, ◌≤◌, ◌==◌, nat_lt, Bool, true, false}
 use Rattle.std.proofs.Common.{if◌then◌else◌, ap, refl, subst, sym, arith, lit<, lit≤, List, []}
 use Rattle.std.proofs.Common.{Option, None, Result, Ok, Err}
 use Rattle.std.proofs.lemmas.Bool.Decides.{nat_tests}
 use Rattle.std.specs.Option.{option_or}
 use Rattle.nv_layout.specs.declared.sqe.Sqe.{Sqe}
-use Rattle.nv_command.specs.Decoding.{opcode_of, transfer_as, transfer_of}
-use Rattle.nv_command.specs.Identify.{identify_command}
-use Rattle.nv_command.specs.Form.{identify_data}
-use Rattle.nv_command.specs.Management.{is_detach, select_of}
-use Rattle.nv_command.specs.Form.{page_from_host}
+use Rattle.nv_command.specs.Decoding.{decoded_as, decoded_of, opcode_of, transfer_in, transfer_of}
+use Rattle.nv_command.specs.Form.{namespace_of}
+use Rattle.nv_command.specs.Identify.{identify_by}
+use Rattle.nv_command.specs.Management.{select_of}
+use Rattle.nv_command.specs.declared.command.Command.{Command}
+use Rattle.nv_command.specs.declared.command.Command.TheVariants.{ActiveList, AllocatedList, AllocatedNamespace}
+use Rattle.nv_command.specs.declared.command.Command.TheVariants.{Delete, IdentifyController, IdentifyNamespace}
+use Rattle.nv_command.specs.declared.decoded.Decoded.{Decoded}
+use Rattle.nv_command.specs.declared.decoded.Decoded.TheVariants as decoded
 use Rattle.nv_layout.specs.Steps.{◌>>=◌}
 use Rattle.nv_command.specs.declared.entry.Opcode.{Opcode}
 use Rattle.nv_command.specs.declared.entry.Opcode.TheVariants.{Identify, NamespaceManagement}
@@ -59,7 +63,7 @@ pub no_places : (page_size : ℕ) (bytes : List ℕ) (e : Sqe) (m : Transfer) (a
 no_places page_size bytes e m at is none = ap (λ (x : Transfer). data_places page_size bytes e x) is
     ∙ ap Ok (sym none)
 
--- ---- a length that a data pointer can have
+-- ---- what an entry asks for
 
 -- the length is greater than 0, and the host sends at most a page of 4,096 bytes
 abbrev HasSome : Transfer → Type 0
@@ -67,31 +71,70 @@ HasSome NoData = Unit {0}
 HasSome (ToHost n) = 0 < n
 HasSome (FromHost n) = (0 < n) × (n ≤ 4096)
 
-abbrev SomeIf : Result Transfer StatusCode → Type 0
-SomeIf (Ok t) = HasSome t
-SomeIf (Err code) = Unit {0}
+-- the NSID of a command
+abbrev pub namespace_in : Decoded → ℕ
+namespace_in (decoded.Whole k) = namespace_of k
+namespace_in decoded.Create = 0
+namespace_in (decoded.Attachment n detach) = n
 
-some_after : {A : Type 0} (r : Result A StatusCode) (t : Transfer) → HasSome t
-    → SomeIf (r >>= (λ _. Ok t))
-some_after (Ok x) t some = some
-some_after (Err code) t some = tt
+-- what an entry with this NSID may ask for: any data has a length, and the NSID is the entry's or 0
+abbrev pub IsAsked : ℕ → Decoded → Type 0
+IsAsked n asked = HasSome (transfer_in asked) × (namespace_in asked ≤ n)
 
-some_by_select : (a b : Bool)
-    → SomeIf (if a then Ok page_from_host else (if b then Ok NoData else Err InvalidFieldInCommand))
-some_by_select true b = (lit< tt, lit≤ tt)
-some_by_select false true = tt
-some_by_select false false = tt
+abbrev pub AskedIf : ℕ → Result Decoded StatusCode → Type 0
+AskedIf n (Ok asked) = IsAsked n asked
+AskedIf n (Err code) = Unit {0}
 
-some_as : (o : Opcode) (e : Sqe) → SomeIf (transfer_as o e)
-some_as Identify e = some_after (identify_command e) identify_data (lit< tt)
-some_as NamespaceManagement e = some_by_select (select_of e == 0x0) (select_of e == 0x1)
-some_as NamespaceAttachment e = some_after (is_detach e) page_from_host (lit< tt, lit≤ tt)
-some_as GetLogPage e = omega arith
-some_as o e = tt
+abbrev whole : Command → Result Decoded StatusCode
+whole k = Ok (decoded.Whole k)
 
-some_by_opcode : (r : Result Opcode StatusCode) (e : Sqe) → SomeIf (r >>= (λ o. transfer_as o e))
-some_by_opcode (Ok o) e = some_as o e
-some_by_opcode (Err code) e = tt
+asked_if : (n : ℕ) (b : Bool) (k : Command) (r : Result Command StatusCode) → IsAsked n (decoded.Whole k)
+    → AskedIf n (r >>= whole) → AskedIf n ((if b then Ok k else r) >>= whole)
+asked_if n true k r first later = first
+asked_if n false k r first later = later
+
+asked_identify : (cns n : ℕ) → AskedIf n (identify_by cns n >>= whole)
+asked_identify cns n =
+    let own : n ≤ n = omega arith in
+    asked_if n (cns == 0x00) (IdentifyNamespace n) _ (lit< tt, own)
+    (asked_if n (cns == 0x01) IdentifyController _ (lit< tt, omega arith)
+    (asked_if n (cns == 0x02) (ActiveList n) _ (lit< tt, own)
+    (asked_if n (cns == 0x10) (AllocatedList n) _ (lit< tt, own)
+    (asked_if n (cns == 0x11) (AllocatedNamespace n) (Err InvalidFieldInCommand) (lit< tt, own) tt))))
+
+asked_select : (n select : ℕ) (x y : Decoded) → IsAsked n x → IsAsked n y
+    → AskedIf n (if select == 0x0 then Ok x else (if select == 0x1 then Ok y else Err InvalidFieldInCommand))
+asked_select n select x y first later = by_test (select == 0x0) (select == 0x1)
+  where
+    by_test : (a b : Bool) → AskedIf n (if a then Ok x else (if b then Ok y else Err InvalidFieldInCommand))
+    by_test true b = first
+    by_test false true = later
+    by_test false false = tt
+
+asked_as : (o : Opcode) (e : Sqe) → AskedIf e.nsid (decoded_as o e)
+asked_as Identify e = asked_identify (e.cdw10 % 2 ^ 8) e.nsid
+asked_as NamespaceManagement e =
+    asked_select e.nsid (select_of e) decoded.Create (decoded.Whole (Delete e.nsid)) ((lit< tt, lit≤ tt), omega arith)
+    (tt, omega arith)
+asked_as NamespaceAttachment e =
+    asked_select e.nsid (select_of e) (decoded.Attachment e.nsid false) (decoded.Attachment e.nsid true)
+    ((lit< tt, lit≤ tt), omega arith) ((lit< tt, lit≤ tt), omega arith)
+asked_as GetLogPage e = (omega arith, omega arith)
+asked_as o e = (tt, omega arith)
+
+asked_by_opcode : (r : Result Opcode StatusCode) (e : Sqe) → AskedIf e.nsid (r >>= (λ o. decoded_as o e))
+asked_by_opcode (Ok o) e = asked_as o e
+asked_by_opcode (Err code) e = tt
+
+pub asked_of : (e : Sqe) → AskedIf e.nsid (decoded_of e)
+asked_of e = asked_by_opcode (opcode_of e) e
+
+-- ---- a length that a data pointer can have
+
+some_of : (n : ℕ) (r : Result Decoded StatusCode) (t : Transfer) → AskedIf n r
+    → (r >>= (λ asked. Ok (transfer_in asked))) ≡ Ok t → HasSome t
+some_of n (Ok asked) t h is = let same : transfer_in asked ≡ t = cc in subst HasSome same h.0
+some_of n (Err code) t h is = absurd (cc)
 
 room_within : (limit : ℕ) (t : Transfer) → limit ≤ most_bytes → HasSome t → length_of t ≤ limit
     → HasRoom t
@@ -124,5 +167,5 @@ pub has_room : (limit : ℕ) (e : Sqe) (asked t : Transfer) → limit ≤ most_b
     → within limit asked ≡ Ok t → HasRoom t
 has_room limit e asked t low h w =
     let both = within_limit limit asked t w in
-    let some = subst SomeIf h (some_by_opcode (opcode_of e) e) in
+    let some = some_of e.nsid (decoded_of e) asked (asked_of e) h in
     room_within limit t low (subst HasSome (sym both.0) some) both.1

@@ -7,6 +7,7 @@ use Rattle.nv_prp.specs.Place.{read_at}
 use Rattle.nv_prp.specs.Transfer as prp
 use Rattle.nv_prp.specs.declared.error.PrpError.{PrpError}
 use Rattle.nv_prp.specs.declared.error.PrpError.TheVariants.{Offset, Outside}
+pub use Rattle.nv_command.specs.Command.{length_of}
 use Rattle.nv_command.specs.Decoding.{command_of, transfer_of}
 use Rattle.nv_layout.specs.Steps.{◌>>=◌}
 use Rattle.nv_command.specs.declared.command.Command.{Command}
@@ -34,12 +35,6 @@ abbrev pub HasRoom : Transfer → Type 0
 HasRoom NoData = Unit {0}
 HasRoom (ToHost n) = (0 < n) × (n ≤ prp.most_bytes)
 HasRoom (FromHost n) = (0 < n) × (n ≤ 4096)
-
--- how many bytes a transfer has
-abbrev pub length_of : Transfer → ℕ
-length_of NoData = 0
-length_of (ToHost n) = n
-length_of (FromHost n) = n
 
 -- data that is longer than the limit is refused
 abbrev pub within : ℕ → Transfer → Result Transfer StatusCode

@@ -1,5 +1,6 @@
 -- The law that commands and replies are read back, in the form that other proofs cite.
 use Rattle.std.proofs.Common.{◌≡◌, ◌∙◌, ◌*◌, ap, false, lit<, Ok, refl, true}
+use Rattle.nv_layout.proofs.IdentifyLaws.{length-bytes_of_new_namespace}
 use Rattle.nv_layout.proofs.PartLaws.{length-part}
 use Rattle.nv_layout.proofs.RecordLaws.{length-bytes_of_ctrl_list}
 use Rattle.nv_command.proofs.EntryLaws.{entry_with_fits}
@@ -13,7 +14,7 @@ use Rattle.nv_command.specs.Logs.{IsSendable, without_phases}
 use Rattle.nv_command.specs.Form.{is_error_log, log_data}
 use Rattle.nv_command.specs.Received.{received}
 use Rattle.nv_command.proofs.ManagementLaws.{attachment_back, attachment_fits, create_back}
-use Rattle.nv_command.proofs.ManagementLaws.{length_of_creation, management_fits}
+use Rattle.nv_command.proofs.ManagementLaws.{management_fits}
 use Rattle.nv_command.specs.Reply.{FitsRecord, IsReplyTo, data_of, dword0_of, log_of, reply_in}
 use Rattle.nv_command.proofs.ReplyLaws.{length_of_page, page_arrives}
 use Rattle.nv_command.specs.inner.Room.{page_bytes}
@@ -62,7 +63,7 @@ commands_travel (Create w) cid fits low = record {
   fits = entry_with_fits _ 0 cid (management_fits 0x0 (lit< tt)) (lit< tt) low;
   transfer = λ p q. refl;
   command = λ p q. create_back w fits;
-  sent = length_of_creation w;
+  sent = length-bytes_of_new_namespace w;
 }
 commands_travel (Delete n) cid fits low = record {
   fits = entry_with_fits _ n cid (management_fits 0x1 (lit< tt)) fits low;

@@ -1,13 +1,13 @@
 -- Commands: their data, and when their fields fit.
 use Rattle.std.specs.Prelude.{ℕ, ◌^◌, ◌<◌, List, []}
 use Rattle.nv_layout.specs.CtrlList.{bytes_of_ctrl_list}
-use Rattle.nv_layout.specs.IdNs.{bytes_of_id_ns}
+use Rattle.nv_layout.specs.NewNamespace.{NewNamespaceFits, bytes_of_new_namespace}
 use Rattle.nv_command.specs.Features.{GetFeatureFits, SetFeatureFits}
 use Rattle.nv_command.specs.Form.{form_of}
 use Rattle.nv_command.specs.Format.{FormatFits}
 use Rattle.nv_command.specs.Identify.{IdentifyFits}
 use Rattle.nv_command.specs.Logs.{GetLogFits}
-use Rattle.nv_command.specs.Management.{AttachmentFits, CreateFits, asked}
+use Rattle.nv_command.specs.Management.{AttachmentFits}
 use Rattle.nv_command.specs.declared.command.Command.{Command}
 use Rattle.nv_command.specs.declared.command.Command.TheVariants.{IdentifyNamespace, AllocatedNamespace}
 use Rattle.nv_command.specs.declared.command.Command.TheVariants.{ActiveList, AllocatedList, Create}
@@ -22,7 +22,7 @@ transfer_by k = (form_of k).transfer
 
 -- the data that the host sends with it
 abbrev pub host_data_of : Command → List ℕ
-host_data_of (Create w) = bytes_of_id_ns (asked w)
+host_data_of (Create w) = bytes_of_new_namespace w
 host_data_of (Attachment n detach ids) = bytes_of_ctrl_list ids
 host_data_of k = []
 
@@ -32,7 +32,7 @@ CommandFits (IdentifyNamespace n) = IdentifyFits n
 CommandFits (AllocatedNamespace n) = IdentifyFits n
 CommandFits (ActiveList after) = IdentifyFits after
 CommandFits (AllocatedList after) = IdentifyFits after
-CommandFits (Create w) = CreateFits w
+CommandFits (Create w) = NewNamespaceFits w
 CommandFits (Delete n) = n < 2 ^ 32
 CommandFits (Attachment n detach ids) = AttachmentFits n ids
 CommandFits (Format f) = FormatFits f
@@ -40,6 +40,12 @@ CommandFits (GetFeature q) = GetFeatureFits q
 CommandFits (SetFeature x) = SetFeatureFits x
 CommandFits (GetLog q) = GetLogFits q
 CommandFits k = Unit {0}
+
+-- how many bytes it has
+abbrev pub length_of : Transfer → ℕ
+length_of NoData = 0
+length_of (ToHost n) = n
+length_of (FromHost n) = n
 
 -- how many bytes the host sends to the controller
 abbrev pub bytes_from_host : Transfer → ℕ

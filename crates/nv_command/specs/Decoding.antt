@@ -1,14 +1,17 @@
 -- The command of an entry, or the status of the first rule that the entry breaks.
 use Rattle.std.specs.Prelude.{ℕ, ◌==◌, ◌&&◌, Bool, List, Result, Ok, Err, if◌then◌else◌}
 use Rattle.nv_layout.specs.declared.sqe.Sqe.{Sqe}
+use Rattle.nv_command.specs.Command.{transfer_by}
 use Rattle.nv_command.specs.Features.{get_feature_command, set_feature_command}
+use Rattle.nv_command.specs.Form.{page_from_host}
 use Rattle.nv_command.specs.Format.{format_command}
-use Rattle.nv_command.specs.Identify.{identify_command, identify_transfer}
-use Rattle.nv_command.specs.Logs.{get_log_command, get_log_transfer}
-use Rattle.nv_command.specs.Management.{attachment_command, attachment_transfer, management_command}
-use Rattle.nv_command.specs.Management.{management_transfer}
+use Rattle.nv_command.specs.Identify.{identify_command}
+use Rattle.nv_command.specs.Logs.{get_log_command}
+use Rattle.nv_command.specs.Management.{attachment_decoded, attachment_in, create_in, management_decoded}
 use Rattle.nv_layout.specs.Steps.{◌>>=◌}
 use Rattle.nv_command.specs.declared.command.Command.{Command}
+use Rattle.nv_command.specs.declared.decoded.Decoded.{Decoded}
+use Rattle.nv_command.specs.declared.decoded.Decoded.TheVariants as decoded
 use Rattle.nv_command.specs.declared.entry.Opcode.{Opcode}
 use Rattle.nv_command.specs.declared.entry.Opcode.TheVariants.{Identify, NamespaceManagement}
 use Rattle.nv_command.specs.declared.entry.Opcode.TheVariants.{NamespaceAttachment, FormatNvm}
@@ -17,7 +20,6 @@ use Rattle.nv_command.specs.declared.status_code.StatusCode.{StatusCode}
 use Rattle.nv_command.specs.declared.status_code.StatusCode.TheVariants.{InvalidCommandOpcode}
 use Rattle.nv_command.specs.declared.status_code.StatusCode.TheVariants.{InvalidFieldInCommand}
 use Rattle.nv_command.specs.declared.transfer.Transfer.{Transfer}
-use Rattle.nv_command.specs.declared.transfer.Transfer.TheVariants.{NoData}
 
 abbrev pub opcode_by : ℕ → Result Opcode StatusCode
 opcode_by n =
@@ -40,31 +42,42 @@ opcode_of e = do
   opcode ← opcode_by e.opcode
   if is_plain e then Ok opcode else Err InvalidFieldInCommand
 
--- the data transfer by the opcode; other opcodes have no data
-abbrev pub transfer_as : Opcode → Sqe → Result Transfer StatusCode
-transfer_as Identify e = identify_transfer e
-transfer_as NamespaceManagement e = management_transfer e
-transfer_as NamespaceAttachment e = attachment_transfer e
-transfer_as GetLogPage e = Ok (get_log_transfer e)
-transfer_as o e = Ok NoData
+-- what an entry asks for by its opcode, before the data that the host sends is read
+abbrev pub decoded_as : Opcode → Sqe → Result Decoded StatusCode
+decoded_as Identify e = do
+  command ← identify_command e
+  Ok (decoded.Whole command)
+decoded_as NamespaceManagement e = management_decoded e
+decoded_as NamespaceAttachment e = attachment_decoded e
+decoded_as FormatNvm e = Ok (decoded.Whole (format_command e))
+decoded_as GetFeatures e = Ok (decoded.Whole (get_feature_command e))
+decoded_as SetFeatures e = Ok (decoded.Whole (set_feature_command e))
+decoded_as GetLogPage e = Ok (decoded.Whole (get_log_command e))
+
+abbrev pub decoded_of : Sqe → Result Decoded StatusCode
+decoded_of e = do
+  opcode ← opcode_of e
+  decoded_as opcode e
+
+-- the direction and the length of its data
+abbrev pub transfer_in : Decoded → Transfer
+transfer_in (decoded.Whole k) = transfer_by k
+transfer_in d = page_from_host
+
+-- the command with the data from the host
+abbrev pub command_with : Decoded → List ℕ → Result Command StatusCode
+command_with (decoded.Whole k) «data» = Ok k
+command_with decoded.Create «data» = create_in «data»
+command_with (decoded.Attachment n detach) «data» = attachment_in detach n «data»
 
 -- the direction and the length of an entry's data
 abbrev pub transfer_of : Sqe → Result Transfer StatusCode
 transfer_of e = do
-  opcode ← opcode_of e
-  transfer_as opcode e
-
-abbrev pub command_as : Opcode → Sqe → List ℕ → Result Command StatusCode
-command_as Identify e «data» = identify_command e
-command_as NamespaceManagement e «data» = management_command e «data»
-command_as NamespaceAttachment e «data» = attachment_command e «data»
-command_as FormatNvm e «data» = Ok (format_command e)
-command_as GetFeatures e «data» = Ok (get_feature_command e)
-command_as SetFeatures e «data» = Ok (set_feature_command e)
-command_as GetLogPage e «data» = Ok (get_log_command e)
+  asked ← decoded_of e
+  Ok (transfer_in asked)
 
 -- the command of an entry and of the data from the host
 abbrev pub command_of : Sqe → List ℕ → Result Command StatusCode
 command_of e «data» = do
-  opcode ← opcode_of e
-  command_as opcode e «data»
+  asked ← decoded_of e
+  command_with asked «data»

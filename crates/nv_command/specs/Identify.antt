@@ -4,7 +4,6 @@ use Rattle.nv_layout.specs.IdCtrl.{id_ctrl_of_bytes}
 use Rattle.nv_layout.specs.IdNs.{id_ns_of_bytes}
 use Rattle.nv_layout.specs.NsList.{ns_list_of_bytes}
 use Rattle.nv_layout.specs.declared.sqe.Sqe.{Sqe}
-use Rattle.nv_layout.specs.Steps.{◌>>=◌}
 use Rattle.nv_command.specs.declared.command.Command.{Command}
 use Rattle.nv_command.specs.declared.command.Command.TheVariants.{IdentifyController, IdentifyNamespace}
 use Rattle.nv_command.specs.declared.command.Command.TheVariants.{AllocatedNamespace, ActiveList}
@@ -13,8 +12,6 @@ use Rattle.nv_command.specs.declared.reply.Reply.{Reply}
 use Rattle.nv_command.specs.declared.reply.Reply.TheVariants as reply
 use Rattle.nv_command.specs.declared.status_code.StatusCode.{StatusCode}
 use Rattle.nv_command.specs.declared.status_code.StatusCode.TheVariants.{InvalidFieldInCommand}
-use Rattle.nv_command.specs.declared.transfer.Transfer.{Transfer}
-use Rattle.nv_command.specs.Form.{identify_data}
 
 abbrev pub IdentifyFits : ℕ → Type 0
 IdentifyFits nsid = nsid < 2 ^ 32
@@ -30,11 +27,6 @@ identify_by cns n =
 
 abbrev pub identify_command : Sqe → Result Command StatusCode
 identify_command e = identify_by (e.cdw10 % 2 ^ 8) e.nsid
-
-abbrev pub identify_transfer : Sqe → Result Transfer StatusCode
-identify_transfer e = do
-  command ← identify_command e
-  Ok identify_data
 
 -- the controller's data in a page
 abbrev pub controller_in : List ℕ → Reply

@@ -13,8 +13,7 @@ use Rattle.nv_command.specs.declared.command.Command.TheVariants.{GetLog}
 use Rattle.nv_command.specs.declared.logs.LogQuery.{LogQuery}
 use Rattle.nv_command.specs.declared.reply.Reply.{Reply}
 use Rattle.nv_command.specs.declared.reply.Reply.TheVariants as reply
-use Rattle.nv_command.specs.declared.transfer.Transfer.{Transfer}
-use Rattle.nv_command.specs.Form.{log_data, is_error_log}
+use Rattle.nv_command.specs.Form.{is_error_log}
 
 pub record GetLogFits (q : LogQuery) : Type 0 where
   pub lid : q.lid < 2 ^ 8
@@ -34,9 +33,6 @@ get_log_command e = GetLog (record {
   offset = e.cdw12 + e.cdw13 * 2 ^ 32;
   dwords = dwords_asked e;
 })
-
-abbrev pub get_log_transfer : Sqe → Transfer
-get_log_transfer e = log_data (dwords_asked e)
 
 -- an entry as it is received: its phase tag says nothing about the error and is left out
 abbrev pub entry_received : List ℕ → ErrorEntry

@@ -1,6 +1,6 @@
 //! Commands, and their conversion to and from submission queue entries.
 
-ghost use Rattle.std.specs.Prelude.{◌≡◌, ◌<◌, ◌^◌};
+ghost use Rattle.std.specs.Prelude.{◌≡◌};
 ghost use Rattle.nv_layout.specs.Sqe.{SqeFits};
 ghost use Rattle.nv_command.specs.Command.{CommandFits, host_data_of, transfer_by};
 ghost use Rattle.nv_command.specs.Form.{namespace_of};
@@ -10,16 +10,15 @@ ghost use Rattle.nv_command.specs.Form.{form_of};
 ghost use Rattle.nv_command.specs.Reply.{with_data};
 ghost use Rattle.nv_command.specs.Travel.{Arrives};
 
-use crate::entry::Opcode;
+use crate::decoded::Decoded;
 use crate::features::{FeatureQuery, FeatureSetting};
 use crate::form::{Form, ReplyKind};
 use crate::format::NewFormat;
 use crate::logs::LogQuery;
-use crate::management::NewNamespace;
 use crate::status_code::StatusCode;
 use crate::transfer::Transfer;
-use crate::{features, format, identify, logs, management};
-use nv_layout::{ControllerIds, CtrlList, Sqe};
+use crate::{identify, management};
+use nv_layout::{ControllerIds, CtrlList, NewNamespace, Sqe};
 
 /// The NSID that stands for all namespaces. Section "Namespace Identifier".
 pub const BROADCAST_NSID: u32 = 0xffff_ffff;
@@ -69,11 +68,6 @@ pub enum Command<'a> {
     GetLog(LogQuery),
 }
 
-/// States a law: an NSID fits 32 bits. The call does nothing.
-fn nsid_fits(nsid: u32)
-    ensures { nsid < 2 ^ 32 }
-{}
-
 impl<'a> Command<'a> {
     /// Returns the command's form: its entry, its data, and the kind of its reply.
     pub(crate) fn form(&self) -> Form
@@ -89,13 +83,20 @@ impl<'a> Command<'a> {
             }
             Command::ActiveList { after } => identify::form_by(0x02, *after, ReplyKind::List),
             Command::AllocatedList { after } => identify::form_by(0x10, *after, ReplyKind::List),
-            Command::Create(_) => management::create_form(),
-            Command::Delete { nsid } => management::delete_form(*nsid),
-            Command::Attachment { nsid, detach, .. } => management::attachment_form(*nsid, *detach),
-            Command::Format(asked) => format::form_by(*asked),
-            Command::GetFeature(asked) => features::get_form(*asked),
-            Command::SetFeature(asked) => features::set_form(*asked),
-            Command::GetLog(asked) => logs::form_by(*asked),
+            Command::Create(_) => {
+                management::fields(0x0).form(0, management::TRANSFER, ReplyKind::Number)
+            }
+            Command::Delete { nsid } => {
+                management::fields(0x1).form(*nsid, Transfer::NoData, ReplyKind::Done)
+            }
+            Command::Attachment { nsid, detach, .. } => {
+                let fields = management::attachment_fields(*detach);
+                fields.form(*nsid, management::TRANSFER, ReplyKind::Done)
+            }
+            Command::Format(asked) => asked.form(),
+            Command::GetFeature(asked) => asked.form(),
+            Command::SetFeature(asked) => asked.form(),
+            Command::GetLog(asked) => asked.form(),
         }
     }
 
@@ -119,32 +120,55 @@ impl<'a> Command<'a> {
     pub fn fits(&self)
         ensures { CommandFits self.now }
     {
+        // The range of a field is known once the field is read.
         match self {
             Command::IdentifyController => {}
-            Command::IdentifyNamespace { nsid } | Command::AllocatedNamespace { nsid } => {
-                nsid_fits(*nsid)
+            Command::IdentifyNamespace { nsid }
+            | Command::AllocatedNamespace { nsid }
+            | Command::Delete { nsid } => {
+                let _nsid = *nsid;
             }
-            Command::ActiveList { after } | Command::AllocatedList { after } => nsid_fits(*after),
-            Command::Create(wanted) => management::create_fits(*wanted),
-            Command::Delete { nsid } => nsid_fits(*nsid),
-            Command::Attachment { nsid, list, .. } => management::attachment_fits(*nsid, list),
-            Command::Format(asked) => format::fits(*asked),
-            Command::GetFeature(asked) => features::get_fits(*asked),
-            Command::SetFeature(asked) => features::set_fits(*asked),
-            Command::GetLog(asked) => logs::fits(*asked),
+            Command::ActiveList { after } | Command::AllocatedList { after } => {
+                let _after = *after;
+            }
+            Command::Create(wanted) => wanted.fits(),
+            Command::Attachment { nsid, list, .. } => {
+                let _nsid = *nsid;
+                list.fits();
+            }
+            Command::Format(asked) => asked.fits(),
+            Command::GetFeature(asked) => asked.fits(),
+            Command::SetFeature(asked) => asked.fits(),
+            Command::GetLog(asked) => asked.fits(),
         }
     }
 
-    /// Returns its submission queue entry with this command identifier. The data pointer (PRP1 and
-    /// PRP2) is 0.
+    /// Returns its submission queue entry with this command identifier. All that no command sets is
+    /// 0: the data pointer (PRP1 and PRP2) too, and there is no fused operation, no SGL and no
+    /// metadata.
     pub fn entry(&self, cid: u16) -> Sqe
         ensures entry { result ≡ entry_of self.now cid }
         ensures fits { SqeFits result }
         ensures arrives { Arrives self.now cid }
     {
         self.fits();
-        let form = self.form();
-        form.fields.entry(form.nsid, cid)
+        let Form { fields, nsid, .. } = self.form();
+        Sqe {
+            opcode: fields.opcode,
+            fuse: 0,
+            psdt: 0,
+            cid,
+            nsid,
+            mptr: 0,
+            prp1: 0,
+            prp2: 0,
+            cdw10: fields.cdw10,
+            cdw11: fields.cdw11,
+            cdw12: fields.cdw12,
+            cdw13: fields.cdw13,
+            cdw14: 0,
+            cdw15: 0,
+        }
     }
 
     /// Writes the data that the host sends with it to the beginning of a page of 4,096 bytes.
@@ -153,28 +177,17 @@ impl<'a> Command<'a> {
         ensures { page.new ≡ with_data (host_data_of self.now) page.old }
     {
         match self {
-            Command::Create(wanted) => management::asked(*wanted).put(page),
+            Command::Create(wanted) => wanted.put(page),
             Command::Attachment { list, .. } => list.put(page),
             _ => {}
         }
     }
 
     /// Returns the command of an entry and of the data that the host sent with it, or the status of
-    /// the first rule that it breaks: its opcode is unknown, it is fused or uses SGLs, a field of
-    /// it has no meaning, its data isn't a page of 4,096 bytes, or it lists too many controllers.
-    /// Bits without meaning are ignored, and so is data if the command has none. Listed controllers
-    /// are written to `place`, whose contents don't matter before.
+    /// the first rule that the entry or its data breaks, as `Decoded::of` and `Decoded::command` do.
     pub fn of(entry: &Sqe, sent: &[u8], place: &'a mut CtrlList) -> Result<Command<'a>, StatusCode>
         ensures { result ≡ command_of entry.now sent.now }
     {
-        match Opcode::of(entry)? {
-            Opcode::Identify => identify::command(entry),
-            Opcode::NamespaceManagement => management::command(entry, sent),
-            Opcode::NamespaceAttachment => management::attachment_command(entry, sent, place),
-            Opcode::FormatNvm => Ok(format::command(entry)),
-            Opcode::GetFeatures => Ok(features::get_command(entry)),
-            Opcode::SetFeatures => Ok(features::set_command(entry)),
-            Opcode::GetLogPage => Ok(logs::command(entry)),
-        }
+        Decoded::of(entry)?.command(sent, place)
     }
 }

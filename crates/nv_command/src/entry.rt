@@ -1,11 +1,12 @@
 //! The fields of a submission queue entry that depend on the command alone.
 
 ghost use Rattle.std.specs.Prelude.{◌≡◌};
-ghost use Rattle.nv_layout.specs.Sqe.{SqeFits};
-ghost use Rattle.nv_command.specs.Entry.{entry_with};
 ghost use Rattle.nv_command.specs.Decoding.{opcode_of};
+ghost use Rattle.nv_command.specs.Form.{form};
 
+use crate::form::{Form, ReplyKind};
 use crate::status_code::StatusCode;
+use crate::transfer::Transfer;
 use nv_layout::Sqe;
 
 /// The opcode of a command and its command specific dwords.
@@ -19,27 +20,15 @@ pub struct Fields {
 }
 
 impl Fields {
-    /// Returns the entry with these fields. All others are 0: no fused operation, PRPs, and no
-    /// metadata.
-    pub(crate) fn entry(self, nsid: u32, cid: u16) -> Sqe
-        ensures entry { result ≡ entry_with self nsid cid }
-        ensures fits { SqeFits result }
+    /// Returns the form of a command with these fields.
+    pub(crate) fn form(self, nsid: u32, transfer: Transfer, reply: ReplyKind) -> Form
+        ensures { result ≡ form self nsid transfer reply }
     {
-        Sqe {
-            opcode: self.opcode,
-            fuse: 0,
-            psdt: 0,
-            cid,
+        Form {
+            fields: self,
             nsid,
-            mptr: 0,
-            prp1: 0,
-            prp2: 0,
-            cdw10: self.cdw10,
-            cdw11: self.cdw11,
-            cdw12: self.cdw12,
-            cdw13: self.cdw13,
-            cdw14: 0,
-            cdw15: 0,
+            transfer,
+            reply,
         }
     }
 }

@@ -2,10 +2,7 @@
 //! command".
 
 ghost use Rattle.std.specs.Prelude.{◌≡◌};
-ghost use Rattle.nv_command.specs.Features.{GetFeatureFits, SetFeatureFits, get_feature_command};
-ghost use Rattle.nv_command.specs.Features.{set_feature_command};
-ghost use Rattle.nv_command.specs.Form.{get_feature_fields, set_feature_fields};
-ghost use Rattle.nv_command.specs.Form.{form};
+ghost use Rattle.nv_command.specs.Features.{get_feature_command, set_feature_command};
 
 use crate::command::Command;
 use crate::entry::Fields;
@@ -32,71 +29,58 @@ pub struct FeatureSetting {
     pub nsid: u32,
 }
 
-/// Returns the fields of a Get Features command.
-fn get_fields(asked: FeatureQuery) -> Fields
-    ensures { result ≡ get_feature_fields asked }
-{
-    Fields {
-        opcode: 0x0a,
-        cdw10: to_bits(asked.fid as u32, 0, 8) + to_bits(asked.sel.get() as u32, 8, 3),
-        cdw11: asked.cdw11,
-        cdw12: 0,
-        cdw13: 0,
+impl FeatureQuery {
+    ghost use Rattle.std.specs.Prelude.{◌≡◌};
+    ghost use Rattle.nv_command.specs.Features.{GetFeatureFits};
+    ghost use Rattle.nv_command.specs.Form.{form, get_feature_fields};
+
+    /// Returns the form of a Get Features command. Its reply is the value.
+    pub(crate) fn form(self) -> Form
+        ensures { result
+            ≡ form (get_feature_fields self) self.nsid Transfer.NoData ReplyKind.Number }
+    {
+        let fields = Fields {
+            opcode: 0x0a,
+            cdw10: to_bits(self.fid as u32, 0, 8) + to_bits(self.sel.get() as u32, 8, 3),
+            cdw11: self.cdw11,
+            cdw12: 0,
+            cdw13: 0,
+        };
+        fields.form(self.nsid, Transfer::NoData, ReplyKind::Number)
+    }
+
+    /// States a law: each field fits its bits, as its type says. The call does nothing.
+    pub(crate) fn fits(self)
+        ensures { GetFeatureFits self }
+    {
+        self.sel.get();
     }
 }
 
-/// Returns the fields of a Set Features command.
-fn set_fields(asked: FeatureSetting) -> Fields
-    ensures { result ≡ set_feature_fields asked }
-{
-    Fields {
-        opcode: 0x09,
-        cdw10: to_bits(asked.fid as u32, 0, 8) + to_bits(asked.save as u32, 31, 1),
-        cdw11: asked.value,
-        cdw12: 0,
-        cdw13: 0,
+impl FeatureSetting {
+    ghost use Rattle.std.specs.Prelude.{◌≡◌};
+    ghost use Rattle.nv_command.specs.Features.{SetFeatureFits};
+    ghost use Rattle.nv_command.specs.Form.{form, set_feature_fields};
+
+    /// Returns the form of a Set Features command.
+    pub(crate) fn form(self) -> Form
+        ensures { result ≡ form (set_feature_fields self) self.nsid Transfer.NoData ReplyKind.Done }
+    {
+        let fields = Fields {
+            opcode: 0x09,
+            cdw10: to_bits(self.fid as u32, 0, 8) + to_bits(self.save as u32, 31, 1),
+            cdw11: self.value,
+            cdw12: 0,
+            cdw13: 0,
+        };
+        fields.form(self.nsid, Transfer::NoData, ReplyKind::Done)
     }
-}
 
-/// Returns the form of a Get Features command. Its reply is the value.
-pub(crate) fn get_form(asked: FeatureQuery) -> Form
-    ensures { result
-        ≡ form (get_feature_fields asked) asked.nsid Transfer.NoData ReplyKind.Number }
-{
-    let nsid = asked.nsid;
-    Form {
-        fields: get_fields(asked),
-        nsid,
-        transfer: Transfer::NoData,
-        reply: ReplyKind::Number,
-    }
+    /// States a law: each field fits its bits, as its type says. The call does nothing.
+    pub(crate) fn fits(self)
+        ensures { SetFeatureFits self }
+    {}
 }
-
-/// Returns the form of a Set Features command.
-pub(crate) fn set_form(asked: FeatureSetting) -> Form
-    ensures { result ≡ form (set_feature_fields asked) asked.nsid Transfer.NoData ReplyKind.Done }
-{
-    Form {
-        fields: set_fields(asked),
-        nsid: asked.nsid,
-        transfer: Transfer::NoData,
-        reply: ReplyKind::Done,
-    }
-}
-
-/// States a law: the fields of a Get Features fit their bits, as their types say. The call does
-/// nothing.
-pub(crate) fn get_fits(asked: FeatureQuery)
-    ensures { GetFeatureFits asked }
-{
-    asked.sel.get();
-}
-
-/// States a law: the fields of a Set Features fit their bits, as their types say. The call does
-/// nothing.
-pub(crate) fn set_fits(asked: FeatureSetting)
-    ensures { SetFeatureFits asked }
-{}
 
 /// Returns the command of a Get Features entry.
 pub(crate) fn get_command<'a>(entry: &Sqe) -> Command<'a>

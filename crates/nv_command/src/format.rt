@@ -1,9 +1,7 @@
 //! The command that formats a namespace. Section "Format NVM command".
 
 ghost use Rattle.std.specs.Prelude.{◌≡◌};
-ghost use Rattle.nv_command.specs.Form.{form};
-ghost use Rattle.nv_command.specs.Format.{FormatFits, format_command};
-ghost use Rattle.nv_command.specs.Form.{format_fields};
+ghost use Rattle.nv_command.specs.Format.{format_command};
 
 use crate::command::Command;
 use crate::entry::Fields;
@@ -22,47 +20,41 @@ pub struct NewFormat {
     pub ses: ThreeBits,
 }
 
-/// The fields of a Format NVM command.
-fn fields(asked: NewFormat) -> Fields
-    ensures { result ≡ format_fields asked }
-{
-    let cdw10 = to_bits(asked.lbaf.get() as u32, 0, 4)
-        + to_bits(asked.mset as u32, 4, 1)
-        + to_bits(asked.pi.get() as u32, 5, 3)
-        + to_bits(asked.pil as u32, 8, 1)
-        + to_bits(asked.ses.get() as u32, 9, 3);
-    Fields {
-        opcode: 0x80,
-        cdw10,
-        cdw11: 0,
-        cdw12: 0,
-        cdw13: 0,
+impl NewFormat {
+    ghost use Rattle.std.specs.Prelude.{◌≡◌};
+    ghost use Rattle.nv_command.specs.Form.{form, format_fields};
+    ghost use Rattle.nv_command.specs.Format.{FormatFits};
+
+    /// Returns the form of a Format NVM command.
+    pub(crate) fn form(self) -> Form
+        ensures { result ≡ form (format_fields self) self.nsid Transfer.NoData ReplyKind.Done }
+    {
+        let cdw10 = to_bits(self.lbaf.get() as u32, 0, 4)
+            + to_bits(self.mset as u32, 4, 1)
+            + to_bits(self.pi.get() as u32, 5, 3)
+            + to_bits(self.pil as u32, 8, 1)
+            + to_bits(self.ses.get() as u32, 9, 3);
+        let fields = Fields {
+            opcode: 0x80,
+            cdw10,
+            cdw11: 0,
+            cdw12: 0,
+            cdw13: 0,
+        };
+        fields.form(self.nsid, Transfer::NoData, ReplyKind::Done)
+    }
+
+    /// States a law: each field fits its bits, as its type says. The call does nothing.
+    pub(crate) fn fits(self)
+        ensures { FormatFits self }
+    {
+        self.lbaf.get();
+        self.pi.get();
+        self.ses.get();
     }
 }
 
-/// How a Format NVM command travels.
-pub(crate) fn form_by(asked: NewFormat) -> Form
-    ensures { result ≡ form (format_fields asked) asked.nsid Transfer.NoData ReplyKind.Done }
-{
-    let nsid = asked.nsid;
-    Form {
-        fields: fields(asked),
-        nsid,
-        transfer: Transfer::NoData,
-        reply: ReplyKind::Done,
-    }
-}
-
-/// What a format says fits its bits, as its types say. The call does nothing.
-pub(crate) fn fits(asked: NewFormat)
-    ensures { FormatFits asked }
-{
-    asked.lbaf.get();
-    asked.pi.get();
-    asked.ses.get();
-}
-
-/// The command of a Format NVM entry.
+/// Returns the command of a Format NVM entry.
 pub(crate) fn command<'a>(entry: &Sqe) -> Command<'a>
     ensures { result ≡ format_command entry.now }
 {

@@ -1,9 +1,8 @@
 //! The Identify commands. Section "Identify command".
 
 ghost use Rattle.std.specs.Prelude.{◌≡◌};
-ghost use Rattle.nv_command.specs.Form.{form};
-ghost use Rattle.nv_command.specs.Identify.{identify_command, identify_transfer};
-ghost use Rattle.nv_command.specs.Form.{identify_data, identify_fields};
+ghost use Rattle.nv_command.specs.Form.{form, identify_data, identify_fields};
+ghost use Rattle.nv_command.specs.Identify.{identify_command};
 
 use crate::command::Command;
 use crate::entry::Fields;
@@ -12,32 +11,19 @@ use crate::status_code::StatusCode;
 use crate::transfer::Transfer;
 use nv_layout::Sqe;
 
-/// The data of every Identify command.
-pub const TRANSFER: Transfer = Transfer::ToHost(4096);
-
-/// Returns the fields of an Identify command of this Controller or Namespace Structure (CNS).
-fn fields(cns: u8) -> Fields
-    ensures { result ≡ identify_fields cns }
+/// Returns the form of an Identify command with this Controller or Namespace Structure (CNS) and
+/// this kind of reply.
+pub(crate) fn form_by(cns: u8, nsid: u32, reply: ReplyKind) -> Form
+    ensures { result ≡ form (identify_fields cns) nsid identify_data reply }
 {
-    Fields {
+    let fields = Fields {
         opcode: 0x06,
         cdw10: cns as u32,
         cdw11: 0,
         cdw12: 0,
         cdw13: 0,
-    }
-}
-
-/// Returns the form of an Identify command with this CNS and this kind of reply.
-pub(crate) fn form_by(cns: u8, nsid: u32, reply: ReplyKind) -> Form
-    ensures { result ≡ form (identify_fields cns) nsid identify_data reply }
-{
-    Form {
-        fields: fields(cns),
-        nsid,
-        transfer: TRANSFER,
-        reply,
-    }
+    };
+    fields.form(nsid, Transfer::ToHost(4096), reply)
 }
 
 /// Returns the command of an Identify entry.
@@ -53,12 +39,4 @@ pub(crate) fn command<'a>(entry: &Sqe) -> Result<Command<'a>, StatusCode>
         0x11 => Ok(Command::AllocatedNamespace { nsid }),
         _ => Err(StatusCode::InvalidFieldInCommand),
     }
-}
-
-/// Returns the data transfer of an Identify entry.
-pub(crate) fn transfer(entry: &Sqe) -> Result<Transfer, StatusCode>
-    ensures { result ≡ identify_transfer entry.now }
-{
-    command(entry)?;
-    Ok(TRANSFER)
 }

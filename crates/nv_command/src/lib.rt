@@ -12,6 +12,7 @@ ghost use Rattle.nv_command.specs.Travel.{CommandsTravel, RepliesFit, RepliesTra
 
 mod borrowed;
 mod command;
+mod decoded;
 mod dword_count;
 mod entry;
 mod features;
@@ -28,11 +29,12 @@ mod transfer;
 
 pub use borrowed::Borrowed;
 pub use command::{BROADCAST_NSID, Command};
+pub use decoded::Decoded;
 pub use dword_count::DwordCount;
 pub use features::{FeatureQuery, FeatureSetting};
 pub use format::NewFormat;
 pub use logs::{ERROR_INFORMATION, HEALTH, LogQuery};
-pub use management::NewNamespace;
+pub use nv_layout::NewNamespace;
 pub use refusal::Refusal;
 pub use reply::Reply;
 pub use reply_room::ReplyRoom;

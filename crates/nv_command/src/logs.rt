@@ -1,9 +1,7 @@
 //! The command that reads logs. Section "Get Log Page command".
 
 ghost use Rattle.std.specs.Prelude.{◌≡◌};
-ghost use Rattle.nv_command.specs.Form.{form};
-ghost use Rattle.nv_command.specs.Logs.{GetLogFits, get_log_command, get_log_transfer};
-ghost use Rattle.nv_command.specs.Form.{get_log_fields, is_error_log, log_data, log_kind};
+ghost use Rattle.nv_command.specs.Logs.{get_log_command};
 
 use crate::command::Command;
 use crate::dword_count::DwordCount;
@@ -27,56 +25,38 @@ pub struct LogQuery {
     pub dwords: DwordCount,
 }
 
-/// Returns the fields of a Get Log Page command.
-fn fields(asked: LogQuery) -> Fields
-    ensures { result ≡ get_log_fields asked }
-{
-    let numd = asked.dwords.zeros_based();
-    Fields {
-        opcode: 0x02,
-        cdw10: to_bits(asked.lid as u32, 0, 8) + to_bits(numd, 16, 16),
-        cdw11: bits_of(numd, 16, 16),
-        cdw12: (asked.offset % 0x1_0000_0000) as u32,
-        cdw13: (asked.offset / 0x1_0000_0000) as u32,
-    }
-}
+impl LogQuery {
+    ghost use Rattle.std.specs.Prelude.{◌≡◌};
+    ghost use Rattle.nv_command.specs.Form.{form, get_log_fields, is_error_log, log_data, log_kind};
+    ghost use Rattle.nv_command.specs.Logs.{GetLogFits};
 
-/// Returns the kind of reply with which a log is returned.
-fn kind(lid: u8) -> ReplyKind
-    ensures { result ≡ log_kind (is_error_log lid) }
-{
-    if lid == ERROR_INFORMATION {
-        ReplyKind::Errors
-    } else {
-        ReplyKind::Smart
+    /// Returns the form of a Get Log Page command.
+    pub(crate) fn form(self) -> Form
+        ensures { result ≡ form (get_log_fields self) self.nsid (log_data self.dwords)
+            (log_kind (is_error_log self.lid)) }
+    {
+        let numd = self.dwords.zeros_based();
+        let fields = Fields {
+            opcode: 0x02,
+            cdw10: to_bits(self.lid as u32, 0, 8) + to_bits(numd, 16, 16),
+            cdw11: bits_of(numd, 16, 16),
+            cdw12: (self.offset % 0x1_0000_0000) as u32,
+            cdw13: (self.offset / 0x1_0000_0000) as u32,
+        };
+        let reply = if self.lid == ERROR_INFORMATION {
+            ReplyKind::Errors
+        } else {
+            ReplyKind::Smart
+        };
+        fields.form(self.nsid, Transfer::ToHost(self.dwords.bytes()), reply)
     }
-}
 
-/// Returns the form of a Get Log Page command.
-pub(crate) fn form_by(asked: LogQuery) -> Form
-    ensures { result ≡ form (get_log_fields asked) asked.nsid (log_data asked.dwords)
-        (log_kind (is_error_log asked.lid)) }
-{
-    let LogQuery {
-        lid,
-        nsid,
-        dwords,
-        ..
-    } = asked;
-    Form {
-        fields: fields(asked),
-        nsid,
-        transfer: Transfer::ToHost(dwords.bytes()),
-        reply: kind(lid),
+    /// States a law: each field fits its bits, as its type says. The call does nothing.
+    pub(crate) fn fits(self)
+        ensures { GetLogFits self }
+    {
+        self.dwords.zeros_based();
     }
-}
-
-/// States a law: the fields of a Get Log Page fit their bits, as their types say. The call does
-/// nothing.
-pub(crate) fn fits(asked: LogQuery)
-    ensures { GetLogFits asked }
-{
-    asked.dwords.zeros_based();
 }
 
 /// Returns the command of a Get Log Page entry.
@@ -90,11 +70,4 @@ pub(crate) fn command<'a>(entry: &Sqe) -> Command<'a>
         offset: u64::from(entry.cdw12) + u64::from(entry.cdw13) * 0x1_0000_0000,
         dwords: DwordCount::from_zeros_based(numd),
     })
-}
-
-/// Returns the data transfer of a Get Log Page entry.
-pub(crate) fn transfer(entry: &Sqe) -> Transfer
-    ensures { result ≡ get_log_transfer entry.now }
-{
-    command(entry).transfer()
 }

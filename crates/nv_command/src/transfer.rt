@@ -1,11 +1,11 @@
 //! The data transfer of a command.
 
 ghost use Rattle.std.specs.Prelude.{◌≡◌};
+ghost use Rattle.nv_command.specs.Command.{length_of};
 ghost use Rattle.nv_command.specs.Decoding.{transfer_of};
 
-use crate::entry::Opcode;
+use crate::decoded::Decoded;
 use crate::status_code::StatusCode;
-use crate::{identify, logs, management};
 use nv_layout::Sqe;
 
 /// The direction and the length of the data of a command, which isn't in its entry or its
@@ -22,17 +22,20 @@ pub enum Transfer {
 
 impl Transfer {
     /// Returns the data transfer of an entry's command, or the status of the first rule that the
-    /// entry breaks: its opcode is unknown, it is fused or uses SGLs, or a field of it has no
-    /// meaning.
+    /// entry breaks, as `Decoded::of` does.
     pub fn of(entry: &Sqe) -> Result<Transfer, StatusCode>
         ensures { result ≡ transfer_of entry.now }
     {
-        match Opcode::of(entry)? {
-            Opcode::Identify => identify::transfer(entry),
-            Opcode::NamespaceManagement => management::transfer(entry),
-            Opcode::NamespaceAttachment => management::attachment_transfer(entry),
-            Opcode::GetLogPage => Ok(logs::transfer(entry)),
-            _ => Ok(Transfer::NoData),
+        Ok(Decoded::of(entry)?.transfer())
+    }
+
+    /// Returns how many bytes the data has.
+    pub fn bytes(self) -> u64
+        ensures { result ≡ length_of self }
+    {
+        match self {
+            Transfer::NoData => 0,
+            Transfer::ToHost(len) | Transfer::FromHost(len) => len,
         }
     }
 }

@@ -1,19 +1,17 @@
 //! Reads an entry's command and finds its data, before the command is executed.
 
-ghost use Rattle.std.specs.Prelude.{◌≡◌, ◌<◌, ◌≤◌, [], Ok, Err, IfOk, MatchResult, OnOk, length};
+ghost use Rattle.std.specs.Prelude.{◌≡◌, ◌≤◌, Ok, Err, IfOk, MatchResult, OnOk, length};
 ghost use Rattle.nv_command.specs.Command.{transfer_by};
-ghost use Rattle.nv_command.specs.Decoding.{command_of};
 ghost use Rattle.nv_prp.specs.Place.{LieIn, places};
-ghost use Rattle.nv_prp.specs.Transfer.{most_bytes, transfer};
-ghost use Rattle.nv_bus.specs.Call.{HasRoom, call_of, data_places, length_of, places_of};
-ghost use Rattle.nv_bus.specs.Call.{within};
-ghost use Rattle.nv_bus.specs.Call.{prp_status, sent_from};
+ghost use Rattle.nv_prp.specs.Transfer.{most_bytes};
+ghost use Rattle.nv_bus.specs.Call.{HasRoom, call_of, data_places, length_of, prp_status};
+ghost use Rattle.nv_bus.specs.Call.{sent_from};
 
 use crate::scratch::EntryData;
-use nv_command::{Command, StatusCode, Transfer};
+use nv_command::{Command, Decoded, StatusCode, Transfer};
 use nv_host::HostMemory;
 use nv_layout::{CtrlList, Sqe};
-use nv_prp::{PrpError, Spans, copy_in, walk};
+use nv_prp::{PrpError, Spans, view_in, walk};
 
 /// Returns the status of a faulty data pointer. Section "Generic Command Status Definition".
 fn prp_status(fault: PrpError) -> StatusCode
@@ -25,30 +23,8 @@ fn prp_status(fault: PrpError) -> StatusCode
     }
 }
 
-/// Walks the data pointer of an entry for a transfer of `len` bytes.
-#[tactic(auto, unfolding(nv_bus::specs::Call::places_of))]
-fn walk_data<M: HostMemory>(
-    mem: &M,
-    entry: &Sqe,
-    len: u64,
-    spans: &mut Spans,
-) -> Result<(), StatusCode>
-    requires some { 0 < len }
-    requires limit { len ≤ most_bytes }
-    ensures found { let bytes = M.bytes mem.now in
-        let t = transfer (M.page_len mem.now) bytes entry.now.prp1 entry.now.prp2 len in
-        MatchResult result (λ _. places_of t ≡ Ok (places spans.new))
-        (λ code. places_of t ≡ Err code) }
-    ensures inside { OnOk result (LieIn (length (M.bytes mem.now)) spans.new) }
-    ensures len { OnOk result (length (places spans.new) ≡ len) }
-{
-    match walk(mem, entry.prp1, entry.prp2, len as u32, spans) {
-        Ok(()) => Ok(()),
-        Err(fault) => Err(prp_status(fault)),
-    }
-}
-
 /// Finds where an entry's data lies.
+#[tactic(auto, unfolding(nv_bus::specs::Call::places_of))]
 fn find_data<M: HostMemory>(
     mem: &M,
     entry: &Sqe,
@@ -68,13 +44,18 @@ fn find_data<M: HostMemory>(
             spans.clear();
             Ok(())
         }
-        Transfer::ToHost(len) | Transfer::FromHost(len) => walk_data(mem, entry, len, spans),
+        Transfer::ToHost(len) | Transfer::FromHost(len) => {
+            match walk(mem, entry.prp1, entry.prp2, len as u32, spans) {
+                Ok(()) => Ok(()),
+                Err(fault) => Err(prp_status(fault)),
+            }
+        }
     }
 }
 
-/// Returns the bytes that the host sends, if it sends any. `page` receives them.
+/// Returns the bytes that the host sends, if it sends any: where they lie, or else a copy in `page`.
 fn read_sent<'a, M: HostMemory>(
-    mem: &M,
+    mem: &'a M,
     moves: Transfer,
     spans: &Spans,
     page: &'a mut [u8; 4096],
@@ -86,32 +67,13 @@ fn read_sent<'a, M: HostMemory>(
 {
     match moves {
         Transfer::NoData | Transfer::ToHost(_) => &[],
-        Transfer::FromHost(len) => {
-            let sent = &mut page[..len as usize];
-            copy_in(mem, spans, sent);
-            sent
-        }
+        Transfer::FromHost(len) => view_in(mem, spans, &mut page[..len as usize]),
     }
-}
-
-/// Returns the data transfer of an entry's command, or refuses it if it is longer than `limit`
-/// bytes.
-fn check_length(moves: Transfer, limit: u64) -> Result<Transfer, StatusCode>
-    ensures { result ≡ within limit moves }
-{
-    let len = match moves {
-        Transfer::NoData => 0,
-        Transfer::ToHost(len) | Transfer::FromHost(len) => len,
-    };
-    if limit < len {
-        return Err(StatusCode::InvalidFieldInCommand);
-    }
-    Ok(moves)
 }
 
 /// Returns the command of an entry, or the status of the first rule that the entry or its data
-/// breaks. The data has at most `limit` bytes. `entry_data` receives where it lies and what the
-/// host sends, and `listed` the controllers that it lists.
+/// breaks. The data has at most `limit` bytes. `entry_data` receives where it lies, and what the
+/// host sends if that isn't in one page, and `listed` the controllers that it lists.
 pub(crate) fn read_call<'a, M: HostMemory>(
     mem: &M,
     entry: &Sqe,
@@ -124,15 +86,19 @@ pub(crate) fn read_call<'a, M: HostMemory>(
         MatchResult result
         (λ command. found ≡ Ok (record { command = command; places = places entry_data.new.spans }))
         (λ code. found ≡ Err code) }
+    ensures transfer { IfOk result (λ command. entry_data.new.transfer ≡ transfer_by command) }
     ensures inside { OnOk result (LieIn (length (M.bytes mem.now)) entry_data.new.spans) }
     ensures len { IfOk result
         (λ command. length (places entry_data.new.spans) ≡ length_of (transfer_by command)) }
     ensures few { OnOk result (length (places entry_data.new.spans) ≤ most_bytes) }
 {
-    let asked = Transfer::of(entry)?;
-    let moves = check_length(asked, limit)?;
+    let asked = Decoded::of(entry)?;
+    let moves = asked.transfer();
+    if limit < moves.bytes() {
+        return Err(StatusCode::InvalidFieldInCommand);
+    }
+    entry_data.transfer = moves;
     find_data(mem, entry, moves, &mut entry_data.spans)?;
     let sent = read_sent(mem, moves, &entry_data.spans, &mut entry_data.page);
-    let command = Command::of(entry, sent, listed)?;
-    Ok(command)
+    asked.command(sent, listed)
 }

@@ -1,9 +1,9 @@
 //! Executes one entry.
 
-ghost use Rattle.std.specs.Prelude.{◌≡◌, ◌*◌, ◌<◌, ◌≤◌, Err, Ok, length, true};
+ghost use Rattle.std.specs.Prelude.{◌≡◌, ◌*◌, ◌<◌, ◌≤◌, length, true};
 ghost use Rattle.nv_layout.specs.Parts.{part};
 ghost use Rattle.nv_command.specs.Command.{transfer_by};
-ghost use Rattle.nv_command.specs.Reply.{FitsRecord, IsReplyTo, data_of, log_of, page_of};
+ghost use Rattle.nv_command.specs.Reply.{FitsRecord, IsReplyTo, data_of, log_of};
 ghost use Rattle.nv_prp.specs.Place.{LieIn, places, written_at};
 ghost use Rattle.nv_prp.specs.Transfer.{most_bytes};
 ghost use Rattle.nv_model.specs.Logs.{log_reply};
@@ -11,7 +11,7 @@ ghost use Rattle.nv_model.specs.Meaning.{refusal_of, reply_of};
 ghost use Rattle.nv_model.specs.Step.{step};
 ghost use Rattle.nv_model.specs.WellFormed.{IsWellFormed};
 ghost use Rattle.nv_bus.specs.Call.{call_of, length_of};
-ghost use Rattle.nv_bus.specs.Entry.{Moves, MovesBy, One, completion_of, scene};
+ghost use Rattle.nv_bus.specs.Entry.{Moves, MovesBy, One, scene};
 ghost use Rattle.nv_bus.specs.Entry.{step_unless, told_by};
 ghost use Rattle.nv_model.specs.Conditions.{limit_of};
 ghost use Rattle.nv_bus.specs.Turn.{can_take, reaches};
@@ -21,7 +21,7 @@ ghost use Rattle.nv_subsystem.specs.Tagged.{settled, untagged};
 use crate::call::read_call;
 use crate::log_part::LogPart;
 use crate::reply_page::ReplyPage;
-use crate::scratch::Scratch;
+use crate::scratch::{EntryData, Scratch};
 use nv_bus::Told;
 use nv_command::{Command, LogQuery, Refusal, Transfer};
 use nv_host::HostMemory;
@@ -29,83 +29,6 @@ use nv_layout::{Cqe, Sqe, Status};
 use nv_prp::{Spans, copy_out, write_out};
 use nv_register::Rings;
 use nv_subsystem::{Origin, Subsystem};
-
-/// Returns what a completion says about the reply to an accepted command.
-fn reply_told(subsystem: &Subsystem, ctrl: u16, command: &Command) -> Told
-    requires { ctrl < length subsystem.now.controllers }
-    ensures { result ≡ told_by (Ok (reply_of subsystem.now ctrl command.now)) }
-{
-    Told {
-        dword0: subsystem.dword0(ctrl, command),
-        status: Status::SUCCESS,
-    }
-}
-
-/// Returns what a completion says about a refusal.
-fn refusal_told(refusal: &Refusal) -> Told
-    ensures { result ≡ told_by (Err refusal.now.status) }
-{
-    Told {
-        dword0: 0,
-        status: refusal.status,
-    }
-}
-
-/// Returns the completion that says this. The ring sets its phase tag.
-fn completion(told: Told, cid: u16, sq_head: u16) -> Cqe
-    ensures { result ≡ completion_of cid sq_head told }
-{
-    Cqe {
-        command_specific: told.dword0,
-        sq_head,
-        sq_identifier: 0,
-        cid,
-        phase: false,
-        status: told.status,
-    }
-}
-
-/// Writes the page of the reply to an accepted command, if it has one, to the spans of the entry's
-/// data. A log has none.
-fn deliver_page<M: HostMemory>(
-    subsystem: &Subsystem,
-    ctrl: u16,
-    mem: &mut M,
-    command: &Command,
-    spans: &Spans,
-)
-    requires ctrl { ctrl < length subsystem.now.controllers }
-    requires page { let reply = reply_of subsystem.now ctrl command.now in
-        data_of command.now reply ≡ page_of reply }
-    requires inside { LieIn (length (M.bytes mem.old)) spans.now }
-    requires len { length (places spans.now) ≡ length_of (transfer_by command.now) }
-    requires few { length (places spans.now) ≤ most_bytes }
-    requires is_reply { IsReplyTo command.now (reply_of subsystem.now ctrl command.now) }
-    requires fits { FitsRecord (reply_of subsystem.now ctrl command.now) }
-    ensures bytes { M.bytes mem.new ≡ written_at (M.bytes mem.old) (places spans.now)
-        (data_of command.now (reply_of subsystem.now ctrl command.now)) }
-    ensures len { length (M.bytes mem.new) ≡ length (M.bytes mem.old) }
-    ensures page_len { M.page_len mem.new ≡ M.page_len mem.old }
-{
-    let Transfer::ToHost(_) = command.transfer() else {
-        return;
-    };
-    if spans.as_slice().len() == 1 {
-        let page = ReplyPage {
-            subsystem,
-            ctrl,
-            command,
-        };
-        write_out(mem, spans, &page);
-        return;
-    }
-
-    // A page that lies in several parts is made beside them, so that it is made once.
-    let mut page = [0; 4096];
-    if subsystem.put_page(ctrl, command, &mut page) {
-        copy_out(mem, spans, &page);
-    }
-}
 
 /// The greatest length of a log in bytes: 256 entries of 64 bytes.
 const LONGEST_LOG: u64 = 16_384;
@@ -140,29 +63,49 @@ fn deliver_log<M: HostMemory>(
     write_out(mem, spans, &part);
 }
 
-/// Writes the data of the reply to an accepted command to the spans of the entry's data, if it has
+/// Writes the data of the reply to an accepted command to where the entry's data lies, if it has
 /// any.
 fn deliver<M: HostMemory>(
     subsystem: &Subsystem,
     ctrl: u16,
     mem: &mut M,
     command: &Command,
-    spans: &Spans,
+    entry_data: &EntryData,
 )
     requires ctrl { ctrl < length subsystem.now.controllers }
-    requires inside { LieIn (length (M.bytes mem.old)) spans.now }
-    requires len { length (places spans.now) ≡ length_of (transfer_by command.now) }
-    requires few { length (places spans.now) ≤ most_bytes }
+    requires transfer { entry_data.now.transfer ≡ transfer_by command.now }
+    requires inside { LieIn (length (M.bytes mem.old)) entry_data.now.spans }
+    requires len { length (places entry_data.now.spans) ≡ length_of (transfer_by command.now) }
+    requires few { length (places entry_data.now.spans) ≤ most_bytes }
     requires is_reply { IsReplyTo command.now (reply_of subsystem.now ctrl command.now) }
     requires fits { FitsRecord (reply_of subsystem.now ctrl command.now) }
-    ensures bytes { M.bytes mem.new ≡ written_at (M.bytes mem.old) (places spans.now)
+    ensures bytes { M.bytes mem.new ≡ written_at (M.bytes mem.old) (places entry_data.now.spans)
         (data_of command.now (reply_of subsystem.now ctrl command.now)) }
     ensures len { length (M.bytes mem.new) ≡ length (M.bytes mem.old) }
     ensures page_len { M.page_len mem.new ≡ M.page_len mem.old }
 {
-    match command {
-        Command::GetLog(asked) => deliver_log(subsystem, ctrl, mem, *asked, spans),
-        _ => deliver_page(subsystem, ctrl, mem, command, spans),
+    let spans = &entry_data.spans;
+    if let Command::GetLog(asked) = command {
+        deliver_log(subsystem, ctrl, mem, *asked, spans);
+        return;
+    }
+    let Transfer::ToHost(_) = entry_data.transfer else {
+        return;
+    };
+    if spans.as_slice().len() == 1 {
+        let page = ReplyPage {
+            subsystem,
+            ctrl,
+            command,
+        };
+        write_out(mem, spans, &page);
+        return;
+    }
+
+    // A page that lies in several parts is made beside them, so that it is made once.
+    let mut page = [0; 4096];
+    if subsystem.put_page(ctrl, command, &mut page) {
+        copy_out(mem, spans, &page);
     }
 }
 
@@ -173,20 +116,21 @@ fn execute<M: HostMemory>(
     mem: &mut M,
     command: &Command,
     origin: Origin,
-    spans: &Spans,
+    entry_data: &EntryData,
 ) -> Told
     requires ctrl { ctrl < length subsystem.old.controllers }
     requires well_formed { IsWellFormed subsystem.old }
-    requires inside { LieIn (length (M.bytes mem.old)) spans.now }
-    requires len { length (places spans.now) ≡ length_of (transfer_by command.now) }
-    requires few { length (places spans.now) ≤ most_bytes }
+    requires transfer { entry_data.now.transfer ≡ transfer_by command.now }
+    requires inside { LieIn (length (M.bytes mem.old)) entry_data.now.spans }
+    requires len { length (places entry_data.now.spans) ≡ length_of (transfer_by command.now) }
+    requires few { length (places entry_data.now.spans) ≤ most_bytes }
     ensures told { result
         ≡ told_by (step (untagged subsystem.old) ctrl command.now origin.cid).answer }
     ensures state { untagged subsystem.new
         ≡ (step (untagged subsystem.old) ctrl command.now origin.cid).state }
     ensures tagged { subsystem.new ≡ settled subsystem.old ctrl command.now origin
         (refusal_of subsystem.old ctrl command.now) }
-    ensures moved { Moves command.now (places spans.now)
+    ensures moved { Moves command.now (places entry_data.now.spans)
         (step (untagged subsystem.old) ctrl command.now origin.cid).answer
         (M.bytes mem.old) (M.bytes mem.new) }
     ensures well_formed { IsWellFormed subsystem.new }
@@ -196,10 +140,16 @@ fn execute<M: HostMemory>(
     let refusal = subsystem.refusal(ctrl, command);
     let told = match &refusal {
         None => {
-            deliver(subsystem, ctrl, mem, command, spans);
-            reply_told(subsystem, ctrl, command)
+            deliver(subsystem, ctrl, mem, command, entry_data);
+            Told {
+                dword0: subsystem.dword0(ctrl, command),
+                status: Status::SUCCESS,
+            }
         }
-        Some(refusal) => refusal_told(refusal),
+        Some(refusal) => Told {
+            dword0: 0,
+            status: refusal.status,
+        },
     };
     subsystem.settle(ctrl, command, origin, refusal);
     told
@@ -246,9 +196,12 @@ fn answer_entry<M: HostMemory>(
         Err(code) => {
             let refusal = Refusal::from(code);
             subsystem.refuse(ctrl, origin, entry.nsid, refusal);
-            refusal_told(&refusal)
+            Told {
+                dword0: 0,
+                status: refusal.status,
+            }
         }
-        Ok(command) => execute(subsystem, ctrl, mem, &command, origin, &entry_data.spans),
+        Ok(command) => execute(subsystem, ctrl, mem, &command, origin, entry_data),
     }
 }
 
@@ -278,6 +231,13 @@ pub(crate) fn take_one<M: HostMemory>(
     let entry = rings.submission.next(mem).unwrap();
     let phase = rings.completion.phase();
     let told = answer_entry(subsystem, ctrl, mem, &entry, phase, scratch);
-    let posted = completion(told, entry.cid, rings.submission.head());
+    let posted = Cqe {
+        command_specific: told.dword0,
+        sq_head: rings.submission.head(),
+        sq_identifier: 0,
+        cid: entry.cid,
+        phase: false,
+        status: told.status,
+    };
     rings.completion.put(mem, posted).unwrap();
 }

@@ -2,12 +2,15 @@
 
 ghost use Rattle.std.specs.Prelude.{length};
 
+use nv_command::Transfer;
 use nv_layout::CtrlList;
 use nv_prp::Spans;
 
 /// The data of an entry.
 #[derive(Drop)]
 pub struct EntryData {
+    /// Its direction and its length.
+    pub transfer: Transfer,
     /// Where it lies in the host's memory.
     pub spans: Spans,
     /// A page of the data from the host.
@@ -27,6 +30,7 @@ impl Scratch {
     pub(crate) fn new() -> Scratch {
         Scratch {
             entry_data: EntryData {
+                transfer: Transfer::NoData,
                 spans: Spans::new(),
                 page: [0; 4096],
             },

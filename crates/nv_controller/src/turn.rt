@@ -3,8 +3,7 @@
 ghost use Rattle.std.specs.Prelude.{◌≡◌, ◌<◌, length};
 ghost use Rattle.nv_model.specs.WellFormed.{IsWellFormed};
 ghost use Rattle.nv_bus.specs.Entry.{scene};
-ghost use Rattle.nv_bus.specs.Turn.{BankTurn, RingsTurn, TakesCount, can_take, reaches};
-ghost use Rattle.nv_bus.specs.Turn.{site};
+ghost use Rattle.nv_bus.specs.Turn.{BankTurn, RingsTurn, TakesCount, site};
 ghost use Rattle.nv_subsystem.specs.Tagged.{untagged};
 
 use crate::entry::take_one;
@@ -13,23 +12,9 @@ use nv_host::HostMemory;
 use nv_register::{Readiness, RegisterBank, Rings};
 use nv_subsystem::Subsystem;
 
-/// Returns whether an entry is waiting and there is a free slot for its completion.
-fn can_take(rings: &Rings) -> bool
-    ensures { result ≡ can_take rings.now }
-{
-    !rings.submission.is_empty() && !rings.completion.is_full()
-}
-
-/// Returns whether the memory has the page size with which the controller was enabled, and holds
-/// the entry's slot and that of its completion.
-fn reaches<M: HostMemory>(rings: &Rings, mem: &M) -> bool
-    ensures { result ≡ reaches rings.now (M.page_len mem.now) (length (M.bytes mem.now)) }
-{
-    mem.page_size() == rings.page_size && rings.submission.fits(mem) && rings.completion.fits(mem)
-}
-
-/// Takes at most `most` entries. Returns how many it took, and whether it stopped because the
-/// memory doesn't hold a slot that it needs.
+/// Takes at most `most` entries, as long as one is waiting and there is a free slot for its
+/// completion. Returns how many it took, and whether it stopped because the memory has another page
+/// size than that with which the controller was enabled, or doesn't hold a slot that it needs.
 fn take_entries<M: HostMemory>(
     subsystem: &mut Subsystem,
     rings: &mut Rings,
@@ -49,10 +34,13 @@ fn take_entries<M: HostMemory>(
     ensures page { M.page_len mem.new ≡ M.page_len mem.old }
 {
     for count in 0..most {
-        if !can_take(rings) {
+        if rings.submission.is_empty() || rings.completion.is_full() {
             return (count, false);
         }
-        if !reaches(rings, mem) {
+        if mem.page_size() != rings.page_size
+            || !rings.submission.fits(mem)
+            || !rings.completion.fits(mem)
+        {
             return (count, true);
         }
         take_one(subsystem, rings, scratch, ctrl, mem);

@@ -1,32 +1,21 @@
 -- Commands and resets of a driver, over the queue pairs of its controllers.
-use Rattle.std.specs.Prelude.{slice_set}
-use Rattle.std.proofs.Common.{◌≡◌, ◌≢◌, ◌∙◌, ◌⊎◌, ℕ, ◌+◌, ◌-◌, ◌*◌, ◌<◌, ◌≤◌, List, ap, arith, get_or, inl}
-use Rattle.std.proofs.Common.{inr, length, map, refl, subst, sym}
+use Rattle.std.proofs.Common.{◌≡◌, ◌≢◌, ◌∙◌, ◌⊎◌, ℕ, ◌+◌, ◌-◌, ◌*◌, ◌<◌, ◌≤◌, List, ap, arith, get_or, inl, inr, length}
+use Rattle.std.proofs.Common.{map, refl, subst, sym}
 use Rattle.std.proofs.Math.ListN.{length-set}
-use Rattle.std.proofs.Math.Nat.{mul-le-mul_right}
-use Rattle.std.proofs.lemmas.Bool.{cases_eq, cases_lt}
-use Rattle.std.proofs.lemmas.List.{get_or-map, get_or-set_other, get_or-set_same, get_or_default, length-map, map-set}
+use Rattle.std.proofs.lemmas.List.{get_or-set_other, map-set}
 use Rattle.std.proofs.lemmas.List.Elements.{All-set}
-use Rattle.nv_host.specs.Pages.{PagedBytes}
 use Rattle.nv_layout.specs.Cqe.{cqe_of_bytes}
-use Rattle.nv_layout.specs.declared.cqe.Cqe.{Cqe}
-use Rattle.nv_prp.specs.Buffer.{IsApart}
 use Rattle.nv_queue.specs.Numbers.{kept_number, next}
-use Rattle.nv_queue.specs.Slots.{HoldsTags}
-use Rattle.nv_register.specs.RegisterBank.{new_bank}
-use Rattle.nv_register.specs.declared.register_bank.RegisterBank.{RegisterBank}
-use Rattle.nv_bus.specs.Bus.{BusValue, IsBus, bank_at}
-use Rattle.nv_driver.specs.Driver.{IsDriver, IsPlaced, after_command, after_commands, driver_value, pair_at, no_pair}
-use Rattle.nv_driver.specs.inner.Alone.{KeepsBelow}
-use Rattle.nv_driver.specs.Exchange.{IsReady}
-use Rattle.nv_driver.specs.inner.Exchange.{KeepsOthers}
-use Rattle.nv_driver.specs.QueuePair.{IsLaid, QueuePair, idle_bank}
+use Rattle.nv_driver.proofs.Words.{BusValue, Cqe, DriverValue, Geometry, HoldsTags, IsApart, IsDriver, IsLaid, IsLeft}
+use Rattle.nv_driver.proofs.Words.{IsQuiet, IsReady, KeepsBelow, PagedBytes, QueuePair, QueuePairFields, after_command}
+use Rattle.nv_driver.proofs.Words.{bank_at, cases_eq, cases_lt, driver_value, end_of, get_or-map, get_or-set_same}
+use Rattle.nv_driver.proofs.Words.{get_or_default, idle_bank, length-map, mps_of, mul-le-mul_right, new_bank}
+use Rattle.nv_driver.proofs.Words.{pair_value, side, slice_set}
+use Rattle.nv_driver.specs.Driver.{IsPlaced, after_commands, pair_at, no_pair}
+use Rattle.nv_driver.specs.Linked.{IsLinked}
 use Rattle.nv_driver.specs.Layout.{pages_of_command, set_pages}
-use Rattle.nv_driver.specs.Quiet.{IsQuiet, pair_value}
-use Rattle.nv_driver.specs.Registers.{idle_banks, mps_of}
-use Rattle.nv_driver.specs.Settled.{DriverValue, IsSettled, end_of}
-use Rattle.nv_driver.specs.declared.geometry.Geometry.{Geometry}
-use Rattle.nv_driver.specs.declared.queue_pair.QueuePair.{QueuePair as QueuePairFields}
+use Rattle.nv_driver.specs.Registers.{banks_of}
+use Rattle.nv_driver.specs.Settled.{IsSettled}
 
 -- ---- before the command
 
@@ -39,36 +28,44 @@ pub value_at : (ls : List QueuePairFields) (c : ℕ) (d : QueuePairFields) (e : 
     → get_or (map pair_value ls) c e ≡ pair_value (get_or ls c d)
 value_at ls c d e below = get_or-map pair_value ls c d e below
 
-pub ready_at : {g : Geometry} {mem : PagedBytes} {ls : List QueuePairFields} {b : BusValue} {c : ℕ}
-    {l : QueuePairFields} → IsDriver g mem ls → IsBus b
-    → b.banks ≡ idle_banks g.page_size (map pair_value ls) → c < length ls → l ≡ get_or ls c l
-    → IsReady g b c l mem.page_size mem.bytes
-ready_at {g} {mem} {ls} {b} {c} {l} is bus banks below here =
-    let many = length-map ls pair_value in
-    let at : get_or (map pair_value ls) c no_pair ≡ pair_value l =
-    value_at ls c l no_pair below ∙ ap pair_value (sym here) in
-    let settled = is.settled in
-    record {
-      geometry = is.geometry;
-      page_size = is.page_size;
-      depth = ap (λ (v : QueuePair). v.depth) (sym at ∙ is.placed c no_pair below);
-      room = rw (ap (λ (v : QueuePair). v.page_count) (sym at ∙ is.placed c no_pair below)) (set_room g);
-      quiet = subst IsQuiet (sym here) (is.quiet c l below);
-      laid = rw (is.page_size, at) at (settled.laid c no_pair (omega arith));
-      tags = rw at at (settled.tags c no_pair (omega arith));
-      controller = rw banks (simp length-map below);
-      bus = bus;
-      bank = ap (λ p. bank_at p c) banks
-          ∙ get_or-map (idle_bank (mps_of g.page_size) g.page_size) (map pair_value ls) c no_pair new_bank (omega arith)
-          ∙ ap (idle_bank (mps_of g.page_size) g.page_size) at;
-    }
+-- a driver, its value, and the queue pair of a controller
+module _ {g : Geometry} {mem : PagedBytes} {ls : List QueuePairFields} {d : DriverValue} {c : ℕ} {l : QueuePairFields}
+    (is : IsDriver g mem ls) (value : driver_value g mem ls ≡ d) (ctrl : c < length d.pairs)
+    (here : l ≡ get_or ls c l) where
+  pub below : c < length ls
+  below =
+      let many = ap (λ (v : DriverValue). length v.pairs) value in
+      let same = length-map ls pair_value in omega arith
 
--- its queue pair is where it was placed
-pub placed_at : {g : Geometry} {mem : PagedBytes} {ls : List QueuePairFields} {c : ℕ} {l : QueuePairFields}
-    → IsDriver g mem ls → c < length ls → l ≡ get_or ls c l
-    → IsPlaced g c (pair_value l)
-placed_at {g} {mem} {ls} {c} {l} is below here =
-    subst (IsPlaced g c) (value_at ls c l no_pair below ∙ ap pair_value (sym here)) (is.placed c no_pair below)
+  pub at : pair_at (map pair_value ls) c ≡ pair_value l
+  at = value_at ls c l no_pair below ∙ ap pair_value (sym here)
+
+  pub serial_is : (pair_at d.pairs c).serial ≡ l.serial
+  serial_is = ap (λ (v : DriverValue). (pair_at v.pairs c).serial) (sym value) ∙ ap (λ (v : QueuePair). v.serial) at
+
+  -- its queue pair is where it was placed
+  pub placed_at : IsPlaced g c (pair_value l)
+  placed_at = subst (IsPlaced g c) at (is.placed c no_pair below)
+
+  pub ready_at : {b : BusValue} → IsLinked b d → IsReady g b c l mem.page_size mem.bytes
+  ready_at {b} linked =
+      let many = length-map ls pair_value in
+      let low = below in
+      let banks = linked.left ∙ ap banks_of (sym value) in
+      let idle = idle_bank (mps_of g.page_size) g.page_size in
+      record {
+        geometry = is.geometry;
+        page_size = is.page_size;
+        depth = ap (λ (v : QueuePair). v.depth) placed_at;
+        room = rw (ap (λ (v : QueuePair). v.page_count) placed_at) (set_room g);
+        quiet = subst IsQuiet (sym here) (is.quiet c l below);
+        laid = rw (is.page_size, at) at (is.settled.laid c no_pair (omega arith));
+        tags = rw at at (is.settled.tags c no_pair (omega arith));
+        controller = rw banks (simp length-map below);
+        bus = linked.bus;
+        bank = ap (λ p. bank_at p c) banks ∙ get_or-map idle (map pair_value ls) c no_pair new_bank (omega arith)
+            ∙ ap idle at;
+      }
 
 -- ---- after the command
 
@@ -136,94 +133,72 @@ settled_after end page_size old new vs c v u s below here size keeps ends laid t
         (ap (λ (q : QueuePair). q.sq) is, ap (end_of page_size) is))
         (rw (same_one d) (sq, rw (first, count) refl)) i d h
 
--- the number and the serial of a queue pair change, and bytes before the end of all queue pairs don't
-pub driver_after_below : {g : Geometry} {mem new : PagedBytes} {ls : List QueuePairFields} {b : BusValue}
-    {c : ℕ} {l l' : QueuePairFields} {n serial : ℕ} → IsDriver g mem ls
-    → c < length ls → l ≡ get_or ls c l → IsReady g b c l' new.page_size new.bytes
-    → pair_value l' ≡ record (pair_value l) { number = n; serial = serial }
-    → (end : ℕ) → KeepsBelow end g.page_size (pair_value l) mem.bytes new.bytes
-    → ((i : ℕ) (d : QueuePair) → i < length ls → end_of g.page_size (get_or (map pair_value ls) i d) ≤ end)
-    → length new.bytes ≡ length mem.bytes → new.page_size ≡ mem.page_size
-    → IsDriver g new (slice_set ls c l')
-driver_after_below {g} {mem} {new} {ls} {b} {c} {l} {l'} {n} {serial}
-    is below here ready next end keeps ends size page =
-    let many = length-map ls pair_value in
-    let vs = map pair_value ls in
-    let at : pair_value l ≡ get_or vs c (pair_value l) =
-    sym (value_at ls c l (pair_value l) below ∙ ap pair_value (sym here)) in
-    let change = map-set pair_value ls c l' in
-    record {
-      geometry = is.geometry;
-      page_size = page ∙ is.page_size;
-      whole = rw (size, page) (is.whole);
-      numbered = rw (size, page) (is.numbered);
-      quiet = All-set IsQuiet ls c l' ready.quiet is.quiet;
-      placed = λ i d inside.
-          rw change (set_each (λ j v. IsPlaced g j v) vs c (pair_value l') (λ j e low differ. is.placed j e
-          (omega arith))
-          (stays_placed g c (pair_value l) (pair_value l')
-          (rw (← at) at (is.placed c (pair_value l) below)) next) i d
-          (let longer = length-set ls c l' in let values = length-set vs c (pair_value l') in omega arith));
-      settled = subst (IsSettled new.page_size new.bytes) (sym change)
-          (settled_after end new.page_size mem.bytes new.bytes vs c (pair_value l) (pair_value l')
-          (rw page is.settled) (omega arith) at size (rw (page ∙ is.page_size) keeps)
-          (rw (page ∙ is.page_size) (λ i d h. ends i d (omega arith))) (rw (ready.page_size) ready.laid)
-          ready.tags
-          (ap (λ (v : QueuePair). v.sq) next) (ap (λ (v : QueuePair). v.first_page) next)
-          (ap (λ (v : QueuePair). v.page_count) next));
-    }
-  where
-    stays_placed : (g : Geometry) (i : ℕ) (v u : QueuePair) → IsPlaced g i v
-        → u ≡ record v { number = n; serial = serial } → IsPlaced g i u
-    stays_placed g i v u placed is = subst (IsPlaced g i) (sym is)
-        (ap (λ (q : QueuePair). record q { number = n; serial = serial }) placed)
+-- what is left of a driver, of which a queue pair's number and serial change
+module _ {g : Geometry} {mem new : PagedBytes} {ls : List QueuePairFields} {d : DriverValue} {b b' : BusValue} {c : ℕ}
+    {l l' : QueuePairFields} {n serial end : ℕ} (is : IsDriver g mem ls) (value : driver_value g mem ls ≡ d)
+    (ctrl : c < length d.pairs) (here : l ≡ get_or ls c l)
+    (left : IsLeft g c end (record (pair_value l) { number = n; serial = serial })
+    (side b l mem.page_size mem.bytes) (side b' l' new.page_size new.bytes)) where
+  stays_placed : (v : QueuePair) → IsPlaced g c v → IsPlaced g c (record v { number = n; serial = serial })
+  stays_placed v placed = ap (λ (q : QueuePair). record q { number = n; serial = serial }) placed
 
--- no byte outside the queue pair changes
-pub driver_after : {g : Geometry} {mem new : PagedBytes} {ls : List QueuePairFields} {b : BusValue}
-    {c : ℕ} {l l' : QueuePairFields} {n serial : ℕ} → IsDriver g mem ls
-    → c < length ls → l ≡ get_or ls c l → IsReady g b c l' new.page_size new.bytes
-    → pair_value l' ≡ record (pair_value l) { number = n; serial = serial }
-    → KeepsOthers g.page_size (pair_value l) mem.bytes new.bytes
-    → length new.bytes ≡ length mem.bytes → new.page_size ≡ mem.page_size
-    → IsDriver g new (slice_set ls c l')
-driver_after {g} {mem} {ls = ls} is below here ready next keeps size page =
-    let many = length-map ls pair_value in
-    driver_after_below is below here ready next (length mem.bytes) (λ from n low. keeps from n)
-    (λ i d h. (rw is.page_size at (is.settled.laid i d (omega arith))).inside) size page
+  pub driver_after : ((i : ℕ) (e : QueuePair) → i < length ls
+      → end_of g.page_size (get_or (map pair_value ls) i e) ≤ end) → IsDriver g new (slice_set ls c l')
+  driver_after ends =
+      let many = length-map ls pair_value in
+      let vs = map pair_value ls in
+      let low = below is value ctrl here in
+      let own : pair_value l ≡ get_or vs c (pair_value l) =
+      sym (value_at ls c l (pair_value l) low ∙ ap pair_value (sym here)) in
+      let change = map-set pair_value ls c l' in
+      let page = left.page ∙ is.page_size in
+      record {
+        geometry = is.geometry;
+        page_size = page;
+        whole = rw (left.len, left.page) (is.whole);
+        numbered = rw (left.len, left.page) (is.numbered);
+        quiet = All-set IsQuiet ls c l' left.ready.quiet is.quiet;
+        placed = λ i e inside.
+            rw change (set_each (λ j v. IsPlaced g j v) vs c (pair_value l') (λ j q high differ. is.placed j q
+            (omega arith)) (subst (IsPlaced g c) (sym left.pair)
+            (stays_placed (pair_value l) (placed_at is value ctrl here))) i e
+            (let longer = length-set ls c l' in let values = length-set vs c (pair_value l') in omega arith));
+        settled = subst (IsSettled new.page_size new.bytes) (sym change)
+            (settled_after end new.page_size mem.bytes new.bytes vs c (pair_value l) (pair_value l')
+            (rw (left.page) is.settled) (omega arith) own left.len (rw page left.others)
+            (rw page (λ i e h. ends i e (omega arith))) (rw (left.ready.page_size) left.ready.laid) left.ready.tags
+            (ap (λ (v : QueuePair). v.sq) left.pair) (ap (λ (v : QueuePair). v.first_page) left.pair)
+            (ap (λ (v : QueuePair). v.page_count) left.pair));
+      }
 
--- the value of the driver
-pub value_after : (f : QueuePair → QueuePair) (g : Geometry) (mem new : PagedBytes) (ls : List QueuePairFields)
-    (c : ℕ) (l l' : QueuePairFields) → c < length ls → l ≡ get_or ls c l
-    → pair_value l' ≡ f (pair_value l) → length new.bytes ≡ length mem.bytes → new.page_size ≡ mem.page_size
-    → driver_value g new (slice_set ls c l') ≡ record (driver_value g mem ls)
-    { pairs = slice_set (map pair_value ls) c (f (pair_at (map pair_value ls) c)) }
-value_after f g mem new ls c l l' below here next size page =
-    let at : pair_value l ≡ pair_at (map pair_value ls) c =
-    sym (value_at ls c l no_pair below ∙ ap pair_value (sym here)) in
-    rw (size, page, map-set pair_value ls c l', next ∙ ap f at) refl
+  -- the registers
+  pub linked_after : IsLinked b d → IsLinked b' (driver_value g new (slice_set ls c l'))
+  linked_after linked =
+      let idle = idle_bank (mps_of g.page_size) g.page_size in
+      record {
+        bus = left.ready.bus;
+        left = left.banks ∙ rw (left.ready.bank, linked.left ∙ ap banks_of (sym value), map-set pair_value ls c l')
+            (sym (map-set idle (map pair_value ls) c (pair_value l')));
+      }
+
+  -- the value of the driver, if this is what happens to the queue pair
+  pub value_after : (f : QueuePair → QueuePair)
+      → f (pair_value l) ≡ record (pair_value l) { number = n; serial = serial }
+      → driver_value g new (slice_set ls c l') ≡ record d { pairs = slice_set d.pairs c (f (pair_at d.pairs c)) }
+  value_after f by =
+      rw (left.len, left.page, map-set pair_value ls c l', left.pair ∙ sym by ∙ ap f (sym (at is value ctrl here)))
+      (ap (λ (v : DriverValue). record v { pairs = slice_set v.pairs c (f (pair_at v.pairs c)) }) value)
+
+-- all queue pairs lie in the memory
+pub ends_inside : {g : Geometry} {mem : PagedBytes} {ls : List QueuePairFields} → IsDriver g mem ls → (i : ℕ)
+    (e : QueuePair) → i < length ls → end_of g.page_size (get_or (map pair_value ls) i e) ≤ length mem.bytes
+ends_inside {ls = ls} is i e h =
+    let many = length-map ls pair_value in (rw is.page_size at (is.settled.laid i e (omega arith))).inside
 
 -- one command is a list of one command
 pub after_first : (d : DriverValue) (c : ℕ) → after_commands d c 1 ≡ after_command d c
 unfolding kept_number next
 after_first d c = refl
-
--- the registers
-pub banks_left : (g : Geometry) (ls : List QueuePairFields) (c : ℕ) (l' : QueuePairFields)
-    (banks new : List RegisterBank) → banks ≡ idle_banks g.page_size (map pair_value ls)
-    → new ≡ slice_set banks c (bank_at new c) → bank_at new c ≡ idle_bank (mps_of g.page_size)
-    g.page_size (pair_value l')
-    → new ≡ idle_banks g.page_size (map pair_value (slice_set ls c l'))
-banks_left g ls c l' banks new is change bank =
-    change ∙ rw (bank, is, map-set pair_value ls c l')
-    (sym (map-set (idle_bank (mps_of g.page_size) g.page_size) (map pair_value ls) c (pair_value l')))
-
--- each controller has a queue pair
-pub inside_of : (g : Geometry) (mem : PagedBytes) (ls : List QueuePairFields) (d : DriverValue) (c : ℕ)
-    → c < length d.pairs → driver_value g mem ls ≡ d
-    → c < length ls
-inside_of g mem ls d c below is =
-    let many = ap (λ (v : DriverValue). length v.pairs) is ∙ refl in
-    let same = length-map ls pair_value in omega arith
 
 -- the number of queue pairs
 pub pair_count : (ls : List QueuePairFields) → length ls ≡ length (map pair_value ls)

@@ -1,15 +1,11 @@
 -- Commands one at a time: their answers, the state after them, and those of a list of commands.
-use Rattle.std.proofs.Common.{◌≡◌, ◌∙◌, ℕ, zero, suc, ◌+◌, ◌<◌, List, [], ◌∷◌, ◌++◌, add-one, ap, arith, get_or}
-use Rattle.std.proofs.Common.{length, map, refl, take, ◌%◌, ◌≤◌, sym}
-use Rattle.std.proofs.lemmas.List.{length-map, take-map, take-take}
-use Rattle.std.proofs.lemmas.Nat.{mod_below}
-use Rattle.nv_command.specs.declared.command.Command.{Command}
-use Rattle.nv_model.specs.State.{State}
-use Rattle.nv_model.specs.Step.{next_serial}
-use Rattle.nv_driver.specs.Answer.{Answer}
+use Rattle.std.proofs.Common.{◌≡◌, ◌∙◌, ℕ, zero, suc, ◌+◌, ◌<◌, List, [], ◌∷◌, ◌++◌, add-one, ap, arith, get_or, length}
+use Rattle.std.proofs.Common.{map, refl, take, ◌%◌, ◌≤◌, sym}
+use Rattle.std.proofs.lemmas.List.{take-map, take-take}
+use Rattle.nv_driver.proofs.Words.{Answer, Command, Sent, State, answers_to, length-map, mod_below, next_serial}
+use Rattle.nv_driver.proofs.Words.{numbered, step_of}
 use Rattle.nv_driver.specs.Request.{received_as}
-use Rattle.nv_driver.specs.Schedule.{Numbered, Sent, after, answers_of_all, answers_to, numbered}
-use Rattle.nv_driver.specs.Schedule.{state_after_all, step_after, step_of}
+use Rattle.nv_driver.specs.Schedule.{Numbered, after, answers_of_all, state_after_all, step_after}
 use Rattle.nv_driver.specs.Batch.{answers_of, from_serial, numbered_command, state_after}
 
 -- ---- commands that were sent

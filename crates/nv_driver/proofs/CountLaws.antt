@@ -1,13 +1,12 @@
 -- The counts of a schedule, and how rings and doorbells represent them.
 use Rattle.std.proofs.Common.{◌≡◌, ◌≢◌, ◌∙◌, ℕ, ◌+◌, ◌-◌, ◌*◌, ◌<◌, ◌≤◌, true, nat_le, nat_lt, ap, arith, refl, sym}
-use Rattle.std.proofs.lemmas.Bool.Decides.{nat_tests}
 use Rattle.nv_queue.specs.Numbers.{IsSlotBetween, above, ahead, kept_number, next}
 use Rattle.nv_queue.proofs.NumberLaws.{above_cases, slot_below}
 use Rattle.nv_queue.proofs.KeptLaws.{above_kept, between_kept, first_kept, kept_below, kept_next, slot_kept}
 use Rattle.nv_queue.proofs.KeptLaws.{slots_apart}
 use Rattle.nv_queue.specs.Rings.{FetchNumbers, PostNumbers}
-use Rattle.nv_register.specs.RegisterBank.{rung_by, told_by, with_register_at}
-use Rattle.nv_driver.specs.Schedule.{Setting, device_rings, number, bank_with, slot}
+use Rattle.nv_register.specs.RegisterBank.{rung_by, told_by}
+use Rattle.nv_driver.proofs.Words.{Setting, bank_with, device_rings, nat_tests, number, slot, with_register_at}
 
 pub number_below : (t : Setting) (n : ℕ) → 0 < t.depth → number t n < 2 * t.depth
 number_below t n p = kept_below t.depth (t.start + n) p

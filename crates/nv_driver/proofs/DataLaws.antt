@@ -1,21 +1,18 @@
 -- The data of a command: none, a page from the host, or up to 16,384 bytes from the controller.
 use Rattle.std.proofs.Common.{◌≡◌, ◌∙◌, ◌*◌, ◌<◌, ◌≤◌, ℕ, Bool, true, false, List, [], ◌∷◌, ◌++◌, ap, append-nil, arith}
-use Rattle.std.proofs.Common.{drop, get_or, length, length-drop, lit<, lit≤, refl, subst, sym}
-use Rattle.nv_prp.specs.Place.{AreDistinct, read_at, written_at}
+use Rattle.std.proofs.Common.{◌+◌, drop, get_or, length, length-drop, lit<, lit≤, refl, subst, sym, take}
+use Rattle.std.proofs.lemmas.List.{drop-append-le, take-append-le, take_all}
+use Rattle.nv_prp.specs.Place.{read_at, written_at}
 use Rattle.nv_prp.proofs.PlaceLaws.{read_written}
-use Rattle.nv_command.specs.Command.{CommandFits, bytes_from_host, bytes_to_host, host_data_of, transfer_by}
+use Rattle.nv_command.specs.Command.{CommandFits, host_data_of}
 use Rattle.nv_command.specs.Logs.{IsSendable, IsWhole}
 use Rattle.nv_command.specs.Form.{is_error_log}
 use Rattle.nv_command.specs.Reply.{with_data}
 use Rattle.nv_command.proofs.FormLaws.{a_page, at_most_a_page}
 use Rattle.nv_command.proofs.TravelLaws.{commands_travel}
-use Rattle.nv_command.specs.declared.command.Command.{Command}
 use Rattle.nv_command.specs.declared.command.Command.TheVariants.{GetLog}
-use Rattle.nv_command.specs.declared.transfer.Transfer.{Transfer}
-use Rattle.nv_command.specs.declared.transfer.Transfer.TheVariants.{NoData, ToHost, FromHost}
-use Rattle.nv_bus.specs.Call.{length_of, sent_from}
-use Rattle.nv_driver.specs.Request.{CanBeSent}
-use Rattle.nv_driver.specs.Schedule.{received_from}
+use Rattle.nv_driver.proofs.Words.{AreDistinct, Command, FromHost, NoData, ToHost, Transfer, bytes_from_host}
+use Rattle.nv_driver.proofs.Words.{bytes_to_host, length_of, received_from, sent_from, transfer_by}
 
 -- ---- by commands
 
@@ -66,26 +63,37 @@ written-nothing bytes (p ∷ at) = refl
 pub none_written : (bytes at xs : List ℕ) → length xs ≡ 0 → bytes ≡ written_at bytes at xs
 none_written bytes at xs none = sym (ap (written_at bytes at) (nothing xs none) ∙ written-nothing bytes at)
 
--- a command's data from the host is nothing, or a page
-pub none_sent : (k : Command) (m : Transfer) → CommandFits k → m ≡ transfer_by k → bytes_from_host m ≡ 0
-    → [] ≡ host_data_of k
-none_sent k m fits is none =
-    sym (nothing (host_data_of k) (length-host_data k fits ∙ ap bytes_from_host (sym is) ∙ none))
+-- it is at most a page
+few_from_host : (m : Transfer) → at_most_a_page m ≡ true → bytes_from_host m ≤ 4096
+few_from_host NoData is = lit≤ tt
+few_from_host (ToHost n) is = lit≤ tt
+few_from_host (FromHost n) is = omega (arith, a_page n is)
 
-pub page_sent : (k : Command) (page : List ℕ) (n : ℕ) → CanBeSent k → FromHost n ≡ transfer_by k
-    → length page ≡ 4096 → with_data (host_data_of k) page ≡ host_data_of k
-page_sent k page n can is size =
+few_sent : (k : Command) → bytes_from_host (transfer_by k) ≤ 4096
+few_sent (GetLog q) = lit≤ tt
+few_sent k = few_from_host (transfer_by k) refl
+
+pub few_data : (k : Command) → CommandFits k → length (host_data_of k) ≤ 4096
+few_data k fits = omega (arith, length-host_data k fits, few_sent k)
+
+-- it is written to the beginning of a page, whole or in parts
+pub data_part : (k : Command) (page : List ℕ) (at n : ℕ) → at + n ≤ length (host_data_of k)
+    → take n (drop at (with_data (host_data_of k) page)) ≡ take n (drop at (host_data_of k))
+data_part k page at n inside =
     let xs = host_data_of k in
-    let few : n ≡ 4096 = shape_as k (FromHost n) can.sends is in
-    let len : length xs ≡ 4096 = length-host_data k can.fits ∙ ap bytes_from_host (sym is) ∙ few in
-    let rest = nothing (drop 4096 page) (let left = length-drop 4096 page in omega (arith, left, size)) in
-    ap (λ i. xs ++ drop i page) len ∙ ap (λ ys. xs ++ ys) rest ∙ append-nil xs
+    let rest = drop (length xs) page in
+    ap (take n) (drop-append-le at xs rest (omega arith))
+    ∙ take-append-le n (drop at xs) rest (omega (arith, length-drop at xs))
 
--- what is sent is as long as the data
-pub all_sent : (m : Transfer) (n : ℕ) → n ≡ bytes_from_host m → 0 < n → n ≡ length_of m
-all_sent NoData n is some = absurd (omega arith)
-all_sent (ToHost k) n is some = absurd (omega arith)
-all_sent (FromHost k) n is some = is
+pub data_whole : (k : Command) (page : List ℕ) (at n : ℕ) → CommandFits k → length page ≡ n → n ≡ 4096
+    → at + n ≤ length (host_data_of k) → with_data (host_data_of k) page ≡ take n (drop at (host_data_of k))
+data_whole k page at n fits size whole inside =
+    let xs = host_data_of k in
+    let few = few_data k fits in
+    let start : at ≡ 0 = omega arith in
+    let rest = nothing (drop (length xs) page) (omega (arith, length-drop (length xs) page)) in
+    ap (λ ys. xs ++ ys) rest ∙ append-nil xs ∙ sym (take_all n xs (omega arith))
+    ∙ (λ i. take n (drop (sym start i) xs))
 
 -- ---- what is sent and received
 

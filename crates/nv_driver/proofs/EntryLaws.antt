@@ -1,51 +1,39 @@
 -- The effect of taking one entry in a turn, and what doesn't change.
-use Rattle.std.proofs.Common.{◌≡◌, ◌∙◌, ℕ, ◌+◌, ◌-◌, ◌*◌, ◌<◌, ◌≤◌, true, Err, List, Ok, Result, ap, arith, get_or}
-use Rattle.std.proofs.Common.{◌⊎◌, inl, inr, length, refl, subst, sym, ◌≢◌}
-use Rattle.std.proofs.lemmas.Bool.{cases_lt, cases_eq}
-use Rattle.std.proofs.lemmas.List.{get_or_default}
-use Rattle.nv_host.specs.Bytes.{bytes_at}
-use Rattle.nv_host.proofs.PageLaws.{page_size_bounds}
+use Rattle.std.proofs.Common.{[], ◌≡◌, ◌∙◌, ℕ, ◌+◌, ◌-◌, ◌*◌, ◌<◌, ◌≤◌, true, Err, List, Ok, Result, ap, arith, get_or}
+use Rattle.std.proofs.Common.{inl, inr, length, refl, subst, sym, ◌≢◌}
 use Rattle.nv_layout.specs.Cqe.{CqeFits}
-use Rattle.nv_layout.specs.declared.sqe.Sqe.{Sqe}
-use Rattle.nv_layout.specs.declared.cqe.Cqe.{Cqe}
-use Rattle.nv_prp.specs.Buffer.{KeepsList}
 use Rattle.nv_prp.specs.inner.Buffer.{ChangesOnly}
-use Rattle.nv_prp.specs.Place.{AreDistinct, read_at, written_at}
-use Rattle.nv_prp.proofs.PlaceLaws.{length-written_at}
+use Rattle.nv_prp.specs.Place.{read_at, written_at}
 use Rattle.nv_queue.specs.Numbers.{above}
-use Rattle.nv_queue.specs.Slots.{completion_at, with_completion, HoldsTags, posted_as}
+use Rattle.nv_queue.specs.Slots.{with_completion, posted_as}
 use Rattle.nv_queue.specs.inner.Slots.{WritesCompletion}
 use Rattle.nv_queue.proofs.SlotLaws.{length-with_completion, put_written}
 use Rattle.nv_queue.proofs.TagLaws.{tags_after}
-use Rattle.nv_command.specs.Command.{bytes_to_host}
 use Rattle.nv_command.specs.Reply.{data_of}
 use Rattle.nv_command.proofs.TravelLaws.{replies_fit}
-use Rattle.nv_command.specs.declared.status_code.StatusCode.{StatusCode}
-use Rattle.nv_command.specs.declared.transfer.Transfer.{Transfer}
 use Rattle.nv_register.specs.declared.rings.Rings.{Rings}
-use Rattle.nv_model.specs.State.{State}
 use Rattle.nv_model.specs.Step.{Step}
-use Rattle.nv_model.specs.Conditions.{limit_of}
 use Rattle.nv_model.specs.WellFormed.{IsWellFormed}
 use Rattle.nv_bus.specs.Call.{Call, call_of, command_in}
-use Rattle.nv_bus.specs.Entry.{MovesBy, One, asked_step, Scene, completion_with, entry_in, scene, step_unless}
+use Rattle.nv_bus.specs.Entry.{MovesBy, One, asked_step, Scene, completion_with, scene, step_unless}
 use Rattle.nv_bus.proofs.TagLaws.{tagged}
 use Rattle.nv_bus.proofs.TurnLaws.{can_means}
 use Rattle.nv_bus.specs.Turn.{can_take, Takes}
-use Rattle.nv_driver.specs.Answer.{Answer}
-use Rattle.nv_driver.specs.Schedule.{AreOutside, Sent, Setting, World, data_length, device_rings, entry}
-use Rattle.nv_driver.specs.Schedule.{number, own_pages, places, pointed, received_from, slot, AreApart, AreOthers}
-use Rattle.nv_driver.specs.Request.{Asked, GoesBy}
-use Rattle.nv_driver.specs.Schedule.{Delivers, Holds, IsAnswered, StaysNamed, bank_with, numbered, step_of}
-use Rattle.nv_driver.specs.Keeping.{IsOwn, Keeps, HasRings}
+use Rattle.nv_driver.proofs.Words.{Answer, AreApart, AreOthers, AreOutside, Asked, Cqe, Delivers, GoesBy}
+use Rattle.nv_driver.proofs.Words.{HasRings, Holds, HoldsTags, IsAnswered, Keeps, KeepsList, Sent, Setting, Sqe, State}
+use Rattle.nv_driver.proofs.Words.{StatusCode, StaysNamed, Transfer, World, bank_with, bytes_at, bytes_to_host}
+use Rattle.nv_driver.proofs.Words.{cases_eq, cases_lt, completion_at, device_rings, entry, get_or_default}
+use Rattle.nv_driver.proofs.Words.{length-written_at, limit_of, number, numbered, page_size_bounds, places}
+use Rattle.nv_driver.proofs.Words.{pointed, received_from, slot, step_of}
+use Rattle.nv_driver.specs.Keeping.{IsOwn}
 use Rattle.nv_driver.proofs.AnswerLaws.{answered, completion_fits, IsAnswerTo, answer_sound, asked_controllers}
 use Rattle.nv_driver.proofs.AnswerLaws.{asked_keeps, asked_limit, holds_on}
-use Rattle.nv_driver.proofs.DataLaws.{ArePlaces, received_back, received_same}
+use Rattle.nv_driver.proofs.DataLaws.{ArePlaces, received_back, received_same, written-nothing}
 use Rattle.nv_driver.proofs.CountLaws.{number_above, number_next, number_below, slot_inside, slots_differ}
-use Rattle.nv_driver.proofs.RegionLaws.{written_list, Stays, stays_apart, stays_beside}
+use Rattle.nv_driver.proofs.RegionLaws.{written_list, Stays, stays_apart, stays_beside, data_keeps, length-places}
+use Rattle.nv_driver.proofs.RegionLaws.{ChangesOnlyAt, apart-sym, completion_keeps, completion_same, holds_sent_on}
+use Rattle.nv_driver.proofs.RegionLaws.{submission_same}
 use Rattle.nv_driver.proofs.PointerLaws.{call_at, entry_call, stays_in}
-use Rattle.nv_driver.proofs.RegionLaws.{data_keeps, length-places, ChangesOnlyAt, apart-sym}
-use Rattle.nv_driver.proofs.RegionLaws.{completion_keeps, completion_same, holds_sent_on, submission_same}
 use Rattle.nv_driver.proofs.BatchLaws.{after_more}
 
 -- ---- which entry is taken
@@ -71,101 +59,56 @@ can_go t s w k can =
 
 -- ---- what taking it does
 
--- request x was executed
-pub record IsDone (t : Setting) (w : World) (x : Sent) (y : Scene) : Type 0 where
-  pub state : y.state ≡ (step_of t.controller w.state (numbered x)).state
+-- an entry was taken, which was found to ask for this, and has this effect
+pub record IsTaken (t : Setting) (w : World) (y : Scene) (e : Sqe) (found : Result Call StatusCode) (step : Step)
+    : Type 0 where
+  pub state : y.state ≡ step.state
   pub rings : y.rings ≡ device_rings t w.rung (w.done + 1) w.told
   pub moved : List ℕ
-  pub moves : MovesBy (call_at (places t.page_size x) x.request.asked)
-      (step_of t.controller w.state (numbered x)).answer w.mem moved
+  pub moves : MovesBy found step.answer w.mem moved
   pub bytes : y.bytes ≡ with_completion moved (now t w).completion
-      (completion_with x.cid (slot t (w.done + 1)) (step_of t.controller w.state (numbered x)).answer)
+      (completion_with e.cid (slot t (w.done + 1)) step.answer)
+
+-- request x was executed
+abbrev pub IsDone : Setting → World → Sent → Scene → Type 0
+IsDone t w x y = IsTaken t w y (entry x) (call_at (places t.page_size x) x.request.asked)
+    (step_of t.controller w.state (numbered x))
 
 asked_there : (at : List ℕ) (asked : Asked) → command_in (call_at at asked) ≡ asked
 asked_there at (Ok k) = refl
 asked_there at (Err code) = refl
 
-step_found : (s : State) (c : ℕ) (x : Sent) (at : List ℕ) (e : Sqe) (found : Result Call StatusCode) → e ≡ entry x
-    → found ≡ call_at at x.request.asked → step_unless found s c e ≡ step_of c s (numbered x)
-step_found s c x at e found is call =
-    ap (λ q. step_unless found s c q) is ∙ ap (λ f. step_unless f s c (entry x)) call
-    ∙ ap (λ asked. asked_step asked s c x.request.entry.nsid x.cid) (asked_there at x.request.asked)
-
-done_by : (t : Setting) (w : World) (x : Sent) (y : Scene) (e : Sqe) (found : Result Call StatusCode) → e ≡ entry x
-    → found ≡ call_at (places t.page_size x) x.request.asked
-    → y.state ≡ (step_unless found w.state t.controller e).state
-    → y.rings ≡ device_rings t w.rung (w.done + 1) w.told
-    → (moved : List ℕ) → MovesBy found (step_unless found w.state t.controller e).answer w.mem moved
-    → y.bytes ≡ with_completion moved (now t w).completion
-    (completion_with e.cid (slot t (w.done + 1))
-    (step_unless found w.state t.controller e).answer)
-    → IsDone t w x y
-done_by t w x y e found is call state rings moved moves bytes =
-    let at = places t.page_size x in
-    let step = step_found w.state t.controller x at e found is call in
-    record {
-      state = state ∙ ap (λ (q : Step). q.state) step;
-      rings = rings;
-      moved = moved;
-      moves = subst (λ f. MovesBy f (step_of t.controller w.state (numbered x)).answer w.mem moved) call
-          (subst (λ (q : Step). MovesBy found q.answer w.mem moved) step moves);
-      bytes = bytes
-          ∙ ap (λ (q : Sqe). with_completion moved (now t w).completion (completion_with q.cid (slot t (w.done + 1))
-          (step_unless found w.state t.controller e).answer)) is
-          ∙ ap (λ (q : Step). with_completion moved (now t w).completion
-          (completion_with x.cid (slot t (w.done + 1)) q.answer)) step;
-    }
-
 pub is_done : (t : Setting) (s : State) (w : World) (y : Scene) (d : Sent) → Keeps t s w → w.done < length w.sent
     → One t.controller (scene w.state (now t w) w.mem) y → IsDone t w (get_or w.sent w.done d) y
 is_done t s w y d k below one =
+    let x = get_or w.sent w.done d in
+    let at = places t.page_size x in
     let own = k.own w.done d k.counts.collected below in
-    let is = k.waiting w.done d (omega arith) below in
     let next_one = number_next t w.done in
-    let limit = limit_of w.state t.controller in
-    done_by t w (get_or w.sent w.done d) y (entry_in (scene w.state (now t w) w.mem))
-    (call_of t.page_size limit w.mem (entry_in (scene w.state (now t w) w.mem))) is
-    (ap (call_of t.page_size limit w.mem) is
-    ∙ ap (λ n. call_of t.page_size n w.mem (entry (get_or w.sent w.done d))) k.limit
-    ∙ entry_call t (get_or w.sent w.done d) w.mem own.can own.cid
-    (k.named w.done d k.counts.collected below) (k.to_send w.done d (omega arith) below))
-    one.state (rw next_one at one.rings) one.bytes.0 one.bytes.1 (rw next_one at one.bytes.2)
+    let found = λ (e : Sqe). call_of t.page_size (limit_of w.state t.controller) w.mem e in
+    let step = λ (f : Result Call StatusCode) (e : Sqe). step_unless f w.state t.controller e in
+    subst (IsTaken t w y (entry x) (call_at at x.request.asked))
+    (ap (λ a. asked_step a w.state t.controller x.request.entry.nsid x.cid) (asked_there at x.request.asked))
+    (subst (λ f. IsTaken t w y (entry x) f (step f (entry x)))
+    (ap (λ n. call_of t.page_size n w.mem (entry x)) k.limit
+    ∙ entry_call t x w.mem own.can own.cid (k.named w.done d k.counts.collected below)
+    (k.to_send w.done d (omega arith) below))
+    (subst (λ e. IsTaken t w y e (found e) (step (found e) e)) (k.waiting w.done d (omega arith) below) (record {
+      state = one.state;
+      rings = rw next_one at one.rings;
+      moved = one.bytes.0;
+      moves = one.bytes.1;
+      bytes = rw next_one at one.bytes.2;
+    })))
 
 -- ---- the memory
 
--- the data is written to its places, if there is any
+-- the data, if there is any, is written to its places
 moves_there : (asked : Asked) (at : List ℕ) (a : Answer) (old moved : List ℕ) → MovesBy (call_at at asked) a old moved
-    → (moved ≡ old) ⊎ ((xs : List ℕ) × (moved ≡ written_at old at xs))
-moves_there (Ok k) at (Ok reply) old moved moves = inr (data_of k moves.0, moves.2)
-moves_there (Ok k) at (Err status) old moved moves = inl moves
-moves_there (Err code) at a old moved moves = inl moves
-
-module _ (t : Setting) (x : Sent) (a : Answer) (old moved : List ℕ) (some : 0 < t.page_size)
-    (enough : x.offset + data_length x ≤ length x.pages * t.page_size)
-    (moves : MovesBy (call_at (places t.page_size x) x.request.asked) a old moved) where
-  pub length-moves : length moved ≡ length old
-  length-moves = elim (moves_there x.request.asked (places t.page_size x) a old moved moves) [
-    | inl same ↦ ap (λ (m : List ℕ). length m) same
-    | inr put ↦ ap (λ (m : List ℕ). length m) put.1 ∙ length-written_at old (places t.page_size x) put.0
-  ]
-
-  pub moved_keeps : (from n : ℕ) → AreOutside t.page_size x from n → bytes_at moved from n ≡ bytes_at old from n
-  moved_keeps from n outside = elim (moves_there x.request.asked (places t.page_size x) a old moved moves) [
-    | inl same ↦ ap (λ m. bytes_at m from n) same
-    | inr put ↦ ap (λ m. bytes_at m from n) put.1 ∙ data_keeps t.page_size x old put.0 from n some enough outside
-  ]
-
-  pub moved_slot : (s : ℕ) → AreOutside t.page_size x t.cq (16 * t.depth) → s < t.depth
-      → completion_at moved t.cq s ≡ completion_at old t.cq s
-  moved_slot s outside below = completion_same t old moved s (moved_keeps t.cq (16 * t.depth) outside) below
-
-  pub moved_list : AreDistinct (own_pages x) → KeepsList (pointed t.page_size x old) x.first x.second moved
-  moved_list distinct = elim (moves_there x.request.asked (places t.page_size x) a old moved moves) [
-    | inl same ↦ subst (KeepsList (pointed t.page_size x old) x.first x.second) (sym same)
-        (record { len = refl; in_first = λ many. refl; in_second = λ many. refl })
-    | inr put ↦ subst (KeepsList (pointed t.page_size x old) x.first x.second) (sym put.1)
-        (written_list t.page_size x old put.0 some enough distinct)
-  ]
+    → (xs : List ℕ) × (moved ≡ written_at old at xs)
+moves_there (Ok k) at (Ok reply) old moved moves = (data_of k moves.0, moves.2)
+moves_there (Ok k) at (Err status) old moved moves = ([], moves ∙ sym (written-nothing old at))
+moves_there (Err code) at a old moved moves = ([], moves ∙ sym (written-nothing old at))
 
 -- a command's places are those of its data
 are_places : (t : Setting) (x : Sent) (old : List ℕ) → IsOwn t (length old) x
@@ -225,8 +168,15 @@ module _ (t : Setting) (s : State) (w : World) (y : Scene) (d : Sent) (k : Keeps
   sound : IsAnswerTo x.request.asked answer
   sound = answer_sound x.request.asked w.state t.controller x.request.entry.nsid x.cid k.well_formed
 
+  put : (xs : List ℕ) × (one.moved ≡ written_at w.mem (places t.page_size x) xs)
+  put = moves_there x.request.asked (places t.page_size x) answer w.mem one.moved one.moves
+
+  moved_keeps : (from n : ℕ) → AreOutside t.page_size x from n → bytes_at one.moved from n ≡ bytes_at w.mem from n
+  moved_keeps from n outside =
+      ap (λ m. bytes_at m from n) put.1 ∙ data_keeps t.page_size x w.mem put.0 from n some own.enough outside
+
   size : length one.moved ≡ length w.mem
-  size = length-moves t x answer w.mem one.moved some own.enough one.moves
+  size = ap (λ (m : List ℕ). length m) put.1 ∙ length-written_at w.mem (places t.page_size x) put.0
 
   inside : t.cq + 16 * t.depth ≤ length one.moved
   inside = omega (arith, size, k.placed.completions)
@@ -252,7 +202,7 @@ module _ (t : Setting) (s : State) (w : World) (y : Scene) (d : Sent) (k : Keeps
 
   only : ChangesOnlyAt t x t.cq (16 * t.depth) w.mem y.bytes
   only from i outside apart =
-      beside from i apart ∙ moved_keeps t x answer w.mem one.moved some own.enough one.moves from i outside
+      beside from i apart ∙ moved_keeps from i outside
 
   -- its own list and data don't change, nor do those of others
   own_stays : Stays t x one.moved y.bytes
@@ -261,7 +211,8 @@ module _ (t : Setting) (s : State) (w : World) (y : Scene) (d : Sent) (k : Keeps
 
   own_list : KeepsList (pointed t.page_size x w.mem) x.first x.second y.bytes
   own_list =
-      let moved = moved_list t x answer w.mem one.moved some own.enough one.moves own.pages in
+      let moved = subst (KeepsList (pointed t.page_size x w.mem) x.first x.second) (sym put.1)
+      (written_list t.page_size x w.mem put.0 some own.enough own.pages) in
       let rest = own_stays.list in
       record {
         len = rest.len ∙ moved.len;
@@ -312,7 +263,7 @@ module _ (t : Setting) (s : State) (w : World) (y : Scene) (d : Sent) (k : Keeps
   }
 
   slots_keep : (j : ℕ) → j < t.depth → completion_at one.moved t.cq j ≡ completion_at w.mem t.cq j
-  slots_keep j low = moved_slot t x answer w.mem one.moved some own.enough one.moves j own.completions low
+  slots_keep j low = completion_same t w.mem one.moved j (moved_keeps t.cq (16 * t.depth) own.completions) low
 
   held_on : (i : ℕ) (e : Sent) → length w.answers ≤ i → i < w.done + 1
       → Holds t s (world_after t w y) i (get_or w.sent i e)
@@ -339,8 +290,7 @@ module _ (t : Setting) (s : State) (w : World) (y : Scene) (d : Sent) (k : Keeps
       let p = k.placed in
       record {
         placed = subst (HasRings t) (sym len) p;
-        counts = let collected : length w.answers ≤ w.done + 1 = omega (arith, c.collected) in
-            let done : w.done + 1 ≤ w.rung = omega arith in assumption (collected, done, free, c);
+        counts = omega (arith, c, waits, free);
         bank = refl;
         state = one.state ∙ ap (λ (q : State). (step_of t.controller q (numbered x)).state) k.state
             ∙ sym (after_more t.controller s w.sent w.done d below);

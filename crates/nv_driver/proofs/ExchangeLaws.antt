@@ -1,62 +1,42 @@
 -- A single request: how it begins, and the state after it was answered.
-use Rattle.std.specs.Prelude.{slice_set}
-use Rattle.std.proofs.Common.{[], ◌≡◌, ◌∙◌, ℕ, ◌+◌, ◌*◌, ◌<◌, ◌≤◌, List, ◌∷◌, ap, arith, get_or, inl, length}
-use Rattle.std.proofs.Common.{Err, Ok, refl, subst, sym}
-use Rattle.std.proofs.Math.Nat.{mul-le-mul_right}
+use Rattle.std.proofs.Common.{[], ◌≡◌, ◌∙◌, ℕ, ◌+◌, ◌*◌, ◌<◌, ◌≤◌, List, ◌∷◌, ap, arith, get_or, length, Err, Ok, refl}
+use Rattle.std.proofs.Common.{subst, sym}
 use Rattle.nv_prp.specs.Buffer.{buffer_places}
-use Rattle.nv_queue.specs.Numbers.{next, slot_of}
-use Rattle.nv_queue.specs.Rings.{IsSubmitFull, collected_one, known_to, told_all}
-use Rattle.nv_queue.specs.Slots.{awaited_completion}
-use Rattle.nv_layout.specs.declared.cqe.Cqe.{Cqe}
 use Rattle.nv_layout.specs.declared.status.Status.{Status}
-use Rattle.nv_register.specs.RegisterBank.{with_register_at}
 use Rattle.nv_bus.specs.declared.told.Told.{Told}
-use Rattle.nv_bus.specs.Bus.{BusValue, IsBus, bank_at}
-use Rattle.nv_bus.specs.Turn as T
 use Rattle.nv_bus.specs.Entry.{status_in, told_by}
-use Rattle.nv_bus.specs.Call.{asked_by, length_of}
-use Rattle.nv_model.specs.Conditions.{greatest_limit, limit_of}
-use Rattle.nv_model.proofs.LimitLaws.{limit_bounds}
-use Rattle.nv_layout.specs.Sqe.{SqeFits}
-use Rattle.nv_layout.specs.declared.sqe.Sqe.{Sqe}
-use Rattle.nv_driver.specs.inner.Alone.{AreFrom, IsAnsweredBy, IsExchanged, KeepsBelow, Side, answered_way, came_with}
-use Rattle.nv_driver.specs.inner.Alone.{one_way, side}
+use Rattle.nv_bus.specs.Call.{asked_by}
+use Rattle.nv_driver.proofs.Words.{Answer, AreOutside, Asked, BusValue, Cqe, Delivers, Geometry, HasFreeSlot}
+use Rattle.nv_driver.proofs.Words.{IsAnswered, IsBus, IsOnWay, IsPlaceFor, IsReady, IsRequest, IsSubmittedAt, IsTold}
+use Rattle.nv_driver.proofs.Words.{KeepsBelow, QueuePairFields, RequestPlace, Run, Sent, Setting, Sqe, SqeFits}
+use Rattle.nv_driver.proofs.Words.{awaited_completion, bank_at, collected_one, greatest_limit, known_to, length_of}
+use Rattle.nv_driver.proofs.Words.{limit_bounds, limit_of, mul-le-mul_right, numbered, padded, pages_of_entry}
+use Rattle.nv_driver.proofs.Words.{pair_value, place_from, received_from, run_of, sent_at, sent_for, setting_of, side}
+use Rattle.nv_driver.proofs.Words.{slice_set, step_of, transfer_for, way, with_register_at}
+use Rattle.nv_driver.specs.inner.Alone.{IsExchanged, came_with}
 use Rattle.nv_driver.specs.Alone.{Comes, IsReceived, asked_in, entry_step}
-use Rattle.nv_driver.specs.Answer.{Answer}
-use Rattle.nv_driver.specs.Exchange.{IsReady}
-use Rattle.nv_driver.specs.Quiet.{pair_value}
-use Rattle.nv_driver.specs.Layout.{data_count, pages_of_entry}
-use Rattle.nv_driver.specs.Request.{Asked, IsRequest, padded, request_for, sent_for, transfer_for}
-use Rattle.nv_driver.specs.Schedule.{AreOutside, Delivers, IsAnswered, MaySubmit, Sent, Setting, bytes_read, numbered}
-use Rattle.nv_driver.specs.Schedule.{own_pages, received_from, slot, step_of}
-use Rattle.nv_driver.specs.Submitting.{RequestPlace, place_from, sent_at}
-use Rattle.nv_driver.specs.inner.Submitting.{IsPlaceFor, IsSubmittedAt, request_as}
-use Rattle.nv_driver.specs.UnderWay.{IsOnWay, Run, run_of, setting_of, way, world_of}
-use Rattle.nv_driver.specs.declared.geometry.Geometry.{Geometry}
+use Rattle.nv_driver.specs.Layout.{data_count}
+use Rattle.nv_driver.specs.Request.{request_for}
+use Rattle.nv_driver.specs.Schedule.{bytes_read}
+use Rattle.nv_driver.specs.HostData.{sent_by}
+use Rattle.nv_driver.specs.inner.Submitting.{request_as}
 use Rattle.nv_driver.specs.declared.outgoing.Outgoing.{Outgoing}
-use Rattle.nv_driver.specs.declared.queue_pair.QueuePair.{QueuePair as QueuePairFields}
 use Rattle.nv_driver.proofs.AnswerLaws.{IsAnswerTo, answer_sound}
-use Rattle.nv_driver.proofs.EveryEntryLaws.{every_entry}
-use Rattle.nv_driver.proofs.OnWayLaws as W
-use Rattle.nv_driver.proofs.OnWayLaws.{answer_next, begins, collects_on, completion_is, first_way, held, ready_after}
-use Rattle.nv_driver.proofs.OnWayLaws.{rings, submits_on, tells, turned}
+use Rattle.nv_driver.proofs.RequestLaws.{every_entry}
+use Rattle.nv_driver.proofs.OnWayLaws.{answer_next, begins, collects_on, completion_is, first_way, held, left_after}
+use Rattle.nv_driver.proofs.OnWayLaws.{rings, submits_on, tells_on, turned}
 use Rattle.nv_driver.proofs.PaddingLaws.{length-padded}
 use Rattle.nv_driver.proofs.ShareLaws.{data_fits, length-pages, page_at, place_fits}
 use Rattle.nv_driver.proofs.QuietLaws.{others_kept}
-use Rattle.nv_driver.proofs.SubmittingLaws.{requests_same, submitted_as}
+use Rattle.nv_driver.proofs.SubmittingLaws.{AreFrom, outside_before, requests_same, submitted_as}
+use Rattle.nv_bus.specs.Turn as T
+use Rattle.nv_driver.proofs.OnWayLaws as W
 
 abbrev told : ℕ → Status → Told
 told dword0 status = record { dword0 = dword0; status = status }
 
 same_told : {a b : ℕ} {s s' : Status} → a ≡ b → s ≡ s' → told a s ≡ told b s'
 same_told e f = cc
-
--- what ends before all pages of a request is outside them
-outside_before : (page_size first : ℕ) (x : Sent) (from n : ℕ)
-    → ((i d : ℕ) → i < length (own_pages x) → first ≤ get_or (own_pages x) i d) → from + n ≤ first * page_size
-    → AreOutside page_size x from n
-outside_before page_size first x from n behind low i d h =
-    inl (omega (arith, mul-le-mul_right page_size (behind i d h), low))
 
 -- ---- the data that comes back
 
@@ -67,27 +47,22 @@ comes_by (Ok k) (Err refused) status bytes is sound delivered = rw (is, sound.1)
 comes_by (Err code) (Ok reply) status bytes is sound delivered = absurd sound
 comes_by (Err code) (Err refused) status bytes is sound delivered = rw (is, sound.1) refl
 
--- an entry can be exchanged over a queue pair without outstanding commands, with its data at a place after the
--- queue pair whose first page is the list's
-pub record CanExchange (g : Geometry) (c : ℕ) (e : Sqe) (at : RequestPlace) (old : Side) : Type 0 where
-  pub ready : IsReady g old.bus c old.pair old.now old.bytes
-  pub fits : SqeFits e
-  pub place : IsPlaceFor old.bytes old.now at (length_of (transfer_for e))
-  pub first : AreFrom at.first at
-  pub last : old.pair.pages.first + old.pair.pages.count ≤ at.first
-
--- it was submitted
+-- an entry was submitted over a queue pair without outstanding commands, with its data at a place after the queue
+-- pair whose first page is the list's
 pub record IsBegun (g : Geometry) (bus : BusValue) (c : ℕ) (l : QueuePairFields) (bytes : List ℕ) (e : Sqe)
-    (given : List ℕ) (at : RequestPlace) (now : ℕ) (l' : QueuePairFields) (mem : List ℕ) : Type 0 where
-  pub can : CanExchange g c e at (side bus l now bytes)
-  pub sub : IsSubmittedAt g.page_size at (request_for (limit_of bus.state c) e given) l l' bytes mem
-  pub size : length mem ≡ length bytes
+    (given : List ℕ) (at : RequestPlace) (now : ℕ) (l' : QueuePairFields) (mem : List ℕ) (now1 tail : ℕ) : Type 0 where
+  pub ready : IsReady g bus c l now bytes
+  pub fits : SqeFits e
+  pub place : IsPlaceFor bytes now at (length_of (transfer_for e))
+  pub first : AreFrom at.first at
+  pub last : l.pages.first + l.pages.count ≤ at.first
+  pub sub : IsSubmittedAt g.page_size at (request_for (limit_of bus.state c) e given) l l' bytes mem now1 tail
 
 module _ {g : Geometry} {bus : BusValue} {c : ℕ} {l : QueuePairFields} {bytes : List ℕ} {e : Sqe} {given : List ℕ}
-    {at : RequestPlace} {now : ℕ} {l' : QueuePairFields} {mem : List ℕ}
-    (b : IsBegun g bus c l bytes e given at now l' mem) where
+    {at : RequestPlace} {now now1 tail : ℕ} {l' : QueuePairFields} {mem : List ℕ}
+    (b : IsBegun g bus c l bytes e given at now l' mem now1 tail) where
   ready : IsReady g bus c l now bytes
-  ready = b.can.ready
+  ready = b.ready
 
   abbrev pub run : Run
   run = run_of g c bus l bytes []
@@ -100,171 +75,127 @@ module _ {g : Geometry} {bus : BusValue} {c : ℕ} {l : QueuePairFields} {bytes 
 
   can : IsRequest (limit_of bus.state c) sent.request
   can = every_entry (limit_of bus.state c) e given (limit_bounds bus.state c ready.bus.state
-      (omega (arith, ready.controller, ready.bus.banks))).1 b.can.fits
+      (omega (arith, ready.controller, ready.bus.banks))).1 b.fits
 
-  pages_end : (l.pages.first + l.pages.count) * g.page_size ≤ at.first * g.page_size
-  pages_end = mul-le-mul_right g.page_size b.can.last
-
-  may : MaySubmit t (world_of (first_way run) bus bytes) sent
-  may =
-      let laid = ready.laid in
-      let deep = laid.deep in
-      let from_first : l.pages.first * g.page_size ≤ (l.pages.first + l.pages.count) * g.page_size =
-      mul-le-mul_right g.page_size (omega arith) in
-      let place' = rw (ready.page_size) at b.can.place in
-      record {
-        free = omega (arith, deep.0);
-        can = can;
-        cid = omega (arith, laid.serial);
-        buffer = place'.buffer;
-        list = place'.list;
-        distinct = place'.distinct;
-        submissions = outside_before g.page_size at.first sent l.submission.base (64 * l.submission.depth) b.can.first
-            (omega (arith, laid.rings, laid.pages, from_first, pages_end));
-        completions = outside_before g.page_size at.first sent l.completion.base (16 * l.submission.depth) b.can.first
-            (omega (arith, laid.pages, from_first, pages_end));
-        apart = λ n d from below. absurd (omega arith);
-      }
-
-  -- nothing was reported yet
-  pub submitted : {now1 : ℕ} → now1 ≡ now → IsOnWay (one_way run sent) bus l' now1 mem
-  submitted page = submits_on (begins [] ready) b.sub may b.size page
+  -- the tail doorbell was rung for it, and the controller had a turn, which took it
+  pub took : {now2 value count : ℕ} {one two : BusValue} {mem2 : List ℕ} → value ≡ tail → one.state ≡ bus.state
+      → one.banks ≡ slice_set bus.banks c (with_register_at (bank_at bus.banks c) 0x1000 value)
+      → (IsBus bus → IsBus one) → T.Turn now1 c 1 count one mem two mem2 → IsBus two → length mem2 ≡ length mem
+      → now2 ≡ now1 → IsOnWay (way run (record { sent = sent ∷ []; answers = [] }) 1 1 0) two l' now2 mem2
+  took {now2} {two = two} {mem2 = mem2} put state banks rung turn lawful size page =
+      let begin = begins [] ready in
+      let on = submits_on begin b.sub can b.place b.first (omega (arith, b.last))
+      (omega (arith, ready.laid.deep.0)) (λ n d from below. absurd (omega arith)) in
+      let next = turned (rings on refl (put ∙ W.tail_after begin b.sub.tail) state banks rung) refl refl turn lawful
+      size page in
+      let deep = ready.laid.deep in
+      subst (λ n. IsOnWay (way run (record { sent = sent ∷ []; answers = [] }) 1 n 0) two l' now2 mem2)
+      (omega (arith, next.1, deep.0)) next.0
 
   -- ---- the end
 
-  module _ {q' : QueuePairFields} {now' : ℕ} {after : List ℕ} {bus' : BusValue} {completion : Cqe}
-      (by : IsAnsweredBy run sent completion bus' q' now' after) where
+  -- its completion was collected and reported
+  module _ {now2 : ℕ} {two bus' : BusValue} {mem2 : List ℕ} {l1 q' : QueuePairFields} {completion : Cqe}
+      (u : IsOnWay (way run (record { sent = sent ∷ []; answers = [] }) 1 1 0) two l' now2 mem2)
+      (awaited : completion ≡ awaited_completion mem2 l'.completion)
+      (first : l1 ≡ record l' {
+        submission = known_to l'.submission completion.sq_head;
+        completion = collected_one l'.completion;
+      })
+      (reported : IsTold c l1 two q' bus') where
+    one : 0 < 1
+    one = omega arith
+
+    on_way : IsOnWay (way run (record { sent = sent ∷ []; answers = answer_next u one ∷ [] }) 1 1 1) bus' q' now2 mem2
+    on_way = tells_on (collects_on u one awaited first) refl reported
+
+    answer : IsAnswered g.page_size sent mem2 completion (step_of c bus.state (numbered sent)).answer
+    answer = subst (λ p. IsAnswered g.page_size sent mem2 p (step_of c bus.state (numbered sent)).answer)
+        (sym (awaited ∙ completion_is u one)) (held u one).answer
+
     told_is : record { dword0 = completion.command_specific; status = completion.status }
         ≡ told_by (step_of c bus.state (numbered sent)).answer
-    told_is = let told = by.answer in same_told told.dword0 told.status
-
-    page_is : now' ≡ now
-    page_is = by.on_way.page_size ∙ sym ready.page_size
+    told_is = same_told answer.dword0 answer.status
 
     -- what is before the request's pages and outside the queue pair doesn't change
-    pub others_stay : KeepsBelow (at.first * g.page_size) g.page_size (pair_value l) bytes after
+    others_stay : KeepsBelow (at.first * g.page_size) g.page_size (pair_value l) bytes mem2
     others_stay from n low apart =
-        others_kept ready by.on_way.others from n apart (λ i d h. let zero : i ≡ 0 = omega arith in
+        others_kept ready on_way.others from n apart (λ i d h. let zero : i ≡ 0 = omega arith in
         subst (λ j. AreOutside g.page_size (get_or (sent ∷ []) j d) from n) (sym zero)
-        (outside_before g.page_size at.first sent from n b.can.first low))
+        (outside_before g.page_size at.first sent from n b.first low))
 
     -- the data that comes back is received
     received_by : (n : ℕ) {size : ℕ} {out : List ℕ} → size ≡ g.page_size
         → out ≡ padded n (came_with completion.status
-        (received_from (transfer_for e) after
+        (received_from (transfer_for e) mem2
         (buffer_places size at.pages at.offset (length_of (transfer_for e)))))
         → IsReceived (asked_in bus.state c e given) (entry_step bus.state c e given l.serial).answer out
     received_by n {size} {out} page filled =
-        let bytes = bytes_read g.page_size sent after in
+        let bytes = bytes_read g.page_size sent mem2 in
         let came = came_with completion.status bytes in
         let is : out ≡ padded n came = rw (page) at filled in
         let long : length out ≡ n = ap (λ (xs : List ℕ). length xs) is ∙ length-padded n came in
         record {
           came = came;
           comes = comes_by sent.request.asked (step_of c bus.state (numbered sent)).answer completion.status bytes
-              by.answer.status (answer_sound sent.request.asked bus.state c e.nsid l.serial ready.bus.state)
-              by.answer.bytes;
+              answer.status (answer_sound sent.request.asked bus.state c e.nsid l.serial ready.bus.state)
+              answer.bytes;
           filled = is ∙ ap (λ k. padded k came) (sym long);
         }
 
     -- the complete state after the exchange
     pub exchanged : (n : ℕ) {out : List ℕ} → out ≡ padded n (came_with completion.status
-        (received_from (transfer_for e) after
-        (buffer_places now' at.pages at.offset (length_of (transfer_for e)))))
-        → IsExchanged g c e given at.first (side bus l now bytes) (side bus' q' now' after)
+        (received_from (transfer_for e) mem2
+        (buffer_places now2 at.pages at.offset (length_of (transfer_for e)))))
+        → IsExchanged g c e given at.first (side bus l now bytes) (side bus' q' now2 mem2)
         (told completion.command_specific completion.status) out
     exchanged n filled =
-        let again = ready_after 1 by.on_way refl refl refl refl refl in
         record {
           answer = told_is;
-          received = received_by n (page_is ∙ ready.page_size) filled;
-          state = by.on_way.keeps.state;
-          ready = again.0;
-          banks = by.on_way.banks;
-          pair = ap pair_value again.1;
-          others = others_stay;
-          len = by.on_way.size;
-          page = page_is;
+          received = received_by n on_way.page_size filled;
+          state = on_way.keeps.state;
+          left = left_after 1 on_way refl refl refl refl refl ready.page_size others_stay;
         }
 
--- ---- the ring of a queue pair without outstanding commands
-
-module _ {g : Geometry} {bus : BusValue} {c : ℕ} {l : QueuePairFields} {bytes : List ℕ} {now : ℕ}
-    (ready : IsReady g bus c l now bytes) where
-  pub ring_inside : l.submission.base + 64 * l.submission.depth ≤ length bytes
-  ring_inside = W.slots_inside (W.begins [] ready)
-
-  pub has_slot : ¬ IsSubmitFull l.submission
-  has_slot = W.has_slot (W.begins [] ready) (omega (arith, ready.laid.deep.0))
-
-  pub tail_is : {tail : ℕ} → tail ≡ slot_of l.submission.depth (next l.submission.depth l.submission.submitted)
-      → tail ≡ slot (setting_of (run_of g c bus l bytes [])) 1
-  tail_is = W.tail_after (W.begins [] ready)
-
--- the tail doorbell was rung for a request, and the controller had a turn, which took it
-pub did : {r : Run} {x : Sent} {l : QueuePairFields} {now now' c value count : ℕ} {bytes mem : List ℕ}
-    {bus one two : BusValue} → IsOnWay (one_way r x) bus l now bytes → c ≡ r.controller
-    → value ≡ slot (setting_of r) 1 → one.state ≡ bus.state
-    → one.banks ≡ slice_set bus.banks c (with_register_at (bank_at bus.banks c) 0x1000 value)
-    → (IsBus bus → IsBus one) → T.Turn now c 1 count one bytes two mem → IsBus two → length mem ≡ length bytes
-    → now' ≡ now → IsOnWay (way r (record { sent = x ∷ []; answers = [] }) 1 1 0) two l now' mem
-did {r} {x} {l} {now' = now'} {mem = mem} {two = two} u same put state banks rung turn lawful size page =
-    let next = turned (rings u same put state banks rung) same refl turn lawful size page in
-    let deep = u.begun.laid.deep in
-    subst (λ n. IsOnWay (way r (record { sent = x ∷ []; answers = [] }) 1 n 0) two l now' mem)
-    (omega (arith, next.1, deep.0)) next.0
-
--- its completion was collected, and the head doorbell was rung
-pub ends : {r : Run} {x : Sent} {bus bus' : BusValue} {l l1 l' : QueuePairFields} {now c value : ℕ} {mem : List ℕ}
-    {q : Cqe} (u : IsOnWay (way r (record { sent = x ∷ []; answers = [] }) 1 1 0) bus l now mem)
-    → q ≡ awaited_completion mem l.completion
-    → l1 ≡ record l { submission = known_to l.submission q.sq_head; completion = collected_one l.completion }
-    → l' ≡ record l1 { completion = told_all l1.completion } → c ≡ r.controller
-    → value ≡ slot_of l1.completion.depth l1.completion.collected → bus'.state ≡ bus.state
-    → bus'.banks ≡ slice_set bus.banks c (with_register_at (bank_at bus.banks c) 0x1004 value)
-    → (IsBus bus → IsBus bus') → IsAnsweredBy r x q bus' l' now mem
-ends {r} {x} {bus' = bus'} {now = now} {mem = mem} {q = q} u is first last same put state banks lawful =
-    let one : 0 < 1 = omega arith in
-    let next = collects_on u one is first in
-    record {
-      collected = answer_next u one;
-      on_way = subst (λ p. IsOnWay (answered_way r x (answer_next u one)) bus' p now mem) (sym last)
-          (tells next same put state banks lawful);
-      answer = subst (λ p. IsAnswered r.geometry.page_size x mem p
-          (step_of r.controller r.bus.state (numbered x)).answer) (sym (is ∙ completion_is u one)) (held u one).answer;
-    }
+-- a queue pair without outstanding commands has a free slot
+pub has_slot : {g : Geometry} {bus : BusValue} {c : ℕ} {l : QueuePairFields} {bytes : List ℕ} {now : ℕ}
+    → IsReady g bus c l now bytes → HasFreeSlot l bytes
+has_slot ready = W.free_slot (W.begins [] ready) (omega (arith, ready.laid.deep.0))
 
 -- ---- the place of its data
 
--- an entry can be exchanged, with its data in consecutive pages from this one on
-pub can_exchange : {g : Geometry} {c first : ℕ} {e : Sqe} {bus : BusValue} {l : QueuePairFields} {now : ℕ}
-    {bytes : List ℕ} → IsReady g bus c l now bytes → SqeFits e
-    → length_of (transfer_for e) ≤ greatest_limit
-    → (first + pages_of_entry g.page_size) * g.page_size ≤ length bytes → l.pages.first + l.pages.count ≤ first
-    → CanExchange g c e (place_from g first (length_of (transfer_for e))) (side bus l now bytes)
-can_exchange {g} {first = first} {e = e} {now = now} {bytes = bytes} ready fits few inside last =
-    let n = length_of (transfer_for e) in
-    let all = (data_fits g n greatest_limit ready.geometry few).1 in
-    let end : first + data_count g n + 2 ≤ first + pages_of_entry g.page_size = omega (arith, all) in
-    record {
-      ready = ready;
-      fits = fits;
-      place = place_fits g first n bytes now ready.geometry ready.page_size
-          (omega (arith, mul-le-mul_right g.page_size end, inside));
-      first = λ i d h. omega (arith, page_at g first n i d (omega (arith, h, length-pages g first n)));
-      last = last;
-    }
+module _ {g : Geometry} {c first len : ℕ} {e : Sqe} {bus : BusValue} {l : QueuePairFields} {now : ℕ}
+    {bytes : List ℕ} {at : RequestPlace} (q : Outgoing) (ready : IsReady g bus c l now bytes) (fits : SqeFits e)
+    (inside : (first + pages_of_entry g.page_size) * g.page_size ≤ length bytes)
+    (last : l.pages.first + l.pages.count ≤ first) (entry : q.entry ≡ e) (moves : q.transfer ≡ transfer_for e)
+    (few : length_of q.transfer ≤ greatest_limit) (long : len ≡ length_of q.transfer)
+    (place : at ≡ place_from g first len) where
+  there : at ≡ place_from g first (length_of (transfer_for e))
+  there = place ∙ ap (place_from g first) (long ∙ ap length_of moves)
 
--- the entry was submitted
-pub begun_by : {g : Geometry} {bus : BusValue} {c : ℕ} {l : QueuePairFields} {bytes : List ℕ} {e : Sqe} {given : List ℕ}
-    {at at' : RequestPlace} {now : ℕ} {l' : QueuePairFields} {mem : List ℕ} (q : Outgoing)
-    → CanExchange g c e at (side bus l now bytes) → q.entry ≡ e → q.transfer ≡ transfer_for e
-    → q.sends.now ≡ sent_for (transfer_for e) given → at' ≡ at
-    → ((asked : Asked) → IsSubmittedAt now at' (request_as q asked) l l' bytes mem) → length mem ≡ length bytes
-    → IsBegun g bus c l bytes e given at now l' mem
-begun_by {bus = bus} {c = c} {e = e} {given = given} q can entry moves sends place sub size = record {
-  can = can;
-  sub = submitted_as can.ready.page_size place (requests_same entry moves sends)
-      (sub (asked_by (limit_of bus.state c) e (sent_for (transfer_for e) given)));
-  size = size;
-}
+  fits_there : IsPlaceFor bytes now (place_from g first (length_of (transfer_for e))) (length_of (transfer_for e))
+  fits_there =
+      let n = length_of (transfer_for e) in
+      let all = (data_fits g n greatest_limit ready.geometry (rw moves at few)).1 in
+      let end : first + data_count g n + 2 ≤ first + pages_of_entry g.page_size = omega (arith, all) in
+      place_fits g first n bytes now ready.geometry ready.page_size
+      (omega (arith, mul-le-mul_right g.page_size end, inside))
+
+  pub its_place : IsPlaceFor bytes now at (length_of q.transfer)
+  its_place = rw (there, moves) fits_there
+
+  -- the entry was submitted
+  pub begun_by : {given mem : List ℕ} {now1 tail : ℕ} {l' : QueuePairFields}
+      → sent_by q.sends ≡ sent_for (transfer_for e) given
+      → ((asked : Asked) → IsSubmittedAt now at (request_as q asked) l l' bytes mem now1 tail)
+      → IsBegun g bus c l bytes e given (place_from g first (length_of (transfer_for e))) now l' mem now1 tail
+  begun_by {given = given} sends sub = record {
+    ready = ready;
+    fits = fits;
+    place = fits_there;
+    first = λ i d h. let n = length_of (transfer_for e) in
+        omega (arith, page_at g first n i d (omega (arith, h, length-pages g first n)));
+    last = last;
+    sub = submitted_as ready.page_size there (requests_same entry moves sends)
+        (sub (asked_by (limit_of bus.state c) e (sent_for (transfer_for e) given)));
+  }

@@ -2,21 +2,17 @@
 use Rattle.std.proofs.Common.{◌≡◌, ◌↔◌, ◌∙◌, ℕ, ◌+◌, ◌*◌, ◌%◌, ◌<◌, ◌≤◌, length-append, [], ◌∷◌, ◌++◌, ap, arith}
 use Rattle.std.proofs.Common.{get_or, inl, inr, length, refl, subst, sym}
 use Rattle.std.proofs.Math.Nat.{mod-eq_of_lt}
-use Rattle.std.proofs.lemmas.Bool.{cases_lt}
-use Rattle.std.proofs.lemmas.List.{get_or_append_left, get_or_default, get_or_push}
 use Rattle.nv_queue.specs.Numbers.{kept_number, phase_of}
 use Rattle.nv_queue.proofs.SlotLaws.{not_own}
-use Rattle.nv_queue.specs.Slots.{HoldsTags, IsAwaitedThere, completion_at}
+use Rattle.nv_queue.specs.Slots.{IsAwaitedThere}
 use Rattle.nv_queue.proofs.TagLaws.{tag_below_here, tag_there}
-use Rattle.nv_model.specs.State.{State}
-use Rattle.nv_register.specs.RegisterBank.{with_register_at}
-use Rattle.nv_register.specs.declared.register_bank.RegisterBank.{RegisterBank}
-use Rattle.nv_driver.specs.Request.{IsReadable}
-use Rattle.nv_driver.specs.Schedule.{Happens, IsIdle, Sent, Setting, World, answer_awaited, answers_to, awaited}
-use Rattle.nv_driver.specs.Schedule.{device_rings, number, bank_with, slot}
-use Rattle.nv_driver.specs.Schedule.{Bell, Collect, Holds, Tell}
+use Rattle.nv_driver.proofs.Words.{Bell, Collect, Happens, Holds, HoldsTags, IsReadable, Keeps, RegisterBank, Sent}
+use Rattle.nv_driver.proofs.Words.{Setting, State, Tell, World, answer_awaited, answers_to, bank_with, cases_lt}
+use Rattle.nv_driver.proofs.Words.{completion_at, device_rings, get_or_append_left, get_or_default, get_or_push, number}
+use Rattle.nv_driver.proofs.Words.{slot, with_register_at}
+use Rattle.nv_driver.specs.Schedule.{IsIdle, awaited}
 use Rattle.nv_driver.proofs.CountLaws.{head_told, number_above, number_below, numbers_differ, slot_inside, tail_rung}
-use Rattle.nv_driver.specs.Keeping.{AreInOrder, Keeps}
+use Rattle.nv_driver.specs.Keeping.{AreInOrder}
 use Rattle.nv_driver.proofs.AnswerLaws.{holds_on}
 use Rattle.nv_driver.proofs.BatchLaws.{answer_at}
 
@@ -34,14 +30,7 @@ idle_keeps t w i =
     let deep = i.deep in
     record {
       placed = assumption i;
-      counts = record {
-        told = omega (arith, i.told);
-        collected = omega (arith, no_answers);
-        done = omega (arith, i.done);
-        rung = omega (arith, i.rung);
-        few = omega (arith, no_sent, deep.0);
-        free = omega (arith, i.done, deep.0);
-      };
+      counts = omega (arith, i.told, i.done, i.rung, no_answers, no_sent, deep.0);
       bank = rw (i.rung, i.done, i.told) i.bank;
       state = rw (i.done) refl;
       well_formed = i.state;
@@ -75,9 +64,7 @@ bell_keeps t s w w' k happens =
     let m = length w.sent in
     subst (Keeps t s) (sym happens)
     (told_otherwise t s w m w.told _ k
-    (let done : w.done ≤ m = omega (arith, c.done, c.rung) in let rung : m ≤ m = omega arith in assumption
-    (done, rung, c))
-    (ap (λ p. with_register_at p 0x1000 (slot t m)) k.bank
+    (omega (arith, c)) (ap (λ p. with_register_at p 0x1000 (slot t m)) k.bank
     ∙ tail_rung t w.rung w.done w.told m (omega (arith, c.done, c.rung)) (omega (arith, c.few, c.collected))))
 
 pub tell_keeps : (t : Setting) (s : State) (w w' : World) → Keeps t s w → Happens t Tell w w' → Keeps t s w'
@@ -86,9 +73,7 @@ tell_keeps t s w w' k happens =
     let n = length w.answers in
     subst (Keeps t s) (sym happens)
     (told_otherwise t s w w.rung n _ k
-    (let told : n ≤ n = omega arith in let free : w.done < n + t.depth = omega (arith, c.few, c.done, c.rung) in
-    assumption (told, free, c))
-    (ap (λ p. with_register_at p 0x1004 (slot t n)) k.bank
+    (omega (arith, c)) (ap (λ p. with_register_at p 0x1004 (slot t n)) k.bank
     ∙ head_told t w.rung w.done w.told n c.told c.collected c.free))
 
 -- ---- an answer is collected
@@ -137,9 +122,7 @@ collected_one t s w d k below =
     let more : length (w.answers ++ a ∷ []) ≡ n + 1 = length-append w.answers (a ∷ []) in
     record {
       placed = k.placed;
-      counts = rw more (let told : w.told ≤ n + 1 = omega (arith, c.told) in let collected : n + 1 ≤ w.done = omega
-          arith in
-          let few : length w.sent < n + 1 + t.depth = omega (arith, c.few) in assumption (told, collected, few, c));
+      counts = omega (arith, more, c, below);
       bank = k.bank;
       state = k.state;
       well_formed = k.well_formed;

@@ -1,3 +1,4 @@
+pub mod Words
 pub mod BatchLaws
 pub mod ShareLaws
 pub mod SubmittingLaws
@@ -17,13 +18,10 @@ pub mod RequestLaws
 pub mod PaddingLaws
 pub mod OnWayLaws
 pub mod ExchangeLaws
-pub mod EveryEntryLaws
 pub mod SubmitLaws
 pub mod EntryLaws
 pub mod TurnLaws
 pub mod ScheduleLaws
-pub mod QueuePairLaws
-pub mod LayoutLaws
 pub mod MemoryLaws
 pub mod RegisterLaws
 pub mod ResetLaws

@@ -1,26 +1,21 @@
 -- The effect of a new driver, its commands and its resets on command identifiers and register banks.
 use Rattle.std.proofs.Common.{◌≡◌, ◌∙◌, ℕ, ◌+◌, ◌<◌, zero, suc, arith, zero-add, List, [], ◌∷◌, ◌++◌, ap, sym, subst}
 use Rattle.std.proofs.Common.{refl, true, length, map, get_or, set, ◌≢◌, ◌↔◌, Option, None, Some, Result, Ok, Err}
-use Rattle.std.specs.Prelude.{replicate}
 use Rattle.std.proofs.Math.Seq.{map-set_same}
-use Rattle.std.proofs.lemmas.List.{get_or-map, length-map, length-set, map-append, map-set, replicate_more}
+use Rattle.std.proofs.lemmas.List.{length-set, map-append, map-set, replicate_more}
 use Rattle.std.proofs.lemmas.List.FromFn.{map-range_with_len_more}
-use Rattle.nv_model.specs.Step.{next_serial}
-use Rattle.nv_bus.specs.Bus.{BusValue, enabled_in}
-use Rattle.nv_driver.specs.Driver.{after_command, after_reset, new_driver, no_pair, pair_at}
+use Rattle.nv_driver.proofs.Words.{BusValue, DriverValue, Geometry, QueuePair, after_command, enabled_in, get_or-map}
+use Rattle.nv_driver.proofs.Words.{idle_bank, length-map, mps_of, next_serial, pair_of, pairs_of, renewed_pair}
+use Rattle.nv_driver.proofs.Words.{replicate}
+use Rattle.nv_driver.specs.Driver.{after_reset, new_driver, no_pair, pair_at}
 use Rattle.nv_driver.specs.inner.Driver.{error_without}
 use Rattle.nv_driver.specs.Geometry.{fault_of}
 use Rattle.nv_driver.specs.Exchange.{after_one}
-use Rattle.nv_driver.specs.Layout.{pair_of, pairs_of}
 use Rattle.nv_driver.specs.Linked.{IsLinked}
 use Rattle.nv_driver.specs.inner.Linked.{serials_of}
-use Rattle.nv_driver.specs.QueuePair.{QueuePair, idle_bank, renewed_pair}
-use Rattle.nv_driver.specs.Registers.{mps_of}
-use Rattle.nv_driver.specs.Settled.{DriverValue}
 use Rattle.nv_driver.specs.declared.error.DriverError.{DriverError}
-use Rattle.nv_driver.specs.declared.error.DriverError.TheVariants as error
-use Rattle.nv_driver.specs.declared.geometry.Geometry.{Geometry}
 use Rattle.nv_driver.specs.declared.geometry_field.GeometryField.{GeometryField}
+use Rattle.nv_driver.specs.declared.error.DriverError.TheVariants as error
 
 abbrev serial : QueuePair → ℕ
 serial l = l.serial

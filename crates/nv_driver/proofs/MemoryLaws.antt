@@ -1,27 +1,45 @@
 -- The memory of a new driver, with a queue pair for each controller.
-use Rattle.std.specs.Prelude.{replicate, slice_index_or}
-use Rattle.std.proofs.Common.{◌≡◌, ◌∙◌, ℕ, ◌+◌, ◌*◌, ◌<◌, ◌≤◌, ◌^◌, All, List, ap, arith, below_more, inl, length}
-use Rattle.std.proofs.Common.{map, refl, subst, sym}
-use Rattle.std.proofs.Math.Nat.{mul-div_cancel, mul-le-mul_right, zero-add}
+use Rattle.std.specs.Prelude.{slice_index_or}
+use Rattle.std.proofs.Common.{◌≡◌, ◌∙◌, ℕ, ◌+◌, ◌*◌, ◌<◌, ◌≤◌, ◌^◌, All, List, ap, arith, below_more, inl, length, []}
+use Rattle.std.proofs.Common.{◌∷◌, ◌++◌, map, refl, subst, sym}
+use Rattle.std.proofs.Math.Nat.{mul-div_cancel, mul-le-mul, zero-add}
 use Rattle.std.proofs.lemmas.Grind.{div_ceil_times}
-use Rattle.std.proofs.lemmas.List.{get_or-map, length-map, length-replicate}
-use Rattle.std.proofs.lemmas.List.FromFn.{get_or-map-range_with_len, length-map-range_with_len}
-use Rattle.nv_host.proofs.PageLaws.{page_size_bounds}
-use Rattle.nv_host.specs.Pages.{PagedBytes}
-use Rattle.nv_queue.specs.Slots.{HoldsTags}
-use Rattle.nv_driver.specs.Driver.{IsDriver, driver_value, driver_with, page_count}
-use Rattle.nv_driver.specs.inner.Exchange.{KeepsOthers}
-use Rattle.nv_driver.specs.Geometry.{IsGeometry}
-use Rattle.nv_driver.specs.QueuePair.{IsLaid, QueuePair}
-use Rattle.nv_driver.specs.Layout.{completion_pages, pair_of, pair_pages, pairs_of, pages_of, set_pages}
-use Rattle.nv_driver.specs.Layout.{submission_pages}
-use Rattle.nv_driver.specs.Quiet.{IsQuiet, pair_value}
-use Rattle.nv_driver.specs.Settled.{IsSettled, end_of}
-use Rattle.nv_driver.specs.declared.geometry.Geometry.{Geometry}
-use Rattle.nv_driver.specs.declared.queue_pair.QueuePair.{QueuePair as QueuePairFields}
+use Rattle.std.proofs.lemmas.List.{map-append}
+use Rattle.std.proofs.lemmas.List.Elements.{All-push}
+use Rattle.std.proofs.lemmas.List.FromFn.{get_or-map-range_with_len, map-range_with_len_more}
+use Rattle.nv_driver.proofs.Words.{Geometry, HoldsTags, IsDriver, IsGeometry, IsLaid, IsQuiet, KeepsBelow, PagedBytes}
+use Rattle.nv_driver.proofs.Words.{QueuePair, QueuePairFields, driver_value, driver_with, end_of, get_or-map}
+use Rattle.nv_driver.proofs.Words.{length-map, length-map-range_with_len, length-replicate, mul-le-mul_right}
+use Rattle.nv_driver.proofs.Words.{page_size_bounds, pair_of, pair_pages, pair_value, pairs_of, replicate}
+use Rattle.nv_driver.specs.Driver.{page_count}
+use Rattle.nv_driver.specs.Layout.{completion_pages, pages_of, set_pages, submission_pages}
+use Rattle.nv_driver.specs.Settled.{IsSettled}
 use Rattle.nv_driver.proofs.AdminLaws.{slots_stay}
 
+-- ---- the numbers of pages
+
+-- the pages before a queue pair, and the bytes before a page
+pub pair_times : (i l : ℕ) → i ≤ 16 → l ≤ 0x180000 → i * l ≤ 0x1800000
+pair_times i l h k = mul-le-mul h k
+
+pub page_times : (n p : ℕ) → n ≤ 0x2000000 → p ≤ 0x10000 → n * p ≤ 0x20000000000
+page_times n p h k = mul-le-mul h k
+
+pub ruleset lay = (pair_times, page_times)
+
 -- ---- the queue pairs
+
+pub quiet_more : (xs : List QueuePairFields) (x : QueuePairFields) → All IsQuiet xs → IsQuiet x
+    → All IsQuiet (xs ++ x ∷ [])
+quiet_more xs x h q = All-push IsQuiet xs x h q
+
+pub pairs_more : (xs : List QueuePairFields) (x : QueuePairFields) (g : Geometry) (i : ℕ)
+    → map pair_value xs ≡ pairs_of g i
+    → pair_value x ≡ pair_of g i → map pair_value (xs ++ x ∷ []) ≡ pairs_of g (i + 1)
+pairs_more xs x g i h e =
+    map-append pair_value xs (x ∷ [])
+    ∙ (ap (λ ys. ys ++ pair_value x ∷ []) h
+    ∙ (ap (λ y. pairs_of g i ++ y ∷ []) e ∙ sym (map-range_with_len_more (pair_of g) 0 i i (zero-add i))))
 
 -- rings fit in their pages
 rings_fit : (g : Geometry) → 0 < g.page_size
@@ -86,18 +104,19 @@ laid_in g n i size laid h =
 -- ---- zeroed completion rings
 
 -- the completion rings of the queue pairs below stay zeroed when that of queue pair c is zeroed too
-pub tags_more : (g : Geometry) (n c : ℕ) (old new : List ℕ)
-    → All (IsLaid g.page_size (length old)) (pairs_of g n) → c < n
-    → KeepsOthers g.page_size (pair_of g c) old new → HoldsTags new (pair_of g c).cq g.depth 0
+pub tags_more : (g : Geometry) (n c : ℕ) (old new : List ℕ) {v : QueuePair}
+    → All (IsLaid g.page_size (length old)) (pairs_of g n) → c < n → v ≡ pair_of g c
+    → KeepsBelow (length old) g.page_size v old new → HoldsTags new v.cq v.depth 0
     → ((k : ℕ) → k < c → HoldsTags old (pair_of g k).cq g.depth 0)
     → (k : ℕ) → k < c + 1 → HoldsTags new (pair_of g k).cq g.depth 0
-tags_more g n c old new laid h keeps own tags =
+tags_more g n c old new {v} laid h is keeps own tags =
     below_more (λ k. HoldsTags new (pair_of g k).cq g.depth 0) c
-    (λ k l. slots_stay (length old) g.page_size old new (pair_of g c) (pair_of g k) (λ from i low. keeps from i)
+    (λ k l. slots_stay (length old) g.page_size old new (pair_of g c) (pair_of g k)
+    (subst (λ q. KeepsBelow (length old) g.page_size q old new) is keeps)
     (laid_in g n k (length old) laid (omega arith)).inside
     (laid_in g n k (length old) laid (omega arith)) (laid_in g n c (length old) laid h)
     (inl (pair_ends g k c l)) (tags k l))
-    own
+    (subst (λ (q : QueuePair). HoldsTags new q.cq q.depth 0) is own)
 
 pub settled_at_first : (g : Geometry) (n : ℕ) (bytes : List ℕ)
     → All (IsLaid g.page_size (length bytes)) (pairs_of g n)
@@ -112,53 +131,44 @@ settled_at_first g n bytes laid tags =
 
 -- ---- a new driver
 
--- a new memory with this number of pages
-pub memory_size : (g : Geometry) (pages : ℕ) (mem : PagedBytes)
-    → mem ≡ record { page_size = g.page_size; bytes = replicate (pages * g.page_size) 0 }
-    → length mem.bytes ≡ pages * g.page_size
-memory_size g pages mem made = rw made (length-replicate (pages * g.page_size) 0)
-
-page_count_is : (g : Geometry) (pages : ℕ) (mem : PagedBytes) → IsGeometry g → mem.page_size ≡ g.page_size
-    → length mem.bytes ≡ pages * g.page_size → page_count mem ≡ pages
-page_count_is g pages mem is page size =
-    let bounds = page_size_bounds g.page_size is.page_size in
-    rw (size, page) (mul-div_cancel pages (omega arith))
-
--- there are at least as many pages as the queue pairs need
-pub has_pairs : (g : Geometry) (n m more pages : ℕ) (mem : PagedBytes) → pages ≡ pages_of g m + more → m ≡ n
-    → mem ≡ record { page_size = g.page_size; bytes = replicate (pages * g.page_size) 0 }
-    → pages_of g n * g.page_size ≤ length mem.bytes
-has_pairs g n m more pages mem are same made =
-    let some : pages_of g n ≤ pages = omega (arith, are, ap (pages_of g) same) in
-    omega (arith, memory_size g pages mem made, mul-le-mul_right g.page_size some)
-
 -- a driver of n controllers
 pub record IsFirst (g : Geometry) (n more : ℕ) (mem : PagedBytes) (pairs : List QueuePairFields) : Type 0 where
   pub driver : IsDriver g mem pairs
   pub value : driver_value g mem pairs ≡ driver_with g n more
 
-pub driver_at_first : (g : Geometry) (n m more pages : ℕ) (made mem : PagedBytes)
-    (pairs : List QueuePairFields) → IsGeometry g → m ≡ n → pages ≡ pages_of g m + more → pages < 2 ^ 32
-    → made ≡ record { page_size = g.page_size; bytes = replicate (pages * g.page_size) 0 }
-    → mem.page_size ≡ made.page_size
-    → length mem.bytes ≡ length made.bytes → All IsQuiet pairs → map pair_value pairs ≡ pairs_of g m
-    → IsSettled g.page_size mem.bytes (pairs_of g n)
-    → IsFirst g n more mem pairs
-driver_at_first g n m more pages made mem pairs is same are few zeros keeps_page keeps_size quiet pairs_are settled =
-    let page = keeps_page ∙ ap (λ (x : PagedBytes). x.page_size) zeros in
-    let size = keeps_size ∙ memory_size g pages made zeros in
-    let count = page_count_is g pages mem is page size in
-    let each = pairs_are ∙ ap (pairs_of g) same in
-    let many = pair_count g n pairs each in
-    record {
-      driver = record {
-        geometry = is;
-        page_size = page;
-        whole = rw (count, page) (sym size);
-        numbered = rw count few;
-        quiet = quiet;
-        placed = λ i d h. rw (each, pair_at g n i d (omega arith)) refl;
-        settled = rw (page, each) settled;
-      };
-      value = rw (count, each, are, same) refl;
-    }
+-- a new memory with the pages of the queue pairs and others
+module _ {g : Geometry} {n m pages : ℕ} {made : PagedBytes} (more : ℕ) (is : IsGeometry g) (same : m ≡ n)
+    (many : pages ≡ pages_of g m + more)
+    (zeros : made ≡ record { page_size = g.page_size; bytes = replicate (pages * g.page_size) 0 }) where
+  memory_size : length made.bytes ≡ pages * g.page_size
+  memory_size = rw zeros (length-replicate (pages * g.page_size) 0)
+
+  -- each queue pair lies in it
+  pub has_pairs : All (IsLaid g.page_size (length made.bytes)) (pairs_of g n)
+  has_pairs =
+      let some : pages_of g n ≤ pages = omega (arith, many, ap (pages_of g) same) in
+      all_laid g n (length made.bytes) is (omega (arith, memory_size, mul-le-mul_right g.page_size some))
+
+  pub driver_at_first : {mem : PagedBytes} {pairs : List QueuePairFields} → pages < 2 ^ 32
+      → mem.page_size ≡ made.page_size → length mem.bytes ≡ length made.bytes → All IsQuiet pairs
+      → map pair_value pairs ≡ pairs_of g m → IsSettled g.page_size mem.bytes (pairs_of g n)
+      → IsFirst g n more mem pairs
+  driver_at_first {mem} {pairs} few keeps_page keeps_size quiet pairs_are settled =
+      let page = keeps_page ∙ ap (λ (x : PagedBytes). x.page_size) zeros in
+      let size = keeps_size ∙ memory_size in
+      let bounds = page_size_bounds g.page_size is.page_size in
+      let count : page_count mem ≡ pages = rw (size, page) (mul-div_cancel pages (omega arith)) in
+      let each = pairs_are ∙ ap (pairs_of g) same in
+      let long = pair_count g n pairs each in
+      record {
+        driver = record {
+          geometry = is;
+          page_size = page;
+          whole = rw (count, page) (sym size);
+          numbered = rw count few;
+          quiet = quiet;
+          placed = λ i d h. rw (each, pair_at g n i d (omega arith)) refl;
+          settled = rw (page, each) settled;
+        };
+        value = rw (count, each, many, same) refl;
+      }

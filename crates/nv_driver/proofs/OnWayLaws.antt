@@ -1,44 +1,33 @@
 -- Requests on their way: what submissions, doorbells, turns and collections leave.
-use Rattle.std.specs.Prelude.{slice_set}
 use Rattle.std.proofs.Common.{[], min, ◌≡◌, ◌∙◌, ℕ, ◌+◌, ◌-◌, ◌*◌, ◌<◌, ◌≤◌, ◌==◌, ◌++◌, ◌∷◌, Bool, List, ap, arith}
 use Rattle.std.proofs.Common.{false, get_or, inl, length, length-append, not, refl, subst, sym, true}
 use Rattle.std.proofs.Math.ListN.{length-set}
-use Rattle.std.proofs.lemmas.Bool.Decides.{nat_tests}
-use Rattle.std.proofs.lemmas.List.{get_or-set_same, set-get_or, set-set}
-use Rattle.std.proofs.lemmas.Nat.{mod_below}
-use Rattle.nv_layout.specs.declared.cqe.Cqe.{Cqe}
+use Rattle.std.proofs.lemmas.List.{set-get_or, set-set}
 use Rattle.nv_queue.proofs.KeptLaws.{between_kept, first_kept}
-use Rattle.nv_queue.specs.Numbers.{IsSlotBetween, first_in_slot, next, slot_of}
-use Rattle.nv_queue.specs.Rings.{IsSubmitFull, collected_one, known_to, submitted_one, told_all}
-use Rattle.nv_queue.specs.Slots.{IsAwaitedThere, awaited_completion, completion_at, with_submission}
-use Rattle.nv_register.specs.RegisterBank.{new_bank, with_register_at}
-use Rattle.nv_register.specs.declared.register_bank.RegisterBank.{RegisterBank}
-use Rattle.nv_command.specs.declared.command.Command.{Command}
-use Rattle.nv_model.specs.Conditions.{limit_of}
-use Rattle.nv_model.specs.State.{State}
-use Rattle.nv_model.specs.Step.{next_serial}
-use Rattle.nv_bus.specs.Bus.{BusValue, IsBus, bank_at}
-use Rattle.nv_bus.specs.Turn as T
-use Rattle.nv_driver.specs.Answer.{Answer}
-use Rattle.nv_driver.specs.Exchange.{IsReady}
-use Rattle.nv_driver.specs.Request.{Request}
-use Rattle.nv_driver.specs.Schedule.{Bell, Collect, Happens, Holds, MaySubmit, Sent, Setting, Submit, Tell, Turn}
-use Rattle.nv_driver.specs.Schedule.{World, answer_awaited, awaited, collect_ring, entry, number, slot, submit_ring}
-use Rattle.nv_driver.specs.Submitting.{RequestPlace, sent_at}
-use Rattle.nv_driver.specs.inner.Submitting.{IsSubmittedAt}
-use Rattle.nv_driver.specs.UnderWay.{IsOnWay, Run, Way, pair_at, run_of, serial_at, setting_of, way, world_by}
-use Rattle.nv_driver.specs.UnderWay.{world_of}
-use Rattle.nv_driver.specs.declared.geometry.Geometry.{Geometry}
-use Rattle.nv_driver.specs.declared.queue_pair.QueuePair.{QueuePair as QueuePairFields}
+use Rattle.nv_queue.specs.Numbers.{first_in_slot, next, slot_of}
+use Rattle.nv_queue.specs.Rings.{submitted_one, told_all}
+use Rattle.nv_queue.specs.Slots.{IsAwaitedThere}
+use Rattle.nv_driver.proofs.Words.{Answer, AreApart, Bell, BusValue, Collect, Command, Cqe, Geometry, Happens}
+use Rattle.nv_driver.proofs.Words.{HasFreeSlot, Holds, IsBus, IsLeft, IsOnWay, IsPlaceFor, IsReady, IsRequest}
+use Rattle.nv_driver.proofs.Words.{IsSubmittedAt, IsTold, KeepsBelow, QueuePairFields, RegisterBank, Request}
+use Rattle.nv_driver.proofs.Words.{RequestPlace, Run, Sent, Setting, State, Submit, Tell, Turn, World, after_some}
+use Rattle.nv_driver.proofs.Words.{answer_awaited, awaited_completion, bank_at, bank_with, collected_one, completion_at}
+use Rattle.nv_driver.proofs.Words.{device_rings, entry, get_or-set_same, known_to, length_of, limit_of, mod_below}
+use Rattle.nv_driver.proofs.Words.{mul-le-mul_right, nat_tests, new_bank, next_serial, number, pair_value, run_of}
+use Rattle.nv_driver.proofs.Words.{sent_at, setting_of, side, slice_set, slot, submit_ring, way, with_register_at}
+use Rattle.nv_driver.proofs.Words.{with_submission}
+use Rattle.nv_driver.specs.Schedule.{MaySubmit, awaited, collect_ring}
+use Rattle.nv_driver.specs.inner.Submitting.{CanCollect}
+use Rattle.nv_driver.specs.UnderWay.{Way, pair_at, serial_at, world_by, world_of}
 use Rattle.nv_driver.proofs.BatchLaws.{serial_next}
-use Rattle.nv_driver.proofs.CountLaws.{number_above, number_below, number_next}
+use Rattle.nv_driver.proofs.CountLaws.{head_told, number_above, number_below, number_next}
 use Rattle.nv_driver.proofs.KeptLaws.{bell_keeps, collect_keeps, idle_keeps, is_found, tell_keeps}
 use Rattle.nv_driver.proofs.QuietLaws.{beginning, collect_ring_is, is_idle, submit_ring_is}
-use Rattle.nv_driver.proofs.ScheduleLaws.{bell_others, collect_others, others_now, submit_others, tell_others}
-use Rattle.nv_driver.proofs.ScheduleLaws.{turn_others}
-use Rattle.nv_driver.proofs.SubmitLaws.{submit_keeps}
-use Rattle.nv_driver.proofs.SubmittingLaws.{pairs_same}
+use Rattle.nv_driver.proofs.ScheduleLaws.{bell_others, collect_others, others_now, tell_others, turn_others}
+use Rattle.nv_driver.proofs.SubmitLaws.{submit_keeps, submit_others}
+use Rattle.nv_driver.proofs.SubmittingLaws.{AreFrom, outside_before, pairs_same}
 use Rattle.nv_driver.proofs.TurnLaws.{no_command, turn_keeps, turn_takes}
+use Rattle.nv_bus.specs.Turn as T
 
 same_world : (w : Way) (bytes : List ℕ) {s s' : State} {p p' : RegisterBank} → s ≡ s' → p ≡ p'
     → world_by w s p bytes ≡ world_by w s' p' bytes
@@ -109,16 +98,45 @@ module _ {w : Way} {bus : BusValue} {l : QueuePairFields} {now : ℕ} {bytes : L
 
   -- ---- a submission
 
-  pub submits_on : {now' : ℕ} {at : RequestPlace} {q : Request} {l' : QueuePairFields} {mem : List ℕ}
-      (sub : IsSubmittedAt w.run.geometry.page_size at q l l' bytes mem)
-      → MaySubmit t world (sent_at at q l.serial sub.prp1 sub.prp2) → length mem ≡ length bytes → now' ≡ now
-      → IsOnWay (record w {
+  pub free_slot : length w.course.sent + 1 < length w.course.answers + t.depth → HasFreeSlot l bytes
+  free_slot free =
+      let c = u.keeps.counts in
+      let far = number_above t (length w.course.answers) (length w.course.sent) (omega (arith, u.begun.laid.deep.0))
+      (omega (arith, c.collected, c.done, c.rung)) (omega (arith, free)) in
+      rw u.pair (record {
+        serial = mod_below (w.run.pair.serial + length w.course.sent) 65535 (omega arith);
+        ring = u.keeps.placed.submissions;
+        free = λ full. omega (arith, far, full, free);
+      })
+
+  -- with its data in pages from one on that doesn't come before the queue pair's
+  pub submits_on : {now' tail first : ℕ} {at : RequestPlace} {q : Request} {l' : QueuePairFields} {mem : List ℕ}
+      (sub : IsSubmittedAt w.run.geometry.page_size at q l l' bytes mem now' tail) → IsRequest t.limit q
+      → IsPlaceFor bytes now at (length_of q.transfer) → AreFrom first at → w.run.pair.pages.first ≤ first
+      → length w.course.sent + 1 < length w.course.answers + t.depth
+      → ((n : ℕ) (d : Sent) → length w.course.answers ≤ n → n < length w.course.sent
+      → AreApart (get_or w.course.sent n d) (sent_at at q l.serial sub.prp1 sub.prp2)) → IsOnWay (record w {
         course = record w.course {
           sent = w.course.sent ++ sent_at at q l.serial sub.prp1 sub.prp2 ∷ [];
         };
       }) bus l' now' mem
-  submits_on {now'} {at} {q} {l'} {mem} sub may size page =
+  submits_on {first = first} {at} {q} {mem = mem} sub can its_place from behind free apart =
       let x = sent_at at q l.serial sub.prp1 sub.prp2 in
+      let laid = u.begun.laid in
+      let size = w.run.geometry.page_size in
+      let place = rw (u.page_size) at its_place in
+      let low : w.run.pair.pages.first * size ≤ first * size = mul-le-mul_right size behind in
+      let may : MaySubmit t world x = record {
+        free = free;
+        can = can;
+        cid = omega (arith, (free_slot free).serial);
+        buffer = place.buffer;
+        list = place.list;
+        distinct = place.distinct;
+        submissions = outside_before size first x t.sq (64 * t.depth) from (omega (arith, laid, low));
+        completions = outside_before size first x t.cq (16 * t.depth) from (omega (arith, laid, low));
+        apart = apart;
+      } in
       let m = length w.course.sent in
       let k = length w.course.answers in
       let v = record w { course = record w.course { sent = w.course.sent ++ x ∷ [] } } in
@@ -127,32 +145,16 @@ module _ {w : Way} {bus : BusValue} {l : QueuePairFields} {now : ℕ} {bytes : L
       let more : m + 1 ≡ length (w.course.sent ++ x ∷ []) = sym (length-append w.course.sent (x ∷ [])) in
       let happens : Happens t (Submit x) world (world_of v bus mem) =
       (may, sub.ready, sub.prepared, ap (λ bs. record world { mem = bs; sent = w.course.sent ++ x ∷ [] }) put) in
-      record {
-        begun = u.begun;
-        page_size = page ∙ u.page_size;
-        size = size ∙ u.size;
-        keeps = submit_keeps t w.run.bus.state x world (world_of v bus mem) u.keeps happens;
-        others = submit_others t w.run.bus.state 0 w.run.bytes x world (world_of v bus mem) u.keeps u.others happens;
-        lawful = u.lawful;
-        banks = u.banks;
-        pair = sub.pair ∙ ap (λ (o : QueuePairFields). record o {
-          submission = submitted_one o.submission;
-          serial = next_serial o.serial;
-        }) u.pair
-            ∙ pairs_same (ap (λ n. record (submit_ring t m k) { submitted = n }) (number_next t m)
-            ∙ ap (λ n. submit_ring t n k) more) refl (serial_next w.run.pair.serial m ∙ ap (serial_at w.run) more);
-      }
-
-  pub slots_inside : l.submission.base + 64 * l.submission.depth ≤ length bytes
-  slots_inside = rw (ap (λ (o : QueuePairFields). o.submission) u.pair) u.keeps.placed.submissions
-
-  pub has_slot : length w.course.sent + 1 < length w.course.answers + t.depth → ¬ IsSubmitFull l.submission
-  has_slot free full =
-      let c = u.keeps.counts in
-      let far = number_above t (length w.course.answers) (length w.course.sent) (omega (arith, u.begun.laid.deep.0))
-      (omega (arith, c.collected, c.done, c.rung)) (omega (arith, free)) in
-      let is = subst IsSubmitFull (ap (λ (o : QueuePairFields). o.submission) u.pair) full in
-      omega (arith, far, is, free)
+      let keeps = submit_keeps t w.run.bus.state x world (world_of v bus mem) u.keeps happens in
+      let others = submit_others t w.run.bus.state 0 w.run.bytes x world (world_of v bus mem) u.keeps u.others happens
+      in
+      let pair = sub.pair ∙ ap (λ (o : QueuePairFields). record o {
+        submission = submitted_one o.submission;
+        serial = next_serial o.serial;
+      }) u.pair
+      ∙ pairs_same (ap (λ n. record (submit_ring t m k) { submitted = n }) (number_next t m)
+      ∙ ap (λ n. submit_ring t n k) more) refl (serial_next w.run.pair.serial m ∙ ap (serial_at w.run) more) in
+      assumption (sub.page, sub.len ∙ u.size, keeps, others, pair, u)
 
   -- the tail after one more request
   pub tail_after : {tail : ℕ} → tail ≡ slot_of l.submission.depth (next l.submission.depth l.submission.submitted)
@@ -187,81 +189,46 @@ module _ {w : Way} {bus : BusValue} {l : QueuePairFields} {now : ℕ} {bytes : L
       let v = record w { rung = length w.course.sent } in
       let is = bank_is bus' 0x1000 same put banks in
       let happens : Happens t Bell world (world_of v bus' bytes) = same_world v bytes state is.0 in
-      record {
-        begun = u.begun;
-        page_size = u.page_size;
-        size = u.size;
-        keeps = bell_keeps t w.run.bus.state world (world_of v bus' bytes) u.keeps happens;
-        others = bell_others t 0 w.run.bytes world (world_of v bus' bytes) u.others happens;
-        lawful = lawful u.lawful;
-        banks = is.1;
-        pair = u.pair;
-      }
+      let keeps = bell_keeps t w.run.bus.state world (world_of v bus' bytes) u.keeps happens in
+      let others = bell_others t 0 w.run.bytes world (world_of v bus' bytes) u.others happens in
+      assumption (keeps, others, lawful u.lawful, is.1, u)
 
-  -- the head doorbell was rung
-  pub tells : {bus' : BusValue} {c value : ℕ} → c ≡ w.run.controller
-      → value ≡ slot_of l.completion.depth l.completion.collected → bus'.state ≡ bus.state
-      → bus'.banks ≡ slice_set bus.banks c (with_register_at (bank_at bus.banks c) 0x1004 value)
-      → (IsBus bus → IsBus bus') → IsOnWay (record w { told = length w.course.answers }) bus'
-      (record l { completion = told_all l.completion }) now bytes
-  tells {bus'} same put state banks lawful =
-      let n = length w.course.answers in
-      let v = record w { told = n } in
-      let at = put ∙ ap (λ (o : QueuePairFields). slot_of o.completion.depth o.completion.collected) u.pair in
-      let is = bank_is bus' 0x1004 same at banks in
-      let happens : Happens t Tell world (world_of v bus' bytes) = same_world v bytes state is.0 in
-      record {
-        begun = u.begun;
-        page_size = u.page_size;
-        size = u.size;
-        keeps = tell_keeps t w.run.bus.state world (world_of v bus' bytes) u.keeps happens;
-        others = tell_others t 0 w.run.bytes world (world_of v bus' bytes) u.others happens;
-        lawful = lawful u.lawful;
-        banks = is.1;
-        pair = ap (λ (o : QueuePairFields). record o { completion = told_all o.completion }) u.pair
-            ∙ pairs_same refl (ap (λ e. record (collect_ring t n n) { untold = e }) (none_untold n)) refl;
-      }
-
-  -- all collected answers were reported
-  silent : {bus' : BusValue} → l.completion.untold ≡ false → bus'.state ≡ bus.state → bus'.banks ≡ bus.banks
-      → (IsBus bus → IsBus bus') → IsOnWay (record w { told = length w.course.answers }) bus'
-      (record l { completion = told_all l.completion }) now bytes
-  silent {bus'} none state banks lawful =
-      let n = length w.course.answers in
-      let untold = sym none ∙ ap (λ (o : QueuePairFields). o.completion.untold) u.pair in
-      let all : w.told ≡ n = grind (arith, nat_tests, untold) in
-      let v = record w { told = n } in
-      let same : world_of v bus' bytes ≡ world =
-      same_world v bytes state (ap (λ ps. bank_at ps w.run.controller) banks)
-      ∙ ap (λ h. record world { told = h }) (sym all) in
-      record {
-        begun = u.begun;
-        page_size = u.page_size;
-        size = u.size;
-        keeps = rw same u.keeps;
-        others = rw same u.others;
-        lawful = lawful u.lawful;
-        banks = rw banks u.banks;
-        pair = ap (λ (o : QueuePairFields). record o { completion = told_all o.completion }) u.pair
-            ∙ pairs_same refl (ap (λ e. record (collect_ring t n n) { untold = e }) (none_untold n)) refl;
-      }
-
-  -- the head doorbell was rung if anything was to be reported
-  pub tells_on : {bus' : BusValue} {l' : QueuePairFields} {c : ℕ} → c ≡ w.run.controller
-      → l' ≡ record l { completion = told_all l.completion }
-      → bus'.state ≡ bus.state → (IsBus bus → IsBus bus')
-      → (l.completion.untold ≡ true → bus'.banks ≡ slice_set bus.banks c
-      (with_register_at (bank_at bus.banks c) 0x1004 (slot_of l.completion.depth l.completion.collected)))
-      → (l.completion.untold ≡ false → bus'.banks ≡ bus.banks)
-      → IsOnWay (record w { told = length w.course.answers }) bus' l' now bytes
-  tells_on {bus'} {l'} {c} same pair state lawful told none =
-      subst (λ x. IsOnWay (record w { told = length w.course.answers }) bus' x now bytes) (sym pair)
-      (by l.completion.untold refl)
+  -- the head doorbell was rung, which changes nothing if all answers were reported before
+  told_bank : {bus' : BusValue} {l' : QueuePairFields} {c : ℕ} → c ≡ w.run.controller → IsTold c l bus l' bus'
+      → (bank_at bus'.banks w.run.controller
+      ≡ with_register_at (bank_at bus.banks w.run.controller) 0x1004 (slot t (length w.course.answers)))
+      × (bus'.banks ≡ slice_set w.run.bus.banks w.run.controller (bank_at bus'.banks w.run.controller))
+  told_bank {bus'} same h = by l.completion.untold refl
     where
-      by : (e : Bool) → l.completion.untold ≡ e → IsOnWay (record w { told = length w.course.answers }) bus'
-          (record l { completion = told_all l.completion }) now bytes
-      by false e = silent e state (none e) lawful
-      by true e = tells same refl state (told e) lawful
+      by : (e : Bool) → l.completion.untold ≡ e → (bank_at bus'.banks w.run.controller
+          ≡ with_register_at (bank_at bus.banks w.run.controller) 0x1004 (slot t (length w.course.answers)))
+          × (bus'.banks ≡ slice_set w.run.bus.banks w.run.controller (bank_at bus'.banks w.run.controller))
+      by true e = bank_is bus' 0x1004 same
+          (ap (λ (o : QueuePairFields). slot_of o.completion.depth o.completion.collected) u.pair) (h.told e)
+      by false e =
+          let n = length w.course.answers in
+          let c = u.keeps.counts in
+          let untold = sym e ∙ ap (λ (o : QueuePairFields). o.completion.untold) u.pair in
+          let all : w.told ≡ n = grind (arith, nat_tests, untold) in (
+            ap (λ ps. bank_at ps w.run.controller) (h.silent e) ∙ u.keeps.bank
+                ∙ ap (λ k. bank_with t (device_rings t w.rung w.done k)) all
+                ∙ sym (ap (λ p. with_register_at p 0x1004 (slot t n)) u.keeps.bank
+                ∙ head_told t w.rung w.done w.told n c.told c.collected c.free),
+            rw (h.silent e) u.banks,
+          )
+
+  pub tells_on : {bus' : BusValue} {l' : QueuePairFields} {c : ℕ} → c ≡ w.run.controller → IsTold c l bus l' bus'
+      → IsOnWay (record w { told = length w.course.answers }) bus' l' now bytes
+  tells_on {bus'} same h =
+      let n = length w.course.answers in
+      let v = record w { told = n } in
+      let is = told_bank same h in
+      let happens : Happens t Tell world (world_of v bus' bytes) = same_world v bytes h.state is.0 in
+      let keeps = tell_keeps t w.run.bus.state world (world_of v bus' bytes) u.keeps happens in
+      let others = tell_others t 0 w.run.bytes world (world_of v bus' bytes) u.others happens in
+      let pair = h.pair ∙ ap (λ (o : QueuePairFields). record o { completion = told_all o.completion }) u.pair
+      ∙ pairs_same refl (ap (λ e. record (collect_ring t n n) { untold = e }) (none_untold n)) refl in
+      assumption (keeps, others, h.bus u.lawful, is.1, pair, u)
 
   -- ---- a turn
 
@@ -276,33 +243,22 @@ module _ {w : Way} {bus : BusValue} {l : QueuePairFields} {now : ℕ} {bytes : L
       (subst (λ i. T.Turn now i asked count bus bytes bus' mem) same turn) in
       let happens : Happens t (Turn most) world (world_of v bus' mem) =
       (count, rw u.page_size at own.own, refl) in (
-        record {
-          begun = u.begun;
-          page_size = page ∙ u.page_size;
-          size = size ∙ u.size;
-          keeps = turn_keeps t w.run.bus.state most world (world_of v bus' mem) u.keeps happens;
-          others = turn_others t w.run.bus.state 0 w.run.bytes most world (world_of v bus' mem) u.keeps u.others
-              happens;
-          lawful = lawful;
-          banks = set_again w.run.bus.banks bus.banks bus'.banks w.run.controller _ _ u.begun.controller u.banks
-              own.others;
-          pair = u.pair;
-        },
+        assumption (
+          page ∙ u.page_size,
+          size ∙ u.size,
+          turn_keeps t w.run.bus.state most world (world_of v bus' mem) u.keeps happens,
+          turn_others t w.run.bus.state 0 w.run.bytes most world (world_of v bus' mem) u.keeps u.others happens,
+          set_again w.run.bus.banks bus.banks bus'.banks w.run.controller _ _ u.begun.controller u.banks own.others,
+          u,
+        ),
         omega (arith, turn_takes t w.run.bus.state most world (world_of v bus' mem) u.keeps happens),
       )
 
   -- ---- a collection
 
-  pub ring_inside : l.completion.base + 16 * l.completion.depth ≤ length bytes
-  ring_inside =
-      rw (ap (λ (o : QueuePairFields). o.completion) u.pair) u.keeps.placed.completions
-
   module _ (more : length w.course.answers < w.done) where
     there : IsAwaitedThere bytes (awaited t world)
     there = (is_found t w.run.bus.state world u.keeps).1 more
-
-    pub is_there : IsAwaitedThere bytes l.completion
-    is_there = subst (IsAwaitedThere bytes) (ap (λ (o : QueuePairFields). o.completion) (sym u.pair)) there
 
     -- the request whose answer is awaited
     abbrev next_one : Sent
@@ -318,16 +274,19 @@ module _ {w : Way} {bus : BusValue} {l : QueuePairFields} {now : ℕ} {bytes : L
     head_is : (awaited_completion bytes l.completion).sq_head ≡ slot t (length w.course.answers + 1)
     head_is = ap (λ (c : Cqe). c.sq_head) completion_is ∙ held.head
 
-    pub freed_between : IsSlotBetween l.submission.depth l.submission.known l.submission.submitted
-        (awaited_completion bytes l.completion).sq_head
-    freed_between =
+    pub can_collect : CanCollect l bytes
+    can_collect =
         let m = length w.course.sent in
         let k = length w.course.answers in
         let c = u.keeps.counts in
-        rw (head_is, ap (λ (o : QueuePairFields). o.submission) u.pair) (
-        (between_kept t.depth (t.start + k) 1 (m - k) (t.start + (k + 1)) (t.start + m)
+        let freed = between_kept t.depth (t.start + k) 1 (m - k) (t.start + (k + 1)) (t.start + m)
         (omega (arith, c.done, c.rung, more)) (omega (arith, c.few)) (omega arith)
-        (omega (arith, c.done, c.rung, more))))
+        (omega (arith, c.done, c.rung, more)) in
+        rw u.pair (record {
+          inside = u.keeps.placed.completions;
+          awaited = there;
+          freed = rw (ap (λ (e : Cqe). e.sq_head) (sym completion_is) ∙ head_is) freed;
+        })
 
     abbrev pub answer_next : Answer
     answer_next = answer_awaited t world next_one
@@ -353,63 +312,46 @@ module _ {w : Way} {bus : BusValue} {l : QueuePairFields} {now : ℕ} {bytes : L
         ap (λ n. record (submit_ring t m k) { known = n }) freed in
         let collected : collected_one (collect_ring t k w.told) ≡ collect_ring t (k + 1) w.told =
         cc (number_next t k, above_told w.told k c.told) in
-        record {
-          begun = u.begun;
-          page_size = u.page_size;
-          size = u.size;
-          keeps = collect_keeps t w.run.bus.state world (world_of v bus bytes) u.keeps happens;
-          others = collect_others t 0 w.run.bytes world (world_of v bus bytes) u.others happens;
-          lawful = u.lawful;
-          banks = u.banks;
-          pair = first ∙ ap (λ (o : QueuePairFields). record o {
-            submission = known_to o.submission q.sq_head;
-            completion = collected_one o.completion;
-          }) u.pair
-              ∙ pairs_same (ring ∙ ap (submit_ring t m) one_more)
-              (collected ∙ ap (λ n. collect_ring t n w.told) one_more) refl;
-        }
+        let keeps = collect_keeps t w.run.bus.state world (world_of v bus bytes) u.keeps happens in
+        let others = collect_others t 0 w.run.bytes world (world_of v bus bytes) u.others happens in
+        let pair = first ∙ ap (λ (o : QueuePairFields). record o {
+          submission = known_to o.submission q.sq_head;
+          completion = collected_one o.completion;
+        }) u.pair
+        ∙ pairs_same (ring ∙ ap (submit_ring t m) one_more) (collected ∙ ap (λ n. collect_ring t n w.told) one_more)
+        refl in assumption (keeps, others, pair, u)
 
 -- ---- the end
 
 -- all n requests were executed, and their answers collected and reported
-pub ready_after : {w : Way} {bus : BusValue} {l : QueuePairFields} {now : ℕ} {bytes : List ℕ} (n : ℕ)
+pub left_after : {w : Way} {bus : BusValue} {l : QueuePairFields} {now before end : ℕ} {bytes : List ℕ} (n : ℕ)
     → IsOnWay w bus l now bytes → length w.course.sent ≡ n → length w.course.answers ≡ n → w.rung ≡ n → w.done ≡ n
-    → w.told ≡ n
-    → IsReady w.run.geometry bus w.run.controller l now bytes
-    × (l ≡ pair_at w.run n n n)
-ready_after {w} {bus} {l} {now} {bytes} n u sent collected rung done told =
+    → w.told ≡ n → before ≡ w.run.geometry.page_size
+    → KeepsBelow end w.run.geometry.page_size (pair_value w.run.pair) w.run.bytes bytes
+    → IsLeft w.run.geometry w.run.controller end (after_some n (pair_value w.run.pair))
+    (side w.run.bus w.run.pair before w.run.bytes) (side bus l now bytes)
+left_after {w} {bus} {l} {now} {before} {bytes = bytes} n u sent collected rung done told page others =
     let r = w.run in
     let t = setting_of r in
     let begun = u.begun in
     let laid = begun.laid in
     let deep = laid.deep in
     let is : l ≡ pair_at r n n n =
-    u.pair ∙ pairs_same (rw (sent, collected) refl) (rw (collected, told) refl) (ap (serial_at r) sent) in (
-      subst (λ q. IsReady r.geometry bus r.controller q now bytes) (sym is) (record {
-        geometry = begun.geometry;
-        page_size = u.page_size;
-        depth = begun.depth;
-        room = begun.room;
-        quiet = record {
-          depth = refl;
-          known = refl;
-          collected = refl;
-          told = refl;
-          untold = sym (none_untold n);
-          numbered = begun.quiet.numbered;
-        };
-        laid = record {
-          deep = deep;
-          number = number_below t n (omega (arith, deep.0));
-          serial = mod_below (r.pair.serial + n) 65535 (omega arith);
-          rings = laid.rings;
-          pages = laid.pages;
-          inside = omega (arith, laid.inside, u.size);
-        };
-        tags = rw (done) at u.keeps.tags;
-        controller = has_bank u;
-        bus = u.lawful;
-        bank = rw (rung, done, told) at u.keeps.bank;
-      }),
-      is,
-    )
+    u.pair ∙ pairs_same (rw (sent, collected) refl) (rw (collected, told) refl) (ap (serial_at r) sent) in
+    record {
+      ready = subst (λ q. IsReady r.geometry bus r.controller q now bytes) (sym is) (assumption (
+        sym (none_untold n),
+        number_below t n (omega (arith, deep.0)),
+        mod_below (r.pair.serial + n) 65535 (omega arith),
+        rw (sym u.size) at laid.inside,
+        rw (done) at u.keeps.tags,
+        has_bank u,
+        rw (rung, done, told) at u.keeps.bank,
+        u,
+      ));
+      banks = u.banks;
+      pair = ap pair_value is;
+      others = others;
+      len = u.size;
+      page = u.page_size ∙ sym page;
+    }

@@ -1,37 +1,25 @@
 -- Bytes with zeros after them.
-use Rattle.std.specs.Prelude.{if◌then◌else◌}
 use Rattle.std.proofs.Common.{◌≡◌, ◌∙◌, ℕ, ◌+◌, ◌-◌, ◌<◌, ◌≤◌, ◌++◌, Bool, List, [], ap, arith, false, get_or, inl, inr}
-use Rattle.std.proofs.Common.{◌*◌, ◌/◌, ◌%◌, drop, length, length-append, length-take, refl, replicate}
-use Rattle.std.proofs.Common.{slice_index, sym, take, true}
+use Rattle.std.proofs.Common.{◌*◌, ◌/◌, ◌%◌, drop, length, length-append, length-drop, length-take, min, refl}
+use Rattle.std.proofs.Common.{replicate, slice_index, sym, take, true}
 use Rattle.std.proofs.Math.Nat.{div-eq_of_lt, mod-eq_of_lt}
-use Rattle.std.proofs.lemmas.Bool.{cases_lt}
 use Rattle.std.proofs.lemmas.Grind.{same_number_lists}
-use Rattle.std.proofs.lemmas.List.{get_or-map, get_or-take}
-use Rattle.std.proofs.lemmas.List.{get_or_past, length-replicate, take-append-le}
-use Rattle.nv_host.specs.Bytes.{bytes_at}
+use Rattle.std.proofs.lemmas.List.{get_or-drop, get_or-take, get_or_past}
 use Rattle.nv_host.proofs.BytesLaws.{length-bytes_at}
-use Rattle.nv_host.proofs.PageLaws.{page_size_bounds}
 use Rattle.nv_prp.specs.Buffer.{buffer_place, buffer_places}
 use Rattle.nv_prp.specs.Place.{read_at, table}
 use Rattle.nv_prp.proofs.CopyLaws.{read_part}
 use Rattle.nv_prp.proofs.PlaceLaws.{get_or-bytes_at, get_or-table, length-read_at, length-table}
 use Rattle.nv_layout.proofs.PartLaws.{get_or-past}
-use Rattle.nv_command.specs.Command.{bytes_to_host}
-use Rattle.nv_command.specs.declared.transfer.Transfer.{Transfer}
-use Rattle.nv_command.specs.declared.transfer.Transfer.TheVariants.{FromHost, NoData, ToHost}
-use Rattle.nv_bus.specs.Call.{length_of}
-use Rattle.nv_driver.specs.Request.{padded}
-use Rattle.nv_driver.specs.Schedule.{received_from}
-use Rattle.nv_driver.proofs.DataLaws.{nothing}
+use Rattle.nv_driver.proofs.Words.{FromHost, NoData, ToHost, Transfer, bytes_at, bytes_to_host, cases_lt, get_or-map}
+use Rattle.nv_driver.proofs.Words.{if◌then◌else◌, length-replicate, length_of, padded, page_size_bounds, received_from}
+use Rattle.nv_driver.proofs.DataLaws.{data_part, few_data, nothing}
 
 pub length-padded : (n : ℕ) (bytes : List ℕ) → length (padded n bytes) ≡ n
 length-padded n bytes =
     let whole = length-append bytes (replicate n 0) in
     let zeros = length-replicate {A = ℕ} n 0 in
     let first = length-take n (bytes ++ replicate n 0) in omega (arith, whole, zeros, first)
-
-pub enough : (n : ℕ) (bytes : List ℕ) → n ≤ length bytes → take n bytes ≡ padded n bytes
-enough n bytes many = sym (take-append-le n bytes (replicate n 0) many)
 
 -- the first n are those of the bytes, which count as 0 past the last one
 abbrev pub HasFirst : ℕ → List ℕ → List ℕ → Type 0
@@ -43,13 +31,37 @@ padded_by n out bytes size first =
     (λ i below. let low : i < n = omega arith in
     first i low ∙ sym (get_or-take n (bytes ++ replicate n 0) i 0 low ∙ get_or-past bytes 0 n i))
 
--- bytes and zeros after the last one
-pub zeros_after : (n k : ℕ) (bytes : List ℕ) → k ≡ n - length bytes → length bytes ≤ n
-    → bytes ++ replicate k 0 ≡ padded n bytes
-zeros_after n k bytes rest few =
-    padded_by n (bytes ++ replicate k 0) bytes
-    (omega (arith, length-append bytes (replicate k 0), length-replicate {A = ℕ} k 0, rest))
-    (λ i below. get_or-past bytes 0 k i)
+-- a part of bytes with zeros after them: it begins at a byte or past the last one
+pub padded_part : (n at first count m k len : ℕ) (bytes out : List ℕ) → first ≡ min at (length bytes)
+    → count ≡ min len (length bytes - first) → m ≡ count → k ≡ len - count → at + len ≤ n
+    → out ≡ take m (drop first bytes) ++ replicate k 0 → out ≡ take len (drop at (padded n bytes))
+padded_part n at first count m k len bytes out begins few same rest inside is =
+    let part = take m (drop first bytes) in
+    let all = padded n bytes in
+    let size : length part ≡ count = omega (arith, length-take m (drop first bytes), length-drop first bytes) in
+    let long : length out ≡ len = omega (
+      arith,
+      ap (λ (xs : List ℕ). length xs) is,
+      length-append part (replicate k 0),
+      length-replicate {A = ℕ} k 0,
+      size,
+    ) in
+    let wanted : length (take len (drop at all)) ≡ len =
+    omega (arith, length-take len (drop at all), length-drop at all, length-padded n bytes) in
+    same_number_lists out (take len (drop at all)) (long ∙ sym wanted)
+    (λ i below.
+    let low : i < len = omega (arith, long, below) in
+    let here = get_or-take len (drop at all) i 0 low ∙ get_or-drop at all i 0
+    ∙ get_or-take n (bytes ++ replicate n 0) (at + i) 0 (omega arith) ∙ get_or-past bytes 0 n (at + i) in
+    ap (λ xs. get_or xs i 0) is ∙ get_or-past part 0 k i
+    ∙ elim (cases_lt i count) [
+      | inl early ↦ get_or-take m (drop first bytes) i 0 (omega arith) ∙ get_or-drop first bytes i 0
+          ∙ (λ j. let begin : first ≡ at = omega arith in get_or bytes (begin j + i) 0)
+      | inr past ↦ get_or_past part i 0 (omega (arith, size)) ∙ sym (get_or_past bytes (at + i) 0 (omega arith))
+    ]
+    ∙ sym here)
+
+pub ruleset parts_sent = (data_part, few_data, length-padded)
 
 -- ---- reading from a buffer
 

@@ -1,28 +1,20 @@
 -- A command whose pages are prepared: what a controller reads of its entry.
 use Rattle.std.proofs.Common.{◌≡◌, ◌∙◌, ◌^◌, ℕ, refl, inl, inr, ◌+◌, ◌*◌, ◌<◌, ◌≤◌, List, Err, Ok, Result, ap, arith}
-use Rattle.std.proofs.Common.{length}
-use Rattle.std.proofs.Common.{sym}
-use Rattle.std.proofs.Math.Nat.{mul-le-mul_right}
-use Rattle.std.proofs.lemmas.Bool.{cases_lt}
+use Rattle.std.proofs.Common.{length, sym}
 use Rattle.std.proofs.lemmas.Grind.{div_ceil_times}
 use Rattle.std.specs.Int.{div_ceil}
 use Rattle.nv_host.specs.Pages.{IsPageSize}
-use Rattle.nv_host.proofs.PageLaws.{page_size_bounds}
-use Rattle.nv_prp.specs.Buffer.{IsFor, KeepsList, buffer_place, buffer_places}
+use Rattle.nv_prp.specs.Buffer.{IsFor, buffer_place, buffer_places}
 use Rattle.nv_prp.proofs.PlaceLaws.{table-same}
 use Rattle.nv_prp.specs.Transfer.{IsLegal, PrpTransfer, place_of, transfer, transfer_places}
-use Rattle.nv_layout.specs.declared.sqe.Sqe.{Sqe}
 use Rattle.nv_command.specs.Decoding.{command_of, transfer_of}
-use Rattle.nv_command.specs.declared.status_code.StatusCode.{StatusCode}
-use Rattle.nv_command.specs.declared.transfer.Transfer.{Transfer}
-use Rattle.nv_command.specs.declared.transfer.Transfer.TheVariants.{FromHost, NoData, ToHost}
 use Rattle.nv_layout.specs.Steps.{◌>>=◌}
-use Rattle.nv_bus.specs.Call.{Call, HasRoom, call_of, data_places, length_of, moves_of, places_of, sent_from, within}
+use Rattle.nv_bus.specs.Call.{Call, HasRoom, call_of, data_places, moves_of, places_of, within}
 use Rattle.nv_bus.proofs.CallLaws.{legal_places, no_places}
-use Rattle.nv_driver.specs.Layout.{pages_for, pages_of_command, pages_of_entry}
-use Rattle.nv_driver.specs.Request.{Asked, IsRequest}
-use Rattle.nv_driver.specs.Schedule.{HoldsSent, Sent, Setting, StaysNamed, data_length, entry, places}
-use Rattle.nv_driver.specs.Schedule.{pointed}
+use Rattle.nv_driver.proofs.Words.{Asked, FromHost, HoldsSent, IsRequest, KeepsList, NoData, Sent, Setting, Sqe}
+use Rattle.nv_driver.proofs.Words.{StatusCode, StaysNamed, ToHost, Transfer, cases_lt, data_length, entry, length_of}
+use Rattle.nv_driver.proofs.Words.{mul-le-mul_right, page_size_bounds, pages_of_entry, places, pointed, sent_from}
+use Rattle.nv_driver.specs.Layout.{pages_for}
 use Rattle.nv_driver.proofs.DataLaws.{nothing}
 use Rattle.nv_driver.proofs.RegionLaws.{length-places}
 
@@ -31,23 +23,13 @@ use Rattle.nv_driver.proofs.RegionLaws.{length-places}
 -- how many pages this number of bytes lies in
 pub enough_of : (greatest from len size pages : ℕ) → IsPageSize size → from < size → len ≤ greatest
     → pages ≡ div_ceil (from + len) size
-    → (from + len ≤ pages * size) × (pages + 2 ≤ pages_for greatest size) × (from + len ≡ 0 → pages ≡ 0)
+    → (from + len ≤ pages * size) × (pages + 2 ≤ pages_for greatest size)
 enough_of greatest from len size pages is low most same =
     let some : 0 < size = omega (arith, page_size_bounds size is) in
     let all = div_ceil_times (from + len) size some in
-    let least = div_ceil_times greatest size some in (
-      rw same all.0,
-      few (div_ceil greatest size) least.0 (rw same all.1),
-      λ empty. none (omega (arith, empty, rw (← same) at all.1)),
-    )
+    let least = div_ceil_times greatest size some in
+    (rw same all.0, few (div_ceil greatest size) least.0 (rw same all.1))
   where
-    none : pages * size < size → pages ≡ 0
-    none less =
-        elim (cases_lt pages 1) [
-          | inl l ↦ omega arith
-          | inr g ↦ absurd (omega (arith, mul-le-mul_right size g))
-        ]
-
     few : (m : ℕ) → greatest ≤ m * size → pages * size < from + len + size → pages + 2 ≤ m + 3
     few m whole less =
         elim (cases_lt pages (m + 2)) [
@@ -59,11 +41,6 @@ pub entry_pages_few : (size : ℕ) → IsPageSize size → pages_of_entry size �
 entry_pages_few size is =
     let bounds = page_size_bounds size is in
     let whole = (div_ceil_times 1048576 size (omega (arith, bounds))).1 in grind (arith, bounds, whole)
-
-pub seven_pages : (size : ℕ) → IsPageSize size → pages_of_command size ≤ 7
-seven_pages size is =
-    let bounds = page_size_bounds size is in
-    let whole = (div_ceil_times 16384 size (omega (arith, bounds))).1 in grind (arith, bounds, whole)
 
 -- ---- the data pointer of a command
 

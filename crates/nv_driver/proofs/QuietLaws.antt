@@ -1,25 +1,14 @@
 -- A queue pair without outstanding commands: the schedule that begins there, and its state after a schedule has ended.
-use Rattle.std.proofs.Common.{[], ◌≡◌, ℕ, ◌+◌, ◌-◌, ◌*◌, ◌<◌, ◌≤◌, All, Bool, List, ap, arith, false, get_or}
-use Rattle.std.proofs.Common.{inr, length, refl}
-use Rattle.std.proofs.Math.Nat.{mul-le-mul_right}
-use Rattle.nv_host.specs.Bytes.{bytes_at}
-use Rattle.nv_prp.specs.Buffer.{IsApart}
+use Rattle.std.proofs.Common.{[], ◌≡◌, ℕ, ◌+◌, ◌-◌, ◌*◌, ◌<◌, ◌≤◌, All, Bool, List, ap, arith, false, get_or, inr}
+use Rattle.std.proofs.Common.{length, refl}
 use Rattle.nv_queue.specs.Rings.{CollectNumbers}
-use Rattle.nv_model.specs.Conditions.{limit_of}
-use Rattle.nv_model.specs.State.{State}
-use Rattle.nv_bus.specs.Bus.{BusValue}
-use Rattle.nv_driver.specs.Exchange.{IsReady}
-use Rattle.nv_driver.specs.inner.Exchange.{KeepsOthers}
+use Rattle.nv_driver.proofs.Words.{AreOutside, BusValue, Geometry, IsApart, IsOf, IsQuiet, IsReady, KeepsBelow}
+use Rattle.nv_driver.proofs.Words.{QueuePairFields, Sent, Setting, State, World, bank_with, bytes_at, device_rings}
+use Rattle.nv_driver.proofs.Words.{end_of, limit_of, mul-le-mul_right, own_pages, pair_value, submit_ring}
 use Rattle.nv_driver.specs.Keeping.{OthersStay}
-use Rattle.nv_driver.specs.Quiet.{IsQuiet, pair_value}
-use Rattle.nv_driver.specs.Schedule.{bank_with, device_rings, AreOutside, IsIdle, Sent, Setting, World, collect_ring}
-use Rattle.nv_driver.specs.Schedule.{own_pages, submit_ring}
-use Rattle.nv_driver.specs.Settled.{end_of}
-use Rattle.nv_driver.specs.Share.{IsOf}
+use Rattle.nv_driver.specs.Schedule.{IsIdle, collect_ring}
 use Rattle.nv_driver.specs.UnderWay.{setting}
-use Rattle.nv_driver.specs.declared.geometry.Geometry.{Geometry}
 use Rattle.nv_driver.specs.declared.share.PageRange.{PageRange}
-use Rattle.nv_driver.specs.declared.queue_pair.QueuePair.{QueuePair as QueuePairFields}
 use Rattle.nv_driver.proofs.KeptLaws.{number_zero}
 
 -- ---- the beginning
@@ -103,8 +92,8 @@ pub all_others_kept : {g : Geometry} {b : BusValue} {c limit : ℕ} {l : QueuePa
     {w : World} → IsReady g b c l now bytes → OthersStay (setting g c limit (pair_value l)) 0 bytes w
     → ((i : ℕ) (d : Sent) → i < length w.sent
     → All (λ p. IsOf l.pages.first l.pages.count p) (own_pages (get_or w.sent i d)))
-    → KeepsOthers g.page_size (pair_value l) bytes w.mem
-all_others_kept {g} {l = l} {w = w} r others own from n apart =
+    → (end : ℕ) → KeepsBelow end g.page_size (pair_value l) bytes w.mem
+all_others_kept {g} {l = l} {w = w} r others own end from n low apart =
     let laid = r.laid in
     others_kept r others from n apart (λ i d h.
     outside_pair l.pages (get_or w.sent i d) g.page_size l.submission.base from n (own i d h)

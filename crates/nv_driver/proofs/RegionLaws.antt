@@ -1,32 +1,25 @@
 -- Parts of the memory that don't overlap a command's pages, its list or a slot of a ring.
 use Rattle.std.proofs.Common.{◌≡◌, ◌≢◌, ◌∙◌, ◌⊎◌, ℕ, suc, ◌+◌, ◌-◌, ◌*◌, ◌/◌, ◌<◌, ◌≤◌, List, ap, arith, get_or, inl}
-use Rattle.std.proofs.Common.{inr}
-use Rattle.std.proofs.Common.{length, sym}
-use Rattle.std.proofs.Math.Nat.{mul-le-mul_right}
-use Rattle.std.proofs.lemmas.Bool.{cases_lt}
+use Rattle.std.proofs.Common.{inr, length, sym}
 use Rattle.std.proofs.lemmas.Grind.{same_number_lists}
-use Rattle.std.proofs.lemmas.List.{get_or-map}
-use Rattle.std.proofs.lemmas.Nat.{div_below, mod_below}
-use Rattle.nv_host.specs.Bytes.{bytes_at}
+use Rattle.std.proofs.lemmas.Nat.{div_below}
+use Rattle.nv_host.specs.Bytes.{with_bytes}
 use Rattle.nv_host.proofs.BytesLaws.{bytes_at-bytes_at, bytes_at-with_after, bytes_at-with_before}
 use Rattle.nv_layout.specs.Cqe.{bytes_of_cqe, cqe_of_bytes}
 use Rattle.nv_layout.proofs.RecordLaws.{length-bytes_of_cqe, length-bytes_of_sqe}
 use Rattle.nv_layout.specs.Sqe.{bytes_of_sqe, sqe_of_bytes}
-use Rattle.nv_layout.specs.declared.cqe.Cqe.{Cqe}
-use Rattle.nv_layout.specs.declared.sqe.Sqe.{Sqe}
 use Rattle.nv_prp.specs.inner.Buffer.{ChangesOnly}
-use Rattle.nv_prp.specs.Buffer.{IsApart, IsBuffer, IsOutside, buffer_place, buffer_places}
-use Rattle.nv_prp.specs.Buffer.{KeepsList}
+use Rattle.nv_prp.specs.Buffer.{IsBuffer, IsOutside, buffer_place, buffer_places}
 use Rattle.nv_prp.proofs.BufferLaws.{buffer_distinct}
-use Rattle.nv_prp.specs.Place.{AreDistinct, read_at, written_at}
+use Rattle.nv_prp.specs.Place.{read_at, written_at}
 use Rattle.nv_prp.proofs.PlaceLaws.{get_or-bytes_at, get_or-table, length-read_at, length-table, part_stays}
-use Rattle.nv_prp.proofs.PlaceLaws.{length-written_at}
 use Rattle.nv_queue.specs.Rings.{PostNumbers, SubmitNumbers}
-use Rattle.nv_queue.specs.Slots.{completion_at, completion_place, put_as, submission_at, submission_place}
-use Rattle.nv_queue.specs.Slots.{with_completion, with_submission}
+use Rattle.nv_queue.specs.Slots.{completion_place, put_as, submission_at, submission_place, with_completion}
 use Rattle.nv_queue.proofs.SlotLaws.{slot_within}
-use Rattle.nv_driver.specs.Schedule.{AreApart, AreOutside, HoldsSent, Sent, Setting, data_length, own_pages, places}
-use Rattle.nv_driver.specs.Schedule.{PagesStay, pointed}
+use Rattle.nv_driver.proofs.Words.{AreApart, AreDistinct, AreOutside, Cqe, HoldsSent, IsApart, KeepsList, Sent, Setting}
+use Rattle.nv_driver.proofs.Words.{Sqe, bytes_at, cases_lt, completion_at, data_length, get_or-map, length-written_at}
+use Rattle.nv_driver.proofs.Words.{mod_below, mul-le-mul_right, own_pages, places, pointed, with_submission}
+use Rattle.nv_driver.specs.Schedule.{PagesStay}
 use Rattle.nv_driver.proofs.DataLaws.{ArePlaces, sent_same}
 
 -- ---- places and pages
@@ -118,31 +111,34 @@ data_keeps page_size x bytes written from n some enough outside =
     let size = length-places page_size x in
     place_beside page_size x from n k some enough outside (omega arith))
 
--- a part outside a completion ring doesn't change when a completion is posted
+-- a part outside a region doesn't change when bytes are written inside
+pub written_keeps : (bytes xs : List ℕ) (base size at from n : ℕ) → base ≤ at → at + length xs ≤ base + size
+    → at + length xs ≤ length bytes → IsApart base size from n
+    → bytes_at (with_bytes bytes at xs) from n ≡ bytes_at bytes from n
+written_keeps bytes xs base size at from n low high inside apart =
+    elim apart [
+      | inl before ↦ bytes_at-with_before bytes at xs from n (omega arith) inside
+      | inr behind ↦ bytes_at-with_after bytes at xs from n (omega arith) inside
+    ]
+
+-- a part outside a ring doesn't change when a completion is posted, or a command is submitted
 pub completion_keeps : (bytes : List ℕ) (ring : PostNumbers) (c : Cqe) (from n : ℕ) → 0 < ring.depth
     → ring.base + 16 * ring.depth ≤ length bytes → IsApart ring.base (16 * ring.depth) from n
     → bytes_at (with_completion bytes ring c) from n ≡ bytes_at bytes from n
-completion_keeps bytes ring c from n some inside apart =
+completion_keeps bytes ring c from n some inside =
     let low = slot_within ring.depth ring.posted some in
     let len = length-bytes_of_cqe (put_as ring c) in
-    let at = completion_place ring.base ring.depth ring.posted in
-    elim apart [
-      | inl before ↦ bytes_at-with_before bytes at (bytes_of_cqe (put_as ring c)) from n (omega arith) (omega arith)
-      | inr behind ↦ bytes_at-with_after bytes at (bytes_of_cqe (put_as ring c)) from n (omega arith) (omega arith)
-    ]
+    written_keeps bytes (bytes_of_cqe (put_as ring c)) ring.base (16 * ring.depth)
+    (completion_place ring.base ring.depth ring.posted) from n (omega arith) (omega arith) (omega arith)
 
--- a part outside a submission ring doesn't change when a command is submitted
 pub submission_keeps : (bytes : List ℕ) (ring : SubmitNumbers) (c : Sqe) (from n : ℕ) → 0 < ring.depth
     → ring.base + 64 * ring.depth ≤ length bytes → IsApart ring.base (64 * ring.depth) from n
     → bytes_at (with_submission bytes ring c) from n ≡ bytes_at bytes from n
-submission_keeps bytes ring c from n some inside apart =
+submission_keeps bytes ring c from n some inside =
     let low = slot_within ring.depth ring.submitted some in
     let len = length-bytes_of_sqe c in
-    let at = submission_place ring.base ring.depth ring.submitted in
-    elim apart [
-      | inl before ↦ bytes_at-with_before bytes at (bytes_of_sqe c) from n (omega arith) (omega arith)
-      | inr behind ↦ bytes_at-with_after bytes at (bytes_of_sqe c) from n (omega arith) (omega arith)
-    ]
+    written_keeps bytes (bytes_of_sqe c) ring.base (64 * ring.depth)
+    (submission_place ring.base ring.depth ring.submitted) from n (omega arith) (omega arith) (omega arith)
 
 -- ---- what is read
 

@@ -1,30 +1,26 @@
 -- The registers of a controller while it is enabled.
-use Rattle.std.proofs.Common.{◌≡◌, ◌∙◌, ℕ, zero, suc, ◌+◌, ◌-◌, ◌*◌, ◌/◌, ◌%◌, ◌^◌, ◌<◌, ◌≤◌, ap, sym}
-use Rattle.std.proofs.Common.{refl, below_more, arith}
-use Rattle.std.proofs.Common.{true, false, List, length, map, slice_set}
-use Rattle.std.specs.Prelude.{◌≢◌, if◌then◌else◌, IsOk, MatchResult, Result, Ok, Err}
+use Rattle.std.proofs.Common.{◌≡◌, ◌∙◌, ℕ, zero, suc, ◌+◌, ◌-◌, ◌*◌, ◌/◌, ◌%◌, ◌^◌, ◌<◌, ◌≤◌, ap, sym, refl, below_more}
+use Rattle.std.proofs.Common.{arith, true, false, List, length, map, slice_set}
+use Rattle.std.specs.Prelude.{slice_index_or}
 use Rattle.std.proofs.Math.Nat.{mul-mod_left, zero-add}
-use Rattle.std.proofs.lemmas.Bool.Decides.{nat_tests}
-use Rattle.std.proofs.lemmas.List.{get_or-map, get_or-set_other, get_or-set_same, get_or_default, length-map}
-use Rattle.std.proofs.lemmas.List.{same_lists, set-set}
-use Rattle.std.proofs.lemmas.List.FromFn.{get_or-map-range_with_len, length-map-range_with_len}
+use Rattle.std.proofs.lemmas.List.{get_or-set_other, same_lists, set-get_or, set-set}
+use Rattle.std.proofs.lemmas.List.FromFn.{get_or-map-range_with_len}
 use Rattle.nv_host.specs.Pages.{IsPageSize}
 use Rattle.nv_layout.specs.Bits.{bits}
 use Rattle.nv_register.specs.Dwords.{aqa_of_dword, cc_of_dword}
-use Rattle.nv_register.specs.RegisterBank.{can_start, new_bank, new_rings, with_cc, with_high, with_low}
-use Rattle.nv_register.specs.RegisterBank.{with_register_at}
-use Rattle.nv_register.specs.Readiness.{is_ready}
+use Rattle.nv_register.specs.RegisterBank.{can_start, new_rings, with_cc, with_high, with_low}
+use Rattle.nv_register.specs.Readiness.{is_enabled}
 use Rattle.nv_register.specs.declared.controller_configuration.Sizes.{Sizes}
-use Rattle.nv_register.specs.declared.register_bank.RegisterBank.{RegisterBank}
 use Rattle.nv_register.specs.declared.readiness.Readiness.TheVariants.{Off, Failed, Ready}
-use Rattle.nv_bus.specs.Bus.{bank_at}
-use Rattle.nv_driver.specs.Geometry.{IsGeometry}
-use Rattle.nv_driver.specs.QueuePair.{QueuePair, idle_bank}
-use Rattle.nv_driver.specs.Layout.{pair_of, pair_pages, pairs_of, submission_pages}
-use Rattle.nv_driver.specs.inner.Registers.{HasQueues, disabled, with_queues}
-use Rattle.nv_driver.specs.Registers.{idle_banks, mps_of}
-use Rattle.nv_driver.specs.declared.error.DriverError.{DriverError}
-use Rattle.nv_driver.specs.declared.geometry.Geometry.{Geometry}
+use Rattle.nv_model.specs.Step.{reset_if}
+use Rattle.nv_bus.specs.Bus.{state_written}
+use Rattle.nv_driver.proofs.Words.{BusValue, Geometry, IsGeometry, QueuePair, RegisterBank, bank_at, enabled_in}
+use Rattle.nv_driver.proofs.Words.{get_or-map, get_or-set_same, get_or_default, idle_bank, if◌then◌else◌, length-map}
+use Rattle.nv_driver.proofs.Words.{length-map-range_with_len, mps_of, nat_tests, new_bank, pair_of, pair_pages}
+use Rattle.nv_driver.proofs.Words.{pairs_of, with_register_at}
+use Rattle.nv_driver.specs.Layout.{submission_pages}
+use Rattle.nv_driver.specs.inner.Registers.{with_queues}
+use Rattle.nv_driver.specs.Registers.{idle_banks}
 
 -- ---- writes of one controller, one after another
 
@@ -40,6 +36,10 @@ pub then_own : (a b e : List RegisterBank) (c : ℕ) (p : RegisterBank) (f : Reg
 then_own a b e c p f h is more =
     let at : bank_at b c ≡ p = ap (λ x. bank_at x c) is ∙ get_or-set_same a c p new_bank h in
     set_twice a b e c p (f (bank_at b c)) is more ∙ ap (λ q. slice_set a c (f q)) at
+
+pub enabled_at : (banks : List RegisterBank) (c : ℕ) → c < length banks
+    → slice_index_or (enabled_in banks) c false ≡ is_enabled (bank_at banks c).readiness
+enabled_at banks c h = get_or-map (λ (p : RegisterBank). is_enabled p.readiness) banks c new_bank false h
 
 -- ---- the values that are written
 
@@ -68,33 +68,32 @@ address_read : (old address : ℕ) → with_high (with_low old (address % 2 ^ 32
 address_read old address = omega arith
 
 -- the five writes of a controller that is off
-queues_by : (p : RegisterBank) (m sq cq : ℕ) → p.readiness ≡ Off → m ≤ 4095
-    → with_register_at (with_register_at (with_register_at (with_register_at (with_register_at p 0x24 (m * 65536 + m))
-    0x28 (sq % 2 ^ 32)) 0x2c (sq / 2 ^ 32)) 0x30 (cq % 2 ^ 32)) 0x34 (cq / 2 ^ 32)
-    ≡ with_queues p m sq cq
-queues_by p m sq cq off deep = rw (off, queues_read m deep, address_read p.asq sq, address_read p.acq cq) refl
+queues_by : (p : RegisterBank) (l : QueuePair) → p.readiness ≡ Off → l.depth ≤ 4096
+    → with_register_at (with_register_at (with_register_at (with_register_at (with_register_at p 0x24
+    ((l.depth - 1) * 65536 + (l.depth - 1))) 0x28 (l.sq % 2 ^ 32)) 0x2c (l.sq / 2 ^ 32)) 0x30 (l.cq % 2 ^ 32)) 0x34
+    (l.cq / 2 ^ 32) ≡ with_queues p l
+queues_by p l off deep =
+    rw (off, queues_read (l.depth - 1) (omega arith), address_read p.asq l.sq, address_read p.acq l.cq) refl
 
-pub queues_written : (a b d e f k : List RegisterBank) (c m sq cq x s1 s2 q1 q2 : ℕ) → c < length a
-    → (bank_at a c).readiness ≡ Off → m ≤ 4095
-    → x ≡ m * 65536 + m → s1 ≡ sq % 2 ^ 32 → s2 ≡ sq / 2 ^ 32 → q1 ≡ cq % 2 ^ 32 → q2 ≡ cq / 2 ^ 32
+-- one more write
+wrote : (a : List RegisterBank) {b e : List RegisterBank} {c : ℕ} (o v : ℕ) (p : RegisterBank) → c < length a
+    → b ≡ slice_set a c p → e ≡ slice_set b c (with_register_at (bank_at b c) o v)
+    → e ≡ slice_set a c (with_register_at p o v)
+wrote a {b} {e} {c} o v p h = then_own a b e c p (λ q. with_register_at q o v) h
+
+pub queues_written : (a : List RegisterBank) {b d e f k : List RegisterBank} {c : ℕ} (x s1 s2 q1 q2 : ℕ) (l : QueuePair)
+    → c < length a
+    → (bank_at a c).readiness ≡ Off → l.depth ≤ 4096 → x ≡ (l.depth - 1) * 65536 + (l.depth - 1)
+    → s1 ≡ l.sq % 2 ^ 32 → s2 ≡ l.sq / 2 ^ 32 → q1 ≡ l.cq % 2 ^ 32 → q2 ≡ l.cq / 2 ^ 32
     → b ≡ slice_set a c (with_register_at (bank_at a c) 0x24 x)
     → d ≡ slice_set b c (with_register_at (bank_at b c) 0x28 s1)
     → e ≡ slice_set d c (with_register_at (bank_at d c) 0x2c s2)
     → f ≡ slice_set e c (with_register_at (bank_at e c) 0x30 q1)
-    → k ≡ slice_set f c (with_register_at (bank_at f c) 0x34 q2) → k ≡ slice_set a c (with_queues (bank_at a c) m sq cq)
-queues_written a b d e f k c m sq cq x s1 s2 q1 q2 h off deep is low high behind above first second third fourth fifth =
-    let w = λ (p : RegisterBank) (o v : ℕ). with_register_at p o v in
-    let p = bank_at a c in
-    let one = w p 0x24 x in
-    let two = w one 0x28 s1 in
-    let three = w two 0x2c s2 in
-    let four = w three 0x30 q1 in
-    let to_two = then_own a b d c one (λ q. w q 0x28 s1) h first second in
-    let to_three = then_own a d e c two (λ q. w q 0x2c s2) h to_two third in
-    let to_four = then_own a e f c three (λ q. w q 0x30 q1) h to_three fourth in
-    let all : w four 0x34 q2 ≡ with_queues p m sq cq =
-    rw (is, low, high, behind, above) (queues_by p m sq cq off deep) in
-    then_own a f k c four (λ q. w q 0x34 q2) h to_four fifth ∙ ap (slice_set a c) all
+    → k ≡ slice_set f c (with_register_at (bank_at f c) 0x34 q2) → k ≡ slice_set a c (with_queues (bank_at a c) l)
+queues_written a {c = c} x s1 s2 q1 q2 l h off deep is low high behind above first second third fourth fifth =
+    wrote a 0x34 q2 _ h (wrote a 0x30 q1 _ h (wrote a 0x2c s2 _ h (wrote a 0x28 s1 _ h first second) third) fourth)
+    fifth
+    ∙ ap (slice_set a c) (rw (is, low, high, behind, above) (queues_by (bank_at a c) l off deep))
 
 -- ---- EN is set
 
@@ -102,7 +101,7 @@ in_pages : (n p m : ℕ) → 2 ^ (12 + m) ≡ p → (n * p) % 2 ^ (12 + m) ≡ 0
 in_pages n p m e = rw e (mul-mod_left n p)
 
 -- a controller that is off, with these sizes and the queues of a queue pair
-abbrev pub off_bank : Sizes → QueuePair → RegisterBank
+abbrev off_bank : Sizes → QueuePair → RegisterBank
 off_bank sizes l = record {
   sizes = sizes;
   readiness = Off;
@@ -111,21 +110,10 @@ off_bank sizes l = record {
   acq = l.cq;
 }
 
-is_off_bank : (p : RegisterBank) (l : QueuePair) → HasQueues l p → p ≡ off_bank p.sizes l
-is_off_bank p l has =
-    let all : RegisterBank = record {
-      sizes = p.sizes;
-      readiness = p.readiness;
-      aqa = p.aqa;
-      asq = p.asq;
-      acq = p.acq;
-    } in
-    let is : all ≡ off_bank p.sizes l = cc in is
-
-started_bank : (p : RegisterBank) (g : Geometry) (i x : ℕ) → HasQueues (pair_of g i) p → IsGeometry g
-    → x ≡ 0x00460001 + mps_of g.page_size * 128
-    → with_register_at p 0x14 x ≡ idle_bank (mps_of g.page_size) g.page_size (pair_of g i)
-started_bank p g i x has is e =
+started_bank : (sizes : Sizes) (g : Geometry) (i x : ℕ) → IsGeometry g → x ≡ 0x00460001 + mps_of g.page_size * 128
+    → with_register_at (off_bank sizes (pair_of g i)) 0x14 x
+    ≡ idle_bank (mps_of g.page_size) g.page_size (pair_of g i)
+started_bank sizes g i x is e =
     let m = mps_of g.page_size in
     let size = page_size_of_mps g.page_size is.page_size in
     let deep = is.depth in
@@ -134,39 +122,61 @@ started_bank p g i x has is e =
     let back : g.depth - 1 + 1 ≡ g.depth = omega arith in
     let q = off_bank (record { mps = m; iosqes = 6; iocqes = 4 }) (pair_of g i) in
     let can : can_start q ≡ true = rw (at, behind) (grind (arith, nat_tests, size.1)) in
-    ap (λ v. with_register_at v 0x14 x) (is_off_bank p (pair_of g i) has)
-    ∙ ap (with_cc (off_bank p.sizes (pair_of g i))) (ap cc_of_dword e ∙ cc_written m size.1)
+    ap (with_cc (off_bank sizes (pair_of g i))) (ap cc_of_dword e ∙ cc_written m size.1)
     ∙ ap (λ b. record q { readiness = if b then Ready (new_rings q) false else Failed }) can
     ∙ rw (size.0, back) refl
 
-pub started : (a b : List RegisterBank) (c : ℕ) (g : Geometry) (x : ℕ) → HasQueues (pair_of g c) (bank_at a c)
-    → IsGeometry g
-    → x ≡ 0x00460001 + mps_of g.page_size * 128 → b ≡ slice_set a c (with_register_at (bank_at a c) 0x14 x)
-    → b ≡ slice_set a c (idle_bank (mps_of g.page_size) g.page_size (pair_of g c))
-started a b c g x has is value written = written ∙ ap (slice_set a c) (started_bank (bank_at a c) g c x has is value)
-
--- after that it is ready
-pub is_started : (a e : List RegisterBank) (c : ℕ) (g : Geometry) (r : Result (Unit {0}) DriverError) → c < length a
-    → e ≡ slice_set a c (idle_bank (mps_of g.page_size) g.page_size (pair_of g c))
-    → MatchResult r (λ _. is_ready (bank_at e c).readiness ≡ true)
-    (λ _. is_ready (bank_at e c).readiness ≢ true) → IsOk r
-is_started a e c g (Ok x) h is found = refl
-is_started a e c g (Err x) h is found =
-    let idle = idle_bank (mps_of g.page_size) g.page_size (pair_of g c) in
-    let own : bank_at e c ≡ idle = ap (λ x. bank_at x c) is ∙ get_or-set_same a c idle new_bank h in
-    absurd (found (ap (λ (p : RegisterBank). is_ready p.readiness) own))
-
 -- ---- EN is cleared, the queues are set, and EN is set
 
-pub enabled_banks : (a b d e : List RegisterBank) (c : ℕ) (g : Geometry) (p : RegisterBank) → c < length a
-    → b ≡ slice_set a c (disabled (bank_at a c))
-    → d ≡ slice_set b c (with_queues (bank_at b c) (g.depth - 1) (pair_of g c).sq (pair_of g c).cq)
-    → e ≡ slice_set d c p → e ≡ slice_set a c p
-enabled_banks a b d e c g p h first second third =
-    let l = pair_of g c in
-    let queues = λ (q : RegisterBank). with_queues q (g.depth - 1) l.sq l.cq in
-    let off = disabled (bank_at a c) in
-    set_twice a d e c (queues off) p (then_own a b d c off queues h first second) third
+pub off_after : (p : RegisterBank) → (with_register_at p 0x14 0).readiness ≡ Off
+off_after p = grind arith
+
+-- that clears an EN that was 1, and a later write of CC doesn't
+pub stopped : (b : BusValue) (c : ℕ) → c < length b.banks
+    → state_written b c 0x14 0 ≡ reset_if (enabled_in b.banks) b.state c
+stopped b c below = rw (enabled_at b.banks c below) (grind arith)
+
+pub not_stopped : (b : BusValue) (c x : ℕ) → (bank_at b.banks c).readiness ≡ Off → state_written b c 0x14 x ≡ b.state
+not_stopped b c x off = rw off refl
+
+-- the queues of a controller that was enabled for this queue pair stay set
+pub kept_queues : (a b : List RegisterBank) (c m p n s : ℕ) (l : QueuePair) → c < length a
+    → b ≡ slice_set a c (with_register_at (bank_at a c) 0x14 0)
+    → bank_at a c ≡ idle_bank m p (record l { number = n; serial = s })
+    → b ≡ slice_set b c (with_queues (bank_at b c) l)
+kept_queues a b c m p n s l below off is =
+    let at : bank_at b c ≡ with_register_at (idle_bank m p (record l { number = n; serial = s })) 0x14 0 =
+    ap (λ x. bank_at x c) off ∙ get_or-set_same a c _ new_bank below ∙ ap (λ q. with_register_at q 0x14 0) is in
+    sym (set-get_or b c new_bank) ∙ ap (slice_set b c) (at ∙ sym (ap (λ q. with_queues q l) at))
+
+module _ (a b d : List RegisterBank) (c : ℕ) (l : QueuePair) (below : c < length a)
+    (off : b ≡ slice_set a c (with_register_at (bank_at a c) 0x14 0))
+    (queues : d ≡ slice_set b c (with_queues (bank_at b c) l)) where
+  pub is_off : (bank_at b c).readiness ≡ Off
+  is_off = ap (λ x. (bank_at x c).readiness) off
+      ∙ ap (λ (p : RegisterBank). p.readiness) (get_or-set_same a c _ new_bank below) ∙ off_after (bank_at a c)
+
+  set : d ≡ slice_set a c (with_queues (with_register_at (bank_at a c) 0x14 0) l)
+  set = then_own a b d c (with_register_at (bank_at a c) 0x14 0) (λ p. with_queues p l) below off queues
+
+  pub has_queues : bank_at d c ≡ off_bank (bank_at d c).sizes l
+  has_queues =
+      let p = with_register_at (bank_at a c) 0x14 0 in
+      let at : bank_at d c ≡ with_queues p l =
+      ap (λ x. bank_at x c) set ∙ get_or-set_same a c (with_queues p l) new_bank below in
+      at ∙ ap (λ r. record (with_queues p l) { readiness = r }) (off_after (bank_at a c))
+      ∙ ap (λ (q : RegisterBank). off_bank q.sizes l) (sym at)
+
+  module _ (g : Geometry) (x : ℕ) (is : IsGeometry g) (its : l ≡ pair_of g c)
+      (value : x ≡ 0x00460001 + mps_of g.page_size * 128) where
+    pub started : with_register_at (bank_at d c) 0x14 x ≡ idle_bank (mps_of g.page_size) g.page_size (pair_of g c)
+    started = ap (λ q. with_register_at q 0x14 x) has_queues
+        ∙ ap (λ v. with_register_at (off_bank (bank_at d c).sizes v) 0x14 x) its
+        ∙ started_bank (bank_at d c).sizes g c x is value
+
+    pub enabled_banks : (e : List RegisterBank) → e ≡ slice_set d c (with_register_at (bank_at d c) 0x14 x)
+        → e ≡ slice_set a c (idle_bank (mps_of g.page_size) g.page_size (pair_of g c))
+    enabled_banks e last = set_twice a d e c _ _ set (last ∙ ap (slice_set d c) started)
 
 -- ---- all controllers
 

@@ -1,27 +1,37 @@
--- A command is a request whose data has a shape of its own.
-use Rattle.std.proofs.Common.{◌≡◌, ◌∙◌, ◌<◌, ◌≤◌, ℕ, Ok, Result, ap, arith, lit<, refl}
-use Rattle.nv_command.specs.Command.{transfer_by}
-use Rattle.nv_command.specs.Decoding.{command_of}
-use Rattle.nv_command.proofs.TravelLaws.{commands_travel}
-use Rattle.nv_command.specs.declared.command.Command.{Command}
-use Rattle.nv_command.specs.declared.status_code.StatusCode.{StatusCode}
-use Rattle.nv_command.specs.declared.transfer.Transfer.{Transfer}
-use Rattle.nv_command.specs.declared.transfer.Transfer.TheVariants.{FromHost, NoData, ToHost}
+-- Commands and any entries with any data from the host are requests.
+use Rattle.std.proofs.Common.{◌≡◌, ◌∙◌, ◌<◌, ◌≤◌, ◌^◌, ℕ, Bool, Err, List, Ok, Result, ap, arith, lit<, lit≤, refl}
+use Rattle.std.proofs.Common.{subst, sym}
 use Rattle.nv_layout.specs.Steps.{◌>>=◌}
-use Rattle.nv_bus.specs.Call.{HasRoom, moves_of, within}
-use Rattle.nv_bus.proofs.CallLaws.{within_few}
-use Rattle.nv_model.proofs.LimitLaws.{limit_bounds}
-use Rattle.nv_model.specs.Conditions.{limit_of}
-use Rattle.nv_driver.specs.Request.{CanBeSent, EveryCommandIsRequest, IsRequest, entry_as, request_of}
+use Rattle.nv_layout.specs.CtrlList.{ctrl_list_of_bytes}
+use Rattle.nv_command.specs.Decoding.{command_of, command_with, decoded_as, decoded_of, opcode_of, transfer_in}
+use Rattle.nv_command.specs.Decoding.{transfer_of}
+use Rattle.nv_command.specs.Management.{listed, page_of}
+use Rattle.nv_command.specs.Form.{page_from_host}
+use Rattle.nv_command.specs.declared.command.Command.TheVariants.{Attachment}
+use Rattle.nv_command.specs.declared.decoded.Decoded.{Decoded}
+use Rattle.nv_command.specs.declared.decoded.Decoded.TheVariants as decoded
+use Rattle.nv_command.specs.declared.entry.Opcode.{Opcode}
+use Rattle.nv_command.specs.declared.entry.Opcode.TheVariants.{FormatNvm, GetFeatures, GetLogPage, Identify}
+use Rattle.nv_command.specs.declared.entry.Opcode.TheVariants.{NamespaceAttachment, NamespaceManagement, SetFeatures}
+use Rattle.nv_bus.specs.Call.{HasRoom, asked_by, moves_of, within}
+use Rattle.nv_bus.proofs.CallLaws.{AskedIf, asked_of, has_room, namespace_in, within_few, within_limit}
+use Rattle.nv_driver.proofs.Words.{Asked, CanBeSent, Command, FromHost, GoesBy, IsRequest, NoData, Sqe, SqeFits}
+use Rattle.nv_driver.proofs.Words.{StatusCode, ToHost, Transfer, bytes_from_host, greatest_limit}
+use Rattle.nv_driver.proofs.Words.{length_of, limit_bounds, limit_of, request_of, sent_for, transfer_by, transfer_for}
+use Rattle.nv_driver.specs.Request.{EveryEntryIsRequest, moved_by, EveryCommandIsRequest, entry_as}
+use Rattle.nv_driver.proofs.PaddingLaws.{length-padded}
+use Rattle.nv_command.proofs.TravelLaws.{commands_travel}
 use Rattle.nv_driver.proofs.DataLaws.{HasShape, most, shape}
 
-room_of : (m : Transfer) → HasShape m → HasRoom m
-room_of NoData is = tt
-room_of (ToHost n) is = (is.0, omega (arith, is.1))
-room_of (FromHost n) is = (omega (arith, is), omega (arith, is))
+-- ---- commands
 
-same_moves : (r : Result Transfer StatusCode) (m n : Transfer) → r ≡ Ok m → r ≡ Ok n → m ≡ n
-same_moves r m n is other = cc
+shape_room : (m : Transfer) → HasShape m → HasRoom m
+shape_room NoData is = tt
+shape_room (ToHost n) is = (is.0, omega (arith, is.1))
+shape_room (FromHost n) is = (omega (arith, is), omega (arith, is))
+
+moves_same : (r : Result Transfer StatusCode) (m n : Transfer) → r ≡ Ok m → r ≡ Ok n → m ≡ n
+moves_same r m n is other = cc
 
 -- it is one for each controller, whose limit is at least four pages
 pub is_request : (limit : ℕ) (k : Command) → 16384 ≤ limit → CanBeSent k → IsRequest limit (request_of k)
@@ -34,9 +44,9 @@ is_request limit k enough can =
     ((commands_travel k cid can.fits low).transfer p q) ∙ within_few limit m (omega arith) in
     record {
       fits = zero_id.fits;
-      room = room_of m (shape k can.sends);
+      room = shape_room m (shape k can.sends);
       transfer = λ cid p q n low is.
-          same_moves (moves_of limit (entry_as (request_of k) cid p q)) m n (moves cid p q low) is;
+          moves_same (moves_of limit (entry_as (request_of k) cid p q)) m n (moves cid p q low) is;
       asked = λ cid p q low. let e = entry_as (request_of k) cid p q in
           ap (λ (r : Result Transfer StatusCode). r >>= (λ _. command_of e (request_of k).sends)) (moves cid p q low)
           ∙ (commands_travel k cid can.fits low).command p q;
@@ -47,3 +57,99 @@ is_request limit k enough can =
 pub every_command : EveryCommandIsRequest
 every_command s c k well below fits sends =
     is_request (limit_of s c) k (limit_bounds s c well below).0 (record { fits = fits; sends = sends })
+
+-- ---- what is asked for doesn't depend on the command identifier and the data pointer
+
+abbrev elsewhere : Sqe → (cid prp1 prp2 : ℕ) → Sqe
+elsewhere e cid prp1 prp2 = record e { cid = cid; prp1 = prp1; prp2 = prp2 }
+
+same_decoding : (r : Result Opcode StatusCode) (e : Sqe) (cid p q : ℕ)
+    → (r >>= (λ o. decoded_as o (elsewhere e cid p q))) ≡ (r >>= (λ o. decoded_as o e))
+same_decoding (Ok Identify) e cid p q = refl
+same_decoding (Ok NamespaceManagement) e cid p q = refl
+same_decoding (Ok NamespaceAttachment) e cid p q = refl
+same_decoding (Ok FormatNvm) e cid p q = refl
+same_decoding (Ok GetFeatures) e cid p q = refl
+same_decoding (Ok SetFeatures) e cid p q = refl
+same_decoding (Ok GetLogPage) e cid p q = refl
+same_decoding (Err code) e cid p q = refl
+
+abbrev moves_as : ℕ → Result Decoded StatusCode → Result Transfer StatusCode
+moves_as limit r = (r >>= (λ asked. Ok (transfer_in asked))) >>= within limit
+
+same_moves : (limit : ℕ) (e : Sqe) (cid p q : ℕ) → moves_of limit (elsewhere e cid p q) ≡ moves_of limit e
+same_moves limit e cid p q = ap (moves_as limit) (same_decoding (opcode_of e) e cid p q)
+
+same_asked : (limit : ℕ) (e : Sqe) (cid p q : ℕ) (bytes : List ℕ)
+    → asked_by limit (elsewhere e cid p q) bytes ≡ asked_by limit e bytes
+same_asked limit e cid p q bytes =
+    ap (λ (r : Result Decoded StatusCode). moves_as limit r >>= (λ m. r >>= (λ asked. command_with asked bytes)))
+    (same_decoding (opcode_of e) e cid p q)
+
+-- ---- the data of a command is transferred as that of its entry
+
+page_then : (r : Result (List ℕ) StatusCode) (f : List ℕ → Asked) → ((page : List ℕ) → GoesBy (f page) page_from_host)
+    → GoesBy (r >>= f) page_from_host
+page_then (Ok page) f each = each page
+page_then (Err code) f each = tt
+
+list_goes : (detach : Bool) (n : ℕ) → n < 2 ^ 32 → (page : List ℕ) (r : Result (List ℕ) StatusCode)
+    → GoesBy (r >>= (λ ids. Ok (Attachment n detach ids))) page_from_host
+list_goes detach n low page (Ok ids) = (refl, low)
+list_goes detach n low page (Err code) = tt
+
+goes_with : (asked : Decoded) (bytes : List ℕ) → namespace_in asked < 2 ^ 32
+    → GoesBy (command_with asked bytes) (transfer_in asked)
+goes_with (decoded.Whole k) bytes low = (refl, low)
+goes_with decoded.Create bytes low = page_then (page_of bytes) _ (λ page. (refl, lit< tt))
+goes_with (decoded.Attachment n detach) bytes low =
+    page_then (page_of bytes) _ (λ page. list_goes detach n low page (listed (ctrl_list_of_bytes page)))
+
+goes_of : (n : ℕ) (r : Result Decoded StatusCode) (bytes : List ℕ) (m : Transfer) → n < 2 ^ 32 → AskedIf n r
+    → (r >>= (λ asked. Ok (transfer_in asked))) ≡ Ok m → GoesBy (r >>= (λ asked. command_with asked bytes)) m
+goes_of n (Ok asked) bytes m low h is =
+    let same : transfer_in asked ≡ m = cc in
+    subst (GoesBy (command_with asked bytes)) same (goes_with asked bytes (omega (arith, h.1)))
+goes_of n (Err code) bytes m low h is = tt
+
+-- ---- within a limit
+
+-- what the rules before those for the data pointer accept
+is_let : (r : Result Transfer StatusCode) (limit : ℕ) (m : Transfer) → (r >>= within limit) ≡ Ok m
+    → (r ≡ Ok m) × (length_of m ≤ limit)
+is_let (Ok asked) limit m is = let h = within_limit limit asked m is in (ap Ok (sym h.0), h.1)
+is_let (Err code) limit m is = absurd (cc)
+
+let_through : (limit : ℕ) (e : Sqe) (m : Transfer) → limit ≤ greatest_limit → moves_of limit e ≡ Ok m
+    → moves_of greatest_limit e ≡ Ok m
+let_through limit e m low is =
+    let h = is_let (transfer_of e) limit m is in
+    ap (λ (r : Result Transfer StatusCode). r >>= within greatest_limit) h.0
+    ∙ within_few greatest_limit m (omega (arith, h.1))
+
+room_of : (r : Result Transfer StatusCode) (e : Sqe) → moves_of greatest_limit e ≡ r → HasRoom (moved_by r)
+room_of (Ok m) e is =
+    let h = is_let (transfer_of e) greatest_limit m is in
+    has_room greatest_limit e m m (lit≤ tt) h.0 (within_few greatest_limit m h.1)
+room_of (Err code) e is = tt
+
+goes_by : (r : Result Transfer StatusCode) (limit : ℕ) (e : Sqe) (bytes : List ℕ) → limit ≤ greatest_limit → SqeFits e
+    → moves_of limit e ≡ r → GoesBy (r >>= (λ m. command_of e bytes)) (transfer_for e)
+goes_by (Ok m) limit e bytes low fits is =
+    let h = is_let (transfer_of e) limit m is in
+    subst (GoesBy (command_of e bytes)) (sym (ap moved_by (let_through limit e m low is)))
+    (goes_of e.nsid (decoded_of e) bytes m fits.nsid (asked_of e) h.0)
+goes_by (Err code) limit e bytes low fits is = tt
+
+pub every_entry : EveryEntryIsRequest
+every_entry limit e bytes low fits =
+    let sends = sent_for (transfer_for e) bytes in
+    record {
+      fits = fits;
+      room = room_of (moves_of greatest_limit e) e refl;
+      transfer = λ cid p q m small is.
+          ap moved_by (let_through limit e m low (sym (same_moves limit e cid p q) ∙ is));
+      asked = λ cid p q small. same_asked limit e cid p q sends;
+      sends = length-padded (bytes_from_host (transfer_for e)) bytes;
+      command = goes_by (moves_of limit e) limit e sends low fits refl;
+    }

@@ -1,28 +1,20 @@
 -- The subsystem and the queue pairs when controllers are disabled and reset.
-use Rattle.std.specs.Prelude.{replicate, if◌then◌else◌, slice_index_or, slice_set}
-use Rattle.std.proofs.Common.{◌≡◌, ◌∙◌, ℕ, ◌+◌, ◌*◌, ◌≤◌, List, ap, arith, inl, inr, length, ◌<◌, Bool, false, refl}
-use Rattle.std.proofs.Common.{subst, sym}
-use Rattle.std.proofs.lemmas.List.{length-replicate, get_or-map, get_or-set_same, length-map}
+use Rattle.std.proofs.Common.{◌≡◌, ◌∙◌, ℕ, ◌+◌, ◌*◌, ◌≤◌, List, ap, arith, length, ◌<◌, Bool, refl, subst, sym}
 use Rattle.std.proofs.Math.ListN.{length-set}
-use Rattle.nv_host.specs.Bytes.{bytes_at, with_bytes}
-use Rattle.nv_host.proofs.BytesLaws.{bytes_at-with_after, bytes_at-with_before, length-with_bytes}
-use Rattle.nv_queue.specs.Slots.{HoldsTags}
-use Rattle.nv_register.specs.RegisterBank.{new_bank}
+use Rattle.nv_host.specs.Bytes.{with_bytes}
+use Rattle.nv_host.proofs.BytesLaws.{length-with_bytes}
 use Rattle.nv_register.specs.Readiness.{is_enabled}
-use Rattle.nv_register.specs.declared.register_bank.RegisterBank.{RegisterBank}
 use Rattle.nv_model.specs.Step.{reset, reset_if, reset_where}
 use Rattle.nv_model.proofs.ResetLaws.{reset_first, reset_first_more}
-use Rattle.nv_model.specs.State.{State}
-use Rattle.nv_bus.specs.Bus.{BusValue, IsBus, enabled_in, bank_at}
-use Rattle.nv_driver.specs.inner.Exchange.{KeepsOthers}
-use Rattle.nv_driver.specs.Exchange.{IsReady}
-use Rattle.nv_driver.specs.QueuePair.{IsLaid, QueuePair, idle_bank, renewed_pair}
-use Rattle.nv_driver.specs.Quiet.{IsQuiet, pair_value}
-use Rattle.nv_driver.specs.declared.queue_pair.QueuePair.{QueuePair as QueuePairFields}
+use Rattle.nv_driver.proofs.Words.{BusValue, Geometry, HoldsTags, IsBus, IsLaid, IsLeft, IsQuiet, IsReady, KeepsBelow}
+use Rattle.nv_driver.proofs.Words.{QueuePair, QueuePairFields, RegisterBank, State, bank_at, bytes_at, enabled_in}
+use Rattle.nv_driver.proofs.Words.{get_or-set_same, idle_bank, if◌then◌else◌, length-map, length-replicate, mps_of}
+use Rattle.nv_driver.proofs.Words.{new_bank, pair_of, pair_value, renewed_pair, replicate, side, slice_set}
+use Rattle.nv_driver.proofs.Words.{with_register_at}
 use Rattle.nv_driver.specs.Driver.{IsPlaced}
-use Rattle.nv_driver.specs.Layout.{pair_of}
-use Rattle.nv_driver.specs.Registers.{mps_of}
-use Rattle.nv_driver.specs.declared.geometry.Geometry.{Geometry}
+use Rattle.nv_driver.proofs.RegionLaws.{written_keeps}
+use Rattle.nv_driver.proofs.RegisterLaws.{enabled_at, kept_queues}
+use Rattle.nv_driver.specs.inner.Registers.{with_queues}
 
 -- ---- a completion ring is zeroed
 
@@ -31,45 +23,32 @@ abbrev pub zeros : QueuePairFields → List ℕ
 zeros l = replicate (16 * l.completion.depth) 0
 
 -- the ring is between the submission ring and the pages
-pub record RingLies (page_size size : ℕ) (l : QueuePairFields) (v : QueuePair) : Type 0 where
-  pub low : v.sq ≤ l.completion.base
-  pub high : l.completion.base + length (zeros l) ≤ (v.first_page + v.page_count) * page_size
+record RingLies (page_size size : ℕ) (l : QueuePairFields) : Type 0 where
+  pub low : l.submission.base ≤ l.completion.base
+  pub high : l.completion.base + length (zeros l) ≤ (l.pages.first + l.pages.count) * page_size
   pub inside : l.completion.base + length (zeros l) ≤ size
 
-ring_lies : {page_size size : ℕ} {l : QueuePairFields} {v : QueuePair} → IsQuiet l → pair_value l ≡ v
-    → IsLaid page_size size v → RingLies page_size size l v
-ring_lies {page_size} {size} {l} {v} quiet is laid =
-    let cq = ap (λ (u : QueuePair). u.cq) is in
-    let depth = quiet.depth ∙ ap (λ (u : QueuePair). u.depth) is in
-    let many = length-replicate {A = ℕ} (16 * l.completion.depth) 0 in
-    record {
-      low = omega (arith, laid.rings, cq);
-      high = omega (arith, laid.pages, cq, depth, many);
-      inside = omega (arith, laid.pages, laid.inside, cq, depth, many);
-    }
+ring_lies : {page_size size : ℕ} {l : QueuePairFields} → IsQuiet l → IsLaid page_size size (pair_value l)
+    → RingLies page_size size l
+ring_lies {l = l} quiet laid =
+    let many = length-replicate {A = ℕ} (16 * l.completion.depth) 0 in omega (arith, laid, quiet.depth)
 
-pub zeroed_length : {page_size : ℕ} {l : QueuePairFields} {v : QueuePair} (old new : List ℕ) → IsQuiet l
-    → pair_value l ≡ v → IsLaid page_size (length old) v
+pub zeroed_length : {page_size : ℕ} {l : QueuePairFields} (old new : List ℕ) → IsQuiet l
+    → IsLaid page_size (length old) (pair_value l)
     → new ≡ with_bytes old l.completion.base (zeros l) → length new ≡ length old
-zeroed_length {page_size} {l} {v} old new quiet is laid zeroed =
+zeroed_length {l = l} old new quiet laid zeroed =
     ap (λ (bs : List ℕ). length bs) zeroed ∙ length-with_bytes old l.completion.base (zeros l)
-    (ring_lies quiet is laid).inside
+    (ring_lies quiet laid).inside
 
-pub zeroed_others : {page_size : ℕ} {l : QueuePairFields} {v : QueuePair} (old new : List ℕ) → IsQuiet l
-    → pair_value l ≡ v → IsLaid page_size (length old) v
-    → new ≡ with_bytes old l.completion.base (zeros l) → KeepsOthers page_size v old new
-zeroed_others {page_size} {l} {v} old new quiet is laid zeroed from n apart =
-    let lies = ring_lies quiet is laid in
+pub zeroed_others : {page_size : ℕ} {l : QueuePairFields} (old new : List ℕ) → IsQuiet l
+    → IsLaid page_size (length old) (pair_value l)
+    → new ≡ with_bytes old l.completion.base (zeros l) → (end : ℕ)
+    → KeepsBelow end page_size (pair_value l) old new
+zeroed_others {l = l} old new quiet laid zeroed end from n low apart =
+    let lies = ring_lies quiet laid in
     ap (λ bs. bytes_at bs from n) zeroed
-    ∙ elim apart [
-      | inl before ↦ bytes_at-with_before old l.completion.base (zeros l) from n (omega (arith, lies.low)) lies.inside
-      | inr behind ↦ bytes_at-with_after old l.completion.base (zeros l) from n
-          (omega (arith, lies.low, lies.high)) lies.inside
-    ]
-
-enabled_at : (banks : List RegisterBank) (c : ℕ) → c < length banks
-    → slice_index_or (enabled_in banks) c false ≡ is_enabled (bank_at banks c).readiness
-enabled_at banks c h = get_or-map (λ (p : RegisterBank). is_enabled p.readiness) banks c new_bank false h
+    ∙ written_keeps old (zeros l) l.submission.base _ l.completion.base from n lies.low
+    (omega (arith, lies.high, lies.low)) lies.inside apart
 
 -- ---- each enabled one
 
@@ -91,36 +70,51 @@ states_all o s new c all is =
 
 -- ---- a reset
 
+-- a controller without outstanding commands is enabled, and its queues stay set while it is off
+pub resets : {g : Geometry} {b : BusValue} {c : ℕ} {l : QueuePairFields} {now : ℕ} {bytes : List ℕ}
+    → IsReady g b c l now bytes → reset_if (enabled_in b.banks) b.state c ≡ reset b.state c
+resets {b = b} {c = c} r =
+    rw (enabled_at b.banks c r.controller ∙ ap (λ (p : RegisterBank). is_enabled p.readiness) r.bank) refl
+
+pub kept_again : {g : Geometry} {b : BusValue} {c : ℕ} {l : QueuePairFields} {now : ℕ} {bytes : List ℕ}
+    → IsReady g b c l now bytes → IsPlaced g c (pair_value l) → (banks : List RegisterBank)
+    → banks ≡ slice_set b.banks c (with_register_at (bank_at b.banks c) 0x14 0)
+    → banks ≡ slice_set banks c (with_queues (bank_at banks c) (pair_of g c))
+kept_again {g} {b} {c} {l} r placed banks off =
+    let v = pair_value l in
+    let m = mps_of g.page_size in
+    kept_queues b.banks banks c m g.page_size v.number v.serial (pair_of g c) r.controller off
+    (r.bank ∙ ap (idle_bank m g.page_size) placed)
+
 -- what a reset leaves of a queue pair without outstanding commands
-pub ready_again : {g : Geometry} {b b' : BusValue} {c : ℕ} {l l' : QueuePairFields} {now page : ℕ}
+pub left_again : {g : Geometry} {b b' : BusValue} {c end : ℕ} {l l' : QueuePairFields} {now page : ℕ}
     {bytes mem : List ℕ} → IsReady g b c l now bytes
     → IsPlaced g c (pair_value l) → page ≡ now → IsQuiet l' → pair_value l' ≡ renewed_pair (pair_value l)
-    → mem ≡ with_bytes bytes l.completion.base (zeros l)
-    → HoldsTags mem l.completion.base l.completion.depth 0 → IsBus b'
+    → length mem ≡ length bytes → HoldsTags mem l.completion.base l.submission.depth 0
+    → KeepsBelow end g.page_size (pair_value l) bytes mem → IsBus b'
     → b'.banks ≡ slice_set b.banks c (idle_bank (mps_of g.page_size) g.page_size (pair_of g c))
-    → IsReady g b' c l' page mem
-ready_again {g} {b} {b'} {c} {l} {l'} {now} {page} {bytes} {mem} r placed same quiet is zeroed tags bus banks =
+    → IsLeft g c end (renewed_pair (pair_value l)) (side b l now bytes) (side b' l' page mem)
+left_again {g} {b} {b'} {c} {l = l} {mem = mem} r placed same quiet is size tags others bus banks =
     let laid = r.laid in
     let deep = laid.deep in
     let idle = idle_bank (mps_of g.page_size) g.page_size in
-    let size = zeroed_length bytes mem r.quiet refl laid zeroed in
+    let at = ap (λ x. bank_at x c) banks ∙ get_or-set_same b.banks c (idle (pair_of g c)) new_bank r.controller in
     record {
-      geometry = r.geometry;
-      page_size = same ∙ r.page_size;
-      depth = ap (λ (v : QueuePair). v.depth) is ∙ r.depth;
-      room = omega (arith, r.room, ap (λ (v : QueuePair). v.page_count) is);
-      quiet = quiet;
-      laid = rw is (record {
-        deep = deep;
-        number = omega (arith, deep.0);
-        serial = laid.serial;
-        rings = laid.rings;
-        pages = laid.pages;
-        inside = omega (arith, laid.inside, size);
-      });
-      tags = subst (λ (v : QueuePair). HoldsTags mem v.cq v.depth v.number) (sym is) (rw (r.quiet.depth) at tags);
-      controller = rw banks (simp length-set r.controller);
-      bus = bus;
-      bank = ap (λ x. bank_at x c) banks ∙ get_or-set_same b.banks c (idle (pair_of g c)) new_bank r.controller
-          ∙ sym (ap idle (is ∙ ap renewed_pair placed));
+      ready = record {
+        geometry = r.geometry;
+        page_size = same ∙ r.page_size;
+        depth = ap (λ (v : QueuePair). v.depth) is ∙ r.depth;
+        room = omega (arith, r.room, ap (λ (v : QueuePair). v.page_count) is);
+        quiet = quiet;
+        laid = rw is (omega (arith, laid, size));
+        tags = subst (λ (v : QueuePair). HoldsTags mem v.cq v.depth v.number) (sym is) tags;
+        controller = rw banks (simp length-set r.controller);
+        bus = bus;
+        bank = at ∙ sym (ap idle (is ∙ ap renewed_pair placed));
+      };
+      banks = banks ∙ sym (ap (slice_set b.banks c) at);
+      pair = is;
+      others = others;
+      len = size;
+      page = same;
     }

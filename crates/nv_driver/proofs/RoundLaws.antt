@@ -1,45 +1,30 @@
 -- A list of commands while it is executed: doorbells, turns, answers, its beginning and its end.
-use Rattle.std.specs.Prelude.{slice_set, set}
+use Rattle.std.specs.Prelude.{set}
 use Rattle.std.proofs.Common.{min, ◌≡◌, ◌∙◌, ℕ, ◌+◌, ◌-◌, ◌<◌, ◌≤◌, List, ap, arith, inl, inr, length, subst, sym, take}
 use Rattle.std.proofs.Common.{[], ◌∷◌, ◌++◌, Ok, get_or, length-append, All, refl}
-use Rattle.std.proofs.lemmas.Bool.{cases_eq}
-use Rattle.nv_register.specs.RegisterBank.{with_register_at}
-use Rattle.nv_bus.specs.Bus.{BusValue, IsBus, bank_at}
-use Rattle.nv_bus.specs.Turn as T
+use Rattle.nv_driver.proofs.Words.{Answer, Asked, Batch, BusValue, CanBeSent, Command, Cqe, Geometry, HasAnswers, Holds}
+use Rattle.nv_driver.proofs.Words.{IsBus, IsLeft, IsOnWay, IsReadable, IsReady, IsTold, IsUnderWay, QueuePairFields}
+use Rattle.nv_driver.proofs.Words.{Request, Run, Sent, Share, after_some, answers_to, awaited_completion, bank_at}
+use Rattle.nv_driver.proofs.Words.{cases_eq, collected_one, completion_at, first_page, known_to, length_of, pair_value}
+use Rattle.nv_driver.proofs.Words.{places, received_from, request_of, run_of, setting_of, side, slice_set, slot}
+use Rattle.nv_driver.proofs.Words.{transfer_by, way, with_register_at}
 use Rattle.nv_driver.specs.Batch.{state_after, answers_of, from_serial}
-use Rattle.nv_driver.specs.Schedule.{slot, Holds, Numbered, Sent, answer_from, answer_read, answer_to, answers_to}
-use Rattle.nv_driver.specs.Schedule.{places, received_from}
-use Rattle.nv_driver.specs.UnderWay.{IsOnWay, IsUnderWay, Run, setting_of, way, IsKept, share, run_of}
-use Rattle.nv_driver.specs.inner.Pace.{IsTold}
-use Rattle.nv_driver.specs.inner.UnderWay.{left_of, HasAnswers}
-use Rattle.nv_driver.specs.declared.batch.Batch.{Batch}
-use Rattle.nv_driver.specs.declared.queue_pair.QueuePair.{QueuePair as QueuePairFields}
+use Rattle.nv_driver.specs.Schedule.{Numbered, answer_from, answer_read, answer_to}
+use Rattle.nv_driver.specs.UnderWay.{IsKept, share}
+use Rattle.nv_driver.specs.inner.UnderWay.{left_of}
 use Rattle.nv_driver.proofs.BatchLaws.{state_is, answer_at, answers_are, length-answers, length-answers_of_all}
 use Rattle.nv_driver.proofs.BatchLaws.{length-from_serial}
-use Rattle.nv_driver.proofs.OnWayLaws as W
 use Rattle.nv_driver.proofs.UnderWayLaws.{counts, command_of, world, own_all}
 use Rattle.std.proofs.Math.ListN.{length-set}
 use Rattle.std.proofs.lemmas.List.{take_more, take_more_set}
-use Rattle.nv_layout.specs.declared.cqe.Cqe.{Cqe}
-use Rattle.nv_queue.specs.Rings.{collected_one, known_to}
-use Rattle.nv_queue.specs.Slots.{awaited_completion, completion_at}
-use Rattle.nv_command.specs.Command.{transfer_by}
 use Rattle.nv_command.specs.Logs.{IsSendable}
-use Rattle.nv_command.specs.declared.command.Command.{Command}
-use Rattle.nv_bus.specs.Call.{length_of}
-use Rattle.nv_driver.specs.Answer.{Answer}
-use Rattle.nv_driver.specs.Request.{Asked, IsReadable, Request, request_of, CanBeSent}
-use Rattle.nv_driver.specs.Share.{first_page}
 use Rattle.nv_driver.specs.inner.Submitting.{places_from}
-use Rattle.nv_driver.specs.declared.share.Share.{Share}
 use Rattle.nv_driver.proofs.TurnLaws.{no_command}
 use Rattle.std.proofs.Math.Seq.{take-length}
-use Rattle.nv_driver.specs.Exchange.{IsReady}
-use Rattle.nv_driver.specs.inner.Exchange.{KeepsOthers}
-use Rattle.nv_driver.specs.Quiet.{pair_value}
-use Rattle.nv_driver.specs.declared.geometry.Geometry.{Geometry}
-use Rattle.nv_driver.proofs.OnWayLaws.{begins, ready_after}
+use Rattle.nv_driver.proofs.OnWayLaws.{begins, left_after}
 use Rattle.nv_driver.proofs.QuietLaws.{all_others_kept}
+use Rattle.nv_bus.specs.Turn as T
+use Rattle.nv_driver.proofs.OnWayLaws as W
 
 -- ---- doorbells and turns
 
@@ -67,11 +52,11 @@ module _ {r : Run} {bells turns : ℕ} {b : Batch} {bus : BusValue} {l : QueuePa
       goes_on (subst (λ n. IsOnWay (way r u.course n turns b.told) bus' l now bytes) u.sent
       (W.rings u.on_way u.controller (sent ∙ at ∙ ap (slot (setting_of r)) (sym u.sent)) state banks lawful))
 
-  pub tells_on : {bus' : BusValue} {b' : Batch} {l' : QueuePairFields} → IsTold b l bus b' l' bus'
+  pub tells_on : {bus' : BusValue} {l' : QueuePairFields} → IsTold b.ctrl l bus l' bus'
       → IsUnderWay r bells turns (record b { told = b.collected }) bus' l' now bytes
-  tells_on {bus'} {b'} {l'} t =
+  tells_on {bus'} {l'} t =
       goes_on (subst (λ n. IsOnWay (way r u.course bells turns n) bus' l' now bytes) u.collected
-      (W.tells_on u.on_way u.controller t.pair t.state t.bus t.told t.silent))
+      (W.tells_on u.on_way u.controller t))
 
   pub turns_on : {bus' : BusValue} {now' asked most count : ℕ} {mem : List ℕ}
       → T.Turn now b.ctrl asked count bus bytes bus' mem → asked ≡ most → IsBus bus' → length mem ≡ length bytes
@@ -142,19 +127,13 @@ module _ {r : Run} {bells turns : ℕ} {b : Batch} {bus : BusValue} {l : QueuePa
         submission = known_to l.submission q.sq_head;
         completion = collected_one l.completion;
       } → IsUnderWay r bells turns (record b { collected = b.collected + 1 }) bus l' now bytes
-      collects first = record {
+      collects first = let window : b.sent ≤ b.collected + 1 + r.geometry.window = omega (arith, u.window) in record {
         course = record u.course { answers = u.course.answers ++ W.answer_next u.on_way awaits ∷ [] };
         on_way = W.collects_on u.on_way awaits is first;
         can = u.can;
         geometry = u.geometry;
         controller = u.controller;
-        has = record {
-          window = omega (arith, u.window);
-          some = u.some;
-          sent = u.sent;
-          commands = u.commands;
-          kept = u.kept;
-        };
+        has = assumption (window, u.has);
         collected = length-append u.course.answers (W.answer_next u.on_way awaits ∷ []) ∙ ap (λ n. n + 1) u.collected;
       }
 
@@ -221,38 +200,32 @@ module _ {r : Run} {bells turns : ℕ} {b : Batch} {bus : BusValue} {l : QueuePa
 
 -- ---- the beginning
 
--- what holds for a list of which nothing was sent
-pub record HasBegun (r : Run) (b : Batch) (l : QueuePairFields) (now : ℕ) (bytes : List ℕ)
-    (bus : BusValue) (answers : List Answer) : Type 0 where
-  pub under_way : IsUnderWay r b.sent b.collected b bus l now bytes
-  pub answers_are : HasAnswers r b.collected answers
-
+-- nothing was sent of a list
 pub begins_all : {g : Geometry} {c : ℕ} {bus : BusValue} {l : QueuePairFields} {now : ℕ} {bytes : List ℕ}
-    {commands : List Command} {answers : List Answer} {r : Run} {b : Batch}
-    → r ≡ run_of g c bus l bytes commands → IsReady g bus c l now bytes → All CanBeSent commands
-    → length answers ≡ length commands
-    → b.ctrl ≡ c → b.geometry ≡ g → b.sent ≡ 0 → b.collected ≡ 0
-    → b.told ≡ 0 → HasBegun r b l now bytes bus answers
-begins_all {bus = bus} {l = l} {now = now} {bytes = bytes} {commands = commands} {answers = answers} {b = b} is ready
-    can size ctrl geometry sent collected told =
-    subst (λ x. HasBegun x b l now bytes bus answers) (sym is) (record {
-      under_way = record {
+    {commands : List Command} {answers : List Answer} {r : Run} → r ≡ run_of g c bus l bytes commands
+    → IsReady g bus c l now bytes → All CanBeSent commands → length answers ≡ length commands
+    → IsUnderWay r 0 0 (record { ctrl = c; geometry = g; sent = 0; collected = 0; told = 0 }) bus l now bytes
+    × HasAnswers r 0 answers
+begins_all {g} {c} {bus} {l} {now} {bytes} {commands} {answers} is ready can size =
+    let b : Batch = record { ctrl = c; geometry = g; sent = 0; collected = 0; told = 0 } in
+    subst (λ x. IsUnderWay x 0 0 b bus l now bytes × HasAnswers x 0 answers) (sym is) (
+      record {
         course = record { sent = []; answers = [] };
-        on_way = rw (sent, collected, told) (begins commands ready);
+        on_way = begins commands ready;
         can = can;
-        geometry = geometry;
-        controller = ctrl;
+        geometry = refl;
+        controller = refl;
         has = record {
           window = omega arith;
           some = omega arith;
-          sent = sym sent;
-          commands = rw sent refl;
+          sent = refl;
+          commands = refl;
           kept = λ n d h. absurd (omega arith);
         };
-        collected = sym collected;
-      };
-      answers_are = record { len = size; first = rw collected refl };
-    })
+        collected = refl;
+      },
+      record { len = size; first = refl },
+    )
 
 -- ---- the end
 
@@ -268,34 +241,35 @@ all_collected is u enough =
     in (omega (arith, order, u.some, same), omega (arith, order, u.some, same))
 
 -- what holds if all commands were sent, and their answers collected and reported
-pub record HasEnded (r : Run) (bus : BusValue) (l' : QueuePairFields) (now : ℕ) (mem : List ℕ) : Type 0 where
+pub record HasEnded (r : Run) (before : ℕ) (bus : BusValue) (l' : QueuePairFields) (now : ℕ) (mem : List ℕ)
+    : Type 0 where
   pub state : bus.state ≡ state_after r.controller r.bus.state r.pair.serial r.commands
-  pub ready : IsReady r.geometry bus r.controller l' now mem
-  pub banks : bus.banks ≡ slice_set r.bus.banks r.controller (bank_at bus.banks r.controller)
-  pub others : KeepsOthers r.geometry.page_size (pair_value r.pair) r.bytes mem
+  pub left : IsLeft r.geometry r.controller (length r.bytes) (after_some (length r.commands) (pair_value r.pair))
+      (side r.bus r.pair before r.bytes) (side bus l' now mem)
 
-at_end : {r : Run} {n : ℕ} {b : Batch} {bus : BusValue} {l : QueuePairFields} {now : ℕ} {mem : List ℕ}
+at_end : {r : Run} {n before : ℕ} {b : Batch} {bus : BusValue} {l : QueuePairFields} {now : ℕ} {mem : List ℕ}
     → (u : IsUnderWay r n n b bus l now mem) → n ≡ length r.commands → b.sent ≡ n → b.collected ≡ n → b.told ≡ n
-    → HasEnded r bus l now mem
-at_end {r} {n} {b} u all sent collected told =
+    → before ≡ r.geometry.page_size → HasEnded r before bus l now mem
+at_end {r} {n} {b = b} u all sent collected told page =
     record {
       state = state_on u ∙ ap (state_after r.controller r.bus.state r.pair.serial)
           (ap (λ i. take i r.commands) all ∙ take-length r.commands);
-      ready = (ready_after n u.on_way (u.sent ∙ sent) (u.collected ∙ collected) refl refl told).0;
-      banks = u.banks;
-      others = all_others_kept u.begun u.others (λ i d h. own_all u (u.kept i d (omega (arith, u.sent))));
+      left = rw all at (left_after n u.on_way (u.sent ∙ sent) (u.collected ∙ collected) refl refl told page
+          (all_others_kept u.begun u.others (λ i d h. own_all u (u.kept i d (omega (arith, u.sent))))
+          (length r.bytes)));
     }
 
-pub ends_all : {g : Geometry} {c : ℕ} {old bus bus' : BusValue} {l l4 l' : QueuePairFields} {now : ℕ}
-    {bytes mem : List ℕ} {commands : List Command} {r : Run} {b b' : Batch}
+pub ends_all : {g : Geometry} {c before : ℕ} {old bus bus' : BusValue} {l l4 l' : QueuePairFields} {now : ℕ}
+    {bytes mem : List ℕ} {commands : List Command} {r : Run} {b : Batch}
     → r ≡ run_of g c old l bytes commands → IsUnderWay r b.sent b.collected b bus l4 now mem
-    → length commands ≤ b.collected → IsTold b l4 bus b' l' bus'
-    → HasEnded (run_of g c old l bytes commands) bus' l' now mem
-ends_all {bus' = bus'} {l' = l'} {now = now} {mem = mem} {r = r} {b = b} is u enough t =
+    → length commands ≤ b.collected → IsTold b.ctrl l4 bus l' bus' → before ≡ g.page_size
+    → HasEnded (run_of g c old l bytes commands) before bus' l' now mem
+ends_all {before = before} {bus' = bus'} {l' = l'} {now = now} {mem = mem} {r = r} {b = b} is u enough t page =
     let all = all_collected is u enough in
     let next : IsUnderWay r b.sent b.collected (record b { told = b.collected }) bus' l' now mem = tells_on u t in
-    subst (λ x. HasEnded x bus' l' now mem) is
-    (at_end (rw all.0 at next) (all.1 ∙ ap (λ (x : Run). length x.commands) (sym is)) refl refl refl)
+    subst (λ x. HasEnded x before bus' l' now mem) is
+    (at_end (rw all.0 at next) (all.1 ∙ ap (λ (x : Run). length x.commands) (sym is)) refl refl refl
+    (page ∙ ap (λ (x : Run). x.geometry.page_size) (sym is)))
 
 pub answers_all : {g : Geometry} {c : ℕ} {old : BusValue} {l : QueuePairFields} {bytes : List ℕ}
     {commands : List Command} {r : Run} {n : ℕ} {answers : List Answer}

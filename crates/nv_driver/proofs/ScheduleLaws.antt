@@ -1,15 +1,11 @@
 -- Bytes that don't change, writes elsewhere, and every schedule.
 use Rattle.std.proofs.Common.{◌≡◌, ◌∙◌, ℕ, ◌+◌, ◌≤◌, List, [], ◌∷◌, ◌++◌, arith, get_or, inl, inr, length}
 use Rattle.std.proofs.Common.{length-append, refl, subst, sym, suc, ◌<◌, ap, ◌≢◌, All}
-use Rattle.std.proofs.lemmas.List.{get_or_append_left, get_or_push}
-use Rattle.nv_host.proofs.PageLaws.{page_size_bounds}
-use Rattle.nv_layout.specs.declared.cqe.Cqe.{Cqe}
-use Rattle.nv_model.specs.State.{State}
-use Rattle.nv_driver.specs.Schedule.{AreOthers, AreOutside, Bell, Collect, Happens, IsPrepared, Sent, Setting, Submit}
-use Rattle.nv_driver.specs.Schedule.{Tell, Turn, World, answer_awaited, Elsewhere, LeavesOutstanding}
-use Rattle.nv_driver.specs.Schedule.{slot, Event, EveryScheduleIsSerial, IsSerial, Runs}
-use Rattle.nv_driver.specs.Keeping.{Keeps, OthersStay, HasRings}
-use Rattle.nv_driver.proofs.SubmitLaws.{changes_only, mem_after, submit_keeps}
+use Rattle.nv_driver.proofs.Words.{AreOthers, Bell, Collect, Cqe, Happens, HasRings, Keeps, Sent, Setting, State}
+use Rattle.nv_driver.proofs.Words.{Submit, Tell, Turn, World, answer_awaited, page_size_bounds, slot}
+use Rattle.nv_driver.specs.Schedule.{Elsewhere, LeavesOutstanding, Event, EveryScheduleIsSerial, IsSerial, Runs}
+use Rattle.nv_driver.specs.Keeping.{OthersStay}
+use Rattle.nv_driver.proofs.SubmitLaws.{submit_keeps, submit_others}
 use Rattle.nv_driver.proofs.TurnLaws.{turn_leaves, turn_keeps, turn_takes}
 use Rattle.nv_driver.proofs.CountLaws.{slot_inside}
 use Rattle.nv_driver.proofs.AnswerLaws.{holds_on}
@@ -60,37 +56,6 @@ turn_others t s first old most w w' keeps stay happens =
           ∙ stay.same from n apart;
     })
 
-submitted : (t : Setting) (s : State) (first : ℕ) (old : List ℕ) (x : Sent) (w : World) (ready : List ℕ) → Keeps t s w
-    → OthersStay t first old w → IsPrepared t.page_size x w.mem ready
-    → OthersStay t first old (record w { mem = mem_after t w x ready; sent = w.sent ++ x ∷ [] })
-submitted t s first old x w ready keeps stay prepared =
-    let p = keeps.placed in
-    let c = keeps.counts in
-    let deep = p.deep in
-    let m = length w.sent in
-    let more : length (w.sent ++ x ∷ []) ≡ m + 1 = length-append w.sent (x ∷ []) in
-    let only = changes_only t w x ready (omega (arith, deep.0)) (omega (arith, p.submissions, prepared.len)) prepared in
-    record {
-      since = stay.since;
-      same = λ from n apart.
-          only from n
-          (subst (λ y. AreOutside t.page_size y from n) (get_or_push w.sent x x m refl)
-          (apart.pages m x (omega (arith, stay.since, c.collected, c.done, c.rung)) (omega (arith, more))))
-          apart.submissions
-          ∙ stay.same from n (record {
-            submissions = apart.submissions;
-            completions = apart.completions;
-            pages = λ i d low high.
-                subst (λ y. AreOutside t.page_size y from n) (get_or_append_left w.sent (x ∷ []) d i high)
-                (apart.pages i d low (omega (arith, more, high)));
-          });
-    }
-
-pub submit_others : (t : Setting) (s : State) (first : ℕ) (old : List ℕ) (x : Sent) (w w' : World) → Keeps t s w
-    → OthersStay t first old w → Happens t (Submit x) w w' → OthersStay t first old w'
-submit_others t s first old x w w' keeps stay happens =
-    subst (OthersStay t first old) (sym happens.3) (submitted t s first old x w happens.1 keeps stay happens.2)
-
 -- ---- the host writes elsewhere
 
 written : (t : Setting) (s : State) (w : World) (new : List ℕ) → Keeps t s w → LeavesOutstanding t w new
@@ -136,39 +101,33 @@ elsewhere_keeps t s w w' k happens = subst (Keeps t s) (sym happens.1) (written 
 
 -- ---- every schedule
 
-event_keeps : (t : Setting) (s : State) (e : Event) (w w' : World) → Keeps t s w → Happens t e w w' → Keeps t s w'
-event_keeps t s (Submit x) w w' keeps happens = submit_keeps t s x w w' keeps happens
-event_keeps t s Bell w w' keeps happens = bell_keeps t s w w' keeps happens
-event_keeps t s (Turn most) w w' keeps happens = turn_keeps t s most w w' keeps happens
-event_keeps t s Collect w w' keeps happens = collect_keeps t s w w' keeps happens
-event_keeps t s Tell w w' keeps happens = tell_keeps t s w w' keeps happens
-event_keeps t s Elsewhere w w' keeps happens = elsewhere_keeps t s w w' keeps happens
+event_stays : (t : Setting) (s : State) (e : Event) (w w' : World) → Keeps t s w → Happens t e w w' → Keeps t s w'
+    × ((first : ℕ) (old : List ℕ) → e ≢ Elsewhere → OthersStay t first old w → OthersStay t first old w')
+event_stays t s (Submit x) w w' k happens =
+    (submit_keeps t s x w w' k happens, λ first old other stay. submit_others t s first old x w w' k stay happens)
+event_stays t s Bell w w' k happens =
+    (bell_keeps t s w w' k happens, λ first old other stay. bell_others t first old w w' stay happens)
+event_stays t s (Turn most) w w' k happens =
+    (turn_keeps t s most w w' k happens, λ first old other stay. turn_others t s first old most w w' k stay happens)
+event_stays t s Collect w w' k happens =
+    (collect_keeps t s w w' k happens, λ first old other stay. collect_others t first old w w' stay happens)
+event_stays t s Tell w w' k happens =
+    (tell_keeps t s w w' k happens, λ first old other stay. tell_others t first old w w' stay happens)
+event_stays t s Elsewhere w w' k happens =
+    (elsewhere_keeps t s w w' k happens, λ first old other stay. absurd (other refl))
 
-runs_keep : (t : Setting) (s : State) (events : List Event) (w w' : World) → Keeps t s w
-    → Runs t events w w' → Keeps t s w'
-runs_keep t s [] w w' keeps runs = subst (Keeps t s) (sym runs) keeps
-runs_keep t s (e ∷ events) w w' keeps runs = runs_keep t s events runs.0 w'
-    (event_keeps t s e w runs.0 keeps runs.1) runs.2
-
-event_others : (t : Setting) (s : State) (first : ℕ) (old : List ℕ) (e : Event) (w w' : World) → e ≢ Elsewhere
-    → Keeps t s w → OthersStay t first old w → Happens t e w w' → OthersStay t first old w'
-event_others t s first old (Submit x) w w' other keeps stay happens =
-    submit_others t s first old x w w' keeps stay happens
-event_others t s first old Bell w w' other keeps stay happens = bell_others t first old w w' stay happens
-event_others t s first old (Turn most) w w' other keeps stay happens =
-    turn_others t s first old most w w' keeps stay happens
-event_others t s first old Collect w w' other keeps stay happens = collect_others t first old w w' stay happens
-event_others t s first old Tell w w' other keeps stay happens = tell_others t first old w w' stay happens
-event_others t s first old Elsewhere w w' other keeps stay happens = absurd (other refl)
-
-runs_others : (t : Setting) (s : State) (first : ℕ) (old : List ℕ) (events : List Event) (w w' : World)
-    → All (λ e. e ≢ Elsewhere) events → Keeps t s w → OthersStay t first old w → Runs t events w w'
-    → OthersStay t first old w'
-runs_others t s first old [] w w' other keeps stay runs = subst (OthersStay t first old) (sym runs) stay
-runs_others t s first old (e ∷ events) w w' other keeps stay runs =
-    runs_others t s first old events runs.0 w' (λ i d below. other (suc i) d (omega arith))
-    (event_keeps t s e w runs.0 keeps runs.1)
-    (event_others t s first old e w runs.0 (other 0 e (omega arith)) keeps stay runs.1) runs.2
+runs_stay : (t : Setting) (s : State) (events : List Event) (w w' : World) → Keeps t s w → Runs t events w w'
+    → Keeps t s w' × ((first : ℕ) (old : List ℕ) → All (λ e. e ≢ Elsewhere) events → OthersStay t first old w
+    → OthersStay t first old w')
+runs_stay t s [] w w' k runs =
+    (subst (Keeps t s) (sym runs) k, λ first old other stay. subst (OthersStay t first old) (sym runs) stay)
+runs_stay t s (e ∷ events) w w' k runs =
+    let one = event_stays t s e w runs.0 k runs.1 in
+    let rest = runs_stay t s events runs.0 w' one.0 runs.2 in (
+      rest.0,
+      λ first old other stay. rest.1 first old (λ i d below. other (suc i) d (omega arith))
+          (one.1 first old (other 0 e (omega arith)) stay),
+    )
 
 serial : (t : Setting) (s : State) (w : World) → Keeps t s w → IsSerial t s w
 serial t s w keeps = record {
@@ -180,9 +139,9 @@ serial t s w keeps = record {
   found = is_found t s w keeps;
   turns = λ most next happens. turn_takes t s most w next keeps happens;
   others = λ events next from n other runs apart.
-      (runs_others t s (length w.answers) w.mem events w next other keeps (others_now t w) runs).same from n apart;
+      ((runs_stay t s events w next keeps runs).1 (length w.answers) w.mem other (others_now t w)).same from n apart;
 }
 
 pub every_schedule : EveryScheduleIsSerial
 every_schedule t events old new idle runs = serial t old.state new
-    (runs_keep t old.state events old new (idle_keeps t old idle) runs)
+    (runs_stay t old.state events old new (idle_keeps t old idle) runs).0

@@ -1,31 +1,21 @@
 -- Pages of requests: consecutive ones, in shares of which no two have a page in common.
-use Rattle.std.proofs.Common.{[], ◌≡◌, ◌≢◌, ◌∙◌, ℕ, zero, suc, ◌+◌, ◌*◌, ◌%◌, ◌<◌, ◌≤◌, List, ◌∷◌, ◌++◌, ap, arith}
-use Rattle.std.proofs.Common.{get_or, inl, inr, length, refl, sym, take}
-use Rattle.std.proofs.Math.Nat.{mul-div-le, mul-le-mul_right}
-use Rattle.std.proofs.lemmas.Bool.{cases_lt}
+use Rattle.std.proofs.Common.{[], ◌≡◌, ◌≢◌, ◌∙◌, ℕ, zero, suc, ◌+◌, ◌*◌, ◌%◌, ◌<◌, ◌≤◌, List, ◌∷◌, ◌++◌, ap, arith, ◌^◌}
+use Rattle.std.proofs.Common.{get_or, inl, inr, length, refl, sym}
+use Rattle.std.proofs.Math.Nat.{mul-div-le}
 use Rattle.std.proofs.lemmas.List.FromFn.{get_or-range_with_len, length-range_with_len}
-use Rattle.std.proofs.lemmas.Nat.{le-div, mod_below}
+use Rattle.std.proofs.lemmas.Nat.{le-div}
 use Rattle.std.specs.List.{range_with_len}
 use Rattle.nv_queue.proofs.KeptLaws.{slots_apart}
 use Rattle.nv_queue.specs.Numbers.{slot_of}
-use Rattle.nv_model.specs.Conditions.{greatest_limit}
-use Rattle.nv_driver.specs.Geometry.{IsGeometry}
-use Rattle.nv_driver.specs.Layout.{data_count, most_bytes, offset_for, pages_for, pages_of_command, pages_of_entry}
-use Rattle.nv_driver.specs.Share.{IsOf, first_page, share_count}
+use Rattle.nv_driver.proofs.Words.{Geometry, IsGeometry, IsOf, IsPlaceFor, Share, cases_lt, first_page, greatest_limit}
+use Rattle.nv_driver.proofs.Words.{mod_below, mul-le-mul_right, pages_of_entry, place_from}
+use Rattle.nv_driver.specs.Layout.{data_count, most_bytes, pages_for, pages_of_command}
+use Rattle.nv_driver.specs.Share.{share_count}
 use Rattle.nv_driver.specs.inner.Share.{HasShares}
-use Rattle.nv_driver.specs.Submitting.{place_from}
-use Rattle.nv_driver.specs.inner.Submitting.{IsPlaceFor, pages_at}
-use Rattle.nv_driver.specs.declared.geometry.Geometry.{Geometry}
-use Rattle.nv_driver.specs.declared.share.Share.{Share}
-use Rattle.nv_driver.proofs.LayoutLaws.{offset_fits}
-use Rattle.nv_driver.proofs.PointerLaws.{enough_of, entry_pages_few, seven_pages}
+use Rattle.nv_driver.specs.inner.Submitting.{pages_at}
+use Rattle.nv_driver.proofs.PointerLaws.{enough_of, entry_pages_few}
 
 -- ---- consecutive numbers
-
-pub take-range : (first n k : ℕ) → k ≤ n → take k (range_with_len first n) ≡ range_with_len first k
-take-range first n zero low = refl
-take-range first zero (suc k) low = absurd (omega arith)
-take-range first (suc n) (suc k) low = ap (λ xs. first ∷ xs) (take-range (first + 1) n k (omega arith))
 
 pub range_more : (first n : ℕ) → range_with_len first (n + 1) ≡ range_with_len first n ++ (first + n) ∷ []
 range_more first zero = let same : first ≡ first + 0 = omega arith in ap (λ k. k ∷ []) same
@@ -59,10 +49,9 @@ page_at g first len i d below = ap (λ xs. get_or xs i d) (pages_are g first len
 
 -- the data fits in its pages, which with those of a list are no more than the pages for `most` bytes
 pub data_fits : (g : Geometry) (len most : ℕ) → IsGeometry g → len ≤ most
-    → (offset_for g len + len ≤ data_count g len * g.page_size) × (data_count g len + 2 ≤ pages_for most g.page_size)
+    → (g.offset + len ≤ data_count g len * g.page_size) × (data_count g len + 2 ≤ pages_for most g.page_size)
 data_fits g len most is few =
-    let all = enough_of most (offset_for g len) len g.page_size (data_count g len) is.page_size
-    (offset_fits g len is).1 few refl in (all.0, all.1)
+    enough_of most g.offset len g.page_size (data_count g len) is.page_size is.offset.1 few refl
 
 -- data and a list fit in consecutive pages of the memory
 pub place_fits : (g : Geometry) (first len : ℕ) (bytes : List ℕ) (page_size : ℕ) → IsGeometry g
@@ -70,15 +59,14 @@ pub place_fits : (g : Geometry) (first len : ℕ) (bytes : List ℕ) (page_size 
     → IsPlaceFor bytes page_size (place_from g first len) len
 place_fits g first len bytes page_size is page inside =
     let n = data_count g len in
-    let begins = offset_fits g len is in
     let has : (p : ℕ) → p < first + n + 2 → (p + 1) * g.page_size ≤ length bytes =
     λ p low. let end : p + 1 ≤ first + n + 2 = omega arith in omega (arith, mul-le-mul_right g.page_size end, inside) in
     let many = length-range_with_len (first + 2) n in
     rw page (record {
       is_size = is.page_size;
       buffer = record {
-        below = begins.1;
-        aligned = begins.0;
+        below = is.offset.1;
+        aligned = is.offset.0;
         enough = rw many (data_fits g len len is (omega arith)).0;
         inside = λ i d low. let at = get_or-range_with_len (first + 2) n i d (omega (arith, many)) in
             has (get_or (range_with_len (first + 2) n) i d) (omega (arith, at, many));
@@ -94,12 +82,7 @@ place_fits g first len bytes page_size is page inside =
           absurd (omega (arith, page_at g first len i d (omega arith), page_at g first len j d (omega arith), same));
     })
 
--- the pages of a command, and those of an entry
-pub few_of_command : (g : Geometry) (len : ℕ) → IsGeometry g → len ≤ most_bytes
-    → (data_count g len + 2 ≤ pages_of_command g.page_size) × (data_count g len + 2 ≤ 7)
-few_of_command g len is few =
-    let all = (data_fits g len most_bytes is few).1 in (all, omega (arith, all, seven_pages g.page_size is.page_size))
-
+-- the pages of an entry
 pub few_of_entry : (g : Geometry) (len : ℕ) → IsGeometry g → len ≤ greatest_limit
     → (data_count g len + 2 ≤ pages_of_entry g.page_size) × (data_count g len + 2 ≤ 259)
 few_of_entry g len is few =
@@ -121,10 +104,17 @@ module _ {s : Share} {now : ℕ} {bytes : List ℕ} (has : HasShares s now bytes
       omega (arith, mul-le-mul_right (share_count s) slot, mul-div-le s.pages.count s.geometry.window)
 
   -- a command's data and a list fit there
+  pub share_holds : (len : ℕ) → len ≤ most_bytes
+      → first_page s + data_count s.geometry len + 2 ≤ first_page s + share_count s
+  share_holds len few = omega (arith, (data_fits s.geometry len most_bytes has.geometry few).1, share_room)
+
+  pub share_numbered : (len : ℕ) → len ≤ most_bytes → first_page s + data_count s.geometry len + 2 ≤ 2 ^ 32
+  share_numbered len few = omega (arith, share_holds len few, share_ends, has.numbered)
+
   pub share_fits : (len : ℕ) → len ≤ most_bytes → IsPlaceFor bytes now (place_from s.geometry (first_page s) len) len
   share_fits len few =
       let end : first_page s + data_count s.geometry len + 2 ≤ s.pages.first + s.pages.count =
-      omega (arith, (few_of_command s.geometry len has.geometry few).0, share_room, share_ends) in
+      omega (arith, share_holds len few, share_ends) in
       place_fits s.geometry (first_page s) len bytes now has.geometry has.page_size
       (omega (arith, mul-le-mul_right s.geometry.page_size end, has.inside))
 

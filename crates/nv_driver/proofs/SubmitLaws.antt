@@ -1,64 +1,28 @@
 -- What doesn't change at a submission.
 use Rattle.std.proofs.Common.{◌≡◌, ◌∙◌, ℕ, ◌+◌, ◌*◌, ◌<◌, ◌≤◌, List, [], ◌∷◌, ◌++◌, ap, arith, get_or, inl, inr, length}
-use Rattle.std.proofs.Common.{length-append, subst, sym}
-use Rattle.std.proofs.lemmas.Bool.{cases_lt}
-use Rattle.std.proofs.lemmas.List.{get_or_append_left, get_or_push, take-append-le}
-use Rattle.nv_host.specs.Bytes.{bytes_at}
-use Rattle.nv_host.proofs.PageLaws.{page_size_bounds}
-use Rattle.nv_layout.specs.Sqe.{SqeFits}
+use Rattle.std.proofs.Common.{length-append, subst, sym, refl}
+use Rattle.std.proofs.lemmas.List.{take-append-le}
 use Rattle.nv_prp.proofs.BufferLaws.{rest_distinct}
 use Rattle.nv_queue.proofs.SlotLaws.{length-with_submission, push_written}
-use Rattle.nv_queue.specs.Slots.{submission_at, with_submission}
-use Rattle.nv_model.specs.State.{State}
-use Rattle.nv_driver.specs.Request.{IsReadable}
-use Rattle.nv_driver.specs.Schedule.{AreApart, Happens, Holds, HoldsSent, IsPrepared, MaySubmit, Sent}
-use Rattle.nv_driver.specs.Schedule.{Setting, StaysNamed, Submit, World, after, answers_to, entry, slot, submit_ring}
+use Rattle.nv_queue.specs.Slots.{submission_at}
+use Rattle.nv_driver.proofs.Words.{AreApart, AreOutside, Happens, HasRings, Holds, HoldsSent, IsPrepared, IsReadable}
+use Rattle.nv_driver.proofs.Words.{Keeps, Sent, Setting, SqeFits, State, StaysNamed, Submit, World, answers_to}
+use Rattle.nv_driver.proofs.Words.{bytes_at, cases_lt, data_length, entry, get_or_append_left, get_or_push}
+use Rattle.nv_driver.proofs.Words.{page_size_bounds, places, slot, submit_ring, with_submission}
+use Rattle.nv_driver.specs.Schedule.{MaySubmit, after}
 use Rattle.nv_driver.proofs.CountLaws.{slot_inside, slots_differ}
 use Rattle.nv_driver.proofs.AnswerLaws.{holds_on}
-use Rattle.nv_driver.specs.Keeping.{HasRings, IsOwn, Keeps}
-use Rattle.nv_driver.proofs.RegionLaws.{Stays, stays_apart, stays_beside}
+use Rattle.nv_driver.specs.Keeping.{IsOwn, OthersStay}
+use Rattle.nv_prp.specs.inner.Buffer.{ChangesOnly}
+use Rattle.nv_queue.specs.Rings.{SubmitNumbers}
+use Rattle.nv_driver.proofs.RegionLaws.{Stays, stays_apart, stays_beside, ChangesOnlyAt, buffer_data, completion_same}
+use Rattle.nv_driver.proofs.RegionLaws.{holds_sent_on, submission_keeps, submission_same}
 use Rattle.nv_driver.proofs.PointerLaws.{stays_in}
-use Rattle.nv_driver.proofs.RegionLaws.{ChangesOnlyAt, buffer_data, completion_same, holds_sent_on, submission_keeps}
-use Rattle.nv_driver.proofs.RegionLaws.{submission_same}
 use Rattle.nv_driver.proofs.BatchLaws.{answers-append, length-answers}
 
 -- the memory after a submission
 abbrev pub mem_after : Setting → World → Sent → List ℕ → List ℕ
 mem_after t w x ready = with_submission ready (submit_ring t (length w.sent) (length w.answers)) (entry x)
-
-length-after : (t : Setting) (w : World) (x : Sent) (ready : List ℕ) → 0 < t.depth → t.sq + 64 * t.depth ≤ length ready
-    → length (mem_after t w x ready) ≡ length ready
-length-after t w x ready some inside = length-with_submission ready
-    (submit_ring t (length w.sent) (length w.answers)) (entry x) some inside
-
-pub changes_only : (t : Setting) (w : World) (x : Sent) (ready : List ℕ) → 0 < t.depth
-    → t.sq + 64 * t.depth ≤ length ready → IsPrepared t.page_size x w.mem ready
-    → ChangesOnlyAt t x t.sq (64 * t.depth) w.mem (mem_after t w x ready)
-changes_only t w x ready some inside prepared from n outside apart =
-    submission_keeps ready (submit_ring t (length w.sent) (length w.answers)) (entry x) from n some
-    inside apart ∙ prepared.others from n outside
-
--- ---- the command that is submitted
-
-entry_fits : (t : Setting) (w : World) (x : Sent) (ready : List ℕ) → MaySubmit t w x
-    → IsPrepared t.page_size x w.mem ready → SqeFits (entry x)
-entry_fits t w x ready may prepared = assumption (prepared.prp1, prepared.prp2, may.cid, may.can.fits)
-
-own_of : (t : Setting) (s : State) (w : World) (x : Sent) → Keeps t s w → MaySubmit t w x → IsOwn t (length w.mem) x
-own_of t s w x k may =
-    let some : 0 < t.page_size = omega (arith, page_size_bounds t.page_size k.placed.page_size) in
-    let at = buffer_data t.page_size x w.mem some may.buffer
-    (rest_distinct x.first x.second x.pages may.distinct) in
-    record {
-      can = may.can;
-      cid = may.cid;
-      enough = may.buffer.enough;
-      inside = λ i below. at.inside i (omega (arith, at.size));
-      distinct = at.distinct;
-      pages = may.distinct;
-      submissions = may.submissions;
-      completions = may.completions;
-    }
 
 -- ---- the schedule goes on
 
@@ -106,20 +70,35 @@ module _ (t : Setting) (s : State) (x : Sent) (w : World) (ready : List ℕ) (k 
   inside : t.sq + 64 * t.depth ≤ length ready
   inside = omega (arith, k.placed.submissions, prepared.len)
 
+  abbrev ring : SubmitNumbers
+  ring = submit_ring t (length w.sent) (length w.answers)
+
+  same_size : length next.mem ≡ length ready
+  same_size = length-with_submission ready ring (entry x) some_slots inside
+
   len : length next.mem ≡ length w.mem
-  len = length-after t w x ready some_slots inside ∙ prepared.len
+  len = same_size ∙ prepared.len
+
+  only_ring : ChangesOnly t.sq (64 * t.depth) ready next.mem
+  only_ring from n apart = submission_keeps ready ring (entry x) from n some_slots inside apart
 
   only : ChangesOnlyAt t x t.sq (64 * t.depth) w.mem next.mem
-  only = changes_only t w x ready some_slots inside prepared
+  only from n outside apart = only_ring from n apart ∙ prepared.others from n outside
+
+  own : IsOwn t (length w.mem) x
+  own =
+      let at = buffer_data t.page_size x w.mem some may.buffer
+      (rest_distinct x.first x.second x.pages may.distinct) in
+      let within : (i : ℕ) → i < data_length x → get_or (places t.page_size x) i 0 < length w.mem =
+      λ i below. at.inside i (omega (arith, at.size)) in assumption (within, at.distinct, may)
 
   completions_stay : bytes_at next.mem t.cq (16 * t.depth) ≡ bytes_at w.mem t.cq (16 * t.depth)
   completions_stay = only t.cq (16 * t.depth) may.completions k.placed.rings
 
   -- its own list and data since its pages were prepared, and those of others
   own_stays : Stays t x ready next.mem
-  own_stays = stays_beside t x t.sq (64 * t.depth) ready next.mem some (length-after t w x ready some_slots inside)
-      may.buffer.enough may.submissions (λ from i apart. submission_keeps ready
-      (submit_ring t (length w.sent) (length w.answers)) (entry x) from i some_slots inside apart)
+  own_stays = stays_beside t x t.sq (64 * t.depth) ready next.mem some same_size may.buffer.enough may.submissions
+      only_ring
 
   other_stays : (n : ℕ) (d : Sent) → length w.answers ≤ n → n < length w.sent
       → Stays t (get_or w.sent n d) w.mem next.mem
@@ -132,8 +111,8 @@ module _ (t : Setting) (s : State) (x : Sent) (w : World) (ready : List ℕ) (k 
       → submission_at next.mem t.sq (slot t n) ≡ entry (get_or next.sent n d)
   waiting_more =
       let c = k.counts in
-      let written = push_written ready (submit_ring t (length w.sent) (length w.answers)) (entry x) some_slots
-      inside (entry_fits t w x ready may prepared) in
+      let fits : SqeFits (entry x) = assumption (prepared.prp1, prepared.prp2, may.cid, may.can.fits) in
+      let written = push_written ready ring (entry x) some_slots inside fits in
       each_more (λ n y. submission_at next.mem t.sq (slot t n) ≡ entry y) w.done w.sent x
       (λ n d from below.
       let low = slot_inside t n some_slots in
@@ -161,17 +140,14 @@ module _ (t : Setting) (s : State) (x : Sent) (w : World) (ready : List ℕ) (k 
       let more = length-append w.sent (x ∷ []) in
       record {
         placed = subst (HasRings t) (sym len) k.placed;
-        counts = let rung : w.rung ≤ length next.sent = omega (arith, c.rung, more) in
-            let few : length next.sent < length w.answers + t.depth = omega (arith, may.free, more) in
-            assumption (rung, few, c);
+        counts = omega (arith, c, may.free, more);
         bank = k.bank;
         state = k.state ∙ ap (after t.controller s)
             (sym (take-append-le w.done w.sent (x ∷ []) (omega (arith, c.done, c.rung))));
         well_formed = k.well_formed;
         controller = k.controller;
         limit = k.limit;
-        own = rw len (each_more (λ _ y. IsOwn t (length w.mem) y) (length w.answers) w.sent x k.own
-            (own_of t s w x k may));
+        own = rw len (each_more (λ _ y. IsOwn t (length w.mem) y) (length w.answers) w.sent x k.own own);
         apart = λ n j d from later below. apart_more t (length w.answers) w.sent x k.apart may.apart n
             j d from later below;
         named = each_more (λ n y. StaysNamed t.page_size y next.mem) (length w.answers) w.sent x
@@ -195,7 +171,33 @@ module _ (t : Setting) (s : State) (x : Sent) (w : World) (ready : List ℕ) (k 
             ∙ get_or_append_left all _ e n (omega (arith, length-answers t.controller s w.sent)));
       }
 
+  -- other bytes don't change
+  others_stay : (first : ℕ) (old : List ℕ) → OthersStay t first old w → OthersStay t first old next
+  others_stay first old stay =
+      let c = k.counts in
+      let more : length next.sent ≡ length w.sent + 1 = length-append w.sent (x ∷ []) in
+      record {
+        since = stay.since;
+        same = λ from n apart.
+            only from n
+            (subst (λ y. AreOutside t.page_size y from n) (get_or_push w.sent x x (length w.sent) refl)
+            (apart.pages (length w.sent) x (omega (arith, stay.since, c)) (omega (arith, more))))
+            apart.submissions
+            ∙ stay.same from n (record {
+              submissions = apart.submissions;
+              completions = apart.completions;
+              pages = λ i d low high.
+                  subst (λ y. AreOutside t.page_size y from n) (get_or_append_left w.sent (x ∷ []) d i high)
+                  (apart.pages i d low (omega (arith, more, high)));
+            });
+      }
+
 pub submit_keeps : (t : Setting) (s : State) (x : Sent) (w w' : World) → Keeps t s w
     → Happens t (Submit x) w w' → Keeps t s w'
 submit_keeps t s x w w' k happens = subst (Keeps t s) (sym happens.3)
     (submitted t s x w happens.1 k happens.0 happens.2)
+
+pub submit_others : (t : Setting) (s : State) (first : ℕ) (old : List ℕ) (x : Sent) (w w' : World) → Keeps t s w
+    → OthersStay t first old w → Happens t (Submit x) w w' → OthersStay t first old w'
+submit_others t s first old x w w' k stay happens = subst (OthersStay t first old) (sym happens.3)
+    (others_stay t s x w happens.1 k happens.0 happens.2 first old stay)

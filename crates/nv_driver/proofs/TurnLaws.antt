@@ -1,18 +1,14 @@
 -- What doesn't change in a turn.
 use Rattle.std.proofs.Common.{◌≡◌, ◌∙◌, ℕ, zero, suc, ◌+◌, ◌<◌, [], ap, arith, length, refl, subst, sym}
-use Rattle.nv_host.specs.Bytes.{bytes_at}
 use Rattle.nv_command.specs.declared.command.Command.TheVariants.{ActiveList}
-use Rattle.nv_model.specs.State.{State}
 use Rattle.nv_bus.specs.Entry.{Scene, scene}
 use Rattle.nv_bus.proofs.TurnLaws.{turn_count_is}
 use Rattle.nv_bus.specs.Turn.{BankTurn, RingsLie, Site, Taken, Takes, ready_bank, turn_count, site}
-use Rattle.nv_driver.specs.Request.{request_of}
-use Rattle.nv_driver.specs.Schedule.{AreOthers, Happens, Sent, Setting, Turn, World, device_rings, least}
-use Rattle.nv_driver.specs.Schedule.{bank_with}
+use Rattle.nv_driver.proofs.Words.{AreOthers, Happens, Keeps, Sent, Setting, State, Turn, World, bank_with, bytes_at}
+use Rattle.nv_driver.proofs.Words.{device_rings, request_of}
+use Rattle.nv_driver.specs.Schedule.{least}
 use Rattle.nv_driver.proofs.CountLaws.{number_above, number_below}
-use Rattle.nv_driver.proofs.EntryLaws.{entry_keeps, entry_others, world_after}
-use Rattle.nv_driver.specs.Keeping.{Keeps}
-use Rattle.nv_driver.proofs.EntryLaws.{is_done, can_go, now}
+use Rattle.nv_driver.proofs.EntryLaws.{entry_keeps, entry_others, world_after, is_done, can_go, now}
 
 -- a placeholder for a command
 abbrev pub no_command : Sent
@@ -65,12 +61,7 @@ one_further t s w mid y count k takes r =
     record {
       keeps = subst (λ n. Keeps t s (world_done t w n y)) sum r.keeps;
       rings = r.rings ∙ ap (λ n. device_rings t w.rung n w.told) sum;
-      others = λ from n apart. r.others from n (record {
-        submissions = apart.submissions;
-        completions = apart.completions;
-        pages = apart.pages;
-      })
-          ∙ entry_others t s w mid no_command k takes from n apart;
+      others = λ from n apart. r.others from n apart ∙ entry_others t s w mid no_command k takes from n apart;
     }
 
 pub taken_keep : (t : Setting) (s : State) (count : ℕ) (w : World) (y : Scene) → Keeps t s w
@@ -94,23 +85,7 @@ rings_lie t s w k =
     let some : 0 < t.depth = omega (arith, deep.0) in
     let wait = number_above t w.done w.rung some c.done (omega (arith, c.rung, c.few, c.collected)) in
     let held = number_above t w.told w.done some (omega (arith, c.told, c.collected)) (omega (arith, c.free)) in
-    record {
-      page = refl;
-      submission = p.submissions;
-      completion = p.completions;
-      fetch = record {
-        deep = deep;
-        from = number_below t w.done some;
-        to = number_below t w.rung some;
-        few = omega (arith, wait, c.rung, c.few, c.collected);
-      };
-      post = record {
-        deep = deep;
-        from = number_below t w.told some;
-        to = number_below t w.done some;
-        few = omega (arith, held, c.free);
-      };
-    }
+    omega (arith, p, c, wait, held, number_below t w.done some, number_below t w.rung some, number_below t w.told some)
 
 -- a turn of a schedule, and how many entries it takes
 pub record IsTurn (t : Setting) (s : State) (w : World) (most count : ℕ) (z : Site) : Type 0 where

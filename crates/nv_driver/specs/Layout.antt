@@ -1,6 +1,6 @@
 -- The layout of the host's memory: for each controller in turn its submission ring, its completion
 -- ring and its page set, each in pages of its own.
-use Rattle.std.specs.Prelude.{ℕ, ◌+◌, ◌*◌, ◌==◌, List, if◌then◌else◌, map}
+use Rattle.std.specs.Prelude.{ℕ, ◌+◌, ◌*◌, List, map}
 use Rattle.std.specs.Int.{div_ceil}
 use Rattle.std.specs.List.{range_with_len}
 use Rattle.nv_model.specs.Conditions.{greatest_limit}
@@ -19,13 +19,9 @@ completion_pages g = div_ceil (16 * g.depth) g.page_size
 abbrev pub most_bytes : ℕ
 most_bytes = 16384
 
--- where data of `len` bytes begins in its first page
-abbrev pub offset_for : Geometry → ℕ → ℕ
-offset_for g len = if len == 0 then 0 else g.offset
-
 -- how many pages `len` bytes of data lie in
 abbrev pub data_count : Geometry → ℕ → ℕ
-data_count g len = div_ceil (offset_for g len + len) g.page_size
+data_count g len = div_ceil (g.offset + len) g.page_size
 
 -- the greatest number of pages for `most` bytes: one more if they begin inside a page, and two for
 -- a PRP list that begins inside a page

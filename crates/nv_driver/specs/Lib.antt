@@ -11,6 +11,7 @@ pub mod Schedule
 pub mod Keeping
 pub mod Answer
 pub mod Request
+pub mod HostData
 pub mod Submitting
 pub mod Exchange
 pub mod Batch

@@ -1,7 +1,7 @@
 -- A request that a driver submitted, and where its data lies.
 use Rattle.std.specs.Prelude.{ℕ, ◌+◌, List}
 use Rattle.std.specs.List.{range_with_len}
-use Rattle.nv_driver.specs.Layout.{data_count, offset_for}
+use Rattle.nv_driver.specs.Layout.{data_count}
 use Rattle.nv_driver.specs.Request.{Request}
 use Rattle.nv_driver.specs.Schedule.{Sent}
 use Rattle.nv_driver.specs.declared.geometry.Geometry.{Geometry}
@@ -18,7 +18,7 @@ pub record RequestPlace : Type 0 where
 abbrev pub place_from : Geometry → (first len : ℕ) → RequestPlace
 place_from g first len = record {
   pages = range_with_len (first + 2) (data_count g len);
-  offset = offset_for g len;
+  offset = g.offset;
   first = first;
   second = first + 1;
   list_offset = g.list_offset;

@@ -1,9 +1,8 @@
 //! The answer to one command.
 
-ghost use Rattle.std.specs.Prelude.{◌≡◌, ◌≤◌, Ok, length};
+ghost use Rattle.std.specs.Prelude.{◌≡◌, ◌≤◌, length};
 ghost use Rattle.nv_command.specs.Command.{transfer_by};
 ghost use Rattle.nv_command.specs.Logs.{IsSendable};
-ghost use Rattle.nv_command.specs.Reply.{reply_in};
 ghost use Rattle.nv_bus.specs.Call.{length_of};
 ghost use Rattle.nv_prp.specs.Buffer.{IsBuffer, buffer_places};
 ghost use Rattle.nv_prp.specs.Place.{read_at};
@@ -16,8 +15,6 @@ ghost use Rattle.nv_driver.specs.Schedule.{answer_from, received_from};
 use crate::answer_slot::AnswerSlot;
 use crate::data_place::DataPlace;
 use crate::host_side::HostSide;
-use crate::request_pages::command_pages;
-use crate::scratch::Scratch;
 use crate::share::Share;
 use nv_command::{Command, Transfer};
 use nv_host::HostMemory;
@@ -54,38 +51,6 @@ fn read_sent<'a, M: HostMemory>(
     sent
 }
 
-/// Reads the reply to a command from dword 0 of its completion and the data that the controller
-/// sent to its pages.
-fn read_reply<M: HostMemory>(
-    host: &mut HostSide<M>,
-    share: &Share,
-    command: &Command,
-    dword0: u32,
-    slot: &mut AnswerSlot,
-)
-    requires sends { IsSendable command.now }
-    requires share { HasShares share.now (M.page_len host.old.mem) (M.bytes host.old.mem) }
-    ensures reply { slot.new ≡ Ok (reply_in command.now dword0 (received_from
-        (transfer_by command.now) (M.bytes host.old.mem) (places_from share.now.geometry
-        (first_page share.now) (length_of (transfer_by command.now))))) }
-    ensures mem { host.new.mem ≡ host.old.mem }
-{
-    match command.transfer() {
-        Transfer::ToHost(len) => {
-            let len = len as u32;
-            let geometry = share.geometry;
-            let count = geometry.data_pages(len);
-            let pages = command_pages(share.first_page());
-            let place = DataPlace::new(&pages, count, geometry, len);
-            let Scratch { spans, data, .. } = &mut host.scratch;
-            let sent = read_sent(&host.mem, &place.buffer, len, spans, data);
-            slot.read(command, dword0, sent);
-        }
-        Transfer::NoData => slot.read(command, dword0, &[]),
-        Transfer::FromHost(_) => slot.read(command, dword0, &[]),
-    }
-}
-
 /// Stores the answer to a command in its slot, from its completion and the data that the controller
 /// sent to its pages. Section "Completion Queue Entry".
 pub(crate) fn answer<M: HostMemory>(
@@ -107,5 +72,16 @@ pub(crate) fn answer<M: HostMemory>(
         return;
     }
     let dword0 = completion.command_specific;
-    read_reply(host, share, command, dword0, slot);
+    match command.transfer() {
+        Transfer::ToHost(len) => {
+            let len = len as u32;
+            let first = share.first_page();
+            let place = DataPlace::new(share.geometry, first, len, &mut host.pages);
+            let (spans, data) = (&mut host.spans, &mut host.data);
+            let sent = read_sent(&host.mem, &place.buffer, len, spans, data);
+            slot.read(command, dword0, sent);
+        }
+        Transfer::NoData => slot.read(command, dword0, &[]),
+        Transfer::FromHost(_) => slot.read(command, dword0, &[]),
+    }
 }

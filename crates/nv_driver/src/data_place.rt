@@ -1,7 +1,6 @@
 //! The place of a request's data: pages of the host's memory, of which the first two are for a list.
 
-ghost use Rattle.std.specs.List.{range_with_len};
-ghost use Rattle.std.specs.Prelude.{◌≡◌, ℕ, ◌+◌, ◌*◌, ◌<◌, ◌≤◌, length, take};
+ghost use Rattle.std.specs.Prelude.{◌≡◌, ◌+◌, ◌*◌, ◌<◌, ◌≤◌, ◌^◌, length};
 ghost use Rattle.nv_model.specs.Conditions.{greatest_limit};
 ghost use Rattle.nv_prp.specs.Buffer.{KeepsOutside, StaysFor};
 ghost use Rattle.nv_prp.specs.Transfer.{data_pages, transfer};
@@ -13,6 +12,10 @@ use crate::checked_geometry::CheckedGeometry;
 use nv_host::{HostMemory, PageNo};
 use nv_prp::{Buffer, ListPlace, build};
 
+/// The greatest number of pages of a request's data: 1,048,576 bytes that begin inside a page of
+/// 4,096.
+pub(crate) const MOST_PAGES: usize = 257;
+
 /// Where the data of a request lies, and where its list does if it has one.
 #[derive(Clone, Copy)]
 pub struct DataPlace<'a> {
@@ -21,26 +24,30 @@ pub struct DataPlace<'a> {
 }
 
 impl<'a> DataPlace<'a> {
-    /// Returns the place of `len` bytes in the `count` pages that follow the two of a list.
+    /// Returns the place of `len` bytes in consecutive pages from the first one on: two for a list,
+    /// and then those of the data, whose numbers are put into `pages`.
     pub(crate) fn new(
-        pages: &'a [PageNo],
-        count: usize,
         geometry: CheckedGeometry,
+        first: PageNo,
         len: u32,
+        pages: &'a mut [PageNo; MOST_PAGES],
     ) -> DataPlace<'a>
-        requires count { count ≡ data_count geometry len }
-        requires long { count + 2 ≤ length pages.now }
-        ensures { (first : ℕ) → take (count + 2) pages.now ≡ range_with_len first (count + 2)
-            → place_of result ≡ place_from geometry first len }
+        requires limit { len ≤ greatest_limit }
+        requires numbered { first + data_count geometry len + 2 ≤ 2 ^ 32 }
+        ensures { place_of result ≡ place_from geometry first len }
     {
+        let count = (geometry.offset + len).div_ceil(geometry.page_size) as usize;
+        for at in 0..count {
+            pages[at] = first + 2 + at as u32;
+        }
         DataPlace {
             buffer: Buffer {
-                pages: &pages[2..2 + count],
-                offset: geometry.offset_for(len),
+                pages: &pages[..count],
+                offset: geometry.offset,
             },
             list: ListPlace {
-                first: pages[0],
-                second: pages[1],
+                first,
+                second: first + 1,
                 offset: geometry.list_offset,
             },
         }

@@ -18,18 +18,19 @@ ghost use Rattle.nv_driver.specs.Linked.{IsBroughtUp, IsLinked};
 use crate::answer_slot::{Answer, AnswerSlot};
 use crate::batch::exchange_all;
 use crate::checked_geometry::CheckedGeometry;
+use crate::data_place::MOST_PAGES;
 use crate::enabling::{enable_all, reset};
 use crate::error::DriverError;
 use crate::geometry::Geometry;
 use crate::host_side::HostSide;
 use crate::passthrough::{Passed, exchange_entry};
 use crate::queue_pair::{QueuePair, new_pairs};
-use crate::scratch::Scratch;
 use crate::target::Target;
 use nv_bus::{Bus, Told};
 use nv_command::Command;
 use nv_host::{FlatMemory, HostMemory};
 use nv_layout::Sqe;
+use nv_prp::Spans;
 use std::alloc::Global;
 use std::marker::Model;
 use std::slice::{from_mut, from_ref};
@@ -109,9 +110,14 @@ impl Driver {
         let mut mem = FlatMemory::new(alloc, geometry.page_size, pages)?;
         let pairs = new_pairs(alloc, geometry, controllers)?;
         enable_all(bus, &mut mem, &pairs, geometry)?;
-        let scratch = Scratch::new();
+        let host = HostSide {
+            mem,
+            spans: Spans::new(),
+            pages: [0; MOST_PAGES],
+            data: [0; 16384],
+        };
         Ok(Driver {
-            host: HostSide { mem, scratch },
+            host,
             geometry,
             pairs,
         })

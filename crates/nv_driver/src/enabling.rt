@@ -1,25 +1,25 @@
 //! Enables and resets controllers.
 
-ghost use Rattle.std.specs.Prelude.{◌≡◌, ◌≢◌, ◌<◌, ◌≤◌, All, IfErr, IsOk, MatchResult};
-ghost use Rattle.std.specs.Prelude.{length, map, slice_set};
+ghost use Rattle.std.specs.Prelude.{◌≡◌, ◌<◌, ◌≤◌, All, IsOk, length, map, slice_set};
 ghost use Rattle.nv_queue.specs.Slots.{HoldsTags};
 ghost use Rattle.nv_register.specs.Readiness.{is_ready};
+ghost use Rattle.nv_register.specs.RegisterBank.{with_register_at};
 ghost use Rattle.nv_register.specs.declared.readiness.Readiness.TheVariants.{Off};
 ghost use Rattle.nv_model.specs.Step.{reset, reset_if, reset_where};
-ghost use Rattle.nv_bus.specs.Bus.{IsBus, enabled_in, bank_at};
+ghost use Rattle.nv_bus.specs.Bus.{IsBus, bank_at, enabled_in, state_written};
 ghost use Rattle.nv_driver.specs.Driver.{IsPlaced};
 ghost use Rattle.nv_driver.specs.Exchange.{IsReady};
-ghost use Rattle.nv_driver.specs.inner.Exchange.{KeepsOthers};
+ghost use Rattle.nv_driver.specs.inner.Exchange.{IsLeft, KeepsBelow, side};
 ghost use Rattle.nv_driver.specs.QueuePair.{IsLaid, idle_bank, renewed_pair};
 ghost use Rattle.nv_driver.specs.Layout.{pair_of, pairs_of};
 ghost use Rattle.nv_driver.specs.Quiet.{IsQuiet, pair_value};
-ghost use Rattle.nv_driver.specs.inner.Registers.{HasQueues, aqa_of_both, cc_enabling, disabled};
 ghost use Rattle.nv_driver.specs.inner.Registers.{with_queues};
 ghost use Rattle.nv_driver.specs.Registers.{idle_banks, mps_of};
 ghost use Rattle.nv_driver.specs.Settled.{IsSettled};
 
 use crate::checked_geometry::CheckedGeometry;
 use crate::error::DriverError;
+use crate::layout::Place;
 use crate::queue_pair::QueuePair;
 use nv_bus::Bus;
 use nv_host::HostMemory;
@@ -45,31 +45,20 @@ fn mps(page_size: u32) -> u32
     }
 }
 
-/// Returns the CC of a controller that is enabled, with pages of this size. Section "Controller
-/// Configuration".
-fn configuration(page_size: u32) -> u32
-    ensures { result ≡ cc_enabling page_size }
+/// Writes the CC of a controller, and waits until CSTS.RDY has the value that follows from it. If
+/// this clears an EN that was 1, it resets the controller. Section "Controller Configuration",
+/// Enable.
+fn configure<B: Bus>(bus: &mut B, ctrl: u16, cc: u32, ready: bool) -> Result<(), DriverError>
+    requires ctrl { ctrl < length (B.meaning bus.old).banks }
+    requires follows { is_ready
+        (with_register_at (bank_at (B.meaning bus.old).banks ctrl) 0x14 cc).readiness ≡ ready }
+    ensures ok { IsOk result }
+    ensures state { (B.meaning bus.new).state ≡ state_written (B.meaning bus.old) ctrl 0x14 cc }
+    ensures banks { (B.meaning bus.new).banks ≡ slice_set (B.meaning bus.old).banks ctrl
+        (with_register_at (bank_at (B.meaning bus.old).banks ctrl) 0x14 cc) }
+    ensures bus { IsBus (B.meaning bus.old) → IsBus (B.meaning bus.new) }
 {
-    ENABLE + (mps(page_size) << 7)
-}
-
-/// Returns the AQA of two queues with `less_one + 1` entries each. Section "Admin Queue
-/// Attributes".
-fn attributes(less_one: u32) -> u32
-    requires deep { less_one ≤ 4095 }
-    ensures { result ≡ aqa_of_both less_one }
-{
-    (less_one << 16) + less_one
-}
-
-/// Waits until CSTS.RDY has a value. Section "Controller Status".
-fn await_ready<B: Bus>(bus: &B, ctrl: u16, ready: bool) -> Result<(), DriverError>
-    requires { ctrl < length (B.meaning bus.now).banks }
-    ensures ready { MatchResult result
-        (λ _. is_ready (bank_at (B.meaning bus.now).banks ctrl).readiness ≡ ready)
-        (λ _. is_ready (bank_at (B.meaning bus.now).banks ctrl).readiness ≢ ready) }
-    ensures no_ready { IfErr result (λ e. e ≡ DriverError.NoReady) }
-{
+    bus.write32(ctrl, offset::CC, cc);
     for _ in 0..READS {
         if (bus.read32(ctrl, offset::CSTS) % 2 == 1) == ready {
             return Ok(());
@@ -78,58 +67,29 @@ fn await_ready<B: Bus>(bus: &B, ctrl: u16, ready: bool) -> Result<(), DriverErro
     Err(DriverError::NoReady)
 }
 
-/// Clears EN of a controller and waits until it is not ready. If EN was 1, this resets it. Section
-/// "Controller Configuration", Enable.
-fn disable<B: Bus>(bus: &mut B, ctrl: u16) -> Result<(), DriverError>
-    requires { ctrl < length (B.meaning bus.old).banks }
-    ensures ok { IsOk result }
-    ensures state { (B.meaning bus.new).state
-        ≡ reset_if (enabled_in (B.meaning bus.old).banks) (B.meaning bus.old).state ctrl }
-    ensures banks { (B.meaning bus.new).banks ≡ slice_set (B.meaning bus.old).banks ctrl
-        (disabled (bank_at (B.meaning bus.old).banks ctrl)) }
-    ensures off { (bank_at (B.meaning bus.new).banks ctrl).readiness ≡ Off }
-    ensures bus { IsBus (B.meaning bus.old) → IsBus (B.meaning bus.new) }
-{
-    bus.write32(ctrl, offset::CC, 0);
-    await_ready(bus, ctrl, false)
-}
-
 /// Sets the queues of a controller that is not enabled: how many entries each has, less one, and
 /// where it begins. Sections "Admin Queue Attributes", "Admin Submission Queue Base Address" and
 /// "Admin Completion Queue Base Address".
-fn set_queues<B: Bus>(bus: &mut B, ctrl: u16, less_one: u32, sq: u64, cq: u64)
+fn set_queues<B: Bus>(bus: &mut B, ctrl: u16, geometry: CheckedGeometry)
     requires ctrl { ctrl < length (B.meaning bus.old).banks }
+    requires few { ctrl < 16 }
     requires off { (bank_at (B.meaning bus.old).banks ctrl).readiness ≡ Off }
-    requires deep { less_one ≤ 4095 }
     ensures state { (B.meaning bus.new).state ≡ (B.meaning bus.old).state }
     ensures banks { (B.meaning bus.new).banks ≡ slice_set (B.meaning bus.old).banks ctrl
-        (with_queues (bank_at (B.meaning bus.old).banks ctrl) less_one sq cq) }
+        (with_queues (bank_at (B.meaning bus.old).banks ctrl) (pair_of geometry ctrl)) }
     ensures bus { IsBus (B.meaning bus.old) → IsBus (B.meaning bus.new) }
 {
-    bus.write32(ctrl, offset::AQA, attributes(less_one));
+    let less_one = u32::from(geometry.depth) - 1;
+    let Place { sq, cq, .. } = geometry.place(ctrl);
+    bus.write32(ctrl, offset::AQA, (less_one << 16) + less_one);
     bus.write32(ctrl, offset::ASQ_LOW, (sq % (1 << 32)) as u32);
     bus.write32(ctrl, offset::ASQ_HIGH, (sq >> 32) as u32);
     bus.write32(ctrl, offset::ACQ_LOW, (cq % (1 << 32)) as u32);
     bus.write32(ctrl, offset::ACQ_HIGH, (cq >> 32) as u32);
 }
 
-/// Sets EN of a controller whose queues are set, and waits until it is ready with new rings.
-/// Section "Controller Configuration", Enable.
-fn start<B: Bus>(bus: &mut B, ctrl: u16, geometry: CheckedGeometry) -> Result<(), DriverError>
-    requires ctrl { ctrl < length (B.meaning bus.old).banks }
-    requires queues { HasQueues (pair_of geometry ctrl) (bank_at (B.meaning bus.old).banks ctrl) }
-    ensures ok { IsOk result }
-    ensures state { (B.meaning bus.new).state ≡ (B.meaning bus.old).state }
-    ensures banks { (B.meaning bus.new).banks ≡ slice_set (B.meaning bus.old).banks ctrl
-        (idle_bank (mps_of geometry.page_size) geometry.page_size (pair_of geometry ctrl)) }
-    ensures bus { IsBus (B.meaning bus.old) → IsBus (B.meaning bus.new) }
-{
-    bus.write32(ctrl, offset::CC, configuration(geometry.page_size));
-    await_ready(bus, ctrl, true)
-}
-
-/// Makes a controller ready with new rings at their places. The completion ring is zeroed. Section
-/// "Controller Initialization and Shutdown Processing".
+/// Makes a controller ready with new rings at their places, and resets it if it was enabled. The
+/// completion ring is zeroed. Section "Controller Initialization and Shutdown Processing".
 fn enable<B: Bus, M: HostMemory>(
     bus: &mut B,
     ctrl: u16,
@@ -140,25 +100,24 @@ fn enable<B: Bus, M: HostMemory>(
     requires ctrl { ctrl < length (B.meaning bus.old).banks }
     requires few { ctrl < 16 }
     requires quiet { IsQuiet pair.now }
-    requires pair { pair_value pair.now ≡ pair_of geometry ctrl }
-    requires laid { IsLaid geometry.page_size (length (M.bytes mem.old)) (pair_of geometry ctrl) }
+    requires laid { IsLaid geometry.page_size (length (M.bytes mem.old)) (pair_value pair.now) }
     ensures ok { IsOk result }
     ensures state { (B.meaning bus.new).state
         ≡ reset_if (enabled_in (B.meaning bus.old).banks) (B.meaning bus.old).state ctrl }
     ensures banks { (B.meaning bus.new).banks ≡ slice_set (B.meaning bus.old).banks ctrl
         (idle_bank (mps_of geometry.page_size) geometry.page_size (pair_of geometry ctrl)) }
     ensures bus { IsBus (B.meaning bus.old) → IsBus (B.meaning bus.new) }
-    ensures tags { HoldsTags (M.bytes mem.new) (pair_of geometry ctrl).cq geometry.depth 0 }
-    ensures others { KeepsOthers geometry.page_size (pair_of geometry ctrl)
-        (M.bytes mem.old) (M.bytes mem.new) }
+    ensures tags { HoldsTags (M.bytes mem.new) (pair_value pair.now).cq
+        (pair_value pair.now).depth 0 }
+    ensures others { KeepsBelow (length (M.bytes mem.old)) geometry.page_size
+        (pair_value pair.now) (M.bytes mem.old) (M.bytes mem.new) }
     ensures len { length (M.bytes mem.new) ≡ length (M.bytes mem.old) }
     ensures page { M.page_len mem.new ≡ M.page_len mem.old }
 {
-    disable(bus, ctrl)?;
+    configure(bus, ctrl, 0, false)?;
     pair.completion.zero(mem);
-    let place = geometry.place(ctrl);
-    set_queues(bus, ctrl, u32::from(geometry.depth) - 1, place.sq, place.cq);
-    start(bus, ctrl, geometry)
+    set_queues(bus, ctrl, geometry);
+    configure(bus, ctrl, ENABLE + (mps(geometry.page_size) << 7), true)
 }
 
 /// Enables each controller with the rings of its queue pair. Those that were enabled are reset.
@@ -191,8 +150,8 @@ pub(crate) fn enable_all<B: Bus, M: HostMemory>(
     Ok(())
 }
 
-/// Resets a controller that has no command outstanding: disables it, renews its rings and starts it
-/// with them. Section "Controller Level Reset".
+/// Resets a controller that has no command outstanding: disables it, renews its rings and enables it
+/// with them. Its queues stay set. Section "Controller Level Reset".
 pub(crate) fn reset<B: Bus, M: HostMemory>(
     bus: &mut B,
     ctrl: u16,
@@ -205,17 +164,12 @@ pub(crate) fn reset<B: Bus, M: HostMemory>(
     requires placed { IsPlaced geometry ctrl (pair_value pair.old) }
     ensures ok { IsOk result }
     ensures state { (B.meaning bus.new).state ≡ reset (B.meaning bus.old).state ctrl }
-    ensures ready { IsReady geometry (B.meaning bus.new) ctrl
-        pair.new (M.page_len mem.new) (M.bytes mem.new) }
-    ensures banks { (B.meaning bus.new).banks
-        ≡ slice_set (B.meaning bus.old).banks ctrl (bank_at (B.meaning bus.new).banks ctrl) }
-    ensures pair { pair_value pair.new ≡ renewed_pair (pair_value pair.old) }
-    ensures others { KeepsOthers geometry.page_size (pair_value pair.old)
-        (M.bytes mem.old) (M.bytes mem.new) }
-    ensures len { length (M.bytes mem.new) ≡ length (M.bytes mem.old) }
-    ensures page { M.page_len mem.new ≡ M.page_len mem.old }
+    ensures left { IsLeft geometry ctrl (length (M.bytes mem.old))
+        (renewed_pair (pair_value pair.old))
+        (side (B.meaning bus.old) pair.old (M.page_len mem.old) (M.bytes mem.old))
+        (side (B.meaning bus.new) pair.new (M.page_len mem.new) (M.bytes mem.new)) }
 {
-    disable(bus, ctrl)?;
+    configure(bus, ctrl, 0, false)?;
     pair.renew(mem);
-    start(bus, ctrl, geometry)
+    configure(bus, ctrl, ENABLE + (mps(geometry.page_size) << 7), true)
 }

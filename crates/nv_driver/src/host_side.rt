@@ -1,10 +1,18 @@
 //! The host's side of an exchange with a controller.
 
-use crate::scratch::Scratch;
+use crate::data_place::MOST_PAGES;
+use nv_host::PageNo;
+use nv_prp::Spans;
 
-/// The host's memory, and buffers for the data of a command.
+/// The host's memory, and buffers for the data of one request at a time, allocated once. What these
+/// hold before doesn't matter.
 #[derive(Drop)]
 pub struct HostSide<M> {
     pub mem: M,
-    pub scratch: Scratch,
+    /// Where the data lies in the host's memory.
+    pub spans: Spans,
+    /// The numbers of its pages.
+    pub pages: [PageNo; MOST_PAGES],
+    /// What the controller sent.
+    pub data: [u8; 16384],
 }

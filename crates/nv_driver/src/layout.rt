@@ -1,10 +1,8 @@
 //! Where each controller's rings and pages lie in the host's memory.
 
 ghost use Rattle.std.specs.Prelude.{◌≡◌, ◌+◌, ◌*◌, ◌^◌, ◌<◌, ◌≤◌, if◌then◌else◌};
-ghost use Rattle.nv_model.specs.Conditions.{greatest_limit};
-ghost use Rattle.nv_driver.specs.Geometry.{IsGeometry};
 ghost use Rattle.nv_driver.specs.Layout.{completion_pages, pages_of_entry, pair_of, pair_pages, pages_of};
-ghost use Rattle.nv_driver.specs.Layout.{data_count, offset_for, set_pages, submission_pages};
+ghost use Rattle.nv_driver.specs.Layout.{set_pages, submission_pages};
 
 use crate::checked_geometry::CheckedGeometry;
 use crate::share::PageRange;
@@ -68,7 +66,7 @@ impl CheckedGeometry {
     }
 
     /// Returns how many pages `controllers` controllers take, at most 16 of them.
-    #[tactic(auto, using(crate::proofs::LayoutLaws::pair_times))]
+    #[tactic(auto, using(crate::proofs::MemoryLaws::pair_times))]
     pub(crate) fn pages(self, controllers: u16) -> u32
         requires controllers { controllers ≤ 16 }
         ensures pages { result ≡ pages_of self controllers }
@@ -92,26 +90,9 @@ impl CheckedGeometry {
         }
     }
 
-    /// Returns where data of `len` bytes begins in its first page.
-    pub(crate) fn offset_for(self, len: u32) -> u32
-        ensures value { result ≡ offset_for self len }
-        ensures keeps { IsGeometry self }
-    {
-        if len == 0 { 0 } else { self.offset }
-    }
-
-    /// Returns how many pages `len` bytes of data lie in, which is 0 if `len` is 0.
-    pub(crate) fn data_pages(self, len: u32) -> usize
-        requires { len ≤ greatest_limit }
-        ensures count { result ≡ data_count self len }
-        ensures keeps { IsGeometry self }
-    {
-        (self.offset_for(len) + len).div_ceil(self.page_size) as usize
-    }
-
     /// Returns where the rings and pages of a controller lie. The numbers of the next pages also
     /// fit 32 bits.
-    #[tactic(auto, using(crate::proofs::LayoutLaws::lay))]
+    #[tactic(auto, using(crate::proofs::MemoryLaws::lay))]
     pub(crate) fn place(self, ctrl: u16) -> Place
         requires ctrl { ctrl < 16 }
         ensures sq { result.sq ≡ (pair_of self ctrl).sq }

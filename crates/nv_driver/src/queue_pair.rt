@@ -51,7 +51,7 @@ impl QueuePair {
         ensures bytes { M.bytes mem.new ≡ with_bytes (M.bytes mem.old) self.old.completion.base
             (replicate (16 * self.old.completion.depth) 0) }
         ensures tags { HoldsTags (M.bytes mem.new) self.old.completion.base
-            self.old.completion.depth 0 }
+            self.old.submission.depth 0 }
         ensures page { M.page_len mem.new ≡ M.page_len mem.old }
     {
         self.completion.zero(mem);
@@ -61,7 +61,7 @@ impl QueuePair {
 }
 
 /// Creates the queue pairs of `count` controllers before their first command.
-#[tactic(auto, using(crate::proofs::QueuePairLaws::quiet_more, crate::proofs::QueuePairLaws::pairs_more))]
+#[tactic(auto, using(crate::proofs::MemoryLaws::quiet_more, crate::proofs::MemoryLaws::pairs_more))]
 pub(crate) fn new_pairs(
     alloc: Global,
     geometry: CheckedGeometry,

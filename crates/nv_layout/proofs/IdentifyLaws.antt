@@ -9,14 +9,20 @@ use Rattle.nv_layout.specs.IdCtrl.{id_ctrl_parts}
 use Rattle.nv_layout.specs.IdNs.{IdNsReadsBack, LbafFits, bytes_of_id_ns, id_ns_of_bytes}
 use Rattle.nv_layout.specs.IdNs.{LbafReadsBack, bytes_of_lbaf, id_ns_parts, lbaf_of_bytes, lbaf_of_number}
 use Rattle.nv_layout.specs.IdNs.{number_of_lbaf}
+use Rattle.nv_layout.specs.NewNamespace.{NewNamespaceReadsBack, bytes_of_new_namespace}
+use Rattle.nv_layout.specs.NewNamespace.{new_namespace_of_bytes, new_namespace_parts}
 use Rattle.nv_layout.specs.Bits.{at_bits, bits}
 use Rattle.nv_layout.specs.Parts.{number}
 use Rattle.nv_layout.specs.declared.id_ctrl.IdCtrl.{IdCtrl}
 use Rattle.nv_layout.specs.declared.id_ns.IdNs.{IdNs}
 use Rattle.nv_layout.specs.declared.id_ns.Lbaf.{Lbaf}
+use Rattle.nv_layout.specs.declared.new_namespace.NewNamespace.{NewNamespace}
 use Rattle.nv_layout.proofs.TableLaws.{field_back, length-laid_out, table_back}
 
 -- ---- namespaces
+
+abbrev pub none : Lbaf
+none = record { ms = 0; lbads = 0; rp = 0 }
 
 lbaf_bits : (m l p : ℕ) → m < 2 ^ 16 → l < 2 ^ 8 → p < 2 ^ 2
     → let n = at_bits 0 16 m + at_bits 16 8 l + at_bits 24 2 p in
@@ -71,6 +77,24 @@ id_ns_back r fits =
       nmic = field 9 i;
       nvmcap = field 10 i;
       lbafs = (ap (map lbaf_of_number) (field 11) ∙ lbafs_back r.lbafs fits.each_format) i;
+    }
+
+-- ---- namespaces to create
+
+pub length-bytes_of_new_namespace : (w : NewNamespace) → length (bytes_of_new_namespace w) ≡ 4096
+unfolding bytes_of_new_namespace
+length-bytes_of_new_namespace w = length-laid_out 4096 (new_namespace_parts w) refl assumption
+
+pub new_namespace_back : NewNamespaceReadsBack
+unfolding bytes_of_new_namespace new_namespace_of_bytes
+new_namespace_back w fits =
+    let field = field_back 4096 (new_namespace_parts w) refl assumption in
+    λ i. record {
+      nsze = field 0 i;
+      ncap = field 1 i;
+      flbas = field 2 i;
+      dps = field 3 i;
+      nmic = field 4 i;
     }
 
 -- ---- controllers

@@ -5,6 +5,7 @@ pub mod Cqe
 pub mod NsList
 pub mod CtrlList
 pub mod IdNs
+pub mod NewNamespace
 pub mod IdCtrl
 pub mod Smart
 pub mod ErrorEntry

@@ -17,6 +17,12 @@ pub struct Lbaf {
     pub rp: u8,
 }
 
+const NO_LBAF: Lbaf = Lbaf {
+    ms: 0,
+    lbads: 0,
+    rp: 0,
+};
+
 impl Lbaf {
     ghost use Rattle.std.specs.Prelude.{◌≡◌, map};
     ghost use Rattle.nv_layout.specs.IdNs.{bytes_of_lbaf, lbaf_of_bytes, lbaf_of_number};
@@ -57,16 +63,25 @@ impl Lbaf {
         Lbaf::from_number(u32_at(bytes, 0))
     }
 
+    // (a loop takes half the instructions of an array's `map`, which keeps a mark for each element)
     fn numbers(lbafs: &[Lbaf; 16]) -> [u32; 16]
         ensures { result ≡ map number_of_lbaf lbafs.now }
     {
-        lbafs.map(|lbaf| lbaf.number())
+        let mut numbers = [0; 16];
+        for i in 0..16 {
+            numbers[i] = lbafs[i].number();
+        }
+        numbers
     }
 
     fn from_numbers(numbers: &[u32; 16]) -> [Lbaf; 16]
         ensures { result ≡ map lbaf_of_number numbers.now }
     {
-        numbers.map(Lbaf::from_number)
+        let mut lbafs = [NO_LBAF; 16];
+        for i in 0..16 {
+            lbafs[i] = Lbaf::from_number(numbers[i]);
+        }
+        lbafs
     }
 }
 

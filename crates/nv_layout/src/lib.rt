@@ -23,6 +23,7 @@ ghost use Rattle.nv_layout.specs.CtrlList.{CtrlListReadsBack};
 ghost use Rattle.nv_layout.specs.ErrorEntryBytes.{ErrorEntryReadsBack};
 ghost use Rattle.nv_layout.specs.IdCtrl.{IdCtrlReadsBack};
 ghost use Rattle.nv_layout.specs.IdNs.{IdNsReadsBack, LbafReadsBack};
+ghost use Rattle.nv_layout.specs.NewNamespace.{NewNamespaceReadsBack};
 ghost use Rattle.nv_layout.specs.NsList.{NsListReadsBack};
 ghost use Rattle.nv_layout.specs.Smart.{SmartReadsBack};
 ghost use Rattle.nv_layout.specs.Sqe.{SqeReadsBack};
@@ -37,6 +38,7 @@ mod few;
 mod id_ctrl;
 mod id_ns;
 mod narrow;
+mod new_namespace;
 mod ns_list;
 mod parts;
 mod smart;
@@ -52,6 +54,7 @@ pub use few::{Few, Lent};
 pub use id_ctrl::IdCtrl;
 pub use id_ns::{IdNs, Lbaf};
 pub use narrow::{Below, FourBits, ThreeBits};
+pub use new_namespace::NewNamespace;
 pub use ns_list::{MOST_NSIDS, NamespaceIds, NsList, add_nsid};
 pub use parts::{bits_of, to_bits};
 pub use smart::Smart;
@@ -67,6 +70,7 @@ pub fn reads_back()
     ensures id_ctrl { IdCtrlReadsBack }
     ensures id_ns { IdNsReadsBack }
     ensures lbaf { LbafReadsBack }
+    ensures new_namespace { NewNamespaceReadsBack }
     ensures ns_list { NsListReadsBack }
     ensures ctrl_list { CtrlListReadsBack }
     ensures smart { SmartReadsBack }

@@ -20,7 +20,7 @@ use Rattle.nv_model.specs.Conditions.{may_extend, format_at}
 use Rattle.nv_model.specs.declared.format.Format.{Format}
 use Rattle.nv_model.specs.declared.namespace.Namespace.{Namespace}
 use Rattle.nv_command.specs.Refusal.{IsRefusal}
-use Rattle.nv_command.specs.declared.management.NewNamespace.{NewNamespace}
+use Rattle.nv_layout.specs.declared.new_namespace.NewNamespace.{NewNamespace}
 use Rattle.nv_command.proofs.RefusalLaws.{is_refusal-refusal_by}
 use Rattle.nv_command.specs.Nsid.{broadcast_nsid}
 use Rattle.nv_command.specs.declared.status_code.StatusCode.TheVariants.{NamespaceInsufficientCapacity}

@@ -6,7 +6,7 @@ use Rattle.nv_command.specs.declared.command.Command.TheVariants.{AllocatedNames
 use Rattle.nv_command.specs.declared.command.Command.TheVariants.{AllocatedList, Create, Delete}
 use Rattle.nv_command.specs.declared.command.Command.TheVariants.{Attachment, Format, GetFeature}
 use Rattle.nv_command.specs.declared.command.Command.TheVariants.{SetFeature, GetLog}
-use Rattle.nv_command.specs.declared.management.NewNamespace.{NewNamespace}
+use Rattle.nv_layout.specs.declared.new_namespace.NewNamespace.{NewNamespace}
 use Rattle.nv_command.specs.declared.reply.Reply.{Reply}
 use Rattle.nv_command.specs.declared.reply.Reply.TheVariants.{Done, Number}
 use Rattle.nv_model.specs.Attachment.{attachment_rows, with_attachments}

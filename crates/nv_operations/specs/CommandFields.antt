@@ -11,7 +11,7 @@ use Rattle.nv_command.specs.declared.features.FeatureQuery.{FeatureQuery}
 use Rattle.nv_command.specs.declared.features.FeatureSetting.{FeatureSetting}
 use Rattle.nv_command.specs.declared.format.NewFormat.{NewFormat}
 use Rattle.nv_command.specs.declared.logs.LogQuery.{LogQuery}
-use Rattle.nv_command.specs.declared.management.NewNamespace.{NewNamespace}
+use Rattle.nv_layout.specs.declared.new_namespace.NewNamespace.{NewNamespace}
 use Rattle.nv_operations.specs.Field.{Field, number, numbers}
 
 abbrev pub fields_of_creation : NewNamespace → List Field

@@ -24,13 +24,12 @@ IsToldInTime b = b.collected < b.told + b.geometry.pace
 abbrev pub IsToldByPace : ℕ → ℕ → ℕ → Type 0
 IsToldByPace pace before after = (times : ℕ) × (after ≡ before + times * pace)
 
--- the head doorbell was rung if there was an answer to report, and all collected answers are reported
-pub record IsTold (b : Batch) (l : QueuePairFields) (m : BusValue) (b' : Batch) (l' : QueuePairFields) (m' : BusValue)
-    : Type 0 where
-  pub batch : b' ≡ record b { told = b.collected }
+-- the head doorbell of controller c was rung if there was an answer to report, and all collected
+-- answers are reported
+pub record IsTold (c : ℕ) (l : QueuePairFields) (m : BusValue) (l' : QueuePairFields) (m' : BusValue) : Type 0 where
   pub pair : l' ≡ record l { completion = told_all l.completion }
   pub state : m'.state ≡ m.state
   pub bus : IsBus m → IsBus m'
-  pub told : l.completion.untold ≡ true → m'.banks ≡ slice_set m.banks b.ctrl
-      (with_register_at (bank_at m.banks b.ctrl) 0x1004 (slot_of l.completion.depth l.completion.collected))
+  pub told : l.completion.untold ≡ true → m'.banks ≡ slice_set m.banks c
+      (with_register_at (bank_at m.banks c) 0x1004 (slot_of l.completion.depth l.completion.collected))
   pub silent : l.completion.untold ≡ false → m'.banks ≡ m.banks

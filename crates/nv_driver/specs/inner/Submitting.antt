@@ -1,11 +1,13 @@
 -- A request that a driver submitted, and where its data lies: what no public contract reaches.
-use Rattle.std.specs.Prelude.{◌≡◌, ℕ, List, ◌∷◌}
+use Rattle.std.specs.Prelude.{◌≡◌, ℕ, ◌+◌, ◌*◌, ◌<◌, ◌≤◌, List, ◌∷◌, length}
 use Rattle.nv_host.specs.Pages.{IsPageSize}
 use Rattle.nv_prp.specs.Buffer.{IsBuffer, IsListPlace, buffer_places}
 use Rattle.nv_prp.specs.Place.{AreDistinct}
-use Rattle.nv_queue.specs.Rings.{submitted_one}
-use Rattle.nv_queue.specs.Slots.{with_submission}
+use Rattle.nv_queue.specs.Numbers.{IsSlotBetween, next, slot_of}
+use Rattle.nv_queue.specs.Rings.{IsSubmitFull, submitted_one}
+use Rattle.nv_queue.specs.Slots.{IsAwaitedThere, awaited_completion, with_submission}
 use Rattle.nv_bus.specs.Call.{length_of}
+use Rattle.nv_model.specs.Ranges.{serial_count}
 use Rattle.nv_model.specs.Step.{next_serial}
 use Rattle.nv_driver.specs.Request.{Asked, Request}
 use Rattle.nv_driver.specs.inner.Schedule.{IsListedAtPlace}
@@ -14,6 +16,7 @@ use Rattle.nv_driver.specs.declared.data_place.DataPlace.{DataPlace}
 use Rattle.nv_driver.specs.declared.geometry.Geometry.{Geometry}
 use Rattle.nv_driver.specs.declared.outgoing.Outgoing.{Outgoing}
 use Rattle.nv_driver.specs.declared.queue_pair.QueuePair.{QueuePair as QueuePairFields}
+use Rattle.nv_driver.specs.HostData.{sent_by}
 use Rattle.nv_driver.specs.Submitting.{RequestPlace, place_from, sent_at}
 
 abbrev pub place_of : DataPlace → RequestPlace
@@ -33,7 +36,7 @@ places_from g first len =
 -- a request that asks for this
 abbrev pub request_as : Outgoing → Asked → Request
 request_as q asked =
-    record { entry = q.entry; transfer = q.transfer; sends = q.sends.now; asked = asked }
+    record { entry = q.entry; transfer = q.transfer; sends = sent_by q.sends; asked = asked }
 
 -- all pages of a place: the two for a list, and then those of the data
 abbrev pub pages_at : RequestPlace → List ℕ
@@ -46,9 +49,16 @@ pub record IsPlaceFor (mem : List ℕ) (page_size : ℕ) (at : RequestPlace) (le
   pub list : IsListPlace mem page_size at.first at.second at.list_offset
   pub distinct : AreDistinct (pages_at at)
 
--- the pages are prepared, and the entry is in the ring; a request without data has no data pointer
+-- the submission ring of a queue pair lies in the memory, and has a free slot
+pub record HasFreeSlot (l : QueuePairFields) (mem : List ℕ) : Type 0 where
+  pub serial : l.serial < serial_count
+  pub ring : l.submission.base + 64 * l.submission.depth ≤ length mem
+  pub free : ¬ IsSubmitFull l.submission
+
+-- the pages are prepared, and the entry is in the ring, with its new tail; a request without data has no
+-- data pointer
 pub record IsSubmittedAt (page_size : ℕ) (at : RequestPlace) (q : Request)
-    (old new : QueuePairFields) (before after : List ℕ) : Type 0 where
+    (old new : QueuePairFields) (before after : List ℕ) (now end : ℕ) : Type 0 where
   pub prp1 : ℕ
   pub prp2 : ℕ
   pub ready : List ℕ
@@ -61,3 +71,13 @@ pub record IsSubmittedAt (page_size : ℕ) (at : RequestPlace) (q : Request)
     submission = submitted_one old.submission;
     serial = next_serial old.serial;
   }
+  pub tail : end ≡ slot_of old.submission.depth (next old.submission.depth old.submission.submitted)
+  pub len : length after ≡ length before
+  pub page : now ≡ page_size
+
+-- the awaited completion of a queue pair was posted, with a head that frees submissions
+pub record CanCollect (l : QueuePairFields) (mem : List ℕ) : Type 0 where
+  pub inside : l.completion.base + 16 * l.completion.depth ≤ length mem
+  pub awaited : IsAwaitedThere mem l.completion
+  pub freed : IsSlotBetween l.submission.depth l.submission.known l.submission.submitted
+      (awaited_completion mem l.completion).sq_head

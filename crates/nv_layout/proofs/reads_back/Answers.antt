@@ -1,5 +1,5 @@
 use Rattle.nv_layout.proofs.LogLaws.{error_entry_back, smart_back}
-use Rattle.nv_layout.proofs.IdentifyLaws.{id_ctrl_back, id_ns_back, lbaf_read_back}
+use Rattle.nv_layout.proofs.IdentifyLaws.{id_ctrl_back, id_ns_back, lbaf_read_back, new_namespace_back}
 use Rattle.nv_layout.proofs.RecordLaws.{cqe_back, ctrl_list_back, ns_list_back, sqe_back, status_back}
 use Rattle.nv_layout.proofs.reads_back.Goals as goal
 
@@ -17,6 +17,9 @@ returns-clause-id_ns c = id_ns_back
 
 pub returns-clause-lbaf : goal.returns-clause-lbaf
 returns-clause-lbaf c = lbaf_read_back
+
+pub returns-clause-new_namespace : goal.returns-clause-new_namespace
+returns-clause-new_namespace c = new_namespace_back
 
 pub returns-clause-ns_list : goal.returns-clause-ns_list
 returns-clause-ns_list c = ns_list_back

@@ -1,7 +1,8 @@
-use Rattle.std.proofs.Common.{◌∙◌, ap, arith, sym, length}
+use Rattle.std.proofs.Common.{◌∙◌, ap, arith, inl, inr, length, refl, sym}
 use Rattle.nv_prp.specs.Place.{places}
-use Rattle.nv_bus.specs.Call.{length_of}
-use Rattle.nv_bus.proofs.CallLaws.{no_places, nothing_lies_in, places-nil}
+use Rattle.nv_command.specs.declared.transfer.Transfer.{Transfer}
+use Rattle.nv_bus.specs.Call.{data_places, length_of}
+use Rattle.nv_bus.proofs.CallLaws.{legal_places, no_places, nothing_lies_in, places-nil}
 use Rattle.nv_controller.proofs.call.find_data.Goals as goal
 
 pub returns-in-NoData-clause-found : goal.returns-in-NoData-clause-found
@@ -18,3 +19,13 @@ returns-in-NoData-clause-len g c =
 
 pub returns-in-NoData-clause-few : goal.returns-in-NoData-clause-few
 returns-in-NoData-clause-few g c = omega (arith, ap length (ap places c.clear.ensures ∙ places-nil))
+
+pub returns-in-Ok-clause-found : goal.returns-in-Ok-clause-found
+returns-in-Ok-clause-found g c =
+    let found = legal_places _ (places c.walk.new.spans) (c.in-Ok.ensures.legal.0 refl) c.in-Ok.ensures.places in
+    let at = λ (m : Transfer).
+    data_places (g.M.HostMemory.page_len c.args.mem.now) (g.M.HostMemory.bytes c.args.mem.now) c.args.entry.now m in
+    elim c.in-ToHost.is [
+      | inl is ↦ ap at is ∙ found
+      | inr is ↦ ap at is ∙ found
+    ]

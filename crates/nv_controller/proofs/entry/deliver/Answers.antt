@@ -1,9 +1,13 @@
-use Rattle.std.proofs.Common.{subst}
+use Rattle.std.proofs.Common.{◌∙◌, ap, arith, length, refl, subst, sym}
+use Rattle.std.proofs.lemmas.List.{nil_from_length}
+use Rattle.nv_command.specs.Command.{transfer_by}
 use Rattle.nv_command.specs.Reply.{FitsRecord}
 use Rattle.nv_command.specs.declared.command.Command.{Command}
+use Rattle.nv_command.proofs.TravelLaws.{replies_fit}
 use Rattle.nv_model.specs.Logs.{log_reply}
 use Rattle.nv_model.specs.Meaning.{reply_of}
-use Rattle.nv_controller.proofs.DataLaws.{log_length, page_data}
+use Rattle.nv_prp.specs.Place.{places, written_at}
+use Rattle.nv_controller.proofs.DataLaws.{all_sent, log_length, none_sent, nothing_written, page_data}
 use Rattle.nv_controller.proofs.entry.deliver.Goals as goal
 
 pub deliver_log-requires-clause-short : goal.deliver_log-requires-clause-short
@@ -11,6 +15,33 @@ deliver_log-requires-clause-short g c =
     log_length (log_reply c.args.subsystem.now c.args.ctrl c.in-GetLog.asked.lid)
     (subst (λ (k : Command). FitsRecord (reply_of c.args.subsystem.now c.args.ctrl k)) c.in-GetLog.is c.requires.fits)
 
-pub deliver_page-requires-clause-page : goal.deliver_page-requires-clause-page
-deliver_page-requires-clause-page g c =
-    page_data c.args.command.now _ c.in_default.not-GetLog
+pub write_out-requires-clause-len : goal.write_out-requires-clause-len
+write_out-requires-clause-len g c =
+    let k = c.args.command.now in
+    c.requires.len
+    ∙ sym (all_sent (transfer_by k) c.in-ToHost.field-0 (sym c.requires.transfer ∙ c.in-ToHost.is))
+    ∙ sym (replies_fit k _ c.requires.is_reply c.requires.fits)
+    ∙ ap length (page_data k _ c.in_default.not-GetLog)
+
+pub write_out-requires-clause-limit : goal.write_out-requires-clause-limit
+write_out-requires-clause-limit g c = omega (arith, write_out-requires-clause-len g c, c.requires.few)
+
+pub returns-in_default-transfer : goal.returns-in_default-transfer
+returns-in_default-transfer g c =
+    let k = c.args.command.now in
+    let bytes = g.M.HostMemory.bytes c.args.mem.now in
+    let at = places c.args.entry_data.now.spans in
+    let none = replies_fit k _ c.requires.is_reply c.requires.fits
+    ∙ none_sent (transfer_by k) (λ n is. c.in_default-transfer.not-ToHost n (c.requires.transfer ∙ is)) in
+    record {
+      bytes = nothing_written bytes at ∙ ap (written_at bytes at) (sym (nil_from_length _ none));
+      len = refl;
+      page_len = refl;
+    }
+
+pub returns-else-put_page-clause-bytes : goal.returns-else-put_page-clause-bytes
+returns-else-put_page-clause-bytes g c =
+    let bytes = g.M.HostMemory.bytes c.args.mem.now in
+    let at = places c.args.entry_data.now.spans in
+    let page = page_data c.args.command.now _ c.in_default.not-GetLog in
+    nothing_written bytes at ∙ ap (written_at bytes at) (sym (page ∙ c.if-put_page.ensures))

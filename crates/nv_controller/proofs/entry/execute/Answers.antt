@@ -2,7 +2,7 @@ use Rattle.std.proofs.Common.{◌∙◌, ap, sym}
 use Rattle.nv_prp.specs.Place.{places}
 use Rattle.nv_model.specs.Meaning.{reply_of}
 use Rattle.nv_subsystem.specs.Tagged.{settled}
-use Rattle.nv_bus.specs.Entry.{told_by}
+use Rattle.nv_bus.specs.Entry.{success, told_by}
 use Rattle.nv_controller.proofs.EntryLaws.{answered, moved_none, moved_reply, refused_by}
 use Rattle.nv_controller.proofs.entry.execute.Goals.{in-None, in-Some}
 use Rattle.nv_controller.proofs.entry.execute.Goals as goal
@@ -20,11 +20,11 @@ deliver-requires-clause-fits g c =
 pub returns-clause-told : goal.returns-clause-told
 returns-clause-told g c = elim c.match-refusal.branch [
   | in-None w ↦
-      w.told-is ∙ w.reply_told-told.ensures
+      w.told-is ∙ ap (λ d. record { dword0 = d; status = success }) w.dword0.ensures
       ∙ (answered c.args.subsystem.now c.args.ctrl c.args.command.now c.args.origin.cid c.requires.well_formed
       (sym c.refusal-refusal.ensures ∙ w.in-None.is)).told
   | in-Some w ↦
-      w.told-is ∙ w.refusal_told-told.ensures
+      w.told-is
       ∙ ap told_by (refused_by c.args.subsystem.now c.args.ctrl c.args.command.now c.args.origin.cid _
       (sym c.refusal-refusal.ensures ∙ w.in-Some.is))
 ]
@@ -32,14 +32,14 @@ returns-clause-told g c = elim c.match-refusal.branch [
 pub returns-clause-moved : goal.returns-clause-moved
 returns-clause-moved g c = elim c.match-refusal.branch [
   | in-None w ↦
-      moved_reply c.args.command.now (places c.args.spans.now) (g.M.HostMemory.bytes c.args.mem.now)
+      moved_reply c.args.command.now (places c.args.entry_data.now.spans) (g.M.HostMemory.bytes c.args.mem.now)
       (g.M.HostMemory.bytes c.match-refusal.mem)
       (reply_of c.args.subsystem.now c.args.ctrl c.args.command.now) _
       (answered c.args.subsystem.now c.args.ctrl c.args.command.now c.args.origin.cid c.requires.well_formed
       (sym c.refusal-refusal.ensures ∙ w.in-None.is)).answer
       (ap g.M.HostMemory.bytes w.mem-is ∙ w.deliver.ensures.bytes)
   | in-Some w ↦
-      moved_none c.args.command.now (places c.args.spans.now) (g.M.HostMemory.bytes c.args.mem.now)
+      moved_none c.args.command.now (places c.args.entry_data.now.spans) (g.M.HostMemory.bytes c.args.mem.now)
       (g.M.HostMemory.bytes c.match-refusal.mem) _ _
       (refused_by c.args.subsystem.now c.args.ctrl c.args.command.now c.args.origin.cid _
       (sym c.refusal-refusal.ensures ∙ w.in-Some.is))

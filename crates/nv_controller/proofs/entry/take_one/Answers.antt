@@ -10,11 +10,12 @@ returns-clause-one g c =
     taken_one c.args.ctrl
     (scene (untagged c.args.subsystem.now) c.args.rings.now (g.M.HostMemory.bytes c.args.mem.now)) _
     c.unwrap-entry.result (g.M.HostMemory.page_len c.args.mem.now) _
-    c.completion-posted.result (g.M.HostMemory.bytes c.answer_entry-told.new.mem) _
+    (completion_of c.unwrap-entry.result.cid c.head.result c.answer_entry-told.result)
+    (g.M.HostMemory.bytes c.answer_entry-told.new.mem) _
     (search rules) (search rules) (sym (limit_untagged c.args.subsystem.now c.args.ctrl))
     c.answer_entry-told.ensures.state c.answer_entry-told.ensures.moved
     (search rules) (search rules)
-    (c.completion-posted.ensures ∙ ap (completion_of _ _) c.answer_entry-told.ensures.told)
+    (ap (completion_of _ _) c.answer_entry-told.ensures.told)
     (search rules)
 
 pub returns-clause-tagged : goal.returns-clause-tagged

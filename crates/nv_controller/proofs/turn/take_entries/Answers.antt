@@ -1,6 +1,6 @@
-use Rattle.std.proofs.Common.{◌∙◌, ℕ, ap, sym, length}
+use Rattle.std.proofs.Common.{◌∙◌, arith}
+use Rattle.std.proofs.lemmas.Bool.Decides.{nat_tests}
 use Rattle.nv_bus.specs.Entry.{scene}
-use Rattle.nv_bus.specs.Turn.{reaches}
 use Rattle.nv_subsystem.specs.Tagged.{untagged}
 use Rattle.nv_controller.proofs.TurnLaws.{taken_more}
 use Rattle.nv_controller.proofs.turn.take_entries.Goals as goal
@@ -16,9 +16,8 @@ loop-count-preserved g c =
           (scene (untagged c.take_one.new.subsystem) c.take_one.new.rings (g.M.HostMemory.bytes c.take_one.new.mem))
           inv.taken
           (record {
-            can = sym c.if-not-can_take.ensures;
-            reached = ap (λ (p : ℕ). reaches c.loop-count.rings p (length bytes)) (sym inv.page)
-                ∙ sym c.if-not-reaches.ensures;
+            can = grind (arith, nat_tests);
+            reached = grind (arith, nat_tests);
             one = c.take_one.ensures.one;
           });
       well_formed = c.take_one.ensures.well_formed;

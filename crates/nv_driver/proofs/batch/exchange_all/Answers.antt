@@ -1,23 +1,13 @@
 use Rattle.std.proofs.Common.{◌∙◌, ap, arith, rules, subst, sym}
-use Rattle.nv_driver.specs.UnderWay.{Run}
-use Rattle.nv_driver.specs.inner.UnderWay.{HasAnswers}
-use Rattle.nv_driver.specs.declared.batch.Batch.{Batch}
-use Rattle.nv_driver.specs.declared.geometry.Geometry.{Geometry}
+use Rattle.nv_driver.proofs.Words.{Batch, Geometry, HasAnswers, Run}
 use Rattle.nv_driver.proofs.RoundLaws.{all_collected, answers_all, begins_all, ends_all, comes_further}
 use Rattle.nv_driver.proofs.batch.exchange_all.Goals as goal
 
 pub loop-batch-init : goal.loop-batch-init
 loop-batch-init g c =
     let asked = c.requires.1.1 in
-    let b = c.new-batch.ensures in
-    let begun = begins_all asked.0 asked.1.0 asked.1.1.0 asked.1.1.1 b.ctrl b.geometry
-    b.sent b.collected b.told in
-    let u = begun.under_way in
-    record {
-      under_way = u;
-      answers = begun.answers_are;
-      near = omega (arith, b.collected, b.told, u.begun.geometry.pace, ap (λ (q : Geometry). q.pace) u.geometry);
-    }
+    let begun = begins_all asked.0 asked.1.0 asked.1.1.0 asked.1.1.1 in
+    record { under_way = begun.0; answers = begun.1; near = omega (arith, asked.1.0.geometry.pace) }
 
 pub turn-requires : goal.turn-requires
 turn-requires g c κs within =
@@ -65,16 +55,10 @@ returns-clause-answers g c =
 
 pub returns-clause-state : goal.returns-clause-state
 returns-clause-state g c = let i = c.loop-batch.invariant in
-    (ends_all c.requires.1.1.0 i.under_way (omega (arith, c.loop-batch-test.false)) c.tell.ensures).state
+    (ends_all c.requires.1.1.0 i.under_way (omega (arith, c.loop-batch-test.false)) c.tell.ensures
+    c.requires.1.1.1.0.page_size).state
 
-pub returns-clause-ready : goal.returns-clause-ready
-returns-clause-ready g c = let i = c.loop-batch.invariant in
-    (ends_all c.requires.1.1.0 i.under_way (omega (arith, c.loop-batch-test.false)) c.tell.ensures).ready
-
-pub returns-clause-banks : goal.returns-clause-banks
-returns-clause-banks g c = let i = c.loop-batch.invariant in
-    (ends_all c.requires.1.1.0 i.under_way (omega (arith, c.loop-batch-test.false)) c.tell.ensures).banks
-
-pub returns-clause-others : goal.returns-clause-others
-returns-clause-others g c = let i = c.loop-batch.invariant in
-    (ends_all c.requires.1.1.0 i.under_way (omega (arith, c.loop-batch-test.false)) c.tell.ensures).others
+pub returns-clause-left : goal.returns-clause-left
+returns-clause-left g c = let i = c.loop-batch.invariant in
+    (ends_all c.requires.1.1.0 i.under_way (omega (arith, c.loop-batch-test.false)) c.tell.ensures
+    c.requires.1.1.1.0.page_size).left

@@ -14,21 +14,21 @@ enable-requires-clause-quiet g c =
     subst IsQuiet (sym c.index-pairs-ctrl.is) (c.requires.quiet c.loop-ctrl.ctrl
     c.index-pairs-ctrl.result (omega arith))
 
-pub enable-requires-clause-pair : goal.enable-requires-clause-pair
-enable-requires-clause-pair g c =
-    let many = pair_count c.args.geometry _ c.args.pairs.now c.requires.pairs in
-    pair_is c.args.geometry _ c.loop-ctrl.ctrl c.args.pairs.now _ c.requires.pairs (omega arith)
-    (omega arith) c.index-pairs-ctrl.is
-
 pub enable-requires-clause-laid : goal.enable-requires-clause-laid
 enable-requires-clause-laid g c =
-    laid_in c.args.geometry _ c.loop-ctrl.ctrl _ c.loop-ctrl.invariant.laid (omega arith)
+    let many = pair_count c.args.geometry _ c.args.pairs.now c.requires.pairs in
+    rw (pair_is c.args.geometry _ c.loop-ctrl.ctrl c.args.pairs.now _ c.requires.pairs (omega arith)
+    (omega arith) c.index-pairs-ctrl.is) (laid_in c.args.geometry _ c.loop-ctrl.ctrl _ c.loop-ctrl.invariant.laid
+    (omega arith))
 
 pub loop-ctrl-preserved : goal.loop-ctrl-preserved
 loop-ctrl-preserved g c =
     let i = c.loop-ctrl.invariant in
     let e = c.enable.ensures in
     let ctrl = c.loop-ctrl.ctrl in
+    let many = pair_count c.args.geometry _ c.args.pairs.now c.requires.pairs in
+    let is = pair_is c.args.geometry _ ctrl c.args.pairs.now _ c.requires.pairs (omega arith) (omega arith)
+    c.index-pairs-ctrl.is in
     record {
       bus = search rules;
       state = states_more _ _ (g.B.Bus.meaning c.args.bus.now).state _ _ ctrl (omega arith) (omega arith)
@@ -36,7 +36,7 @@ loop-ctrl-preserved g c =
       len = search rules;
       below = below_set _ _ ctrl _ (omega arith) e.banks i.below;
       above = above_set _ _ _ ctrl _ e.banks i.above;
-      tags = tags_more c.args.geometry _ ctrl _ _ i.laid (omega arith) e.others e.tags i.tags;
+      tags = tags_more c.args.geometry _ ctrl _ _ i.laid (omega arith) is e.others e.tags i.tags;
       laid = rw (e.len) (i.laid);
       size = e.len ∙ i.size;
       page = e.page ∙ i.page;

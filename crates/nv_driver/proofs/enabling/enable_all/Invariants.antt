@@ -1,10 +1,6 @@
 use Rattle.std.proofs.Common.{◌≡◌, ℕ, ◌<◌, ◌≤◌, All, length}
-use Rattle.nv_queue.specs.Slots.{HoldsTags}
 use Rattle.nv_model.proofs.ResetLaws.{reset_first}
-use Rattle.nv_bus.specs.Bus.{IsBus, enabled_in, bank_at}
-use Rattle.nv_driver.specs.QueuePair.{IsLaid, idle_bank}
-use Rattle.nv_driver.specs.Layout.{pair_of, pairs_of}
-use Rattle.nv_driver.specs.Registers.{mps_of}
+use Rattle.nv_driver.proofs.Words.{HoldsTags, IsBus, IsLaid, bank_at, enabled_in, idle_bank, mps_of, pair_of, pairs_of}
 use Rattle.nv_driver.proofs.enabling.enable_all.Given as goal
 
 -- the controllers below are enabled with zeroed completion rings, and the others have not changed

@@ -1,24 +1,38 @@
-use Rattle.std.proofs.Common.{refl}
-use Rattle.nv_driver.proofs.RegisterLaws.{set_twice}
-use Rattle.nv_driver.proofs.ResetLaws.{ready_again}
-use Rattle.nv_driver.proofs.OnWayLaws.{set_again}
-use Rattle.nv_driver.proofs.ResetLaws.{zeroed_length, zeroed_others}
+use Rattle.std.proofs.Common.{◌∙◌, ap, arith, refl, subst}
+use Rattle.nv_register.specs.Readiness.{is_ready}
+use Rattle.nv_driver.proofs.Words.{Geometry, IsGeometry, RegisterBank, mps_of, pair_of}
+use Rattle.nv_driver.proofs.RegisterLaws.{enabled_banks, is_off, not_stopped, started, stopped}
+use Rattle.nv_driver.proofs.ResetLaws.{kept_again, left_again, resets, zeroed_length, zeroed_others}
 use Rattle.nv_driver.proofs.enabling.reset.Goals as goal
 
-pub returns-clause-ready : goal.returns-clause-ready
-returns-clause-ready g c =
+pub configure-requires-2-clause-follows : goal.configure-requires-2-clause-follows
+configure-requires-2-clause-follows g c =
     let r = c.requires.ready in
-    ready_again r c.requires.placed c.renew.ensures.page c.renew.ensures.quiet c.renew.ensures.pair
-    c.renew.ensures.bytes c.renew.ensures.tags
-    (c.start.ensures.bus (c.disable.ensures.bus r.bus))
-    (set_twice _ _ _ c.args.ctrl _ _ c.disable.ensures.banks c.start.ensures.banks)
+    let off = c.configure.ensures.banks in
+    let is = c.geometry.view_is in
+    let m = c.mps.ensures.value ∙ ap (λ (q : Geometry). mps_of q.page_size) is in
+    ap (λ (p : RegisterBank). is_ready p.readiness) (started _ _ _ c.args.ctrl _ r.controller off
+    (kept_again r c.requires.placed _ off) c.args.geometry _ (subst IsGeometry is c.geometry.invariant) refl
+    (omega (arith, m, c.mps.ensures.few)))
 
-pub returns-clause-banks : goal.returns-clause-banks
-returns-clause-banks g c =
-    set_again _ _ _ c.args.ctrl _ _ c.requires.ready.controller c.disable.ensures.banks c.start.ensures.banks
+pub returns-clause-state : goal.returns-clause-state
+returns-clause-state g c =
+    let r = c.requires.ready in
+    let off = c.configure.ensures.banks in
+    c.configure-2.ensures.state
+    ∙ not_stopped _ c.args.ctrl _ (is_off _ _ _ c.args.ctrl (pair_of c.args.geometry c.args.ctrl) r.controller off
+    (kept_again r c.requires.placed _ off))
+    ∙ c.configure.ensures.state ∙ stopped _ c.args.ctrl r.controller ∙ resets r
 
-pub returns-clause-others : goal.returns-clause-others
-returns-clause-others g c = zeroed_others _ _ c.requires.ready.quiet refl c.requires.ready.laid c.renew.ensures.bytes
-
-pub returns-clause-len : goal.returns-clause-len
-returns-clause-len g c = zeroed_length _ _ c.requires.ready.quiet refl c.requires.ready.laid c.renew.ensures.bytes
+pub returns-clause-left : goal.returns-clause-left
+returns-clause-left g c =
+    let r = c.requires.ready in
+    let off = c.configure.ensures.banks in
+    let is = c.geometry.view_is in
+    let m = c.mps.ensures.value ∙ ap (λ (q : Geometry). mps_of q.page_size) is in
+    let zeroed = c.renew.ensures.bytes in
+    left_again r c.requires.placed c.renew.ensures.page c.renew.ensures.quiet c.renew.ensures.pair
+    (zeroed_length _ _ r.quiet r.laid zeroed) c.renew.ensures.tags
+    (zeroed_others _ _ r.quiet r.laid zeroed _) (c.configure-2.ensures.bus (c.configure.ensures.bus r.bus))
+    (enabled_banks _ _ _ c.args.ctrl _ r.controller off (kept_again r c.requires.placed _ off) c.args.geometry _
+    (subst IsGeometry is c.geometry.invariant) refl (omega (arith, m, c.mps.ensures.few)) _ c.configure-2.ensures.banks)

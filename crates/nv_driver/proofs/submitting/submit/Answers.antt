@@ -1,23 +1,17 @@
-use Rattle.std.proofs.Common.{rules, ◌≡◌, ◌∙◌, refl, sym}
+use Rattle.std.proofs.Common.{rules, ◌≡◌, ◌∙◌, refl}
 use Rattle.nv_prp.specs.Place.{written_at}
-use Rattle.nv_driver.specs.Schedule.{places}
-use Rattle.nv_driver.specs.Submitting.{sent_at}
+use Rattle.nv_driver.proofs.Words.{places, sent_at}
 use Rattle.nv_driver.specs.inner.Submitting.{place_of, request_as}
-use Rattle.nv_driver.proofs.DataLaws.{all_sent}
-use Rattle.nv_driver.proofs.SubmittingLaws.{buffer_later, built_by, on_ok, pairs_same, prepared_by}
+use Rattle.nv_driver.proofs.SubmittingLaws.{buffer_later, on_ok, pairs_same, prepared_by}
 use Rattle.nv_driver.proofs.submitting.submit.Goals as goal
-
-pub write_sent-requires-clause-all : goal.write_sent-requires-clause-all
-write_sent-requires-clause-all g c some =
-    all_sent c.args.request.now.transfer _ c.requires.sent some ∙ sym c.length_of-len.ensures
 
 pub write_sent-requires-clause-buffer : goal.write_sent-requires-clause-buffer
 write_sent-requires-clause-buffer g c =
     let b = c.point_to-prp1.ensures in
-    rw c.length_of-len.ensures (buffer_later b.len b.page c.requires.place.buffer)
+    buffer_later b.len b.page c.requires.place.buffer
 
-pub returns-clause-submitted : goal.returns-clause-submitted
-returns-clause-submitted g c asked =
+pub returns : goal.returns
+returns g c asked =
     let b = c.point_to-prp1.ensures in
     let pointer = c.point_to-prp1.result in
     let pair = c.args.pair.now in
@@ -29,18 +23,19 @@ returns-clause-submitted g c asked =
     let size = g.M.HostMemory.page_len c.args.mem.now in
     let place = c.requires.place in
     let len = c.length_of-len.ensures in
-    let is_built = built_by size x before built size _ _ refl b.page len (search rules) (search rules) b.stays b.others
-    b.len in
-    let put : ready ≡ written_at built (places size x) q.sends = rw (b.page, len) at c.write_sent.ensures.bytes in
+    let put : ready ≡ written_at built (places size x) q.sends = rw b.page at c.write_sent.ensures.bytes in
     let ok = c.unwrap-tail.ensures in
     record {
       prp1 = pointer.0;
       prp2 = pointer.1;
       ready = ready;
       prepared = prepared_by size x before built ready place.is_size c.requires.sent place.buffer place.distinct
-          is_built put;
+          (search rules) (search rules) (rw (b.page, len) at b.stays) b.others b.len put;
       list = rw (b.page, len) at b.list;
       pointer = λ none. b.none (len ∙ none);
       mem = on_ok c.push.result c.unwrap-tail.result ok c.push.ensures.bytes;
       pair = pairs_same (on_ok c.push.result c.unwrap-tail.result ok c.push.ensures.submitted) refl refl;
+      tail = search rules;
+      len = search rules;
+      page = search rules;
     }

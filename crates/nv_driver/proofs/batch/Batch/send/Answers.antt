@@ -1,13 +1,8 @@
 use Rattle.std.proofs.Common.{◌∙◌, ◌+◌, List, ap, arith, length, sym}
-use Rattle.nv_command.specs.declared.command.Command.{Command}
-use Rattle.nv_driver.specs.Schedule.{slot}
-use Rattle.nv_driver.specs.UnderWay.{setting_of}
-use Rattle.nv_driver.specs.declared.batch.Batch.{Batch}
-use Rattle.nv_driver.specs.declared.geometry.Geometry.{Geometry}
-use Rattle.nv_driver.proofs.OnWayLaws.{has_bank, slots_inside}
+use Rattle.nv_driver.proofs.Words.{Batch, Command, Geometry, setting_of, slot}
+use Rattle.nv_driver.proofs.OnWayLaws.{has_bank}
 use Rattle.nv_driver.proofs.RoundLaws.{rings}
-use Rattle.nv_driver.proofs.UnderWayLaws.{can_at, has_slot, serial_below, share_is, shares_now, submits_at}
-use Rattle.nv_driver.proofs.UnderWayLaws.{tail_after}
+use Rattle.nv_driver.proofs.UnderWayLaws.{can_at, free_slot, share_is, shares_now, submits_at, tail_after}
 use Rattle.nv_driver.proofs.batch.Batch.send.Goals as goal
 
 pub submit_command-next-requires-clause-share : goal.submit_command-next-requires-clause-share
@@ -21,20 +16,13 @@ submit_command-next-requires-clause-can g c =
     let many = ap (λ (ks : List Command). length ks) c.requires.1.1.0 in
     can_at _ first.can c.requires.1.1.0 c.index-commands-number.is (omega (arith, first.some))
 
-pub submit_command-next-requires-clause-serial : goal.submit_command-next-requires-clause-serial
-submit_command-next-requires-clause-serial g c = serial_below c.loop-number.invariant.under_way
-
-pub submit_command-next-requires-clause-ring : goal.submit_command-next-requires-clause-ring
-submit_command-next-requires-clause-ring g c =
-    let u = c.loop-number.invariant.under_way in slots_inside u.on_way
-
-pub submit_command-next-requires-clause-free : goal.submit_command-next-requires-clause-free
-submit_command-next-requires-clause-free g c =
+pub submit_command-next-requires-clause-slot : goal.submit_command-next-requires-clause-slot
+submit_command-next-requires-clause-slot g c =
     let i = c.loop-number.invariant in
     let window = ap (λ (q : Geometry). q.window) (c.geometry.view_is ∙ c.requires.1.1.1.geometry) in
     let sent = ap (λ (b : Batch). b.sent) i.batch in
     let collected = ap (λ (b : Batch). b.collected) i.batch in
-    has_slot i.under_way (omega arith)
+    free_slot i.under_way (omega arith)
 
 pub loop-number-preserved : goal.loop-number-preserved
 loop-number-preserved g c =
@@ -48,7 +36,7 @@ loop-number-preserved g c =
     let next = c.submit_command-next.ensures in
     record {
       under_way = submits_at i.under_way _ sent (omega arith) (share_is i.under_way first.geometry number)
-          next.submitted c.requires.1.1.0 c.index-commands-number.is (omega (arith, first.some)) next.len next.page;
+          next c.requires.1.1.0 c.index-commands-number.is (omega (arith, first.some));
       batch = ap (λ (b : Batch). record b { sent = b.sent + 1 }) i.batch;
       from = omega arith;
       tail = tail_after i.under_way sent next.tail;

@@ -1,6 +1,5 @@
 use Rattle.std.proofs.Common.{◌≡◌, ◌≤◌, MatchOption}
-use Rattle.nv_driver.specs.Schedule.{slot}
-use Rattle.nv_driver.specs.UnderWay.{IsUnderWay, setting_of}
+use Rattle.nv_driver.proofs.Words.{IsUnderWay, setting_of, slot}
 use Rattle.nv_driver.proofs.batch.Batch.send.Given as goal
 
 abbrev pub invariant-loop-number : goal.invariant-loop-number

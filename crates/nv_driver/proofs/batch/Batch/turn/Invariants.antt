@@ -1,11 +1,7 @@
 use Rattle.std.proofs.Common.{◌≡◌, ◌+◌}
+use Rattle.nv_driver.proofs.Words.{HasAnswers, IsUnderWay}
 use Rattle.nv_driver.specs.inner.Pace.{IsToldByPace, IsToldInTime, taken_by_turn}
-use Rattle.nv_driver.specs.inner.UnderWay.{HasAnswers}
-use Rattle.nv_driver.specs.UnderWay.{IsUnderWay}
 use Rattle.nv_driver.proofs.batch.Batch.turn.Given as goal
-
-abbrev pub ghost-collect_one : goal.ghost-collect_one
-ghost-collect_one g a = g.run
 
 abbrev pub invariant-loop : goal.invariant-loop
 invariant-loop g l = record {

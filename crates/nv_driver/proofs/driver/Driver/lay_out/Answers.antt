@@ -1,32 +1,24 @@
 use Rattle.std.proofs.Common.{◌≡◌, ◌∙◌, ◌+◌, ap, arith, length, rules, subst, sym}
-use Rattle.std.specs.Prelude.{if◌then◌else◌}
-use Rattle.nv_driver.specs.Driver.{driver_with}
-use Rattle.nv_driver.specs.Geometry.{IsGeometry}
-use Rattle.nv_driver.specs.Layout.{pages_of_entry, pairs_of}
+use Rattle.nv_driver.proofs.Words.{Geometry, IsGeometry, driver_with, if◌then◌else◌, pages_of_entry, pairs_of}
 use Rattle.nv_driver.specs.Registers.{banks_of, idle_banks}
-use Rattle.nv_driver.specs.declared.geometry.Geometry.{Geometry}
-use Rattle.nv_driver.proofs.MemoryLaws.{all_laid, driver_at_first, has_pairs}
+use Rattle.nv_driver.proofs.MemoryLaws.{driver_at_first, has_pairs}
 use Rattle.nv_driver.proofs.driver.Driver.lay_out.Goals as goal
 
 pub enable_all-requires-clause-laid : goal.enable_all-requires-clause-laid
 enable_all-requires-clause-laid g c =
     let is = c.geometry.view_is in
     let size = ap (λ (q : Geometry). q.page_size) is in
-    all_laid c.in_ok-geometry.geometry _ _ (subst IsGeometry is c.geometry.invariant)
-    (has_pairs c.in_ok-geometry.geometry (length (g.B.Bus.meaning c.args.bus.now).banks) _ c.more_pages.result _ _
-    (ap (λ n. n + c.more_pages.result) c.pages.ensures.pages) c.controllers-controllers.ensures
-    (rw size at c.in_ok-mem.ensures))
+    has_pairs c.more_pages.result (subst IsGeometry is c.geometry.invariant) c.controllers-controllers.ensures
+    (ap (λ n. n + c.more_pages.result) c.pages.ensures.pages) (rw size at c.in_ok-mem.ensures)
 
 pub invariant_of-result : goal.invariant_of-result
 invariant_of-result g c =
     let e = c.enable_all.ensures in
     let is = c.geometry.view_is in
     let size = ap (λ (q : Geometry). q.page_size) is in
-    (driver_at_first c.in_ok-geometry.geometry (length (g.B.Bus.meaning c.args.bus.now).banks) _
-    c.more_pages.result _ _ _ _
-    (subst IsGeometry is c.geometry.invariant) c.controllers-controllers.ensures
-    (ap (λ n. n + c.more_pages.result) c.pages.ensures.pages)
-    (omega (arith, c.pages.ensures.few, c.more_pages.ensures.few)) (rw size at c.in_ok-mem.ensures) e.page e.len
+    (driver_at_first c.more_pages.result (subst IsGeometry is c.geometry.invariant) c.controllers-controllers.ensures
+    (ap (λ n. n + c.more_pages.result) c.pages.ensures.pages) (rw size at c.in_ok-mem.ensures)
+    (omega (arith, c.pages.ensures.few, c.more_pages.ensures.few)) e.page e.len
     c.in_ok-pairs.ensures.quiet c.in_ok-pairs.ensures.pairs e.settled).driver
 
 pub returns : goal.returns
@@ -37,11 +29,9 @@ returns g c =
     let same : c.in_ok-geometry.geometry ≡ c.args.geometry = search rules in
     let controllers = length (g.B.Bus.meaning c.args.bus.now).banks in
     let made =
-    (driver_at_first c.in_ok-geometry.geometry (length (g.B.Bus.meaning c.args.bus.now).banks) _
-    c.more_pages.result _ _ _ _
-    (subst IsGeometry is c.geometry.invariant) c.controllers-controllers.ensures
-    (ap (λ n. n + c.more_pages.result) c.pages.ensures.pages)
-    (omega (arith, c.pages.ensures.few, c.more_pages.ensures.few)) (rw size at c.in_ok-mem.ensures) e.page e.len
+    (driver_at_first c.more_pages.result (subst IsGeometry is c.geometry.invariant) c.controllers-controllers.ensures
+    (ap (λ n. n + c.more_pages.result) c.pages.ensures.pages) (rw size at c.in_ok-mem.ensures)
+    (omega (arith, c.pages.ensures.few, c.more_pages.ensures.few)) e.page e.len
     c.in_ok-pairs.ensures.quiet c.in_ok-pairs.ensures.pairs e.settled).value
     ∙ ap (driver_with c.in_ok-geometry.geometry controllers) c.more_pages.ensures.pages
     ∙ ap (λ (q : Geometry). driver_with q controllers
