@@ -7,7 +7,6 @@ ghost use Rattle.nv_model.specs.Attachment.{with_one};
 ghost use Rattle.nv_model.specs.Management.{with_nsids, without, without_any};
 ghost use Rattle.nv_subsystem.specs.Sound.{IsSized};
 ghost use Rattle.nv_model.specs.Values.{rule_for, rule_of};
-ghost use Rattle.nv_model.specs.Step.{next_count};
 ghost use Rattle.nv_subsystem.specs.Tagged.{with_booked};
 
 use crate::error_log::ErrorLog;
@@ -84,17 +83,6 @@ impl Controller {
     {
         self.attached.clear();
         self.values.clear();
-    }
-
-    /// Counts a command.
-    pub(crate) fn count_command(&mut self)
-        ensures command { controller_view self.new
-            ≡ record (controller_view self.old) {
-              commands = next_count (controller_view self.old).commands;
-            } }
-        ensures sized { (nn : ℕ) → IsSized nn self.old → IsSized nn self.new }
-    {
-        self.commands = self.commands.saturating_add(1);
     }
 
     /// Records a refusal as the newest entry of the error log, with its phase tag.

@@ -3,9 +3,9 @@
 
 ghost use Rattle.std.specs.Prelude.{◌≡◌, ◌≤◌, None};
 ghost use Rattle.nv_model.specs.WellFormed.{unallocated};
-ghost use Rattle.nv_model.specs.Management.{bytes_needed, capacity_refusal, create_rows};
+ghost use Rattle.nv_model.specs.Management.{bytes_needed, create_rows};
 ghost use Rattle.nv_model.specs.Management.{created, created_nsid, delete_rows, deleted};
-ghost use Rattle.nv_model.specs.Management.{format_index, is_extended, new_namespace};
+ghost use Rattle.nv_model.specs.Management.{format_index, is_extended};
 ghost use Rattle.nv_model.specs.Management.{without_all, without_one};
 ghost use Rattle.nv_model.specs.Conditions.{free_nsid, first_refusal};
 ghost use Rattle.nv_model.specs.inner.Conditions.{Checks};
@@ -30,17 +30,6 @@ fn is_extended(flbas: u8) -> bool
     flbas & 0x10 != 0
 }
 
-/// Returns the refusal of a create that needs `bytes` bytes. It reports this number, or the
-/// greatest one of 64 bits.
-fn capacity_refusal(bytes: u128) -> Refusal
-    ensures { result ≡ capacity_refusal bytes }
-{
-    Refusal {
-        status: StatusCode::NamespaceInsufficientCapacity.status(),
-        specific: bytes.min(u128::from(u64::MAX)) as u64,
-    }
-}
-
 impl Subsystem {
     /// Returns how many bytes the requested logical blocks have, without their metadata.
     fn bytes_needed(&self, wanted: &NewNamespace) -> u128
@@ -61,7 +50,8 @@ impl Subsystem {
     }
 
     /// Refuses a create by the first condition that holds. The conditions are in the order of the
-    /// rows.
+    /// rows. If capacity is missing, the refusal reports how many bytes the create needs, or the
+    /// greatest number of 64 bits.
     pub(crate) fn check_create(&self, wanted: &NewNamespace) -> Result<(), Refusal>
         ensures { Checks (create_rows self.now wanted.now) result }
     {
@@ -89,7 +79,10 @@ impl Subsystem {
             ),
             Row {
                 when: bytes > u128::from(self.unallocated()),
-                refusal: capacity_refusal(bytes),
+                refusal: Refusal {
+                    status: StatusCode::NamespaceInsufficientCapacity.status(),
+                    specific: bytes.min(u128::from(u64::MAX)) as u64,
+                },
             },
         ])
     }
@@ -101,28 +94,20 @@ impl Subsystem {
         self.free_nsid().unwrap_or(0)
     }
 
-    /// Returns the namespace that a create makes.
-    fn new_namespace(&self, wanted: &NewNamespace) -> Namespace
-        requires { bytes_needed self.now wanted.now ≤ unallocated self.now }
-        ensures { result ≡ new_namespace self.now wanted.now }
-    {
-        let bytes = self.bytes_needed(wanted);
-        let has_room = bytes <= u128::from(self.unallocated());
-        prove!(has_room);
-        Namespace {
-            capacity: bytes as u64,
-            format: format_index(wanted.flbas),
-            extended: is_extended(wanted.flbas),
-            shared: wanted.nmic & 1 == 1,
-        }
-    }
-
     /// Creates a namespace with the least free NSID. It is attached to no controller.
     pub(crate) fn create(&mut self, wanted: &NewNamespace)
         requires { first_refusal (create_rows self.old wanted.now) ≡ None }
         ensures { self.new ≡ created self.old wanted.now }
     {
-        let namespace = self.new_namespace(wanted);
+        let bytes = self.bytes_needed(wanted);
+        let has_room = bytes <= u128::from(self.unallocated());
+        prove!(has_room);
+        let namespace = Namespace {
+            capacity: bytes as u64,
+            format: format_index(wanted.flbas),
+            extended: is_extended(wanted.flbas),
+            shared: wanted.nmic & 1 == 1,
+        };
         if let Some(nsid) = self.free_nsid() {
             self.insert_namespace(nsid, namespace);
         }

@@ -1,6 +1,6 @@
 //! A subsystem, and what its commands do.
 
-ghost use Rattle.std.specs.Prelude.{◌≡◌, ◌<◌, ◌≤◌, ◌^◌, ℕ, length, None, IfOk, IfErr, false};
+ghost use Rattle.std.specs.Prelude.{◌≡◌, ◌<◌, ◌≤◌, ◌^◌, length, None, IfOk, IfErr, false};
 ghost use Rattle.std.specs.Str.{is_utf8};
 ghost use Rattle.nv_model.specs.LogEntry.{counts_of, log_entry_of};
 ghost use Rattle.nv_layout.specs.UnlessMemory.{IsUnlessMemory};
@@ -239,7 +239,7 @@ impl Subsystem {
         ensures { self.new ≡ with_command self.old ctrl }
     {
         let controller = &mut self.controllers[ctrl as usize];
-        controller.count_command();
+        controller.commands = controller.commands.saturating_add(1);
     }
 
     /// Records a refusal in the error log of a controller.
