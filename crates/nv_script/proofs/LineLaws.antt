@@ -1,19 +1,19 @@
 -- What one line leaves behind, by how its text was printed.
 use Rattle.std.proofs.Common.{◌≡◌, ◌⊎◌, ◌∙◌, ℕ, ◌+◌, List, [], ◌++◌, length, take, sym, ap, subst, refl, inl, inr}
 use Rattle.std.proofs.Common.{append-nil, arith, Bool, Option, Result, Ok, Err}
-use Rattle.std.specs.Prelude.{IfOk, Vec, unwrap_or}
+use Rattle.std.specs.Prelude.{unwrap_or}
 use Rattle.std.specs.Io.KnownBytes.{Appends}
 use Rattle.std.proofs.lemmas.List.{take_all}
 use Rattle.nv_model.specs.State.{State}
 use Rattle.nv_script.specs.Cuts.{IsCutIn, Holds, Left, left_at, state_amid}
-use Rattle.nv_script.specs.inner.Feeding.{LineLeaves, PrintLeaves}
+use Rattle.nv_script.specs.inner.Feeding.{LineLeaves, PrintLeaves, ReportLeaves}
 use Rattle.nv_script.specs.Orders.{orders_of}
 use Rattle.nv_script.specs.Outcomes.{outcome_of}
 use Rattle.nv_line.specs.Line.{reading}
 use Rattle.nv_script.specs.Results.{LineResult, Progress, line_result, request_result, result_at, said_at}
 use Rattle.nv_driver.specs.inner.Linked.{serials_of}
 use Rattle.nv_script.specs.declared.ends.RunEnd.{RunEnd}
-use Rattle.nv_script.specs.declared.ends.RunEnd.TheVariants.{OutWrite, MessageWrite}
+use Rattle.nv_script.specs.declared.ends.RunEnd.TheVariants.{OutWrite}
 use Rattle.nv_script.specs.declared.session.Session.{Session}
 use Rattle.nv_line.specs.declared.fault.LineFault.{LineFault}
 use Rattle.nv_line.specs.declared.fault.LineFault.TheVariants as fault
@@ -29,34 +29,32 @@ took_none a b x y e h = Appends-at a b x (x ++ y) (sym (ap (λ t. x ++ t) e ∙ 
 took_same : (a b c : Option (List ℕ)) (x : List ℕ) → c ≡ b → Appends a b x → Appends a c x
 took_same a b c x e h = subst (λ t. Appends a t x) (sym e) h
 
-module _ {A E Z : Type 0} (p : Progress) (text : List ℕ) (lr : LineResult) (k : ℕ) (old : Left) (new : State)
+module _ {A : Type 0} (p : Progress) (text : List ℕ) (lr : LineResult) (k : ℕ) (old : Left) (new : State)
     (session : Session)
     (same : result_at p text ≡ lr) (held : Holds old p.output p.messages p.state) (reached : new ≡ lr.state)
     (next : serials_of session.driver ≡ lr.serials)
     (number : session.number ≡ p.number + 1) (status : session.status ≡ unwrap_or lr.status p.status)
     (all : lr.state ≡ state_amid p.state p.serials (said_at p text) k) where
-  pub message_leaves : (r : Result A RunEnd) (t : Result (Vec ℕ Z) E) (messages : Option (List ℕ)) (failed : Bool)
-      → lr.output ≡ [] → IfOk t (λ (t : Vec ℕ Z). t.items ≡ lr.message)
-      → PrintLeaves r MessageWrite t old.messages messages failed
+  pub message_leaves : (r : Result A RunEnd) (messages : Option (List ℕ)) (failed : Bool) → lr.output ≡ []
+      → ReportLeaves r lr.message old.messages messages failed
       → LineLeaves r p text (left_at old.out_before old.out old.messages_before messages new) session
-  message_leaves (Ok done) (Ok t) messages failed none is h = record {
+  message_leaves (Ok done) messages failed none (inl h) = record {
     holds = record {
       took_output =
           took_none old.out_before old.out p.output _ (ap (λ (x : LineResult). x.output) same ∙ none) held.took_output;
       took_messages =
           Appends-join old.messages_before old.messages messages p.messages _ held.took_messages
-          (Appends-at old.messages messages _ _ (is ∙ sym (ap (λ (x : LineResult). x.message) same)) h.0);
+          (Appends-at old.messages messages _ _ (sym (ap (λ (x : LineResult). x.message) same)) h.0);
       reached = reached ∙ sym (ap (λ (x : LineResult). x.state) same);
     };
     next = next ∙ sym (ap (λ (x : LineResult). x.serials) same);
     number = number;
     status = status ∙ ap (λ (x : LineResult). unwrap_or x.status p.status) (sym same);
   }
-  message_leaves (Ok done) (Err e) messages failed none is h = absurd h
-  message_leaves (Err end) (Ok t) messages failed none is h =
+  message_leaves (Err end) messages failed none (inl h) =
       subst (λ x. IsCutIn x p text (left_at old.out_before old.out old.messages_before messages new)) (sym h.0) (
         h.1.0,
-        (h.1.1.0, ap (λ (x : LineResult). x.message) same ∙ sym is ∙ h.1.1.1),
+        (h.1.1.0, ap (λ (x : LineResult). x.message) same ∙ h.1.1.1),
         record {
           took_output = held.took_output;
           took_messages =
@@ -64,8 +62,9 @@ module _ {A E Z : Type 0} (p : Progress) (text : List ℕ) (lr : LineResult) (k 
           reached = reached ∙ sym (ap (λ (x : LineResult). x.state) same);
         },
       )
-  message_leaves (Err end) (Err e) messages failed none is h =
-      subst (λ x. IsCutIn x p text (left_at old.out_before old.out old.messages_before messages new)) (sym h.0) (
+  message_leaves r messages failed none (inr h) =
+      subst (λ x. LineLeaves x p text (left_at old.out_before old.out old.messages_before messages new) session)
+      (sym h.0) (
         k,
         record {
           took_output = held.took_output;
@@ -74,10 +73,10 @@ module _ {A E Z : Type 0} (p : Progress) (text : List ℕ) (lr : LineResult) (k 
         },
       )
 
-  pub output_leaves : (r : Result A RunEnd) (t : Result (Vec ℕ Z) E) (out : Option (List ℕ)) (failed : Bool)
-      → lr.message ≡ [] → IfOk t (λ (t : Vec ℕ Z). t.items ≡ lr.output) → PrintLeaves r OutWrite t old.out out failed
+  pub output_leaves : (r : Result A RunEnd) (t : List ℕ) (out : Option (List ℕ)) (failed : Bool)
+      → lr.message ≡ [] → t ≡ lr.output → PrintLeaves r OutWrite t old.out out failed
       → LineLeaves r p text (left_at old.out_before out old.messages_before old.messages new) session
-  output_leaves (Ok done) (Ok t) out failed none is h = record {
+  output_leaves (Ok done) t out failed none is h = record {
     holds = record {
       took_output =
           Appends-join old.out_before old.out out p.output _ held.took_output
@@ -91,8 +90,7 @@ module _ {A E Z : Type 0} (p : Progress) (text : List ℕ) (lr : LineResult) (k 
     number = number;
     status = status ∙ ap (λ (x : LineResult). unwrap_or x.status p.status) (sym same);
   }
-  output_leaves (Ok done) (Err e) out failed none is h = absurd h
-  output_leaves (Err end) (Ok t) out failed none is h =
+  output_leaves (Err end) t out failed none is h =
       subst (λ x. IsCutIn x p text (left_at old.out_before out old.messages_before old.messages new)) (sym h.0) (
         h.1.0,
         (h.1.1.0, ap (λ (x : LineResult). x.output) same ∙ sym is ∙ h.1.1.1),
@@ -100,15 +98,6 @@ module _ {A E Z : Type 0} (p : Progress) (text : List ℕ) (lr : LineResult) (k 
           took_output = Appends-join old.out_before old.out out p.output h.1.0 held.took_output h.1.2;
           took_messages = held.took_messages;
           reached = reached ∙ sym (ap (λ (x : LineResult). x.state) same);
-        },
-      )
-  output_leaves (Err end) (Err e) out failed none is h =
-      subst (λ x. IsCutIn x p text (left_at old.out_before out old.messages_before old.messages new)) (sym h.0) (
-        k,
-        record {
-          took_output = took_same old.out_before old.out out p.output h.1 held.took_output;
-          took_messages = held.took_messages;
-          reached = reached ∙ all;
         },
       )
 

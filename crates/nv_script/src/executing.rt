@@ -3,10 +3,11 @@
 ghost use Rattle.std.specs.Prelude.{◌≡◌, ◌+◌, ◌<◌, ◌^◌, ℕ, List, Option, false, IfOk, length};
 ghost use Rattle.std.specs.Option.{option_copied};
 ghost use Rattle.nv_script.specs.Cuts.{left_at};
-ghost use Rattle.nv_script.specs.inner.Feeding.{IsFailureOf, LineLeaves, PrintLeaves, Stands};
+ghost use Rattle.nv_script.specs.inner.Feeding.{IsFailureOf, LineLeaves, PrintLeaves};
+ghost use Rattle.nv_script.specs.inner.Feeding.{ReportLeaves, Stands};
 ghost use Rattle.nv_layout.specs.UnlessMemory.{IsUnlessMemory};
 ghost use Rattle.nv_line.specs.Line.{IsKnown, reading};
-ghost use Rattle.nv_script.specs.Results.{Progress};
+ghost use Rattle.nv_script.specs.Results.{Progress, message_at};
 ghost use Rattle.nv_script.specs.inner.ScriptLines.{buffer_of};
 ghost use Rattle.nv_driver.specs.Linked.{IsLinked};
 
@@ -15,26 +16,37 @@ use crate::performing::{Stop, perform};
 use crate::session::Session;
 use nv_bus::Bus;
 use nv_line::{CtrlList, Line, LineFault, LineReader};
-use nv_print::{Fault, FaultCause, Memory, message};
+use nv_print::{Fault, FaultCause, message};
 use nv_stream::{Sink, write_all};
 
-/// Writes a line's text, made before its first byte goes out. `fault` is the end of the run if the
-/// sink fails.
-fn print<S: Sink>(sink: &mut S, text: Result<Vec<u8>, Memory>, fault: RunEnd) -> Result<(), RunEnd>
+/// Writes a text. `fault` is the end of the run if the sink fails.
+fn print<S: Sink>(sink: &mut S, text: &[u8], fault: RunEnd) -> Result<(), RunEnd>
     requires { (S.state sink.old).has_failed ≡ false }
-    ensures { PrintLeaves result fault text (S.state sink.old).taken (S.state sink.new).taken
+    ensures { PrintLeaves result fault text.now (S.state sink.old).taken (S.state sink.new).taken
         (S.state sink.new).has_failed }
 {
-    match text {
-        Err(_) => Err(RunEnd::Memory),
-        Ok(text) => {
-            if write_all(sink, &text) {
-                Ok(())
-            } else {
-                Err(fault)
-            }
-        }
+    if write_all(sink, text) {
+        Ok(())
+    } else {
+        Err(fault)
     }
+}
+
+/// Writes the message of what is wrong with the line that is executed. It is made before its first
+/// byte is written.
+fn report<M: Sink>(session: &Session, messages: &mut M, cause: FaultCause) -> Result<(), RunEnd>
+    requires { (M.state messages.old).has_failed ≡ false }
+    ensures { ReportLeaves result (message_at session.now.number cause)
+        (M.state messages.old).taken (M.state messages.new).taken (M.state messages.new).has_failed }
+{
+    let fault = Fault {
+        line: session.number,
+        cause,
+    };
+    let Ok(text) = message(session.alloc, &fault) else {
+        return Err(RunEnd::Memory);
+    };
+    print(messages, &text, RunEnd::MessageWrite)
 }
 
 /// Reads a line, or reports that there was no room for it. Listed controllers are written to
@@ -89,15 +101,7 @@ pub(crate) fn execute_line<B: Bus, O: Sink, M: Sink>(
             LineFault::Memory => return Err(RunEnd::Memory),
             fault => {
                 session.status = 1;
-                let fault = Fault {
-                    line: session.number,
-                    cause: FaultCause::Line(fault),
-                };
-                return print(
-                    messages,
-                    message(session.alloc, &fault),
-                    RunEnd::MessageWrite,
-                );
+                return report(session, messages, FaultCause::Line(fault));
             }
         },
     };
@@ -112,21 +116,13 @@ pub(crate) fn execute_line<B: Bus, O: Sink, M: Sink>(
         ) {
             Ok(text) => {
                 session.status = 0;
-                print(out, Ok(text), RunEnd::OutWrite)
+                print(out, &text, RunEnd::OutWrite)
             }
             Err(Stop::Memory) => Err(RunEnd::Memory),
             Err(Stop::NoReady) => Err(RunEnd::NoReady),
             Err(Stop::Refused(status)) => {
                 session.status = 2;
-                let fault = Fault {
-                    line: session.number,
-                    cause: FaultCause::Refused(status),
-                };
-                print(
-                    messages,
-                    message(session.alloc, &fault),
-                    RunEnd::MessageWrite,
-                )
+                report(session, messages, FaultCause::Refused(status))
             }
         },
     }

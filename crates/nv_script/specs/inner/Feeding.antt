@@ -1,6 +1,6 @@
 -- What each step of a run leaves behind: a text, a line, a piece of the script, and its last piece.
-use Rattle.std.specs.Prelude.{◌≡◌, ℕ, ◌<◌, Bool, true, false, List, [], ◌∷◌, ◌++◌, length, take, Option}
-use Rattle.std.specs.Prelude.{Result, Ok, Err, Vec, slice_index}
+use Rattle.std.specs.Prelude.{◌≡◌, ◌⊎◌, ℕ, ◌<◌, Bool, true, false, List, [], ◌∷◌, ◌++◌, length, take, Option}
+use Rattle.std.specs.Prelude.{Result, Ok, Err, slice_index}
 use Rattle.std.specs.Io.KnownBytes.{Appends}
 use Rattle.nv_model.specs.State.{State}
 use Rattle.nv_script.specs.Cuts.{AreFailed, IsCutIn, Holds, Left}
@@ -11,7 +11,7 @@ use Rattle.nv_script.specs.ScriptLines.{pieces, script_lines}
 use Rattle.nv_driver.specs.inner.Linked.{serials_of}
 use Rattle.nv_stream.specs.Streams.{IsBeginning}
 use Rattle.nv_script.specs.declared.ends.RunEnd.{RunEnd}
-use Rattle.nv_script.specs.declared.ends.RunEnd.TheVariants.{Memory}
+use Rattle.nv_script.specs.declared.ends.RunEnd.TheVariants.{Memory, MessageWrite}
 use Rattle.nv_script.specs.declared.session.Session.{Session}
 
 -- a run is at p
@@ -21,17 +21,19 @@ pub record Stands (p : Progress) (left : Left) (session : Session) : Type 0 wher
   pub number : session.number ≡ p.number
   pub status : session.status ≡ p.status
 
--- a text that memory sufficed for was written whole, or a beginning of it up to the sink's fault;
--- nothing is written of one that was refused
-abbrev pub PrintLeaves : {A E Z : Type 0} → Result A RunEnd → RunEnd → Result (Vec ℕ Z) E
+-- a text was written whole, or a beginning of it up to the sink's fault
+abbrev pub PrintLeaves : {A : Type 0} → Result A RunEnd → RunEnd → List ℕ
     → Option (List ℕ) → Option (List ℕ) → Bool → Type 0
-PrintLeaves (Ok done) fault (Ok text) old new failed =
-    Appends old new text.items × (failed ≡ false)
-PrintLeaves (Err end) fault (Ok text) old new failed = (end ≡ fault)
-    × ((part : List ℕ) × IsBeginning part text.items × Appends old new part)
+PrintLeaves (Ok done) fault text old new failed = Appends old new text × (failed ≡ false)
+PrintLeaves (Err end) fault text old new failed = (end ≡ fault)
+    × ((part : List ℕ) × IsBeginning part text × Appends old new part)
     × (failed ≡ true)
-PrintLeaves (Err end) fault (Err e) old new failed = (end ≡ Memory) × (new ≡ old) × (failed ≡ false)
-PrintLeaves (Ok done) fault (Err e) old new failed = ⊥
+
+-- a message was printed, or memory was refused for it and nothing was
+abbrev pub ReportLeaves : {A : Type 0} → Result A RunEnd → List ℕ
+    → Option (List ℕ) → Option (List ℕ) → Bool → Type 0
+ReportLeaves result message old new failed = PrintLeaves result MessageWrite message old new failed
+    ⊎ ((result ≡ Err Memory) × (new ≡ old) × (failed ≡ false))
 
 -- what one line after p leaves, done or cut short
 abbrev pub LineLeaves : {A : Type 0} → Result A RunEnd → Progress → List ℕ → Left → Session → Type 0

@@ -37,8 +37,8 @@ returns-in-Ok-perform-clause-left g c text p o m is stands =
     (g.B.Bus.meaning c.perform.new.bus).state _
     same stands.holds left.2.subsystem left.2.next (ap (λ n. n + 1) stands.number) refl
     (amid-all p text r s serials here stands.holds.reached stands.next)
-    c.print-in-Ok-perform.result (Ok c.in-Ok-perform.text)
-    (g.O.Sink.state c.print-in-Ok-perform.new.sink).taken _ refl left.1 c.print-in-Ok-perform.ensures
+    c.print.result c.deref.result.now
+    (g.O.Sink.state c.print.new.sink).taken _ refl (c.deref.ensures.value ∙ left.1) c.print.ensures
 
 pub returns-in-Err-Refused-clause-left : goal.returns-in-Err-Refused-clause-left
 returns-in-Err-Refused-clause-left g c text p o m is stands =
@@ -63,14 +63,13 @@ returns-in-Err-Refused-clause-left g c text p o m is stands =
     } in
     let same = result_asked p text r s serials n here stands.holds.reached stands.next stands.number
     ∙ ap (λ x. answer_result x (n + 1) s r come) left.0 in
-    let printed = c.print-in-Err-Refused.ensures in
     message_leaves p text lr (length (orders_of s r.query))
     (left_at o (g.O.Sink.state c.args.out.now).taken m (g.M.Sink.state c.args.messages.now).taken s)
     (g.B.Bus.meaning c.perform.new.bus).state _
     same stands.holds left.1.subsystem left.1.next (ap (λ n. n + 1) stands.number) refl
     (amid-all p text r s serials here stands.holds.reached stands.next)
-    c.print-in-Err-Refused.result c.message-in-Err-Refused.result
-    (g.M.Sink.state c.print-in-Err-Refused.new.sink).taken _ refl c.message-in-Err-Refused.ensures.exact printed
+    c.report-in-Err-Refused.result
+    (g.M.Sink.state c.report-in-Err-Refused.new.messages).taken _ refl c.report-in-Err-Refused.ensures
 
 pub returns-in-Err-Memory-clause-left : goal.returns-in-Err-Memory-clause-left
 returns-in-Err-Memory-clause-left g c text p o m is stands =
@@ -116,5 +115,5 @@ returns-in_default-clause-left g c text p o m is stands =
     (left_at o (g.O.Sink.state c.args.out.now).taken m (g.M.Sink.state c.args.messages.now).taken s) s _
     same stands.holds refl refl (ap (λ n. n + 1) stands.number) refl
     (stands.holds.reached ∙ sym (amid-zero p.state p.serials _))
-    c.print.result c.message.result
-    (g.M.Sink.state c.print.new.sink).taken _ refl c.message.ensures.exact c.print.ensures
+    c.report.result
+    (g.M.Sink.state c.report.new.messages).taken _ refl c.report.ensures
