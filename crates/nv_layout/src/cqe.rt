@@ -22,15 +22,7 @@ pub struct Cqe {
 
 impl Cqe {
     ghost use Rattle.std.specs.Prelude.{◌≡◌};
-    ghost use Rattle.nv_layout.specs.Cqe.{bytes_of_cqe, cqe_of_bytes, dword3_of};
-
-    fn dword3(&self) -> u32
-        ensures { result ≡ dword3_of self.now }
-    {
-        to_bits(self.cid as u32, 0, 16)
-            + to_bits(self.phase as u32, 16, 1)
-            + to_bits(self.status.number() as u32, 17, 15)
-    }
+    ghost use Rattle.nv_layout.specs.Cqe.{bytes_of_cqe, cqe_of_bytes};
 
     /// Writes the entry's bytes. The status code type is cut to its three bits, and the retry delay
     /// to its two.
@@ -38,11 +30,14 @@ impl Cqe {
     pub fn put(&self, out: &mut [u8; 16])
         ensures { out.new ≡ bytes_of_cqe self.now }
     {
+        let dword3 = to_bits(self.cid as u32, 0, 16)
+            + to_bits(self.phase as u32, 16, 1)
+            + to_bits(self.status.number() as u32, 17, 15);
         clear(out);
         put_u32(out, 0, self.command_specific);
         put_u16(out, 8, self.sq_head);
         put_u16(out, 10, self.sq_identifier);
-        put_u32(out, 12, self.dword3());
+        put_u32(out, 12, dword3);
     }
 
     /// Reads an entry from its bytes.

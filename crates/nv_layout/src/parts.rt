@@ -62,7 +62,7 @@ pub(crate) fn put_u128(out: &mut [u8], at: usize, value: u128)
     requires { at + 16 ≤ length out.old }
     ensures { out.new ≡ placed out.old (number at 16 value) }
 {
-    LittleEndian::write_u128(&mut out[at..], value);
+    put_bytes(out, at, &value.to_le_bytes());
 }
 
 #[tactic(auto, unfolding(crate::specs::Parts::placed))]
@@ -134,7 +134,7 @@ pub(crate) fn u128_at(bytes: &[u8], at: usize) -> u128
     requires { at + 16 ≤ length bytes.now }
     ensures { result ≡ number_at at 16 bytes.now }
 {
-    LittleEndian::read_u128(&bytes[at..])
+    u64_at(bytes, at) as u128 + ((u64_at(bytes, at + 8) as u128) << 64)
 }
 
 /// States a law: each of the numbers fits two bytes, as its type says. The call does nothing.

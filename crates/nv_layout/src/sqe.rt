@@ -38,24 +38,19 @@ pub struct Sqe {
 
 impl Sqe {
     ghost use Rattle.std.specs.Prelude.{◌≡◌};
-    ghost use Rattle.nv_layout.specs.Sqe.{bytes_of_sqe, dword0_of, sqe_of_bytes};
-
-    fn dword0(&self) -> u32
-        ensures { result ≡ dword0_of self.now }
-    {
-        to_bits(self.opcode as u32, 0, 8)
-            + to_bits(self.fuse as u32, 8, 2)
-            + to_bits(self.psdt as u32, 14, 2)
-            + to_bits(self.cid as u32, 16, 16)
-    }
+    ghost use Rattle.nv_layout.specs.Sqe.{bytes_of_sqe, sqe_of_bytes};
 
     /// Writes the entry's bytes. FUSE and PSDT are cut to their two bits.
     #[tactic(auto, unfolding(crate::specs::Sqe::bytes_of_sqe))]
     pub fn put(&self, out: &mut [u8; 64])
         ensures { out.new ≡ bytes_of_sqe self.now }
     {
+        let dword0 = to_bits(self.opcode as u32, 0, 8)
+            + to_bits(self.fuse as u32, 8, 2)
+            + to_bits(self.psdt as u32, 14, 2)
+            + to_bits(self.cid as u32, 16, 16);
         clear(out);
-        put_u32(out, 0, self.dword0());
+        put_u32(out, 0, dword0);
         put_u32(out, 4, self.nsid);
         put_u64(out, 16, self.mptr);
         put_u64(out, 24, self.prp1);

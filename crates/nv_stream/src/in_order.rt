@@ -32,22 +32,6 @@ impl<W: Write + Drop> Buffered for BufWriter<W> {
     }
 }
 
-/// Passes bytes to a writer. Returns how many it took, or `None` if it failed.
-fn write_to<W: Write>(writer: &mut W, bytes: &[u8]) -> Option<usize>
-    ensures bound { IfSome result (λ n. n ≤ length bytes.now) }
-    ensures bytes { Takes (W.contents writer.old) (W.contents writer.new) result bytes.now }
-{
-    writer.write(bytes).ok()
-}
-
-/// Has a writer put out what it holds back. Returns whether that was done.
-fn put_out_of<W: Buffered>(writer: &mut W) -> bool
-    ensures bytes { Keeps (W.contents writer.old) (W.contents writer.new) }
-    ensures out { OnTrue result (W.unwritten writer.new ≡ []) }
-{
-    writer.put_out()
-}
-
 /// A buffered writer, and whether a write or a flush of it has failed. Several streams share it.
 #[derive(Drop)]
 pub struct Held<W> {
@@ -74,24 +58,18 @@ impl<W: Buffered> Held<W> {
         let Ok(mut writer) = self.writer.try_borrow_mut() else {
             return None;
         };
-        write_to(&mut *writer, bytes)
-    }
-
-    /// Has the writer put out what it holds back. Returns whether that was done.
-    fn put_out(&self) -> bool
-        ensures { OnTrue result (IsPutOut W.contents W.unwritten) }
-    {
-        match self.writer.try_borrow_mut() {
-            Ok(mut writer) => put_out_of(&mut *writer),
-            Err(_) => false,
-        }
+        writer.write(bytes).ok()
     }
 
     /// Flushes the writer. Returns whether everything that it took was written.
     pub fn flush(&self) -> bool
         ensures { OnTrue result (IsPutOut W.contents W.unwritten) }
     {
-        if !self.put_out() {
+        let is_put_out = match self.writer.try_borrow_mut() {
+            Ok(mut writer) => writer.put_out(),
+            Err(_) => false,
+        };
+        if !is_put_out {
             self.failed.set(true);
             return false;
         }
