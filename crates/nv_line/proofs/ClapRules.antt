@@ -1,6 +1,6 @@
 -- What clap's contract says about each command.
 use Rattle.std.proofs.Common.{◌≡◌, ◌⊎◌, ◌∙◌, ap, ap₂, refl, subst, sym, inl, inr, rules, true, false, Bool, List}
-use Rattle.std.proofs.Common.{[], ◌∷◌, ◌++◌, All, Result, Ok, Err, drop, if◌then◌else◌}
+use Rattle.std.proofs.Common.{[], ◌∷◌, ◌++◌, All, Ok, Err, drop, if◌then◌else◌}
 use Rattle.std.proofs.lemmas.List.Elements.{All-push}
 use Rattle.clap.proofs.WalkLemmas.{both}
 use Rattle.clap.specs.Faults.{built_fault}
@@ -13,7 +13,6 @@ use Rattle.clap.specs.declared.error.kind.ErrorKind.{ErrorKind}
 use Rattle.clap.specs.declared.error.kind.ErrorKind.TheVariants as kind
 use Rattle.nv_line.specs.ClapRule.{IsAppOf, IsMade, app_for, clap_rows, is_taken, rows_of_words}
 use Rattle.nv_line.specs.declared.clap_rule.MadeCommand.{MadeCommand}
-use Rattle.nv_line.specs.declared.fault.LineFault.{LineFault}
 use Rattle.nv_line.specs.declared.fault.LineFault.TheVariants as fault
 use Rattle.nv_line.specs.declared.verb.Verb.{Verb}
 use Rattle.nv_line.specs.declared.verb.Verb.TheVariants.{Of}

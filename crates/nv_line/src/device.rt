@@ -3,7 +3,7 @@
 ghost use Rattle.std.specs.Prelude.{◌≡◌, ◌<◌, IfSome};
 ghost use Rattle.nv_line.specs.Device.{controller_index, device_of};
 
-use crate::number::plain;
+use crate::value::plain;
 
 /// The greatest NSID.
 pub const NSID_LIMIT: u64 = 0xffff_ffff;

@@ -7,8 +7,8 @@ ghost use Rattle.nv_line.specs.Commands.{get_feature_of, set_feature_of};
 
 use crate::device::Device;
 use crate::fault::LineFault;
-use crate::option_value::{is_set, read_number};
 use crate::request::Ask;
+use crate::value::{is_set, read_number};
 use crate::verb::{CDW11, FEATURE_ID, FEATURE_NSID, SAVE, SEL, VALUE};
 use clap::ArgMatches;
 use nv_command::{Command, FeatureQuery, FeatureSetting};

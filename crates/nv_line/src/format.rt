@@ -7,8 +7,8 @@ ghost use Rattle.nv_line.specs.Commands.{format_of};
 
 use crate::device::Device;
 use crate::fault::LineFault;
-use crate::option_value::read_number;
 use crate::request::Ask;
+use crate::value::read_number;
 use crate::verb::{LBAF, MS, NSID, PI, PIL, SES};
 use clap::ArgMatches;
 use nv_command::{Command, NewFormat};

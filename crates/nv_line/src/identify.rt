@@ -8,8 +8,8 @@ ghost use Rattle.nv_line.specs.Commands.{id_ns_of, list_command, list_ns_of, nam
 
 use crate::device::Device;
 use crate::fault::LineFault;
-use crate::option_value::{is_set, read_number};
 use crate::request::Ask;
+use crate::value::{is_set, read_number};
 use crate::verb::{ALL, FIRST_NSID, FORCE, NSID};
 use clap::ArgMatches;
 use nv_command::Command;

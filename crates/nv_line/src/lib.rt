@@ -10,30 +10,24 @@
 #![tactic(auto)]
 
 mod clap_rule;
-mod controller_list;
 mod device;
 mod fault;
 mod features;
 mod format;
 mod identify;
 mod line;
-mod line_reader;
 mod logs;
 mod management;
-mod number;
 mod option;
-mod option_value;
 mod output_format;
 mod request;
+mod value;
 mod verb;
-mod word;
 
 pub use fault::LineFault;
-pub use line::{LINE_LIMIT, Line, read_line};
-pub use line_reader::LineReader;
-pub use number::parse_number;
+pub use line::{LINE_LIMIT, Line, LineReader, is_skipped_line, read_line, split_words};
 pub use nv_layout::CtrlList;
 pub use option::OptionName;
 pub use output_format::OutputFormat;
 pub use request::{Ask, Query, Request};
-pub use word::{is_skipped_line, split_words};
+pub use value::parse_number;

@@ -1,15 +1,17 @@
-//! Reads a line.
+//! Reading lines: their words, and what they ask for.
 
-ghost use Rattle.std.specs.Prelude.{IfOk};
-ghost use Rattle.nv_line.specs.Line.{IsKnown, reading};
+ghost use Rattle.std.specs.Prelude.{◌≡◌, IfOk, map};
 ghost use Rattle.nv_layout.specs.UnlessMemory.{IsUnlessMemory};
+ghost use Rattle.nv_line.specs.Line.{IsKnown, reading};
+ghost use Rattle.nv_line.specs.Word.{is_skipped, without_nvme, words_of};
 
+use crate::clap_rule::MadeCommands;
 use crate::fault::LineFault;
-use crate::line_reader::LineReader;
-use crate::request::Request;
+use crate::request::{Request, read_request};
 use bumpalo::Bump;
+use bumpalo::collections::into_bump_slice;
 use nv_layout::CtrlList;
-use std::alloc::Global;
+use std::alloc::{AllocError, Allocator, Global};
 
 /// The greatest length of a line in bytes, without its newline.
 pub const LINE_LIMIT: usize = 4095;
@@ -21,6 +23,80 @@ pub enum Line<'a> {
     Skipped,
     /// The line asks for something.
     Request(Request<'a>),
+}
+
+/// Returns whether a line is blank, or begins with # after its spaces and tabs.
+pub fn is_skipped_line(line: &[u8]) -> bool
+    ensures { result ≡ is_skipped line.now }
+{
+    match line.iter().find(|b| !(**b == b' ' || **b == b'\t')) {
+        Some(b) => *b == b'#',
+        None => true,
+    }
+}
+
+/// Returns the words of a line, between spaces and tabs.
+pub fn split_words<'a, A: Allocator>(alloc: A, text: &'a str) -> Result<Vec<&'a str, A>, AllocError>
+    ensures { IfOk result (λ v. map (λ w. w.now) v.items ≡ words_of text.now) }
+{
+    text.split(' ')
+        .flat_map(|part| part.split('\t'))
+        .filter(|word| !word.is_empty())
+        .collect(alloc)
+}
+
+/// Returns the words without a first word `nvme`.
+pub(crate) fn without_program<'a>(words: &'a [&'a str]) -> &'a [&'a str]
+    ensures { map (λ w. w.now) result.now ≡ without_nvme (map (λ w. w.now) words.now) }
+{
+    if !words.is_empty() && words[0] == "nvme" {
+        return &words[1..];
+    }
+    words
+}
+
+/// Reads lines one after another. The `clap` command of a command word is made when the word first
+/// occurs. Copies of the lines and their words stay in `room`.
+#[derive(Drop)]
+pub struct LineReader<'a> {
+    room: &'a Bump,
+    commands: MadeCommands<'a>,
+}
+
+impl<'a> LineReader<'a> {
+    /// Creates a reader that has read no line.
+    pub fn new(alloc: Global, room: &'a Bump) -> LineReader<'a> {
+        LineReader {
+            room,
+            commands: MadeCommands::new(alloc),
+        }
+    }
+
+    /// Reads a line as `read_line` does.
+    pub fn read<'b>(
+        &mut self,
+        line: &[u8],
+        controllers: u16,
+        place: &'b mut CtrlList,
+    ) -> Result<Line<'b>, LineFault>
+        ensures exact { IsUnlessMemory LineFault.Memory (λ l. l) result (reading line.now controllers) }
+        ensures known { IfOk result (IsKnown controllers) }
+    {
+        if line.len() > LINE_LIMIT {
+            return Err(LineFault::TooLong);
+        }
+        if is_skipped_line(line) {
+            return Ok(Line::Skipped);
+        }
+        let Ok(text) = str::from_utf8(line) else {
+            return Err(LineFault::NotText);
+        };
+        let text = self.room.try_alloc_str(text)?;
+        let words = into_bump_slice(split_words(self.room, text)?);
+        let words = without_program(words);
+        let request = read_request(&mut self.commands, words, controllers, place)?;
+        Ok(Line::Request(request))
+    }
 }
 
 /// Reads a line of a script for a subsystem with this many controllers. It reports the first fault

@@ -7,8 +7,8 @@ ghost use Rattle.nv_line.specs.Commands.{error_log_of, smart_log_of};
 
 use crate::device::Device;
 use crate::fault::LineFault;
-use crate::option_value::read_number;
 use crate::request::Ask;
+use crate::value::read_number;
 use crate::verb::{LOG_ENTRIES, SMART_NSID};
 use clap::ArgMatches;
 use nv_command::{Command, DwordCount, HEALTH, LogQuery};

@@ -7,8 +7,8 @@ ghost use Rattle.nv_line.specs.Commands.{attachment_of, create_ns_of, delete_ns_
 
 use crate::device::Device;
 use crate::fault::LineFault;
-use crate::option_value::{read_list, read_number};
 use crate::request::Ask;
+use crate::value::{read_list, read_number};
 use crate::verb::{CONTROLLERS, DPS, FLBAS, NCAP, NMIC, NSID, NSZE};
 use clap::ArgMatches;
 use nv_command::{Command, NewNamespace};

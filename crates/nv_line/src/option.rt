@@ -1,10 +1,8 @@
 //! The options of the commands: their names, how they are written, and the values that they take.
 
-ghost use Rattle.std.specs.Prelude.{◌≡◌, ◌≤◌, IfSome};
-ghost use Rattle.nv_line.specs.inner.OptionName.{IsSound};
-ghost use Rattle.nv_line.specs.OptionName.{fallback_of, name_of};
+ghost use Rattle.std.specs.Prelude.{◌≡◌};
+ghost use Rattle.nv_line.specs.OptionName.{name_of};
 
-use crate::device::Device;
 use std::fmt;
 
 /// An option of a command, by its long name.
@@ -93,20 +91,6 @@ pub struct NumberOption {
     pub takes_path: bool,
     /// The value if nothing else gives one.
     pub default: Option<u64>,
-}
-
-impl NumberOption {
-    /// Returns the value if the option isn't given.
-    pub(crate) fn fallback(&self, device: Device) -> Option<u64>
-        requires { IsSound self.now }
-        ensures value { result ≡ fallback_of self.now device }
-        ensures in_range { IfSome result (λ n. (self.now.least ≤ n) × (n ≤ self.now.most)) }
-    {
-        match device.nsid {
-            Some(nsid) if self.takes_path => Some(u64::from(nsid)),
-            _ => self.default,
-        }
-    }
 }
 
 /// An option that takes a list of controller identifiers, and is required.

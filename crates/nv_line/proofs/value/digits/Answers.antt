@@ -1,9 +1,9 @@
 use Rattle.std.proofs.Common.{◌≡◌, ◌∙◌, ◌≢◌, arith, get_or}
 use Rattle.std.proofs.lemmas.Grind.{common_steps}
 use Rattle.nv_line.proofs.DigitLemmas.{digits_at, plus_is_none}
-use Rattle.nv_line.proofs.number.digits.Goals as goal
-use Rattle.nv_line.proofs.number.digits.Goals.{else-not-is_empty-via-then-not-is_empty+else-bytes-eq43}
-use Rattle.nv_line.proofs.number.digits.Goals.{else-not-is_empty-via-else-not-is_empty}
+use Rattle.nv_line.proofs.value.digits.Goals as goal
+use Rattle.nv_line.proofs.value.digits.Goals.{else-not-is_empty-via-then-not-is_empty+else-bytes-eq43}
+use Rattle.nv_line.proofs.value.digits.Goals.{else-not-is_empty-via-else-not-is_empty}
 
 pub returns-then-bytes-eq43 : goal.returns-then-bytes-eq43
 returns-then-bytes-eq43 c =

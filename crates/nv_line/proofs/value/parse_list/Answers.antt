@@ -5,7 +5,7 @@ use Rattle.std.proofs.lemmas.Iterator.Splits.{YieldsList-from_str_split}
 use Rattle.std.proofs.lemmas.List.{length_push}
 use Rattle.nv_line.specs.Values.{is_comma}
 use Rattle.nv_line.proofs.ListReading.{all_read, no_number, piece_read, too_many}
-use Rattle.nv_line.proofs.controller_list.parse_list.Goals as goal
+use Rattle.nv_line.proofs.value.parse_list.Goals as goal
 
 pub returns-then-len-eq-MOST_CNTLIDS : goal.returns-then-len-eq-MOST_CNTLIDS
 returns-then-len-eq-MOST_CNTLIDS c =

@@ -7,7 +7,7 @@ use Rattle.std.proofs.lemmas.Iterator.Splits.{YieldsList-from_str_split}
 use Rattle.std.proofs.lemmas.Result.{IfOk-weaker}
 use Rattle.clap.specs.Walk.{is_empty}
 use Rattle.nv_line.proofs.Pieces.{split_twice}
-use Rattle.nv_line.proofs.word.split_words.Goals as goal
+use Rattle.nv_line.proofs.line.split_words.Goals as goal
 
 pub returns : goal.returns
 returns g c =

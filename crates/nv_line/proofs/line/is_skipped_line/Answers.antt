@@ -3,7 +3,7 @@ use Rattle.std.specs.Option.{option_map_or}
 use Rattle.std.proofs.lemmas.Iterator.{YieldsList-from_slice}
 use Rattle.std.proofs.lemmas.Iterator.Search.{find_from_yields_List}
 use Rattle.nv_line.specs.Word.{is_blank}
-use Rattle.nv_line.proofs.word.is_skipped_line.Goals as goal
+use Rattle.nv_line.proofs.line.is_skipped_line.Goals as goal
 
 pub returns-in-Some : goal.returns-in-Some
 returns-in-Some c =

@@ -3,7 +3,7 @@ use Rattle.std.proofs.lemmas.Result.{err_from_is_err_and}
 use Rattle.nv_line.specs.Word.{without_nvme, words_of}
 use Rattle.nv_line.specs.declared.line.Line.TheVariants as line
 use Rattle.nv_line.proofs.FaultOrder.{answer_at, handed_up, no_text, said_by}
-use Rattle.nv_line.proofs.line_reader.LineReader.read.Goals as goal
+use Rattle.nv_line.proofs.line.LineReader.read.Goals as goal
 
 pub returns-in_default-clause-exact : goal.returns-in_default-clause-exact
 returns-in_default-clause-exact c =
