@@ -1,11 +1,13 @@
 -- Laws of bits in words that are written.
 use Rattle.std.proofs.Common.{◌≡◌, ◌≢◌, ◌∙◌, ℕ, ◌+◌, ◌-◌, ◌*◌, ◌/◌, ◌%◌, ◌^◌, ◌<◌, ◌≤◌, ◌==◌, true}
-use Rattle.std.proofs.Common.{false, List, length, get_or, set, w64, refl, arith, inl, inr}
+use Rattle.std.proofs.Common.{false, not, List, length, get_or, set, w64, refl, arith, inl, inr}
 use Rattle.std.proofs.Common.{get_or-set_same, get_or-set_other, bit_and, bit_or, length-set, replicate}
 use Rattle.std.proofs.lemmas.Bool.{cases_eq, cases_lt, eq-eqb, ne_eqb}
 use Rattle.std.proofs.Math.Nat.{div-div-eq-div-mul, div-le_self, div-one, pow-zero}
-use Rattle.std.proofs.lemmas.Nat.{pow-add}
-use Rattle.std.proofs.lemmas.Nat.Bits.{bit_at-trailing_zeros, bit_at-zero, bit_at_above, bit_at_ones, bit_at_ones_above}
+use Rattle.std.proofs.lemmas.Bool.Decides.{nat_tests}
+use Rattle.std.proofs.lemmas.Grind.{get_or_default_zero}
+use Rattle.std.proofs.lemmas.Nat.{one_shl, pow-add, pow_pos}
+use Rattle.std.proofs.lemmas.Nat.Bits.{and_pow, bit_at-lt, bit_at-trailing_zeros, bit_at-zero, bit_at_above, bit_at_ones, bit_at_ones_above}
 use Rattle.std.proofs.lemmas.Nat.Bits.{bit_at_clear_other, bit_at_clear_same, bit_at_set_other, bit_at_set_same}
 use Rattle.std.proofs.lemmas.List.{get_or-replicate, get_or_past, length-replicate}
 use Rattle.std.specs.Int.{bit_at, bit_not, trailing_zeros}
@@ -47,6 +49,16 @@ bit_of-and_not words k h =
     let within : k % 64 < 64 = omega arith in
     changed words k _ 0 h (bit_at_clear_same w64 _ (k % 64) within)
     (λ i small ne. bit_at_clear_other w64 _ (k % 64) within i small ne)
+
+-- the test of a bit
+pub bit_clear : (words : List ℕ) (k w : ℕ) → w ≡ get_or words (k / 64) w → k / 64 < length words
+    → (bit_and w (1 * 2 ^ (k % 64) % 2 ^ 64) == 0) ≡ not (bit_of words k)
+unfolding bit_of
+bit_clear words k w is h =
+    let place = k % 64 in
+    let word = get_or words (k / 64) 0 in
+    rw (is ∙ get_or_default_zero words (k / 64) w h)
+    (grind (arith, nat_tests, one_shl place 64 (omega arith), and_pow word place, pow_pos place, bit_at-lt word place))
 
 bit_at-shr : (n s j : ℕ) → bit_at (n / 2 ^ s) j ≡ bit_at n (s + j)
 bit_at-shr n s j = rw (pow-add 2 s j, ← div-div-eq-div-mul n (2 ^ s) (2 ^ j)) refl

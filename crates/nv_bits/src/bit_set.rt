@@ -1,13 +1,14 @@
 //! A set of numbers from a range.
 
 ghost use Rattle.std.specs.Prelude.{◌≡◌, ◌+◌, ◌^◌, ◌<◌, ◌≤◌, ◌∷◌, [], ℕ, false, true, not, ◌↔◌};
-ghost use Rattle.std.specs.Prelude.{IfOk, IfSome, IsTrue, MatchOption};
+ghost use Rattle.std.specs.Prelude.{IfOk, IfSome, IsTrue, MatchOption, length, replicate, slice_index};
 ghost use Rattle.std.specs.Bool.{OnTrue};
 ghost use Rattle.std.specs.FinMap as map;
 ghost use Rattle.nv_bits.specs.Numbers.{IsLowest, IsNext, IsOf, all_of, insert};
 ghost use Rattle.nv_bits.specs.Above.{above};
+ghost use Rattle.nv_bits.specs.Words.{bit_of};
+ghost use Rattle.nv_bits.specs.inner.Words.{IsLeastFrom};
 
-use crate::words::{bit, least_from, next_word, repeated};
 use std::alloc::{AllocError, Global};
 use std::marker::Model;
 
@@ -19,6 +20,7 @@ pub struct BitSet {
     count: u32,
     len: u32,
     lowest_word: usize,
+    /// Bit k % 64 of word k / 64 is that of number `first` + k.
     words: Vec<u64>,
 }
 
@@ -105,7 +107,7 @@ impl BitSet {
             return false;
         }
         let k = n - self.first;
-        k < self.count && bit(&self.words, k as usize)
+        k < self.count && self.words[k as usize / 64] & (1 << (k % 64)) != 0
     }
 
     /// Adds a number of the range, and returns whether it was absent.
@@ -115,7 +117,7 @@ impl BitSet {
         ensures is_new { result ≡ not (map.contains_key self.old.members n) }
     {
         let k = (n - self.first) as usize;
-        let is_new = !bit(&self.words, k);
+        let is_new = self.words[k / 64] & (1 << (k % 64)) == 0;
         self.words[k / 64] |= 1 << (k % 64);
         self.len += u32::from(is_new);
         self.lowest_word = self.lowest_word.min(k / 64);
@@ -199,4 +201,49 @@ impl BitSet {
         let k = least_from(&self.words, at)?;
         Some(self.first + k as u32)
     }
+}
+
+/// Creates `len` copies of a word.
+fn repeated(alloc: Global, word: u64, len: usize) -> Result<Vec<u64>, AllocError>
+    ensures { IfOk result (λ words. words.items ≡ replicate len word) }
+{
+    vec![in alloc; word; len]
+}
+
+/// Returns the index of the first word from `from` on that is not 0, or the number of words if
+/// there is none.
+fn next_word(words: &[u64], from: usize) -> usize
+    requires { from ≤ length words.now }
+    ensures within { (from ≤ result) × (result ≤ length words.now) }
+    ensures zeros { (i : ℕ) → from ≤ i → i < result → slice_index words.now i ≡ 0 }
+    ensures found { result < length words.now → 0 < slice_index words.now result }
+{
+    for i in from..words.len() {
+        if words[i] != 0 {
+            return i;
+        }
+    }
+    words.len()
+}
+
+/// Returns the least set bit from `at` on.
+fn least_from(words: &[u64], at: usize) -> Option<usize>
+    requires { length words.now ≤ 2 ^ 32 }
+    ensures { MatchOption result
+        ((k : ℕ) → at ≤ k → bit_of words.now k ≡ false)
+        (IsLeastFrom (bit_of words.now) at) }
+{
+    let word = at / 64;
+    if word >= words.len() {
+        return None;
+    }
+    let rest = words[word] >> (at % 64);
+    if rest != 0 {
+        return Some(at + rest.trailing_zeros() as usize);
+    }
+    let next = next_word(words, word + 1);
+    if next == words.len() {
+        return None;
+    }
+    Some(64 * next + words[next].trailing_zeros() as usize)
 }

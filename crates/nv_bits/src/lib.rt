@@ -16,7 +16,6 @@
 
 mod bit_set;
 mod slots;
-mod words;
 
 pub use bit_set::BitSet;
 pub use slots::Slots;

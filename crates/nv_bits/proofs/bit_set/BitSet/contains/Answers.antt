@@ -1,5 +1,7 @@
 use Rattle.std.proofs.Common.{◌≡◌, ◌+◌, ◌-◌, arith, sym}
+use Rattle.std.proofs.Math.Bool.{not-not}
 use Rattle.std.proofs.lemmas.Bool.{le-ltb}
+use Rattle.nv_bits.proofs.WordLaws.{bit_clear}
 use Rattle.nv_bits.proofs.BitSetLaws.{contains_at, not_member}
 use Rattle.nv_bits.proofs.bit_set.BitSet.contains.Goals as goal
 
@@ -12,7 +14,8 @@ pub returns-then-k-self-clause-value : goal.returns-then-k-self-clause-value
 returns-then-k-self-clause-value c =
     let s = c.self.inside in
     let e : c.args.n ≡ s.first + (c.args.n - s.first) = omega arith in
-    rw (← c.self.view_is, c.bit.ensures, c.deref.ensures.value)
+    let test = bit_clear s.words.items (c.args.n - s.first) _ c.index.ensures (omega (arith, c.self.invariant.room)) in
+    rw (← c.self.view_is, test, not-not)
     (sym (rw (← e) at (contains_at s.first s.count s.words.items (c.args.n - s.first) (omega arith))))
 
 pub returns-else-k-self-clause-value : goal.returns-else-k-self-clause-value

@@ -1,7 +1,7 @@
 use Rattle.std.proofs.Common.{not, ◌≡◌, ◌+◌, ◌-◌, ◌/◌, ◌∙◌, ap, arith, sym}
 use Rattle.std.proofs.lemmas.Grind.{get_or_default_zero}
 use Rattle.nv_bits.specs.BitSet.{RangeSet}
-use Rattle.nv_bits.proofs.WordLaws.{bit_of-or}
+use Rattle.nv_bits.proofs.WordLaws.{bit_clear, bit_of-or}
 use Rattle.nv_bits.proofs.BitSetLaws.{are-insert, contains_at, len_in_range, members-insert}
 use Rattle.nv_bits.proofs.bit_set.BitSet.insert.Goals as goal
 
@@ -13,7 +13,7 @@ overflow_add-self c =
     let are =
     are-insert s.first s.count s.len s.lowest_word s.words.items c.self.invariant k _ (omega arith)
     (bit_of-or s.words.items k (omega arith)) in
-    rw (c.from.ensures, c.bit-is_new.ensures, c.deref.ensures.value)
+    rw (c.from.ensures, bit_clear s.words.items k _ c.index.ensures (omega arith))
     (omega (arith, len_in_range s.first s.count _ _ _ are))
 
 pub invariant_of-self : goal.invariant_of-self
@@ -23,7 +23,7 @@ invariant_of-self c =
     let k = c.args.n - s.first in
     let word = c.index_mut.ensures.value
     ∙ get_or_default_zero s.words.items (k / 64) c.index_mut.result.now (omega arith) in
-    rw (c.from.ensures, c.bit-is_new.ensures, c.deref.ensures.value, c.min-self-inside.ensures, word)
+    rw (c.from.ensures, bit_clear s.words.items k _ c.index.ensures (omega arith), c.min-self-inside.ensures, word)
     (are-insert s.first s.count s.len s.lowest_word s.words.items c.self.invariant k _ (omega arith)
     (bit_of-or s.words.items k (omega arith)))
 
@@ -46,5 +46,5 @@ returns-clause-is_new c =
     let of = rw (← c.self.view_is) at c.requires in
     let k = c.args.n - s.first in
     let e : s.first + k ≡ c.args.n = omega arith in
-    rw (← c.self.view_is, c.bit-is_new.ensures, c.deref.ensures.value)
+    rw (← c.self.view_is, bit_clear s.words.items k _ c.index.ensures (omega arith))
     (ap not (sym (rw e at (contains_at s.first s.count s.words.items k (omega arith)))))

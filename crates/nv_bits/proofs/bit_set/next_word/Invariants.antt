@@ -1,5 +1,5 @@
 use Rattle.std.proofs.Common.{◌≡◌, ℕ, ◌<◌, ◌≤◌, slice_index}
-use Rattle.nv_bits.proofs.words.next_word.Given as goal
+use Rattle.nv_bits.proofs.bit_set.next_word.Given as goal
 
 abbrev pub invariant-loop-i : goal.invariant-loop-i
 invariant-loop-i l = (k : ℕ) → l.from ≤ k → k < l.i → slice_index l.words k ≡ 0

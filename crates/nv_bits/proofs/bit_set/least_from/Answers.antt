@@ -1,6 +1,6 @@
 use Rattle.std.proofs.Common.{◌/◌, arith}
 use Rattle.nv_bits.proofs.WordLaws.{first_found, later_found, none_found, none_past}
-use Rattle.nv_bits.proofs.words.least_from.Goals as goal
+use Rattle.nv_bits.proofs.bit_set.least_from.Goals as goal
 
 pub overflow_add-result : goal.overflow_add-result
 overflow_add-result c =
