@@ -25,20 +25,14 @@
 #![tactic(auto)]
 
 mod buffer;
-mod builder;
-mod copy;
 mod error;
 mod law;
-mod list_shape;
 mod pointer;
-mod prp_entry;
 mod spans;
 mod walker;
 
-pub use buffer::Buffer;
-pub use builder::{ListPlace, build};
-pub use copy::{copy_in, copy_out, view_in, write_out};
+pub use buffer::{Buffer, ListPlace, build};
 pub use error::PrpError;
 pub use law::{build_then_walk, copy_out_then_in, written_one_by_one};
-pub use spans::{Span, Spans};
+pub use spans::{Span, Spans, copy_in, copy_out, view_in, write_out};
 pub use walker::walk;

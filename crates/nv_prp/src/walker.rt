@@ -10,9 +10,7 @@ ghost use Rattle.nv_prp.specs.Transfer.{IsLegal, data_pages as pages_of, fault_a
 ghost use Rattle.nv_prp.specs.Transfer.{first_fault, most_bytes, room, span_of, spans_of, transfer};
 ghost use Rattle.nv_prp.specs.Transfer.{transfer_places};
 
-use crate::list_shape::ListShape;
-use crate::pointer::{DataPointer, qwords_in_page};
-use crate::prp_entry::{check, load_page_address};
+use crate::pointer::{DataPointer, ListShape, check, load_page_address, qwords_in_page};
 use crate::{PrpError, Spans};
 use nv_host::HostMemory;
 

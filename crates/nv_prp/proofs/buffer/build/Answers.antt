@@ -8,7 +8,7 @@ use Rattle.nv_prp.specs.Transfer.{data_pages, room, transfer}
 use Rattle.nv_prp.proofs.BuiltLaws.{Begins, keeps_itself, many_pages, names_kept, few_pages, pages_enough}
 use Rattle.nv_prp.proofs.PageLaws.{at_least_one}
 use Rattle.nv_prp.proofs.WriteLaws.{lies_at}
-use Rattle.nv_prp.proofs.builder.build.Goals as goal
+use Rattle.nv_prp.proofs.buffer.build.Goals as goal
 
 -- PRP1 is the address of the buffer's first byte
 begins : {size start len first rest : ℕ} {bytes pages : List ℕ} (prp2 : ℕ) → IsPageSize size

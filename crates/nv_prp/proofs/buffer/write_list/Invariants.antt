@@ -1,7 +1,7 @@
 use Rattle.std.proofs.Common.{◌≡◌, ◌*◌, length}
 use Rattle.nv_prp.specs.Buffer.{KeepsOutside}
 use Rattle.nv_prp.proofs.WriteLaws.{HasNamed, Lies}
-use Rattle.nv_prp.proofs.builder.write_list.Given as goal
+use Rattle.nv_prp.proofs.buffer.write_list.Given as goal
 
 -- the list holds the addresses of the first data pages, and only bytes of its pages have changed
 abbrev pub invariant-loop-page : goal.invariant-loop-page

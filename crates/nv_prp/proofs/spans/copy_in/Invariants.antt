@@ -1,6 +1,6 @@
 use Rattle.std.proofs.Common.{◌≡◌, ◌+◌, ◌++◌, drop, length, take}
 use Rattle.nv_prp.specs.Place.{places, read_at}
-use Rattle.nv_prp.proofs.copy.copy_in.Given as goal
+use Rattle.nv_prp.proofs.spans.copy_in.Given as goal
 
 -- the bytes that were read so far, followed by those of the remaining spans, are the bytes of all spans
 abbrev pub invariant-loop-span : goal.invariant-loop-span

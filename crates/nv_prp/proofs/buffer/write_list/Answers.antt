@@ -1,7 +1,7 @@
 use Rattle.std.proofs.Common.{◌<◌, ◌∙◌, ◌*◌, ◌+◌, ap, arith, get_or, refl, subst}
 use Rattle.nv_prp.specs.inner.Buffer.{NamesPages}
 use Rattle.nv_prp.proofs.WriteLaws.{chain_names, lies_at, one_named, outside_kept, place_within}
-use Rattle.nv_prp.proofs.builder.write_list.Goals as goal
+use Rattle.nv_prp.proofs.buffer.write_list.Goals as goal
 
 pub loop-page-init : goal.loop-page-init
 loop-page-init g c =

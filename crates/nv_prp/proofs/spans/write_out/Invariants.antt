@@ -1,6 +1,6 @@
 use Rattle.std.proofs.Common.{◌≡◌, ◌+◌, drop, length}
 use Rattle.nv_prp.specs.Place.{places, written_at}
-use Rattle.nv_prp.proofs.copy.write_out.Given as goal
+use Rattle.nv_prp.proofs.spans.write_out.Given as goal
 
 -- writing the remaining bytes to the remaining spans gives the same as writing all bytes to all spans
 abbrev pub invariant-loop-span : goal.invariant-loop-span
