@@ -49,16 +49,11 @@
 ghost use Rattle.nv_queue.specs.Runs.{EveryRunIsInOrder};
 
 mod completion_ring;
-mod fetch;
-mod place;
-mod post;
 mod ring;
 mod submission_ring;
 
-pub use completion_ring::CompletionRing;
-pub use fetch::Fetch;
-pub use post::{CqFull, Post};
-pub use submission_ring::{RingFull, SubmitRing};
+pub use completion_ring::{CompletionRing, CqFull, Post};
+pub use submission_ring::{Fetch, RingFull, SubmitRing};
 
 /// States the law of this crate: for any sequence of posts, polls and heads written to the doorbell
 /// on one completion ring, what was polled is the beginning of what was posted, each once and in

@@ -1,9 +1,78 @@
 //! A ring of slots in the host's memory, with two places in it.
 
-ghost use Rattle.std.specs.Prelude.{◌≡◌, ◌+◌, ◌*◌, ◌≤◌, ◌↔◌, IsTrue, false, length};
+ghost use Rattle.std.specs.Prelude.{◌≡◌, ◌+◌, ◌*◌, ◌<◌, ◌≤◌, ◌↔◌, IsTrue, false, length};
+ghost use Rattle.nv_queue.specs.Numbers.{IsDepth, IsSlotBetween, above, first_in_slot, next, number_of};
 
-use crate::place::Place;
 use nv_host::{HostMemory, size_of_memory};
+
+/// A slot, and whether it is in the second of two passes over the ring.
+#[derive(Clone, Copy)]
+pub struct Place {
+    pub slot: u16,
+    pub second: bool,
+}
+
+impl Place {
+    /// Returns the place of the next number.
+    #[tactic(auto, using(crate::proofs::PlaceLaws::steps))]
+    pub(crate) fn step(self, depth: u16) -> Place
+        requires depth { IsDepth depth }
+        requires within { self.slot < depth }
+        ensures number { number_of depth result.slot result.second
+            ≡ next depth (number_of depth self.slot self.second) }
+        ensures within { result.slot < depth }
+    {
+        if self.slot + 1 == depth {
+            Place {
+                slot: 0,
+                second: !self.second,
+            }
+        } else {
+            Place {
+                slot: self.slot + 1,
+                second: self.second,
+            }
+        }
+    }
+
+    /// Returns whether the way from here to `end`, ends included, passes a slot. `end` is less than
+    /// `depth` ahead.
+    #[tactic(auto, using(crate::proofs::PlaceLaws::ways))]
+    pub(crate) fn meets(self, slot: u16, end: Place, depth: u16) -> bool
+        requires depth { IsDepth depth }
+        requires within { self.slot < depth }
+        requires end { end.slot < depth }
+        requires near { above depth (number_of depth end.slot end.second)
+            (number_of depth self.slot self.second) < depth }
+        ensures { IsTrue result ↔ IsSlotBetween depth (number_of depth self.slot self.second)
+            (number_of depth end.slot end.second) slot }
+    {
+        if self.slot <= end.slot {
+            self.slot <= slot && slot <= end.slot
+        } else {
+            // the way leads from the last slot to the first one
+            self.slot <= slot && slot < depth || slot <= end.slot
+        }
+    }
+
+    /// Returns the next place with this slot, which may be this one.
+    #[tactic(auto, using(crate::proofs::PlaceLaws::firsts))]
+    pub(crate) fn reach(self, slot: u16, depth: u16) -> Place
+        requires depth { IsDepth depth }
+        requires within { self.slot < depth }
+        requires slot { slot < depth }
+        ensures number { number_of depth result.slot result.second
+            ≡ first_in_slot depth (number_of depth self.slot self.second) slot }
+        ensures slot { result.slot ≡ slot }
+    {
+        let second = if slot < self.slot {
+            !self.second
+        } else {
+            self.second
+        };
+        Place { slot, second }
+    }
+}
 
 /// A ring as one of the four sides keeps it: its own place, and the place that one side last gave
 /// the other, by a doorbell or by the SQ head of a completion.

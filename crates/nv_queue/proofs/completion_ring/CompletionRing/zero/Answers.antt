@@ -1,4 +1,6 @@
-use Rattle.std.proofs.Common.{◌∙◌, ap, arith, refl}
+use Rattle.std.proofs.Common.{◌∙◌, ◌+◌, ◌*◌, ap, arith, refl}
+use Rattle.std.proofs.lemmas.List.{length-replicate}
+use Rattle.nv_host.proofs.BytesLaws.{length_with_bytes}
 use Rattle.nv_queue.specs.Rings.{CollectNumbers}
 use Rattle.nv_queue.proofs.ZeroLaws.{zeroed_more, zeroed_none}
 use Rattle.nv_queue.proofs.completion_ring.CompletionRing.zero.Goals as goal
@@ -6,7 +8,6 @@ use Rattle.nv_queue.proofs.completion_ring.CompletionRing.zero.Goals as goal
 pub loop-slot-init : goal.loop-slot-init
 loop-slot-init g c = record {
   bytes = zeroed_none (g.M.HostMemory.bytes c.args.mem.now) c.args.self.now.base;
-  len = refl;
   page = refl;
 }
 
@@ -17,8 +18,8 @@ loop-slot-preserved g c =
     let depth = ap (λ (r : CollectNumbers). r.depth) c.self.view_is in
     record {
       bytes = zeroed_more (g.M.HostMemory.bytes c.args.mem.now) _ _ c.args.self.now.base
-          c.loop-slot.slot c.args.self.now.depth _ c.requires (omega arith) (omega arith)
-          inv.bytes c.store_inside.ensures.bytes;
-      len = c.store_inside.ensures.len ∙ inv.len;
-      page = c.store_inside.ensures.page ∙ inv.page;
+          c.loop-slot.slot c.args.self.now.depth (c.args.self.now.base + 16 * c.loop-slot.slot) c.requires
+          (omega arith) refl inv.bytes
+          (grind (arith, length_with_bytes, length-replicate, c.store.ensures, c.from.ensures, inv.bytes, c.requires));
+      page = c.store.ensures.page ∙ inv.page;
     }

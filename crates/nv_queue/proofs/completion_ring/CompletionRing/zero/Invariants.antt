@@ -1,4 +1,4 @@
-use Rattle.std.proofs.Common.{◌≡◌, ◌*◌, length}
+use Rattle.std.proofs.Common.{◌≡◌, ◌*◌}
 use Rattle.std.specs.Prelude.{replicate}
 use Rattle.nv_host.specs.Bytes.{with_bytes}
 use Rattle.nv_queue.proofs.completion_ring.CompletionRing.zero.Given as goal
@@ -7,6 +7,5 @@ abbrev pub invariant-loop-slot : goal.invariant-loop-slot
 invariant-loop-slot g l = record {
   bytes : g.M.HostMemory.bytes l.mem
       ≡ with_bytes (g.M.HostMemory.bytes l.initial.mem) l.self.base (replicate (16 * l.slot) 0);
-  len : length (g.M.HostMemory.bytes l.mem) ≡ length (g.M.HostMemory.bytes l.initial.mem);
   page : g.M.HostMemory.page_len l.mem ≡ g.M.HostMemory.page_len l.initial.mem;
 }
