@@ -8,7 +8,7 @@ ghost use Rattle.nv_trace.specs.inner.Followed.{IsCompletionIn, IsEntryIn, IsFur
 
 use crate::slots::Slots;
 use nv_bus::Bus;
-use nv_host::{HostMemory, load_inside};
+use nv_host::HostMemory;
 use nv_layout::{Cqe, Sqe};
 use nv_register::{AdminQueueAttributes, offset};
 
@@ -69,7 +69,7 @@ impl AdminQueues {
     {
         let at = self.submission.address(mem, ENTRY_SIZE)?;
         let mut bytes = [0; 64];
-        load_inside(mem, at, &mut bytes);
+        let _ = mem.load(at, &mut bytes);
         Some(Sqe::get(&bytes))
     }
 
@@ -79,7 +79,7 @@ impl AdminQueues {
     {
         let at = self.completion.address(mem, COMPLETION_SIZE)?;
         let mut bytes = [0; 16];
-        load_inside(mem, at, &mut bytes);
+        let _ = mem.load(at, &mut bytes);
         Some(Cqe::get(&bytes))
     }
 
