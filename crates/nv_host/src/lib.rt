@@ -18,21 +18,14 @@
 ghost use Rattle.nv_host.specs.Bytes.{LengthStays, OthersStay, WrittenIsRead};
 
 mod error;
-mod flat;
-mod inside;
 mod lent;
 mod memory;
 mod page_set;
-mod payload;
-mod range;
 
 pub use error::{Memory, OutOfMemoryRange};
-pub use flat::FlatMemory;
-pub use inside::{load_inside, store_inside};
 pub use lent::{LentBytes, LentMemory, Loan};
-pub use memory::{HostMemory, are_pages, is_page_size, size_of_memory};
+pub use memory::{FlatMemory, HostMemory, Payload, are_pages, is_page_size, size_of_memory};
 pub use page_set::{PageNo, PageSet};
-pub use payload::Payload;
 
 /// States the laws of loads and stores: a load returns what was stored, and other bytes don't
 /// change. The call does nothing.

@@ -1,11 +1,13 @@
-//! What the memory of a host does.
+//! What the memory of a host does, and one in a vector.
 
-ghost use Rattle.std.specs.Prelude.{◌≡◌, ◌+◌, ◌*◌, ◌≤◌, ◌↔◌, ℕ, IsOk, IsTrue, List, OnErr, OnOk};
-ghost use Rattle.std.specs.Prelude.{drop, length, take};
+ghost use Rattle.std.specs.Prelude.{◌≡◌, ◌+◌, ◌*◌, ◌≤◌, ◌↔◌, ℕ, IfOk, IsOk, IsTrue, List, OnErr, OnOk};
+ghost use Rattle.std.specs.Prelude.{drop, length, replicate, take};
 ghost use Rattle.nv_host.specs.Bytes.{bytes_at, with_bytes};
 ghost use Rattle.nv_host.specs.Pages.{HasPage, IsPageSize, are_pages, is_page_size};
 
-use crate::{OutOfMemoryRange, Payload};
+use crate::{Memory, OutOfMemoryRange};
+use std::alloc::Global;
+use std::marker::Model;
 
 /// The memory of a host, as its bytes in pages. Page n begins at address n times the page size.
 /// Section "Physical Region Page Entry and List".
@@ -54,6 +56,25 @@ pub trait HostMemory {
         ensures len { length result.now ≡ page_len self.now };
 }
 
+/// Bytes that are made part by part, so that they need not be stored as a whole.
+pub trait Payload {
+    /// All of them, in order.
+    ghost bytes: { Self → List ℕ };
+
+    /// Fills `out` with the bytes from `at` on.
+    fn fill(&self, at: usize, out: &mut [u8])
+        requires { at + length out.old ≤ length (bytes self.now) }
+        ensures { out.new ≡ take (length out.old) (drop at (bytes self.now)) };
+}
+
+impl Payload for &[u8] {
+    ghost bytes = { λ s. s.now };
+
+    fn fill(&self, at: usize, out: &mut [u8]) {
+        out.copy_from_slice(&self[at..at + out.len()]);
+    }
+}
+
 /// Whether a page can have this many bytes.
 #[tactic(auto, unfolding(crate::specs::Pages::IsPageSize))]
 pub fn is_page_size(size: u32) -> bool
@@ -83,4 +104,87 @@ pub fn size_of_memory<M: HostMemory>(mem: &M) -> u64
     ensures page { IsPageSize (M.page_len mem.now) }
 {
     u64::from(mem.pages()) * u64::from(mem.page_size())
+}
+
+/// A host's memory in one vector.
+#[derive(Drop)]
+pub struct FlatMemory {
+    page_size: u32,
+    pages: u32,
+    bytes: Vec<u8>,
+}
+
+impl Model for FlatMemory {
+    ghost use Rattle.std.specs.Prelude.{◌≡◌, ◌*◌, vec_len};
+    ghost use Rattle.nv_host.specs.Pages.{IsPageSize, PagedBytes};
+
+    ghost Value = { PagedBytes };
+
+    ghost view = { λ m. record { page_size = m.page_size; bytes = m.bytes.items } };
+
+    ghost invariant = { λ m. IsPageSize m.page_size × (m.pages * m.page_size ≡ vec_len m.bytes) };
+}
+
+impl FlatMemory {
+    /// A memory of this many pages, all of whose bytes are 0. A page has 4096, 8192, 16384, 32768
+    /// or 65536 bytes.
+    #[tactic(auto, using(crate::proofs::PageLaws::page_size_bounds))]
+    pub fn new(alloc: Global, page_size: u32, pages: u32) -> Result<FlatMemory, Memory>
+        requires { IsPageSize page_size }
+        ensures { IfOk result (λ m. m ≡ record {
+          page_size = page_size;
+          bytes = replicate (pages * page_size) 0;
+        }) }
+    {
+        let size = pages as usize * page_size as usize;
+        match vec![in alloc; 0u8; size] {
+            Ok(bytes) => Ok(FlatMemory {
+                page_size,
+                pages,
+                bytes,
+            }),
+            Err(_) => Err(Memory),
+        }
+    }
+}
+
+#[tactic(auto, unfolding(crate::specs::Bytes::bytes_at, crate::specs::Bytes::with_bytes))]
+impl HostMemory for FlatMemory {
+    ghost bytes = { λ m. m.bytes };
+
+    ghost page_len = { λ m. m.page_size };
+
+    fn page_size(&self) -> u32 {
+        self.page_size
+    }
+
+    fn pages(&self) -> u32 {
+        self.pages
+    }
+
+    fn load(&self, addr: u64, out: &mut [u8]) -> Result<(), OutOfMemoryRange> {
+        let rest = self.bytes.get(addr as usize..).ok_or(OutOfMemoryRange)?;
+        out.copy_from_slice(rest.get(..out.len()).ok_or(OutOfMemoryRange)?);
+        Ok(())
+    }
+
+    fn store(&mut self, addr: u64, source: &[u8]) -> Result<(), OutOfMemoryRange> {
+        let start = addr as usize;
+        let rest = self.bytes.len().checked_sub(start).ok_or(OutOfMemoryRange)?;
+        if rest < source.len() {
+            return Err(OutOfMemoryRange);
+        }
+        self.bytes[start..start + source.len()].copy_from_slice(source);
+        Ok(())
+    }
+
+    fn fill<P: Payload>(&mut self, addr: u64, payload: &P, from: usize, len: usize) {
+        let start = addr as usize;
+        payload.fill(from, &mut self.bytes[start..start + len]);
+    }
+
+    fn page(&self, n: u32) -> &[u8] {
+        let start = n as usize * self.page_size as usize;
+        &self.bytes[start..start + self.page_size as usize]
+    }
 }
