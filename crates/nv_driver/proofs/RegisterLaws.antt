@@ -10,7 +10,7 @@ use Rattle.nv_layout.specs.Bits.{bits}
 use Rattle.nv_register.specs.Dwords.{aqa_of_dword, cc_of_dword}
 use Rattle.nv_register.specs.RegisterBank.{can_start, new_rings, with_cc, with_high, with_low}
 use Rattle.nv_register.specs.Readiness.{is_enabled}
-use Rattle.nv_register.specs.declared.controller_configuration.Sizes.{Sizes}
+use Rattle.nv_register.specs.declared.register.Sizes.{Sizes}
 use Rattle.nv_register.specs.declared.readiness.Readiness.TheVariants.{Off, Failed, Ready}
 use Rattle.nv_model.specs.Step.{reset_if}
 use Rattle.nv_bus.specs.Bus.{state_written}

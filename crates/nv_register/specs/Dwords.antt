@@ -2,9 +2,9 @@
 -- when they are written.
 use Rattle.std.specs.Prelude.{ℕ, ◌==◌, ◌+◌}
 use Rattle.nv_layout.specs.Bits.{at_bits, bit, bits}
-use Rattle.nv_register.specs.declared.admin_queue_attributes.AdminQueueAttributes.{AdminQueueAttributes}
-use Rattle.nv_register.specs.declared.controller_configuration.ControllerConfiguration.{ControllerConfiguration}
-use Rattle.nv_register.specs.declared.controller_status.ControllerStatus.{ControllerStatus}
+use Rattle.nv_register.specs.declared.register.AdminQueueAttributes.{AdminQueueAttributes}
+use Rattle.nv_register.specs.declared.register.ControllerConfiguration.{ControllerConfiguration}
+use Rattle.nv_register.specs.declared.register.ControllerStatus.{ControllerStatus}
 
 -- EN 0, MPS 10:7, IOSQES 19:16, IOCQES 23:20
 abbrev pub cc_dword : ControllerConfiguration → ℕ

@@ -1,6 +1,6 @@
 -- The page size that a controller is configured with.
 use Rattle.std.specs.Prelude.{ℕ, ◌+◌, ◌^◌}
-use Rattle.nv_register.specs.declared.controller_configuration.Sizes.{Sizes}
+use Rattle.nv_register.specs.declared.register.Sizes.{Sizes}
 
 -- the size of a page in bytes
 abbrev pub page_size_of : Sizes → ℕ

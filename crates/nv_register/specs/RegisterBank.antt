@@ -8,8 +8,8 @@ use Rattle.nv_register.specs.Dwords.{aqa_dword, aqa_of_dword, cc_dword, cc_of_dw
 use Rattle.nv_register.specs.PageSize.{page_size_of}
 use Rattle.nv_register.specs.Readiness.{is_enabled, is_fatal, is_ready, with_rings}
 use Rattle.nv_register.specs.Register.{register_at}
-use Rattle.nv_register.specs.declared.controller_configuration.ControllerConfiguration.{ControllerConfiguration}
-use Rattle.nv_register.specs.declared.controller_configuration.Sizes.{Sizes}
+use Rattle.nv_register.specs.declared.register.ControllerConfiguration.{ControllerConfiguration}
+use Rattle.nv_register.specs.declared.register.Sizes.{Sizes}
 use Rattle.nv_register.specs.declared.register_bank.RegisterBank.{RegisterBank}
 use Rattle.nv_register.specs.declared.readiness.Readiness.TheVariants.{Off, Failed, Ready}
 use Rattle.nv_register.specs.declared.rings.Rings.{Rings}

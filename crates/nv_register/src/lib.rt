@@ -18,19 +18,15 @@
 //! Sections are named as in the NVM Express Base Specification, revision 1.4.
 #![tactic(auto)]
 
-mod admin_queue_attributes;
-mod controller_configuration;
-mod controller_status;
 pub mod offset;
 mod readiness;
 mod register;
 mod register_bank;
 mod rings;
 
-pub use admin_queue_attributes::AdminQueueAttributes;
-pub use controller_configuration::{ControllerConfiguration, Sizes};
-pub use controller_status::ControllerStatus;
 pub use readiness::Readiness;
-pub use register::Register;
+pub use register::{
+    AdminQueueAttributes, ControllerConfiguration, ControllerStatus, Register, Sizes,
+};
 pub use register_bank::RegisterBank;
 pub use rings::Rings;

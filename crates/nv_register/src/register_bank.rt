@@ -1,16 +1,15 @@
 //! What a host reads and writes of one controller.
 
 ghost use Rattle.std.specs.Prelude.{◌≡◌, ◌≤◌};
-ghost use Rattle.nv_register.specs.RegisterBank.{can_start, is_queue, new_bank, start};
+ghost use Rattle.nv_register.specs.RegisterBank.{is_queue, new_bank};
 ghost use Rattle.nv_register.specs.RegisterBank.{stops_at, value_at, with_cc, with_high, with_low};
 ghost use Rattle.nv_register.specs.RegisterBank.{with_register_at};
 
-use crate::admin_queue_attributes::AdminQueueAttributes;
-use crate::controller_configuration::{ControllerConfiguration, Sizes};
-use crate::controller_status::ControllerStatus;
 use crate::offset;
 use crate::readiness::Readiness;
-use crate::register::Register;
+use crate::register::{
+    AdminQueueAttributes, ControllerConfiguration, ControllerStatus, Register, Sizes,
+};
 use crate::rings::Rings;
 use nv_queue::{Fetch, Post};
 
@@ -110,20 +109,25 @@ impl RegisterBank {
         }
     }
 
-    /// Returns whether the controller becomes ready with these registers.
-    fn can_start(&self) -> bool
-        ensures { result ≡ can_start self.now }
+    /// Performs a write to CC. While EN is 1, only EN changes. Clearing it clears RDY and CFS, and
+    /// setting it creates the rings that the registers describe, or sets CFS if they describe none.
+    fn configure(&mut self, cc: ControllerConfiguration)
+        ensures { self.new ≡ with_cc self.old cc }
     {
-        self.sizes.mps <= 4
+        if self.readiness.is_enabled() {
+            if !cc.en {
+                self.readiness = Readiness::Off;
+            }
+            return;
+        }
+        self.sizes = cc.sizes;
+        if !cc.en {
+            return;
+        }
+        let can_start = self.sizes.mps <= 4
             && is_queue(self.sizes, self.asq, self.aqa.asqs)
-            && is_queue(self.sizes, self.acq, self.aqa.acqs)
-    }
-
-    /// Sets EN, which creates the rings that the registers describe.
-    fn start(&mut self)
-        ensures { self.new ≡ start self.old }
-    {
-        self.readiness = if self.can_start() {
+            && is_queue(self.sizes, self.acq, self.aqa.acqs);
+        self.readiness = if can_start {
             Readiness::Ready {
                 rings: Rings {
                     page_size: self.sizes.page_size(),
@@ -135,22 +139,6 @@ impl RegisterBank {
         } else {
             Readiness::Failed
         };
-    }
-
-    /// Performs a write to CC. While EN is 1, only EN changes. Clearing it clears RDY and CFS.
-    fn configure(&mut self, cc: ControllerConfiguration)
-        ensures { self.new ≡ with_cc self.old cc }
-    {
-        if self.readiness.is_enabled() {
-            if !cc.en {
-                self.readiness = Readiness::Off;
-            }
-        } else {
-            self.sizes = cc.sizes;
-            if cc.en {
-                self.start();
-            }
-        }
     }
 
     /// Returns whether a write of a dword at an offset in bytes clears an EN that is 1, which

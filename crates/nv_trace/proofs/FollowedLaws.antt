@@ -15,9 +15,9 @@ use Rattle.nv_register.specs.Readiness.{is_enabled, with_rings}
 use Rattle.nv_register.specs.Register.{register_at}
 use Rattle.nv_register.specs.RegisterBank.{can_start, new_bank, new_rings, start, stop}
 use Rattle.nv_register.specs.RegisterBank.{with_head, with_high, with_low, with_register, with_register_at, with_tail}
-use Rattle.nv_register.specs.declared.admin_queue_attributes.AdminQueueAttributes.{AdminQueueAttributes}
-use Rattle.nv_register.specs.declared.controller_configuration.ControllerConfiguration.{ControllerConfiguration}
-use Rattle.nv_register.specs.declared.controller_configuration.Sizes.{Sizes}
+use Rattle.nv_register.specs.declared.register.AdminQueueAttributes.{AdminQueueAttributes}
+use Rattle.nv_register.specs.declared.register.ControllerConfiguration.{ControllerConfiguration}
+use Rattle.nv_register.specs.declared.register.Sizes.{Sizes}
 use Rattle.nv_register.specs.declared.register_bank.RegisterBank.{RegisterBank}
 use Rattle.nv_register.specs.declared.readiness.Readiness.{Readiness}
 use Rattle.nv_register.specs.declared.readiness.Readiness.TheVariants.{Off, Failed, Ready}
