@@ -7,8 +7,8 @@ use Rattle.std.proofs.Math.Nat.{div-div-eq-div-mul, div-le_self, div-one, pow-ze
 use Rattle.std.proofs.lemmas.Bool.Decides.{nat_tests}
 use Rattle.std.proofs.lemmas.Grind.{get_or_default_zero}
 use Rattle.std.proofs.lemmas.Nat.{one_shl, pow-add, pow_pos}
-use Rattle.std.proofs.lemmas.Nat.Bits.{and_pow, bit_at-lt, bit_at-trailing_zeros, bit_at-zero, bit_at_above, bit_at_ones, bit_at_ones_above}
-use Rattle.std.proofs.lemmas.Nat.Bits.{bit_at_clear_other, bit_at_clear_same, bit_at_set_other, bit_at_set_same}
+use Rattle.std.proofs.lemmas.Nat.Bits.{and_pow, bit_at-lt, bit_at-trailing_zeros, bit_at-zero, bit_at_above, bit_at_ones}
+use Rattle.std.proofs.lemmas.Nat.Bits.{bit_at_clear_other, bit_at_clear_same, bit_at_ones_above, bit_at_set_other, bit_at_set_same}
 use Rattle.std.proofs.lemmas.List.{get_or-replicate, get_or_past, length-replicate}
 use Rattle.std.specs.Int.{bit_at, bit_not, trailing_zeros}
 use Rattle.nv_bits.specs.inner.Words.{ChangesBit, IsLeastFrom}
@@ -55,10 +55,8 @@ pub bit_clear : (words : List ℕ) (k w : ℕ) → w ≡ get_or words (k / 64) w
     → (bit_and w (1 * 2 ^ (k % 64) % 2 ^ 64) == 0) ≡ not (bit_of words k)
 unfolding bit_of
 bit_clear words k w is h =
-    let place = k % 64 in
-    let word = get_or words (k / 64) 0 in
-    rw (is ∙ get_or_default_zero words (k / 64) w h)
-    (grind (arith, nat_tests, one_shl place 64 (omega arith), and_pow word place, pow_pos place, bit_at-lt word place))
+    rw (is ∙ get_or_default_zero words (k / 64) w h, one_shl (k % 64) 64 (omega arith), and_pow)
+    (grind (arith, nat_tests, pow_pos (k % 64), bit_at-lt))
 
 bit_at-shr : (n s j : ℕ) → bit_at (n / 2 ^ s) j ≡ bit_at n (s + j)
 bit_at-shr n s j = rw (pow-add 2 s j, ← div-div-eq-div-mul n (2 ^ s) (2 ^ j)) refl

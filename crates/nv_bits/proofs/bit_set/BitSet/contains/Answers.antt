@@ -13,10 +13,10 @@ returns-then-n-self-clause-value c =
 pub returns-then-k-self-clause-value : goal.returns-then-k-self-clause-value
 returns-then-k-self-clause-value c =
     let s = c.self.inside in
-    let e : c.args.n ≡ s.first + (c.args.n - s.first) = omega arith in
-    let test = bit_clear s.words.items (c.args.n - s.first) _ c.index.ensures (omega (arith, c.self.invariant.room)) in
-    rw (← c.self.view_is, test, not-not)
-    (sym (rw (← e) at (contains_at s.first s.count s.words.items (c.args.n - s.first) (omega arith))))
+    let k = c.args.n - s.first in
+    let e : s.first + k ≡ c.args.n = omega arith in
+    rw (← c.self.view_is, bit_clear s.words.items k _ c.index.ensures (omega (arith, c.self.invariant.room)), not-not)
+    (sym (rw e at (contains_at s.first s.count s.words.items k (omega arith))))
 
 pub returns-else-k-self-clause-value : goal.returns-else-k-self-clause-value
 returns-else-k-self-clause-value c =
