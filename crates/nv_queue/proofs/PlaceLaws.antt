@@ -1,5 +1,6 @@
 -- The numbers of places in a ring.
 use Rattle.std.proofs.Common.{◌≡◌, ℕ, ◌+◌, ◌-◌, ◌*◌, ◌<◌, ◌≤◌, Bool, true, false, not, arith}
+use Rattle.nv_host.proofs.BytesLaws.{length_with_bytes}
 use Rattle.nv_queue.specs.Numbers.{above, ahead, first_in_slot, next, number_of, phase_of, slot_of}
 use Rattle.nv_queue.proofs.NumberLaws.{ahead_cases, ahead_slot, full_slots, next_cases, phase_high, phase_low}
 use Rattle.nv_queue.proofs.NumberLaws.{slot_high, slot_low}
@@ -62,5 +63,5 @@ pub ruleset ways = (ahead_behind, ahead_before, ahead_place, number_below)
 
 pub ruleset firsts = (first_behind, first_before)
 
--- rings whose places moved
-pub ruleset rings = (places, full_slots, within_more, within_taken, within_freed, within_filled)
+-- rings whose places moved, and memory of which a slot was written
+pub ruleset rings = (places, full_slots, within_more, within_taken, within_freed, within_filled, length_with_bytes)

@@ -63,7 +63,7 @@ impl SubmitRing {
     /// Submits a command, and returns the new tail, for the tail doorbell. The ring is full if all
     /// slots but one hold commands that are not known to be taken. Then nothing changes. All slots
     /// must lie in the memory.
-    #[tactic(auto, using(crate::proofs::PlaceLaws::rings, nv_host::proofs::BytesLaws::length_with_bytes))]
+    #[tactic(auto, using(crate::proofs::PlaceLaws::rings))]
     pub fn push<M: HostMemory>(&mut self, mem: &mut M, command: &Sqe) -> Result<u16, RingFull>
         requires { self.old.base + 64 * self.old.depth ≤ length (M.bytes mem.old) }
         ensures full { IsErr result ↔ IsSubmitFull self.old }
