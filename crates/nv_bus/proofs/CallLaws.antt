@@ -15,9 +15,9 @@ use Rattle.nv_command.specs.declared.command.Command.TheVariants.{Delete, Identi
 use Rattle.nv_command.specs.declared.decoded.Decoded.{Decoded}
 use Rattle.nv_command.specs.declared.decoded.Decoded.TheVariants as decoded
 use Rattle.nv_layout.specs.Steps.{◌>>=◌}
-use Rattle.nv_command.specs.declared.entry.Opcode.{Opcode}
-use Rattle.nv_command.specs.declared.entry.Opcode.TheVariants.{Identify, NamespaceManagement}
-use Rattle.nv_command.specs.declared.entry.Opcode.TheVariants.{NamespaceAttachment, GetLogPage}
+use Rattle.nv_command.specs.declared.decoded.Opcode.{Opcode}
+use Rattle.nv_command.specs.declared.decoded.Opcode.TheVariants.{Identify, NamespaceManagement}
+use Rattle.nv_command.specs.declared.decoded.Opcode.TheVariants.{NamespaceAttachment, GetLogPage}
 use Rattle.nv_command.specs.declared.status_code.StatusCode.{StatusCode}
 use Rattle.nv_command.specs.declared.status_code.StatusCode.TheVariants.{InvalidFieldInCommand}
 use Rattle.nv_command.specs.declared.transfer.Transfer.{Transfer}

@@ -4,7 +4,7 @@ use Rattle.nv_layout.specs.Sqe.{SqeFits}
 use Rattle.nv_layout.specs.declared.sqe.Sqe.{Sqe}
 use Rattle.nv_command.specs.Entry.{entry_of, entry_with, with_pointer}
 use Rattle.nv_command.specs.declared.command.Command.{Command}
-use Rattle.nv_command.specs.declared.entry.Fields.{Fields}
+use Rattle.nv_command.specs.declared.transfer.Fields.{Fields}
 
 pub record FieldsFit (f : Fields) : Type 0 where
   pub opcode : f.opcode < 2 ^ 8

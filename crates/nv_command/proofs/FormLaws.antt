@@ -6,10 +6,10 @@ use Rattle.nv_command.specs.Form.{form_of}
 use Rattle.nv_command.proofs.LogLaws.{log_size}
 use Rattle.nv_command.specs.Logs.{IsSendable}
 use Rattle.nv_command.specs.Form.{is_error_log}
-use Rattle.nv_command.specs.inner.Room.{IsSizeOf}
+use Rattle.nv_command.proofs.ReplySizes.{IsSizeOf}
 use Rattle.nv_command.specs.declared.command.Command.{Command}
 use Rattle.nv_command.specs.declared.command.Command.TheVariants.{GetLog}
-use Rattle.nv_command.specs.declared.form.Form.{Form}
+use Rattle.nv_command.specs.declared.transfer.Form.{Form}
 use Rattle.nv_command.specs.declared.transfer.Transfer.{Transfer}
 use Rattle.nv_command.specs.declared.transfer.Transfer.TheVariants.{NoData, ToHost, FromHost}
 

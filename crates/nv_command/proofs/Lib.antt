@@ -10,3 +10,4 @@ pub mod ManagementLaws
 pub mod RefusalLaws
 pub mod TravelLaws
 pub mod RoomLaws
+pub mod ReplySizes

@@ -20,7 +20,7 @@ use Rattle.nv_command.specs.Logs.{GetLogFits, IsWhole, entries_in, entry_receive
 use Rattle.nv_command.specs.Logs.{without_phases}
 use Rattle.nv_command.specs.Received.{first_entries, first_of_log}
 use Rattle.nv_command.specs.Form.{get_log_fields, log_kind}
-use Rattle.nv_command.specs.inner.Room.{IsSizeOf}
+use Rattle.nv_command.proofs.ReplySizes.{IsSizeOf}
 use Rattle.nv_command.specs.Reply.{FitsRecord, IsReplyTo, dword0_of, kind_of, log_of, reply_by}
 use Rattle.nv_command.specs.declared.command.Command.{Command}
 use Rattle.nv_command.specs.declared.command.Command.TheVariants.{GetLog}

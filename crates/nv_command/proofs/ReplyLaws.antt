@@ -5,9 +5,9 @@ use Rattle.nv_layout.proofs.IdentifyLaws.{length-bytes_of_id_ns}
 use Rattle.nv_layout.proofs.RecordLaws.{length-bytes_of_ns_list, ns_list_back}
 use Rattle.nv_command.specs.Logs.{without_phases}
 use Rattle.nv_command.specs.Reply.{FitsRecord, dword0_of, kind_of, page_of, reply_by}
-use Rattle.nv_command.specs.inner.Room.{page_bytes}
-use Rattle.nv_command.specs.declared.form.ReplyKind.{ReplyKind}
-use Rattle.nv_command.specs.declared.form.ReplyKind.TheVariants as kind
+use Rattle.nv_command.proofs.ReplySizes.{page_bytes}
+use Rattle.nv_command.specs.declared.transfer.ReplyKind.{ReplyKind}
+use Rattle.nv_command.specs.declared.transfer.ReplyKind.TheVariants as kind
 use Rattle.nv_command.specs.declared.reply.Reply.{Reply}
 use Rattle.nv_command.specs.declared.reply.Reply.TheVariants as reply
 

@@ -17,7 +17,7 @@ use Rattle.nv_command.proofs.ManagementLaws.{attachment_back, attachment_fits, c
 use Rattle.nv_command.proofs.ManagementLaws.{management_fits}
 use Rattle.nv_command.specs.Reply.{FitsRecord, IsReplyTo, data_of, dword0_of, log_of, reply_in}
 use Rattle.nv_command.proofs.ReplyLaws.{length_of_page, page_arrives}
-use Rattle.nv_command.specs.inner.Room.{page_bytes}
+use Rattle.nv_command.proofs.ReplySizes.{page_bytes}
 use Rattle.nv_command.specs.Travel.{CommandsTravel, RepliesFit, RepliesTravel}
 use Rattle.nv_command.specs.declared.command.Command.{Command}
 use Rattle.nv_command.specs.declared.command.Command.TheVariants.{IdentifyController}

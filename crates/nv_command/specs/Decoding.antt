@@ -12,10 +12,10 @@ use Rattle.nv_layout.specs.Steps.{◌>>=◌}
 use Rattle.nv_command.specs.declared.command.Command.{Command}
 use Rattle.nv_command.specs.declared.decoded.Decoded.{Decoded}
 use Rattle.nv_command.specs.declared.decoded.Decoded.TheVariants as decoded
-use Rattle.nv_command.specs.declared.entry.Opcode.{Opcode}
-use Rattle.nv_command.specs.declared.entry.Opcode.TheVariants.{Identify, NamespaceManagement}
-use Rattle.nv_command.specs.declared.entry.Opcode.TheVariants.{NamespaceAttachment, FormatNvm}
-use Rattle.nv_command.specs.declared.entry.Opcode.TheVariants.{GetFeatures, SetFeatures, GetLogPage}
+use Rattle.nv_command.specs.declared.decoded.Opcode.{Opcode}
+use Rattle.nv_command.specs.declared.decoded.Opcode.TheVariants.{Identify, NamespaceManagement}
+use Rattle.nv_command.specs.declared.decoded.Opcode.TheVariants.{NamespaceAttachment, FormatNvm}
+use Rattle.nv_command.specs.declared.decoded.Opcode.TheVariants.{GetFeatures, SetFeatures, GetLogPage}
 use Rattle.nv_command.specs.declared.status_code.StatusCode.{StatusCode}
 use Rattle.nv_command.specs.declared.status_code.StatusCode.TheVariants.{InvalidCommandOpcode}
 use Rattle.nv_command.specs.declared.status_code.StatusCode.TheVariants.{InvalidFieldInCommand}

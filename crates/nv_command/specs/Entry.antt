@@ -4,7 +4,7 @@ use Rattle.nv_layout.specs.declared.sqe.Sqe.{Sqe}
 use Rattle.nv_command.specs.Form.{namespace_of}
 use Rattle.nv_command.specs.Form.{form_of}
 use Rattle.nv_command.specs.declared.command.Command.{Command}
-use Rattle.nv_command.specs.declared.entry.Fields.{Fields}
+use Rattle.nv_command.specs.declared.transfer.Fields.{Fields}
 
 -- the entry with these fields, this NSID and this command identifier; everything else is 0
 abbrev pub entry_with : Fields → ℕ → ℕ → Sqe

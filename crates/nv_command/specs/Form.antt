@@ -1,7 +1,7 @@
 -- How each command travels: the fields of its entry, its data, and the kind of its reply.
 use Rattle.std.specs.Prelude.{◌+◌, ℕ, Bool, true, false, ◌-◌, ◌*◌, ◌/◌, ◌%◌, ◌^◌, ◌==◌}
 use Rattle.nv_layout.specs.Bits.{at_bits, bit, bits}
-use Rattle.nv_command.specs.declared.entry.Fields.{Fields}
+use Rattle.nv_command.specs.declared.transfer.Fields.{Fields}
 use Rattle.nv_command.specs.declared.features.FeatureQuery.{FeatureQuery}
 use Rattle.nv_command.specs.declared.features.FeatureSetting.{FeatureSetting}
 use Rattle.nv_command.specs.declared.command.Command.{Command}
@@ -10,9 +10,9 @@ use Rattle.nv_command.specs.declared.command.Command.TheVariants.{AllocatedNames
 use Rattle.nv_command.specs.declared.command.Command.TheVariants.{AllocatedList, Create, Delete}
 use Rattle.nv_command.specs.declared.command.Command.TheVariants.{Attachment, Format, GetFeature}
 use Rattle.nv_command.specs.declared.command.Command.TheVariants.{SetFeature, GetLog}
-use Rattle.nv_command.specs.declared.form.Form.{Form}
-use Rattle.nv_command.specs.declared.form.ReplyKind.{ReplyKind}
-use Rattle.nv_command.specs.declared.form.ReplyKind.TheVariants as kind
+use Rattle.nv_command.specs.declared.transfer.Form.{Form}
+use Rattle.nv_command.specs.declared.transfer.ReplyKind.{ReplyKind}
+use Rattle.nv_command.specs.declared.transfer.ReplyKind.TheVariants as kind
 use Rattle.nv_command.specs.declared.format.NewFormat.{NewFormat}
 use Rattle.nv_command.specs.declared.transfer.Transfer.{Transfer}
 use Rattle.nv_command.specs.declared.transfer.Transfer.TheVariants.{NoData, ToHost, FromHost}
@@ -27,9 +27,14 @@ form fields nsid transfer reply = record {
   reply = reply;
 }
 
+-- the fields of a command that uses no command specific dword but CDW10
+abbrev pub short_fields : ℕ → ℕ → Fields
+short_fields opcode cdw10 =
+    record { opcode = opcode; cdw10 = cdw10; cdw11 = 0; cdw12 = 0; cdw13 = 0 }
+
 -- "Identify command": CDW10 has CNS in bits 7 to 0
 abbrev pub identify_fields : ℕ → Fields
-identify_fields cns = record { opcode = 0x06; cdw10 = cns; cdw11 = 0; cdw12 = 0; cdw13 = 0 }
+identify_fields cns = short_fields 0x06 cns
 
 -- each Identify returns a page
 abbrev pub identify_data : Transfer
@@ -37,12 +42,11 @@ identify_data = ToHost 4096
 
 -- "Namespace Management command": CDW10 has SEL in bits 3 to 0
 abbrev pub management_fields : ℕ → Fields
-management_fields select = record { opcode = 0x0d; cdw10 = select; cdw11 = 0; cdw12 = 0; cdw13 = 0 }
+management_fields select = short_fields 0x0d select
 
 -- "Namespace Attachment command": CDW10 has SEL in bits 3 to 0, 0h to attach and 1h to detach
 abbrev pub attachment_fields : Bool → Fields
-attachment_fields detach =
-    record { opcode = 0x15; cdw10 = bit detach; cdw11 = 0; cdw12 = 0; cdw13 = 0 }
+attachment_fields detach = short_fields 0x15 (bit detach)
 
 -- to create, attach or detach, the host sends a page
 abbrev pub page_from_host : Transfer
@@ -51,14 +55,8 @@ page_from_host = FromHost 4096
 -- "Format NVM command": CDW10 has LBAF in bits 3 to 0, MSET in bit 4, PI in bits 7 to 5, PIL in bit 8 and
 -- SES in bits 11 to 9
 abbrev pub format_fields : NewFormat → Fields
-format_fields f = record {
-  opcode = 0x80;
-  cdw10 = at_bits 0 4 f.lbaf + at_bits 4 1 (bit f.mset) + at_bits 5 3 f.pi
-      + at_bits 8 1 (bit f.pil) + at_bits 9 3 f.ses;
-  cdw11 = 0;
-  cdw12 = 0;
-  cdw13 = 0;
-}
+format_fields f = short_fields 0x80 (at_bits 0 4 f.lbaf + at_bits 4 1 (bit f.mset)
+    + at_bits 5 3 f.pi + at_bits 8 1 (bit f.pil) + at_bits 9 3 f.ses)
 
 -- "Get Features command": CDW10 has FID in bits 7 to 0 and SEL in bits 10 to 8
 abbrev pub get_feature_fields : FeatureQuery → Fields

@@ -14,4 +14,3 @@ pub mod Reply
 pub mod Room
 pub mod Travel
 pub mod Received
-pub mod inner

@@ -16,8 +16,8 @@ use Rattle.nv_command.specs.Identify.{controller_in, list_in, namespace_in}
 use Rattle.nv_command.specs.Logs.{errors_in, smart_in}
 use Rattle.nv_command.specs.declared.command.Command.{Command}
 use Rattle.nv_command.specs.declared.command.Command.TheVariants.{GetLog}
-use Rattle.nv_command.specs.declared.form.ReplyKind.{ReplyKind}
-use Rattle.nv_command.specs.declared.form.ReplyKind.TheVariants as kind
+use Rattle.nv_command.specs.declared.transfer.ReplyKind.{ReplyKind}
+use Rattle.nv_command.specs.declared.transfer.ReplyKind.TheVariants as kind
 use Rattle.nv_command.specs.declared.reply.Reply.{Reply}
 use Rattle.nv_command.specs.declared.reply.Reply.TheVariants as reply
 

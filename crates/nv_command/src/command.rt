@@ -12,12 +12,11 @@ ghost use Rattle.nv_command.specs.Travel.{Arrives};
 
 use crate::decoded::Decoded;
 use crate::features::{FeatureQuery, FeatureSetting};
-use crate::form::{Form, ReplyKind};
 use crate::format::NewFormat;
+use crate::identify;
 use crate::logs::LogQuery;
 use crate::status_code::StatusCode;
-use crate::transfer::Transfer;
-use crate::{identify, management};
+use crate::transfer::{Form, PAGE_FROM_HOST, ReplyKind, Transfer};
 use nv_layout::{ControllerIds, CtrlList, NewNamespace, Sqe};
 
 /// The NSID that stands for all namespaces. Section "Namespace Identifier".
@@ -83,15 +82,13 @@ impl<'a> Command<'a> {
             }
             Command::ActiveList { after } => identify::form_by(0x02, *after, ReplyKind::List),
             Command::AllocatedList { after } => identify::form_by(0x10, *after, ReplyKind::List),
-            Command::Create(_) => {
-                management::fields(0x0).form(0, management::TRANSFER, ReplyKind::Number)
-            }
+            Command::Create(_) => Form::new(0x0d, 0x0, 0, PAGE_FROM_HOST, ReplyKind::Number),
             Command::Delete { nsid } => {
-                management::fields(0x1).form(*nsid, Transfer::NoData, ReplyKind::Done)
+                Form::new(0x0d, 0x1, *nsid, Transfer::NoData, ReplyKind::Done)
             }
             Command::Attachment { nsid, detach, .. } => {
-                let fields = management::attachment_fields(*detach);
-                fields.form(*nsid, management::TRANSFER, ReplyKind::Done)
+                let select = u32::from(*detach);
+                Form::new(0x15, select, *nsid, PAGE_FROM_HOST, ReplyKind::Done)
             }
             Command::Format(asked) => asked.form(),
             Command::GetFeature(asked) => asked.form(),

@@ -1,15 +1,13 @@
 //! Entries that are decoded before the data that the host sends is read.
 
-ghost use Rattle.std.specs.Prelude.{◌≡◌, Err, IfOk, MatchResult, Ok};
+ghost use Rattle.std.specs.Prelude.{◌≡◌, IfOk};
 ghost use Rattle.nv_command.specs.Command.{transfer_by};
-ghost use Rattle.nv_command.specs.Decoding.{command_with, decoded_of, transfer_in};
-ghost use Rattle.nv_command.specs.Management.{page_of};
+ghost use Rattle.nv_command.specs.Decoding.{command_with, decoded_of, opcode_of, transfer_in};
 
 use crate::command::Command;
-use crate::entry::Opcode;
 use crate::status_code::StatusCode;
-use crate::transfer::Transfer;
-use crate::{features, format, identify, logs, management};
+use crate::transfer::{PAGE_FROM_HOST, Transfer};
+use crate::{features, format, identify, logs};
 use nv_layout::{CtrlList, NewNamespace, Sqe};
 
 /// What an entry asks for, before the data that the host sends is read.
@@ -23,13 +21,38 @@ pub enum Decoded<'a> {
     Attachment { nsid: u32, detach: bool },
 }
 
-/// Returns what the host sent if it is a page.
-fn page(sent: &[u8]) -> Result<&[u8; 4096], StatusCode>
-    ensures { MatchResult result
-        (λ page. page_of sent.now ≡ Ok page.now)
-        (λ code. page_of sent.now ≡ Err code) }
-{
-    sent.try_into().map_err(|_| StatusCode::DataTransferError)
+/// The known opcodes. Section "Opcodes for Admin Commands".
+#[derive(Clone, Copy, Debug, PartialEq, Eq)]
+pub enum Opcode {
+    Identify,
+    NamespaceManagement,
+    NamespaceAttachment,
+    FormatNvm,
+    GetFeatures,
+    SetFeatures,
+    GetLogPage,
+}
+
+impl Opcode {
+    /// Returns the opcode of an entry, if it is known and the entry is neither fused nor uses SGLs.
+    pub(crate) fn of(entry: &Sqe) -> Result<Opcode, StatusCode>
+        ensures { result ≡ opcode_of entry.now }
+    {
+        let opcode = match entry.opcode {
+            0x06 => Opcode::Identify,
+            0x0d => Opcode::NamespaceManagement,
+            0x15 => Opcode::NamespaceAttachment,
+            0x80 => Opcode::FormatNvm,
+            0x0a => Opcode::GetFeatures,
+            0x09 => Opcode::SetFeatures,
+            0x02 => Opcode::GetLogPage,
+            _ => return Err(StatusCode::InvalidCommandOpcode),
+        };
+        if entry.fuse != 0 || entry.psdt != 0 {
+            return Err(StatusCode::InvalidFieldInCommand);
+        }
+        Ok(opcode)
+    }
 }
 
 impl<'a> Decoded<'a> {
@@ -39,10 +62,22 @@ impl<'a> Decoded<'a> {
     pub fn of(entry: &Sqe) -> Result<Decoded<'a>, StatusCode>
         ensures { result ≡ decoded_of entry.now }
     {
+        let nsid = entry.nsid;
         match Opcode::of(entry)? {
             Opcode::Identify => Ok(Decoded::Whole(identify::command(entry)?)),
-            Opcode::NamespaceManagement => management::decode(entry),
-            Opcode::NamespaceAttachment => management::decode_attachment(entry),
+            Opcode::NamespaceManagement => match entry.cdw10 % 0x10 {
+                0x0 => Ok(Decoded::Create),
+                0x1 => Ok(Decoded::Whole(Command::Delete { nsid })),
+                _ => Err(StatusCode::InvalidFieldInCommand),
+            },
+            Opcode::NamespaceAttachment => match entry.cdw10 % 0x10 {
+                0x0 => Ok(Decoded::Attachment {
+                    nsid,
+                    detach: false,
+                }),
+                0x1 => Ok(Decoded::Attachment { nsid, detach: true }),
+                _ => Err(StatusCode::InvalidFieldInCommand),
+            },
             Opcode::FormatNvm => Ok(Decoded::Whole(format::command(entry))),
             Opcode::GetFeatures => Ok(Decoded::Whole(features::get_command(entry))),
             Opcode::SetFeatures => Ok(Decoded::Whole(features::set_command(entry))),
@@ -56,7 +91,7 @@ impl<'a> Decoded<'a> {
     {
         match self {
             Decoded::Whole(command) => command.transfer(),
-            Decoded::Create | Decoded::Attachment { .. } => management::TRANSFER,
+            Decoded::Create | Decoded::Attachment { .. } => PAGE_FROM_HOST,
         }
     }
 
@@ -70,9 +105,13 @@ impl<'a> Decoded<'a> {
     {
         match self {
             Decoded::Whole(command) => Ok(command),
-            Decoded::Create => Ok(Command::Create(NewNamespace::get(page(sent)?))),
+            Decoded::Create => {
+                let page = sent.as_array().ok_or(StatusCode::DataTransferError)?;
+                Ok(Command::Create(NewNamespace::get(page)))
+            }
             Decoded::Attachment { nsid, detach } => {
-                place.read(page(sent)?)?;
+                let page = sent.as_array().ok_or(StatusCode::DataTransferError)?;
+                place.read(page)?;
                 Ok(Command::Attachment {
                     nsid,
                     detach,

@@ -5,9 +5,7 @@ ghost use Rattle.std.specs.Prelude.{◌≡◌};
 ghost use Rattle.nv_command.specs.Features.{get_feature_command, set_feature_command};
 
 use crate::command::Command;
-use crate::entry::Fields;
-use crate::form::{Form, ReplyKind};
-use crate::transfer::Transfer;
+use crate::transfer::{Fields, Form, ReplyKind, Transfer};
 use nv_layout::{Sqe, ThreeBits, bits_of, to_bits};
 
 /// The fields of a Get Features: `sel` selects a value of a feature, and `cdw11` is Command Dword
@@ -46,7 +44,12 @@ impl FeatureQuery {
             cdw12: 0,
             cdw13: 0,
         };
-        fields.form(self.nsid, Transfer::NoData, ReplyKind::Number)
+        Form {
+            fields,
+            nsid: self.nsid,
+            transfer: Transfer::NoData,
+            reply: ReplyKind::Number,
+        }
     }
 
     /// States a law: each field fits its bits, as its type says. The call does nothing.
@@ -73,7 +76,12 @@ impl FeatureSetting {
             cdw12: 0,
             cdw13: 0,
         };
-        fields.form(self.nsid, Transfer::NoData, ReplyKind::Done)
+        Form {
+            fields,
+            nsid: self.nsid,
+            transfer: Transfer::NoData,
+            reply: ReplyKind::Done,
+        }
     }
 
     /// States a law: each field fits its bits, as its type says. The call does nothing.

@@ -4,9 +4,7 @@ ghost use Rattle.std.specs.Prelude.{◌≡◌};
 ghost use Rattle.nv_command.specs.Format.{format_command};
 
 use crate::command::Command;
-use crate::entry::Fields;
-use crate::form::{Form, ReplyKind};
-use crate::transfer::Transfer;
+use crate::transfer::{Form, ReplyKind, Transfer};
 use nv_layout::{FourBits, Sqe, ThreeBits, bits_of, to_bits};
 
 /// What a host asks of a format, by the names of its fields: a namespace gets the format `lbaf`.
@@ -34,14 +32,7 @@ impl NewFormat {
             + to_bits(self.pi.get() as u32, 5, 3)
             + to_bits(self.pil as u32, 8, 1)
             + to_bits(self.ses.get() as u32, 9, 3);
-        let fields = Fields {
-            opcode: 0x80,
-            cdw10,
-            cdw11: 0,
-            cdw12: 0,
-            cdw13: 0,
-        };
-        fields.form(self.nsid, Transfer::NoData, ReplyKind::Done)
+        Form::new(0x80, cdw10, self.nsid, Transfer::NoData, ReplyKind::Done)
     }
 
     /// States a law: each field fits its bits, as its type says. The call does nothing.

@@ -5,10 +5,8 @@ ghost use Rattle.nv_command.specs.Form.{form, identify_data, identify_fields};
 ghost use Rattle.nv_command.specs.Identify.{identify_command};
 
 use crate::command::Command;
-use crate::entry::Fields;
-use crate::form::{Form, ReplyKind};
 use crate::status_code::StatusCode;
-use crate::transfer::Transfer;
+use crate::transfer::{Form, ReplyKind, Transfer};
 use nv_layout::Sqe;
 
 /// Returns the form of an Identify command with this Controller or Namespace Structure (CNS) and
@@ -16,14 +14,7 @@ use nv_layout::Sqe;
 pub(crate) fn form_by(cns: u8, nsid: u32, reply: ReplyKind) -> Form
     ensures { result ≡ form (identify_fields cns) nsid identify_data reply }
 {
-    let fields = Fields {
-        opcode: 0x06,
-        cdw10: cns as u32,
-        cdw11: 0,
-        cdw12: 0,
-        cdw13: 0,
-    };
-    fields.form(nsid, Transfer::ToHost(4096), reply)
+    Form::new(0x06, u32::from(cns), nsid, Transfer::ToHost(4096), reply)
 }
 
 /// Returns the command of an Identify entry.

@@ -5,9 +5,7 @@ ghost use Rattle.nv_command.specs.Logs.{get_log_command};
 
 use crate::command::Command;
 use crate::dword_count::DwordCount;
-use crate::entry::Fields;
-use crate::form::{Form, ReplyKind};
-use crate::transfer::Transfer;
+use crate::transfer::{Fields, Form, ReplyKind, Transfer};
 use nv_layout::{Sqe, bits_of, to_bits};
 
 /// The log page identifier of Error Information.
@@ -48,7 +46,12 @@ impl LogQuery {
         } else {
             ReplyKind::Smart
         };
-        fields.form(self.nsid, Transfer::ToHost(self.dwords.bytes()), reply)
+        Form {
+            fields,
+            nsid: self.nsid,
+            transfer: Transfer::ToHost(self.dwords.bytes()),
+            reply,
+        }
     }
 
     /// States a law: each field fits its bits, as its type says. The call does nothing.

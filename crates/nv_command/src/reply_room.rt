@@ -7,15 +7,14 @@ ghost use Rattle.nv_layout.specs.Limits.{most_nsids};
 ghost use Rattle.nv_layout.specs.declared.error_entry.ErrorEntry.{ErrorEntry};
 ghost use Rattle.nv_command.specs.Command.{bytes_to_host, transfer_by};
 ghost use Rattle.nv_command.specs.Logs.{IsSendable, entry_received};
-ghost use Rattle.nv_command.specs.Reply.{reply_by, reply_in};
-ghost use Rattle.nv_command.specs.inner.Room.{IsSizeOf};
+ghost use Rattle.nv_command.specs.Reply.{reply_in};
 ghost use Rattle.nv_command.specs.Room.{entries_held};
 ghost use Rattle.nv_command.specs.declared.reply.Reply.TheVariants.{Done};
 
 use crate::borrowed::Borrowed;
 use crate::command::Command;
-use crate::form::ReplyKind;
 use crate::reply::Reply;
+use crate::transfer::ReplyKind;
 use nv_layout::{ErrorEntries, ErrorEntry, IdCtrl, IdNs, NsList, Smart};
 use std::marker::Model;
 
@@ -108,23 +107,15 @@ impl ReplyRoom {
     }
 
     /// Reads the reply to a command from dword 0 of its completion and the data to the host, and
-    /// stores it. What the command has no use for is ignored.
+    /// stores it. What the command has no use for is ignored. Each case is stored where it is read,
+    /// so that only its own bytes are written.
     #[tactic(auto, using(crate::proofs::FormLaws::size_of_reply))]
     pub fn read(&mut self, command: &Command, dword0: u32, bytes: &[u8])
         requires sendable { IsSendable command.now }
         requires size { length bytes.now ≡ bytes_to_host (transfer_by command.now) }
         ensures { self.new ≡ reply_in command.now dword0 bytes.now }
     {
-        self.read_kind(command.form().reply, dword0, bytes);
-    }
-
-    /// Reads and stores a reply of a kind. Each case is stored where it is read, so that only its own
-    /// bytes are written.
-    fn read_kind(&mut self, kind: ReplyKind, dword0: u32, bytes: &[u8])
-        requires { IsSizeOf kind (length bytes.now) }
-        ensures { self.new ≡ reply_by kind dword0 bytes.now }
-    {
-        match kind {
+        match command.form().reply {
             ReplyKind::Controller => self.held = Held::Controller(IdCtrl::get(part_of(bytes))),
             ReplyKind::Namespace => self.held = Held::Namespace(IdNs::get(part_of(bytes))),
             ReplyKind::List => {

@@ -10,9 +10,9 @@ use Rattle.nv_command.specs.Form.{page_from_host}
 use Rattle.nv_command.specs.declared.command.Command.TheVariants.{Attachment}
 use Rattle.nv_command.specs.declared.decoded.Decoded.{Decoded}
 use Rattle.nv_command.specs.declared.decoded.Decoded.TheVariants as decoded
-use Rattle.nv_command.specs.declared.entry.Opcode.{Opcode}
-use Rattle.nv_command.specs.declared.entry.Opcode.TheVariants.{FormatNvm, GetFeatures, GetLogPage, Identify}
-use Rattle.nv_command.specs.declared.entry.Opcode.TheVariants.{NamespaceAttachment, NamespaceManagement, SetFeatures}
+use Rattle.nv_command.specs.declared.decoded.Opcode.{Opcode}
+use Rattle.nv_command.specs.declared.decoded.Opcode.TheVariants.{FormatNvm, GetFeatures, GetLogPage, Identify}
+use Rattle.nv_command.specs.declared.decoded.Opcode.TheVariants.{NamespaceAttachment, NamespaceManagement, SetFeatures}
 use Rattle.nv_bus.specs.Call.{HasRoom, asked_by, moves_of, within}
 use Rattle.nv_bus.proofs.CallLaws.{AskedIf, asked_of, has_room, namespace_in, within_few, within_limit}
 use Rattle.nv_driver.proofs.Words.{Asked, CanBeSent, Command, FromHost, GoesBy, IsRequest, NoData, Sqe, SqeFits}

@@ -22,7 +22,7 @@ use Rattle.nv_command.specs.declared.command.Command.TheVariants.{AllocatedList,
 use Rattle.nv_command.specs.declared.command.Command.TheVariants.{Attachment, Format, GetFeature}
 use Rattle.nv_command.specs.declared.command.Command.TheVariants.{SetFeature, GetLog}
 use Rattle.nv_command.specs.Nsid.{broadcast_nsid}
-use Rattle.nv_command.specs.declared.form.ReplyKind.{ReplyKind}
+use Rattle.nv_command.specs.declared.transfer.ReplyKind.{ReplyKind}
 use Rattle.nv_command.specs.declared.reply.Reply.TheVariants as reply
 use Rattle.nv_command.specs.declared.status_code.StatusCode.TheVariants.{InvalidNamespaceOrFormat}
 use Rattle.nv_bits.specs.Above.{above}

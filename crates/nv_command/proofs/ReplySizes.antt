@@ -1,7 +1,7 @@
--- The reply in a `ReplyRoom`: what no public contract reaches.
+-- How many bytes the replies of each kind have.
 use Rattle.std.specs.Prelude.{◌≡◌, ℕ, ◌/◌, ◌≤◌}
-use Rattle.nv_command.specs.declared.form.ReplyKind.{ReplyKind}
-use Rattle.nv_command.specs.declared.form.ReplyKind.TheVariants as kind
+use Rattle.nv_command.specs.declared.transfer.ReplyKind.{ReplyKind}
+use Rattle.nv_command.specs.declared.transfer.ReplyKind.TheVariants as kind
 
 -- how many bytes of a page a reply of a kind has, if it is no log
 abbrev pub page_bytes : ReplyKind → ℕ
