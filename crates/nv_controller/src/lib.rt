@@ -44,13 +44,11 @@
 //! Sections are named as in the NVM Express Base Specification, revision 1.4.
 #![tactic(auto)]
 
-mod call;
 mod entry;
 mod log_part;
 mod machine;
 mod reply_page;
 mod scratch;
-mod turn;
 
 pub use machine::Machine;
 pub use nv_bus::Bus;

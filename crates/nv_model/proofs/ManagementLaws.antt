@@ -37,7 +37,7 @@ use Rattle.nv_model.specs.Conditions.{first_refusal}
 use Rattle.nv_model.specs.State.{Controller, Namespaces, State}
 use Rattle.nv_model.proofs.UsedLaws.{used-empty, used-insert, used-remove}
 use Rattle.nv_model.specs.WellFormed.{AreValues, IsController, IsNamespace, IsWellFormed}
-use Rattle.nv_model.specs.declared.row.Row.{Row}
+use Rattle.nv_model.specs.Conditions.{Row}
 use Rattle.nv_layout.specs.Limits.{most_nsids}
 
 -- ---- rows

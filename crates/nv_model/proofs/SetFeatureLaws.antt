@@ -36,7 +36,7 @@ use Rattle.nv_model.specs.Values.{FeatureValues, key_of}
 use Rattle.nv_model.proofs.ValueLaws.{put_back, removed_absent}
 use Rattle.nv_model.specs.WellFormed.{AreValues, IsController, IsWellFormed, is_value_at, may_have}
 use Rattle.nv_model.specs.declared.feature_value.FeatureValue.{FeatureValue}
-use Rattle.nv_model.specs.declared.row.Row.{Row}
+use Rattle.nv_model.specs.Conditions.{Row}
 
 -- ---- rows
 

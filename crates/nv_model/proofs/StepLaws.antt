@@ -12,7 +12,7 @@ use Rattle.nv_model.specs.Meaning.{effect_of}
 use Rattle.nv_model.specs.Step.{log_entry}
 use Rattle.nv_model.specs.Meaning.{refusal_of, rows_of}
 use Rattle.nv_model.specs.Conditions.{first_refusal}
-use Rattle.nv_model.specs.declared.row.Row.{Row}
+use Rattle.nv_model.specs.Conditions.{Row}
 use Rattle.nv_command.specs.Form.{namespace_of}
 use Rattle.nv_command.specs.Refusal.{IsRefusal}
 use Rattle.nv_model.specs.WellFormed.{IsWellFormed}

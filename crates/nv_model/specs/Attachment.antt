@@ -16,7 +16,7 @@ use Rattle.nv_model.specs.Conditions.{is_allocated, is_valid}
 use Rattle.nv_model.specs.Conditions.{row}
 use Rattle.nv_model.specs.State.{Controller, State}
 use Rattle.nv_model.specs.Values.{recovery_key}
-use Rattle.nv_model.specs.declared.row.Row.{Row}
+use Rattle.nv_model.specs.Conditions.{Row}
 
 -- ---- the list of controller identifiers
 

@@ -11,7 +11,6 @@ use Rattle.nv_command.specs.Nsid.{broadcast_nsid}
 use Rattle.nv_command.specs.Refusal.{refusal_by}
 use Rattle.nv_command.specs.declared.refusal.Refusal.{Refusal}
 use Rattle.nv_command.specs.declared.status_code.StatusCode.{StatusCode}
-use Rattle.nv_model.specs.declared.row.Row.{Row}
 
 -- metadata can be at the end of the blocks of a format that has some, if bit 0 of mc is 1
 abbrev pub may_extend : ℕ → Format → Bool → Bool
@@ -59,6 +58,11 @@ is_allocated s n = map_of.contains_key s.namespaces n
 -- the least NSID without a namespace
 abbrev pub free_nsid : State → Option ℕ
 free_nsid s = find (λ n. not (is_allocated s n)) (range_with_len 1 s.nn)
+
+-- a condition, and the refusal if it holds
+pub record Row : Type 0 where
+  pub when : Bool
+  pub refusal : Refusal
 
 -- a row whose refusal has no command specific information
 abbrev pub row : Bool → StatusCode → Row

@@ -25,7 +25,7 @@ use Rattle.nv_model.specs.State.{Controller, State, controller_at, with_controll
 use Rattle.nv_model.specs.WellFormed.{supported}
 use Rattle.nv_model.specs.Values.{FeatureValues, key_of, keys_of}
 use Rattle.nv_model.specs.declared.feature_value.FeatureValue.{FeatureValue}
-use Rattle.nv_model.specs.declared.row.Row.{Row}
+use Rattle.nv_model.specs.Conditions.{Row}
 
 -- how a controller treats a feature
 abbrev pub rule_at : State → ℕ → Feature → FeatureRule

@@ -12,7 +12,7 @@ use Rattle.nv_model.specs.declared.namespace.Namespace.{Namespace}
 use Rattle.nv_model.specs.Change.{changed_at_keys}
 use Rattle.nv_model.specs.Conditions.{can_have, format_at, concerned, is_active, is_valid, row}
 use Rattle.nv_model.specs.State.{State, controller_at}
-use Rattle.nv_model.specs.declared.row.Row.{Row}
+use Rattle.nv_model.specs.Conditions.{Row}
 
 -- a namespace with a capacity below a size
 abbrev pub is_below : State → ℕ → ℕ → Bool

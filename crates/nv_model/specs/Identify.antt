@@ -13,7 +13,7 @@ use Rattle.nv_command.specs.declared.status_code.StatusCode.TheVariants.{Invalid
 use Rattle.nv_model.specs.WellFormed.{blocks}
 use Rattle.nv_model.specs.Conditions.{active_nsids, is_active, is_valid}
 use Rattle.nv_model.specs.Conditions.{row}
-use Rattle.nv_model.specs.declared.row.Row.{Row}
+use Rattle.nv_model.specs.Conditions.{Row}
 use Rattle.nv_model.specs.State.{State, allocated_nsids}
 use Rattle.nv_model.specs.declared.format.Format.{Format}
 use Rattle.nv_model.specs.declared.namespace.Namespace.{Namespace}

@@ -15,7 +15,7 @@ use Rattle.nv_command.specs.declared.status_code.StatusCode.TheVariants.{Invalid
 use Rattle.nv_model.specs.Conditions.{limit_of}
 use Rattle.nv_model.specs.Conditions.{row}
 use Rattle.nv_model.specs.State.{Controller, State, controller_at}
-use Rattle.nv_model.specs.declared.row.Row.{Row}
+use Rattle.nv_model.specs.Conditions.{Row}
 use Rattle.nv_model.specs.declared.smart_base.SmartBase.{SmartBase}
 
 -- ---- refusals

@@ -20,7 +20,7 @@ use Rattle.nv_model.specs.Conditions.{free_nsid, is_allocated, is_valid}
 use Rattle.nv_model.specs.Conditions.{row}
 use Rattle.nv_model.specs.State.{Controller, Nsids, State}
 use Rattle.nv_model.specs.Values.{FeatureValues, is_alone, recovery_key}
-use Rattle.nv_model.specs.declared.row.Row.{Row}
+use Rattle.nv_model.specs.Conditions.{Row}
 
 -- ---- create
 

@@ -18,7 +18,7 @@ use Rattle.nv_model.specs.IdentifyController.{controller_reply}
 use Rattle.nv_model.specs.Logs.{log_reply, log_rows}
 use Rattle.nv_model.specs.Management.{create_rows, created, created_nsid, delete_rows, deleted}
 use Rattle.nv_model.specs.State.{State}
-use Rattle.nv_model.specs.declared.row.Row.{Row}
+use Rattle.nv_model.specs.Conditions.{Row}
 use Rattle.nv_command.specs.declared.refusal.Refusal.{Refusal}
 use Rattle.nv_model.specs.Conditions.{first_refusal}
 

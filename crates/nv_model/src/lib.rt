@@ -15,7 +15,6 @@ mod identity;
 mod integer;
 mod namespace;
 mod origin;
-mod row;
 mod smart_base;
 
 pub use defaults::Defaults;
@@ -26,7 +25,6 @@ pub use identity::{Identity, IdentityNumbers};
 pub use integer::GREATEST_INTEGER;
 pub use namespace::Namespace;
 pub use origin::{Origin, SERIALS};
-pub use row::Row;
 pub use smart_base::{Counters, SmartBase};
 
 /// States a law: FFFFh is no command identifier, and the integers of TOML have 64 bits with a sign.

@@ -37,7 +37,7 @@ use Rattle.nv_model.specs.Conditions.{first_refusal, row}
 use Rattle.nv_model.specs.State.{Controller, State, controller_at}
 use Rattle.nv_model.specs.Step.{step_by}
 use Rattle.nv_model.specs.WellFormed.{is_supported, supported}
-use Rattle.nv_model.specs.declared.row.Row.{Row}
+use Rattle.nv_model.specs.Conditions.{Row}
 use Rattle.nv_print.specs.Message.{select_of}
 use Rattle.nv_print.specs.declared.select.Select.{Select}
 use Rattle.nv_print.specs.declared.shown.Shown.{Shown}

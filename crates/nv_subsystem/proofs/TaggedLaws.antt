@@ -55,7 +55,7 @@ use Rattle.nv_model.specs.Answer.{answer_by, answer_to, answer_without_phases}
 use Rattle.nv_model.specs.Step.{next_count, refused, step, step_by, with_command, with_refusal}
 use Rattle.nv_model.specs.WellFormed.{IsController, IsWellFormed}
 use Rattle.nv_model.specs.declared.origin.Origin.{Origin}
-use Rattle.nv_model.specs.declared.row.Row.{Row}
+use Rattle.nv_model.specs.Conditions.{Row}
 use Rattle.nv_subsystem.specs.Tagged.{booked, newest_tagged, settled, untagged, untagged_log, with_booked, with_phase}
 
 -- ---- logs

@@ -4,7 +4,7 @@
 ghost use Rattle.std.specs.Prelude.{◌≡◌, ℕ, false, true, map, All};
 ghost use Rattle.nv_bits.specs.Numbers.{IsOf};
 ghost use Rattle.nv_model.specs.Attachment.{attach_rows, attached, attachment_rows, count_with};
-ghost use Rattle.nv_model.specs.Attachment.{detach_rows, detached, fewer, first_rows};
+ghost use Rattle.nv_model.specs.Attachment.{detach_rows, detached, fewer};
 ghost use Rattle.nv_model.specs.Attachment.{has_one_attached, is_ascending, is_known};
 ghost use Rattle.nv_model.specs.Attachment.{is_list_of, is_listed, is_private};
 ghost use Rattle.nv_model.specs.Attachment.{lacks_one_attached, more, with_attachments};
@@ -15,10 +15,8 @@ ghost use Rattle.nv_model.specs.inner.Conditions.{Checks};
 ghost use Rattle.nv_subsystem.specs.Sound.{IsSized};
 
 use crate::controller::Controller;
-use crate::row::check;
 use crate::subsystem::Subsystem;
 use nv_command::{Refusal, StatusCode};
-use nv_model::Row;
 
 /// Returns whether a list of controller identifiers names the controller.
 fn is_listed(ids: &[u16], controller: &Controller) -> bool
@@ -147,35 +145,24 @@ impl Subsystem {
             .count()
     }
 
-    /// Returns the rows that an attach and a detach share, for the NSID and for the list.
-    fn first_rows(&self, nsid: u32, ids: &[u16]) -> [Row; 3]
-        ensures { result ≡ first_rows self.now nsid ids.now }
-    {
-        [
-            Row::new(!self.is_valid(nsid), StatusCode::InvalidNamespaceOrFormat),
-            Row::new(
-                !self.slots.contains(nsid),
-                StatusCode::InvalidFieldInCommand,
-            ),
-            Row::new(!self.is_list_of(ids), StatusCode::ControllerListInvalid),
-        ]
-    }
-
     /// Refuses an attach by the first condition that holds. The conditions are in the order of the
     /// rows.
     fn check_attach(&self, nsid: u32, ids: &[u16]) -> Result<(), Refusal>
         ensures { Checks (attach_rows self.now nsid ids.now) result }
     {
-        let [valid, allocated, listed] = self.first_rows(nsid, ids);
-        let new = Row::new(
-            self.has_one_attached(nsid, ids),
-            StatusCode::NamespaceAlreadyAttached,
-        );
-        let alone = Row::new(
-            self.is_private(nsid) && self.count_with(nsid, ids) > 1,
-            StatusCode::NamespaceIsPrivate,
-        );
-        check(&[valid, allocated, listed, new, alone])
+        if !self.is_valid(nsid) {
+            Err(Refusal::from(StatusCode::InvalidNamespaceOrFormat))
+        } else if !self.slots.contains(nsid) {
+            Err(Refusal::from(StatusCode::InvalidFieldInCommand))
+        } else if !self.is_list_of(ids) {
+            Err(Refusal::from(StatusCode::ControllerListInvalid))
+        } else if self.has_one_attached(nsid, ids) {
+            Err(Refusal::from(StatusCode::NamespaceAlreadyAttached))
+        } else if self.is_private(nsid) && self.count_with(nsid, ids) > 1 {
+            Err(Refusal::from(StatusCode::NamespaceIsPrivate))
+        } else {
+            Ok(())
+        }
     }
 
     /// Refuses a detach by the first condition that holds. The conditions are in the order of the
@@ -183,12 +170,17 @@ impl Subsystem {
     fn check_detach(&self, nsid: u32, ids: &[u16]) -> Result<(), Refusal>
         ensures { Checks (detach_rows self.now nsid ids.now) result }
     {
-        let [valid, allocated, listed] = self.first_rows(nsid, ids);
-        let attached = Row::new(
-            self.lacks_one_attached(nsid, ids),
-            StatusCode::NamespaceNotAttached,
-        );
-        check(&[valid, allocated, listed, attached])
+        if !self.is_valid(nsid) {
+            Err(Refusal::from(StatusCode::InvalidNamespaceOrFormat))
+        } else if !self.slots.contains(nsid) {
+            Err(Refusal::from(StatusCode::InvalidFieldInCommand))
+        } else if !self.is_list_of(ids) {
+            Err(Refusal::from(StatusCode::ControllerListInvalid))
+        } else if self.lacks_one_attached(nsid, ids) {
+            Err(Refusal::from(StatusCode::NamespaceNotAttached))
+        } else {
+            Ok(())
+        }
     }
 
     /// Refuses an attach or a detach by the first condition that holds.

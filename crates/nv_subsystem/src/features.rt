@@ -18,11 +18,10 @@ ghost use Rattle.nv_model.specs.Values.{key_of};
 use crate::controller::{Controller, rule_of};
 use crate::feature_value::{default_of, is_supported};
 use crate::feature_values::FeatureValues;
-use crate::row::check;
 use crate::subsystem::Subsystem;
 use nv_command::{BROADCAST_NSID, FeatureQuery, FeatureSetting, Refusal, StatusCode};
 use nv_layout::{Feature, ThreeBits};
-use nv_model::{FeatureRule, FeatureValue, Row};
+use nv_model::{FeatureRule, FeatureValue};
 
 /// Returns what can be done with a feature: save it (bit 0), give each namespace a value of its own
 /// (bit 1), and change it (bit 2).
@@ -139,21 +138,17 @@ impl Subsystem {
         ensures { Checks (get_rows self.now ctrl asked feature) result }
     {
         let of_namespaces = feature.is_per_namespace();
-        check(&[
-            Row::new(asked.sel.get() > 3, StatusCode::InvalidFieldInCommand),
-            Row::new(
-                !feature.has_selector(feature.selector_in(asked.cdw11)),
-                StatusCode::InvalidFieldInCommand,
-            ),
-            Row::new(
-                of_namespaces && !self.is_valid(asked.nsid),
-                StatusCode::InvalidNamespaceOrFormat,
-            ),
-            Row::new(
-                of_namespaces && !self.is_active(ctrl, asked.nsid),
-                StatusCode::InvalidFieldInCommand,
-            ),
-        ])
+        if asked.sel.get() > 3 {
+            Err(Refusal::from(StatusCode::InvalidFieldInCommand))
+        } else if !feature.has_selector(feature.selector_in(asked.cdw11)) {
+            Err(Refusal::from(StatusCode::InvalidFieldInCommand))
+        } else if of_namespaces && !self.is_valid(asked.nsid) {
+            Err(Refusal::from(StatusCode::InvalidNamespaceOrFormat))
+        } else if of_namespaces && !self.is_active(ctrl, asked.nsid) {
+            Err(Refusal::from(StatusCode::InvalidFieldInCommand))
+        } else {
+            Ok(())
+        }
     }
 
     /// Refuses a Get Features by the first condition that holds.
@@ -177,29 +172,21 @@ impl Subsystem {
         let rule = self.rule(ctrl, feature);
         let of_namespaces = feature.is_per_namespace();
         let all = nsid == BROADCAST_NSID;
-        check(&[
-            Row::new(
-                !feature.accepts(asked.value),
-                StatusCode::InvalidFieldInCommand,
-            ),
-            Row::new(
-                of_namespaces && !(self.is_valid(nsid) || all),
-                StatusCode::InvalidNamespaceOrFormat,
-            ),
-            Row::new(
-                of_namespaces && !(self.is_active(ctrl, nsid) || all),
-                StatusCode::InvalidFieldInCommand,
-            ),
-            Row::new(
-                !of_namespaces && !(nsid == 0 || all),
-                StatusCode::FeatureNotNamespaceSpecific,
-            ),
-            Row::new(
-                asked.save && !rule.saveable,
-                StatusCode::FeatureIdentifierNotSaveable,
-            ),
-            Row::new(!rule.changeable, StatusCode::FeatureNotChangeable),
-        ])
+        if !feature.accepts(asked.value) {
+            Err(Refusal::from(StatusCode::InvalidFieldInCommand))
+        } else if of_namespaces && !(self.is_valid(nsid) || all) {
+            Err(Refusal::from(StatusCode::InvalidNamespaceOrFormat))
+        } else if of_namespaces && !(self.is_active(ctrl, nsid) || all) {
+            Err(Refusal::from(StatusCode::InvalidFieldInCommand))
+        } else if !of_namespaces && !(nsid == 0 || all) {
+            Err(Refusal::from(StatusCode::FeatureNotNamespaceSpecific))
+        } else if asked.save && !rule.saveable {
+            Err(Refusal::from(StatusCode::FeatureIdentifierNotSaveable))
+        } else if !rule.changeable {
+            Err(Refusal::from(StatusCode::FeatureNotChangeable))
+        } else {
+            Ok(())
+        }
     }
 
     /// Refuses a Set Features by the first condition that holds.

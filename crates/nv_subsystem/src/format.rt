@@ -7,12 +7,12 @@ ghost use Rattle.nv_model.specs.Format.{can_erase_by_key, format_rows, formatted
 ghost use Rattle.nv_model.specs.Format.{has_one_below, in_format, is_below};
 ghost use Rattle.nv_model.specs.Conditions.{concerned};
 ghost use Rattle.nv_model.specs.inner.Conditions.{Checks};
+ghost use Rattle.nv_model.specs.inner.Format.{with_format};
 
-use crate::row::check;
 use crate::subsystem::Subsystem;
 use nv_command::{BROADCAST_NSID, NewFormat, Refusal, StatusCode};
 use nv_layout::FourBits;
-use nv_model::Row;
+use nv_model::Namespace;
 
 impl Subsystem {
     /// Returns whether a namespace has a capacity less than `size`.
@@ -67,29 +67,37 @@ impl Subsystem {
         let nsid = asked.nsid;
         let all = nsid == BROADCAST_NSID;
         let ses = asked.ses.get();
-        check(&[
-            Row::new(
-                !(self.is_valid(nsid) || all),
-                StatusCode::InvalidNamespaceOrFormat,
-            ),
-            Row::new(
-                !(self.is_active(ctrl, nsid) || all),
-                StatusCode::InvalidFieldInCommand,
-            ),
-            Row::new(
-                !self.can_have(asked.lbaf.get(), asked.mset),
-                StatusCode::InvalidFormat,
-            ),
-            Row::new(asked.pi.get() != 0 || asked.pil, StatusCode::InvalidFormat),
-            Row::new(
-                self.leaves_one_below(ctrl, nsid, asked.lbaf),
-                StatusCode::InvalidFormat,
-            ),
-            Row::new(
-                ses > 2 || (ses == 2 && !self.can_erase_by_key(ctrl)),
-                StatusCode::InvalidFieldInCommand,
-            ),
-        ])
+        if !(self.is_valid(nsid) || all) {
+            Err(Refusal::from(StatusCode::InvalidNamespaceOrFormat))
+        } else if !(self.is_active(ctrl, nsid) || all) {
+            Err(Refusal::from(StatusCode::InvalidFieldInCommand))
+        } else if !self.can_have(asked.lbaf.get(), asked.mset) {
+            Err(Refusal::from(StatusCode::InvalidFormat))
+        } else if asked.pi.get() != 0 || asked.pil {
+            Err(Refusal::from(StatusCode::InvalidFormat))
+        } else if self.leaves_one_below(ctrl, nsid, asked.lbaf) {
+            Err(Refusal::from(StatusCode::InvalidFormat))
+        } else if ses > 2 || (ses == 2 && !self.can_erase_by_key(ctrl)) {
+            Err(Refusal::from(StatusCode::InvalidFieldInCommand))
+        } else {
+            Ok(())
+        }
+    }
+
+    /// Changes the format of a namespace, if there is one. Its capacity stays the same.
+    pub(crate) fn change_format(&mut self, nsid: u32, lbaf: FourBits, extended: bool)
+        ensures { self.new ≡ record self.old {
+          namespaces = with_format lbaf extended self.old.namespaces nsid;
+        } }
+    {
+        if let Some(namespace) = self.slots.get(nsid) {
+            let changed = Namespace {
+                format: lbaf.get(),
+                extended,
+                ..namespace
+            };
+            self.slots.insert(nsid, changed);
+        }
     }
 
     /// Formats some namespaces.

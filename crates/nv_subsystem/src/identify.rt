@@ -1,6 +1,6 @@
 //! The Identify commands: when they are refused, and what they return. Section "Identify command".
 
-ghost use Rattle.std.specs.Prelude.{◌≡◌, ◌≤◌, ◌<◌, length, All};
+ghost use Rattle.std.specs.Prelude.{◌≡◌, ◌≤◌, ◌<◌, ◌∷◌, [], length, All};
 ghost use Rattle.nv_command.specs.Reply.{page_of};
 ghost use Rattle.nv_command.specs.declared.reply.Reply.TheVariants as reply;
 ghost use Rattle.nv_model.specs.WellFormed.{blocks};
@@ -9,11 +9,11 @@ ghost use Rattle.nv_model.specs.Identify.{active_rows, allocated_list_reply};
 ghost use Rattle.nv_model.specs.Identify.{allocated_namespace, allocated_reply, allocated_rows};
 ghost use Rattle.nv_model.specs.Identify.{blank, common_of, flbas_of, id_ns_of, lbaf_of};
 ghost use Rattle.nv_model.specs.Identify.{lbafs_of, list_rows};
-ghost use Rattle.nv_model.specs.Conditions.{is_active};
+ghost use Rattle.nv_model.specs.Conditions.{is_active, row};
+ghost use Rattle.nv_command.specs.declared.status_code.StatusCode.TheVariants.{InvalidNamespaceOrFormat};
 ghost use Rattle.nv_model.specs.inner.Conditions.{Checks};
 
 use crate::nsid_lists::{list_above, put_above};
-use crate::row::refuse_if;
 use crate::subsystem::Subsystem;
 use nv_command::{BROADCAST_NSID, Borrowed, Refusal, Reply, ReplyRoom, StatusCode};
 use nv_layout::{IdNs, Lbaf, NsList};
@@ -26,7 +26,18 @@ pub const LIST_LIMIT: u32 = 0xffff_fffe;
 pub(crate) fn check_list(after: u32) -> Result<(), Refusal>
     ensures { Checks (list_rows after) result }
 {
-    refuse_if(after >= LIST_LIMIT, StatusCode::InvalidNamespaceOrFormat)
+    refuse_if(after >= LIST_LIMIT)
+}
+
+/// Refuses with Invalid Namespace or Format if a condition holds. This is one row.
+fn refuse_if(when: bool) -> Result<(), Refusal>
+    ensures { Checks (row when InvalidNamespaceOrFormat ∷ []) result }
+{
+    if when {
+        Err(Refusal::from(StatusCode::InvalidNamespaceOrFormat))
+    } else {
+        Ok(())
+    }
 }
 
 impl Subsystem {
@@ -34,17 +45,14 @@ impl Subsystem {
     pub(crate) fn check_active(&self, nsid: u32) -> Result<(), Refusal>
         ensures { Checks (active_rows self.now nsid) result }
     {
-        refuse_if(
-            !(self.is_valid(nsid) || nsid == BROADCAST_NSID),
-            StatusCode::InvalidNamespaceOrFormat,
-        )
+        refuse_if(!(self.is_valid(nsid) || nsid == BROADCAST_NSID))
     }
 
     /// Refuses an Identify of an allocated namespace by the first condition that holds.
     pub(crate) fn check_allocated(&self, nsid: u32) -> Result<(), Refusal>
         ensures { Checks (allocated_rows self.now nsid) result }
     {
-        refuse_if(!self.is_valid(nsid), StatusCode::InvalidNamespaceOrFormat)
+        refuse_if(!self.is_valid(nsid))
     }
 
     /// Returns the data of an allocated namespace, or zeros if there is none.

@@ -67,7 +67,7 @@ impl Subsystem {
             wctemp: numbers.wctemp,
             cctemp: numbers.cctemp,
             tnvmcap: u128::from(self.tnvmcap),
-            unvmcap: u128::from(self.unallocated()),
+            unvmcap: u128::from(self.unallocated),
             sqes: 0x66,
             cqes: 0x44,
             nn: self.slots.count(),

@@ -22,14 +22,12 @@
 #![tactic(auto)]
 
 mod attachment;
-mod capacity;
 mod controller;
 mod error_log;
 mod feature_value;
 mod feature_values;
 mod features;
 mod format;
-mod formats;
 mod from_file;
 mod identify;
 mod identify_controller;
@@ -37,9 +35,7 @@ mod logs;
 mod management;
 mod nsid_lists;
 mod reset;
-mod row;
 mod subsystem;
-mod told;
 
 pub use nv_command::{
     BROADCAST_NSID, Borrowed, Command, DwordCount, ERROR_INFORMATION, FeatureQuery, FeatureSetting,

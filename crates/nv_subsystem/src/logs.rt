@@ -10,14 +10,12 @@ ghost use Rattle.nv_model.specs.Logs.{smart_of};
 ghost use Rattle.nv_model.specs.inner.Conditions.{Checks};
 
 use crate::controller::Controller;
-use crate::row::check;
 use crate::subsystem::Subsystem;
 use nv_command::{
     BROADCAST_NSID, Borrowed, ERROR_INFORMATION, HEALTH, LogQuery, Refusal, Reply, ReplyRoom,
     StatusCode,
 };
 use nv_layout::{ErrorEntries, Smart};
-use nv_model::Row;
 
 impl Controller {
     /// Returns the error log, newest first, with entries without an error up to ELPE + 1.
@@ -84,24 +82,17 @@ impl Subsystem {
             offset,
             dwords,
         } = asked;
-        check(&[
-            Row::new(
-                self.limit(ctrl) < dwords.bytes(),
-                StatusCode::InvalidFieldInCommand,
-            ),
-            Row::new(
-                !(lid == ERROR_INFORMATION || lid == HEALTH),
-                StatusCode::InvalidLogPage,
-            ),
-            Row::new(
-                !(nsid == 0 || nsid == BROADCAST_NSID),
-                StatusCode::InvalidFieldInCommand,
-            ),
-            Row::new(
-                self.log_length(ctrl, lid) < offset || offset % 4 != 0,
-                StatusCode::InvalidFieldInCommand,
-            ),
-        ])
+        if self.limit(ctrl) < dwords.bytes() {
+            Err(Refusal::from(StatusCode::InvalidFieldInCommand))
+        } else if !(lid == ERROR_INFORMATION || lid == HEALTH) {
+            Err(Refusal::from(StatusCode::InvalidLogPage))
+        } else if !(nsid == 0 || nsid == BROADCAST_NSID) {
+            Err(Refusal::from(StatusCode::InvalidFieldInCommand))
+        } else if self.log_length(ctrl, lid) < offset || offset % 4 != 0 {
+            Err(Refusal::from(StatusCode::InvalidFieldInCommand))
+        } else {
+            Ok(())
+        }
     }
 
     /// Stores the reply with a log of a controller.

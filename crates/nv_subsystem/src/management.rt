@@ -1,49 +1,52 @@
 //! Namespace Management: when a create or a delete is refused, what it returns, and what it
 //! changes. Section "Namespace Management command".
 
-ghost use Rattle.std.specs.Prelude.{◌≡◌, ◌≤◌, None};
-ghost use Rattle.nv_model.specs.WellFormed.{unallocated};
+ghost use Rattle.std.specs.Prelude.{◌≡◌, ◌≤◌, None, IfSome};
+ghost use Rattle.std.specs.FinMap as map_of;
 ghost use Rattle.nv_model.specs.Management.{bytes_needed, create_rows};
-ghost use Rattle.nv_model.specs.Management.{created, created_nsid, delete_rows, deleted};
-ghost use Rattle.nv_model.specs.Management.{format_index, is_extended};
+ghost use Rattle.nv_model.specs.Management.{created, delete_rows, deleted};
 ghost use Rattle.nv_model.specs.Management.{without_all, without_one};
-ghost use Rattle.nv_model.specs.Conditions.{free_nsid, first_refusal};
+ghost use Rattle.nv_model.specs.Conditions.{can_have, first_refusal, format_at, free_nsid};
 ghost use Rattle.nv_model.specs.inner.Conditions.{Checks};
 
 use crate::attachment::{detach_all, detach_everywhere};
-use crate::row::check;
 use crate::subsystem::Subsystem;
 use nv_command::{BROADCAST_NSID, NewNamespace, Refusal, StatusCode};
-use nv_model::{Namespace, Row};
-
-/// Returns the index of the format (FLBAS 3:0).
-fn format_index(flbas: u8) -> u8
-    ensures { result ≡ format_index flbas }
-{
-    flbas & 0x0f
-}
-
-/// Returns whether metadata is to lie at the end of each logical block (FLBAS bit 4).
-fn is_extended(flbas: u8) -> bool
-    ensures { result ≡ is_extended flbas }
-{
-    flbas & 0x10 != 0
-}
+use nv_model::{Format, Namespace};
 
 impl Subsystem {
+    /// Returns the format at an index.
+    pub(crate) fn format_at(&self, index: u8) -> Option<Format>
+        ensures value { result ≡ format_at self.now index }
+        ensures small { IfSome result (λ f. f.lbads ≤ 16) }
+    {
+        self.formats.get(index as usize).copied()
+    }
+
+    /// Returns whether the table has the format and, if metadata is to be at the end of its logical
+    /// blocks, allows that.
+    pub(crate) fn can_have(&self, index: u8, extended: bool) -> bool
+        ensures { result ≡ can_have self.now index extended }
+    {
+        match self.format_at(index) {
+            Some(format) => !extended || (format.ms > 0 && self.mc & 1 == 1),
+            None => false,
+        }
+    }
+
     /// Returns how many bytes the requested logical blocks have, without their metadata.
     fn bytes_needed(&self, wanted: &NewNamespace) -> u128
         ensures { result ≡ bytes_needed self.now wanted.now }
     {
         let NewNamespace { nsze, flbas, .. } = *wanted;
-        match self.format_at(format_index(flbas)) {
+        match self.format_at(flbas & 0x0f) {
             Some(format) => u128::from(nsze) << format.lbads,
             None => 0,
         }
     }
 
     /// Returns the least free NSID from 1 to NN.
-    fn free_nsid(&self) -> Option<u32>
+    pub(crate) fn free_nsid(&self) -> Option<u32>
         ensures { result ≡ free_nsid self.now }
     {
         self.slots.lowest_free()
@@ -63,35 +66,28 @@ impl Subsystem {
             nmic,
         } = *wanted;
         let bytes = self.bytes_needed(wanted);
-        check(&[
-            Row::new(
-                !self.can_have(format_index(flbas), is_extended(flbas)),
-                StatusCode::InvalidFormat,
-            ),
-            Row::new(dps != 0, StatusCode::InvalidFieldInCommand),
-            Row::new(nsze == 0, StatusCode::InvalidFieldInCommand),
-            Row::new(ncap < nsze, StatusCode::ThinProvisioningNotSupported),
-            Row::new(ncap > nsze, StatusCode::InvalidFieldInCommand),
-            Row::new(nmic > 1, StatusCode::InvalidFieldInCommand),
-            Row::new(
-                self.free_nsid().is_none(),
-                StatusCode::NamespaceIdentifierUnavailable,
-            ),
-            Row {
-                when: bytes > u128::from(self.unallocated()),
-                refusal: Refusal {
-                    status: StatusCode::NamespaceInsufficientCapacity.status(),
-                    specific: bytes.min(u128::from(u64::MAX)) as u64,
-                },
-            },
-        ])
-    }
-
-    /// Returns the NSID that a create returns.
-    pub(crate) fn created_nsid(&self) -> u32
-        ensures { result ≡ created_nsid self.now }
-    {
-        self.free_nsid().unwrap_or(0)
+        if !self.can_have(flbas & 0x0f, flbas & 0x10 != 0) {
+            Err(Refusal::from(StatusCode::InvalidFormat))
+        } else if dps != 0 {
+            Err(Refusal::from(StatusCode::InvalidFieldInCommand))
+        } else if nsze == 0 {
+            Err(Refusal::from(StatusCode::InvalidFieldInCommand))
+        } else if ncap < nsze {
+            Err(Refusal::from(StatusCode::ThinProvisioningNotSupported))
+        } else if ncap > nsze {
+            Err(Refusal::from(StatusCode::InvalidFieldInCommand))
+        } else if nmic > 1 {
+            Err(Refusal::from(StatusCode::InvalidFieldInCommand))
+        } else if self.free_nsid().is_none() {
+            Err(Refusal::from(StatusCode::NamespaceIdentifierUnavailable))
+        } else if bytes > u128::from(self.unallocated) {
+            Err(Refusal {
+                status: StatusCode::NamespaceInsufficientCapacity.status(),
+                specific: bytes.min(u128::from(u64::MAX)) as u64,
+            })
+        } else {
+            Ok(())
+        }
     }
 
     /// Creates a namespace with the least free NSID. It is attached to no controller.
@@ -100,16 +96,18 @@ impl Subsystem {
         ensures { self.new ≡ created self.old wanted.now }
     {
         let bytes = self.bytes_needed(wanted);
-        let has_room = bytes <= u128::from(self.unallocated());
+        let has_room = bytes <= u128::from(self.unallocated);
         prove!(has_room);
+        let NewNamespace { flbas, nmic, .. } = *wanted;
         let namespace = Namespace {
             capacity: bytes as u64,
-            format: format_index(wanted.flbas),
-            extended: is_extended(wanted.flbas),
-            shared: wanted.nmic & 1 == 1,
+            format: flbas & 0x0f,
+            extended: flbas & 0x10 != 0,
+            shared: nmic & 1 == 1,
         };
         if let Some(nsid) = self.free_nsid() {
-            self.insert_namespace(nsid, namespace);
+            self.slots.insert(nsid, namespace);
+            self.unallocated -= namespace.capacity;
         }
     }
 
@@ -118,16 +116,32 @@ impl Subsystem {
         ensures { Checks (delete_rows self.now nsid) result }
     {
         let all = nsid == BROADCAST_NSID;
-        check(&[
-            Row::new(
-                !(self.is_valid(nsid) || all),
-                StatusCode::InvalidNamespaceOrFormat,
-            ),
-            Row::new(
-                !(self.slots.contains(nsid) || all),
-                StatusCode::InvalidFieldInCommand,
-            ),
-        ])
+        if !(self.is_valid(nsid) || all) {
+            Err(Refusal::from(StatusCode::InvalidNamespaceOrFormat))
+        } else if !(self.slots.contains(nsid) || all) {
+            Err(Refusal::from(StatusCode::InvalidFieldInCommand))
+        } else {
+            Ok(())
+        }
+    }
+
+    /// Removes a namespace and frees its capacity.
+    pub(crate) fn remove_namespace(&mut self, nsid: u32)
+        ensures { self.new ≡ record self.old {
+          namespaces = map_of.remove self.old.namespaces nsid;
+        } }
+    {
+        if let Some(namespace) = self.slots.remove(nsid) {
+            self.unallocated += namespace.capacity;
+        }
+    }
+
+    /// Removes all namespaces and frees their capacities.
+    pub(crate) fn clear_namespaces(&mut self)
+        ensures { self.new ≡ record self.old { namespaces = map_of.empty } }
+    {
+        self.slots.clear();
+        self.unallocated = self.tnvmcap;
     }
 
     /// Deletes a namespace and its attachments.

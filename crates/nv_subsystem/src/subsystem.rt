@@ -1,6 +1,8 @@
 //! A subsystem, and what its commands do.
 
-ghost use Rattle.std.specs.Prelude.{◌≡◌, ◌<◌, ◌≤◌, ◌^◌, length, None, IfOk, IfErr, false};
+ghost use Rattle.std.specs.Prelude.{◌≡◌, ◌<◌, ◌≤◌, ◌^◌, [], length, None, IfOk, IfErr, false};
+ghost use Rattle.std.specs.Bool.{MatchBool};
+ghost use Rattle.nv_command.specs.Reply.{dword0_of, page_of};
 ghost use Rattle.std.specs.Str.{is_utf8};
 ghost use Rattle.nv_model.specs.LogEntry.{counts_of, log_entry_of};
 ghost use Rattle.nv_layout.specs.UnlessMemory.{IsUnlessMemory};
@@ -12,8 +14,7 @@ ghost use Rattle.nv_file.specs.IsFile.{IsFile};
 ghost use Rattle.nv_model.specs.Meaning.{effect_of};
 ghost use Rattle.nv_model.specs.Fits.{RepliesFit};
 ghost use Rattle.nv_model.specs.Conditions.{greatest_limit, limit_of, mdts_of, is_valid};
-ghost use Rattle.nv_model.specs.inner.Conditions.{Checks};
-ghost use Rattle.nv_model.specs.Meaning.{refusal_of, rows_of};
+ghost use Rattle.nv_model.specs.Meaning.{refusal_of};
 ghost use Rattle.nv_model.specs.Meaning.{reply_of};
 ghost use Rattle.nv_model.specs.Answer.{answer_to, answer_without_phases};
 ghost use Rattle.nv_model.specs.Step.{refused, step, with_command};
@@ -163,27 +164,57 @@ impl Subsystem {
         1 <= nsid && nsid <= self.slots.count()
     }
 
-    /// Refuses a command of a controller by the first of its rows that applies.
-    pub(crate) fn check(&self, ctrl: u16, command: &Command) -> Result<(), Refusal>
+    /// Returns the first refusal of a command of a controller, or none if it is accepted.
+    pub fn refusal(&self, ctrl: u16, command: &Command) -> Option<Refusal>
         requires { ctrl < length self.now.controllers }
-        ensures { Checks (rows_of self.now ctrl command.now) result }
+        ensures { result ≡ refusal_of self.now ctrl command.now }
     {
         match command {
-            Command::IdentifyController => Ok(()),
-            Command::IdentifyNamespace { nsid } => self.check_active(*nsid),
-            Command::AllocatedNamespace { nsid } => self.check_allocated(*nsid),
-            Command::ActiveList { after } => check_list(*after),
-            Command::AllocatedList { after } => check_list(*after),
-            Command::Create(wanted) => self.check_create(wanted),
-            Command::Delete { nsid } => self.check_delete(*nsid),
+            Command::IdentifyController => None,
+            Command::IdentifyNamespace { nsid } => self.check_active(*nsid).err(),
+            Command::AllocatedNamespace { nsid } => self.check_allocated(*nsid).err(),
+            Command::ActiveList { after } => check_list(*after).err(),
+            Command::AllocatedList { after } => check_list(*after).err(),
+            Command::Create(wanted) => self.check_create(wanted).err(),
+            Command::Delete { nsid } => self.check_delete(*nsid).err(),
             Command::Attachment { nsid, detach, list } => {
-                self.check_attachment(*nsid, *detach, list.as_slice())
+                self.check_attachment(*nsid, *detach, list.as_slice()).err()
             }
-            Command::Format(asked) => self.check_format(ctrl, asked),
-            Command::GetFeature(asked) => self.check_get_feature(ctrl, *asked),
-            Command::SetFeature(asked) => self.check_set_feature(ctrl, *asked),
-            Command::GetLog(asked) => self.check_log(ctrl, *asked),
+            Command::Format(asked) => self.check_format(ctrl, asked).err(),
+            Command::GetFeature(asked) => self.check_get_feature(ctrl, *asked).err(),
+            Command::SetFeature(asked) => self.check_set_feature(ctrl, *asked).err(),
+            Command::GetLog(asked) => self.check_log(ctrl, *asked).err(),
         }
+    }
+
+    /// Returns dword 0 of the reply to an accepted command.
+    pub fn dword0(&self, ctrl: u16, command: &Command) -> u32
+        requires { ctrl < length self.now.controllers }
+        ensures { result ≡ dword0_of (reply_of self.now ctrl command.now) }
+    {
+        match command {
+            Command::Create(_) => self.free_nsid().unwrap_or(0),
+            Command::GetFeature(asked) => self.feature_number(ctrl, *asked),
+            _ => 0,
+        }
+    }
+
+    /// Writes the page of the reply to an accepted command, and returns whether it has one. If it
+    /// has none, the contents of `page` don't matter afterwards.
+    pub fn put_page(&self, ctrl: u16, command: &Command, page: &mut [u8; 4096]) -> bool
+        requires { ctrl < length self.now.controllers }
+        ensures { let bytes = page_of (reply_of self.now ctrl command.now) in
+            MatchBool result (page.new ≡ bytes) (bytes ≡ []) }
+    {
+        match command {
+            Command::IdentifyController => self.put_controller(ctrl, page),
+            Command::IdentifyNamespace { nsid } => self.put_active(ctrl, *nsid, page),
+            Command::AllocatedNamespace { nsid } => self.put_allocated(*nsid, page),
+            Command::ActiveList { after } => self.put_active_list(ctrl, *after, page),
+            Command::AllocatedList { after } => self.put_allocated_list(*after, page),
+            _ => return false,
+        }
+        true
     }
 
     /// Stores the reply to a command that isn't refused.
@@ -197,14 +228,13 @@ impl Subsystem {
             Command::AllocatedNamespace { nsid } => self.keep_allocated(*nsid, room),
             Command::ActiveList { after } => self.keep_active_list(ctrl, *after, room),
             Command::AllocatedList { after } => self.keep_allocated_list(*after, room),
-            Command::Create(_) => room.keep(&Reply::Number(self.created_nsid())),
-            Command::Delete { nsid: _ } => room.keep(&Reply::Done),
-            Command::Attachment { .. } => room.keep(&Reply::Done),
-            Command::Format(_) => room.keep(&Reply::Done),
-            Command::GetFeature(asked) => {
-                room.keep(&Reply::Number(self.feature_number(ctrl, *asked)))
+            Command::Create(_) | Command::GetFeature(_) => {
+                room.keep(&Reply::Number(self.dword0(ctrl, command)))
             }
-            Command::SetFeature(_) => room.keep(&Reply::Done),
+            Command::Delete { .. }
+            | Command::Attachment { .. }
+            | Command::Format(_)
+            | Command::SetFeature(_) => room.keep(&Reply::Done),
             Command::GetLog(asked) => self.keep_log(ctrl, asked.lid, room),
         }
     }
@@ -279,7 +309,9 @@ impl Subsystem {
         ensures without_tags { answer_without_phases result
             ≡ answer_to (untagged self.now) ctrl command.now }
     {
-        self.check(ctrl, command)?;
+        if let Some(refusal) = self.refusal(ctrl, command) {
+            return Err(refusal);
+        }
         self.keep_reply(ctrl, command, room);
         Ok(room.reply())
     }

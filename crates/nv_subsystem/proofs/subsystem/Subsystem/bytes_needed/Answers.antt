@@ -1,7 +1,6 @@
 use Rattle.std.proofs.Common.{◌≡◌, ◌∙◌, ℕ, ◌*◌, ◌%◌, ◌^◌, ◌<◌, ◌≤◌, ap, arith}
 use Rattle.std.proofs.Math.Nat.{mul-le-mul_left, pow-le-pow_right}
 use Rattle.std.specs.Option.{option_map_or}
-use Rattle.nv_model.specs.Conditions.{format_at}
 use Rattle.nv_subsystem.proofs.subsystem.Subsystem.bytes_needed.Goals as goal
 
 -- a number of 64 bits, shifted by at most 16
@@ -17,4 +16,4 @@ returns-in-Some c =
     rw c.from.ensures
     (no_bit_lost c.args.wanted.now.nsze f.lbads (omega arith) c.in-Some.ensures.small
     ∙ ap (λ o. option_map_or (λ f. c.args.wanted.now.nsze * 2 ^ f.lbads) o 0)
-    (c.in-Some.ensures.value ∙ ap (format_at c.args.self.now) c.format_index.ensures))
+    c.in-Some.ensures.value)

@@ -1,11 +1,21 @@
-use Rattle.std.proofs.Common.{sym}
+use Rattle.std.proofs.Common.{◌≤◌, arith, rules, sym}
 use Rattle.nv_model.proofs.ManagementLaws.{free_is}
+use Rattle.nv_subsystem.proofs.SoundLaws.{sound-insert}
 use Rattle.nv_subsystem.proofs.subsystem.Subsystem.create.Goals as goal
 
-pub insert_namespace-requires-clause-nsid : goal.insert_namespace-requires-clause-nsid
-insert_namespace-requires-clause-nsid c =
-    (free_is c.args.self.now c.in-Some.nsid (sym c.in-Some.ensures)).0
+pub insert-requires : goal.insert-requires
+insert-requires c =
+    let first = c.self.invariant.0.first in
+    let is = (free_is c.args.self.now c.in-Some.nsid (sym c.in-Some.ensures)).0 in
+    let of = rw (← c.self.view_is) at is in
+    (omega (arith, of.0, first), omega (arith, of.1, first))
 
-pub insert_namespace-requires-clause-free : goal.insert_namespace-requires-clause-free
-insert_namespace-requires-clause-free c =
-    (free_is c.args.self.now c.in-Some.nsid (sym c.in-Some.ensures)).1
+pub invariant_of-self : goal.invariant_of-self
+invariant_of-self c =
+    let s = c.self.inside in
+    let free = (free_is c.args.self.now c.in-Some.nsid (sym c.in-Some.ensures)).1 in
+    let room : c.bytes_needed-bytes.result ≤ s.unallocated = omega
+    (arith, c.if-prove.false, c.from.ensures) in
+    rw c.insert.ensures
+    (sound-insert s.slots s.formats.items s.controllers.items s.unallocated s.tnvmcap
+    c.self.invariant c.in-Some.nsid _ (rw (← c.self.view_is) at free) room (search rules))

@@ -1,11 +1,14 @@
-use Rattle.std.proofs.Common.{ap}
+use Rattle.std.proofs.Common.{◌≡◌, ◌-◌, ap, arith}
 use Rattle.nv_subsystem.specs.inner.ControllerView.{controller_view}
 use Rattle.nv_model.specs.IdentifyController.{id_ctrl_of, padded}
 use Rattle.nv_model.specs.State.{State}
+use Rattle.nv_model.specs.WellFormed.{unallocated, used}
 use Rattle.nv_subsystem.proofs.subsystem.Subsystem.id_ctrl.Goals as goal
 
 pub returns : goal.returns
 returns c =
+    let s = c.self.inside in
+    let left : s.unallocated ≡ s.tnvmcap - used s.slots.values = omega (arith, c.self.invariant.1) in
     rw (
       c.padded.ensures,
       c.padded-2.ensures,
@@ -18,12 +21,13 @@ returns c =
       c.cmic.ensures,
       c.from.ensures,
       c.from-2.ensures,
-      c.unallocated.ensures,
+      left,
       c.count.ensures.value,
       c.fna.ensures,
     )
     (ap (λ (t : State). record (id_ctrl_of c.args.self.now (controller_view c.args.controller.now)) {
       tnvmcap = t.tnvmcap;
+      unvmcap = unallocated t;
       nn = t.nn;
       subnqn = padded 256 0 t.subnqn;
     }) c.self.view_is)

@@ -3,7 +3,7 @@ use Rattle.std.proofs.lemmas.Bool.Decides.{nat_tests}
 use Rattle.nv_bus.specs.Entry.{scene}
 use Rattle.nv_subsystem.specs.Tagged.{untagged}
 use Rattle.nv_controller.proofs.TurnLaws.{taken_more}
-use Rattle.nv_controller.proofs.turn.take_entries.Goals as goal
+use Rattle.nv_controller.proofs.machine.take_entries.Goals as goal
 
 pub loop-count-preserved : goal.loop-count-preserved
 loop-count-preserved g c =

@@ -4,7 +4,7 @@ use Rattle.nv_bus.specs.Entry.{scene}
 use Rattle.nv_bus.specs.Turn.{site}
 use Rattle.nv_subsystem.specs.Tagged.{untagged}
 use Rattle.nv_controller.proofs.TurnLaws.{count_of_rings, turn_of_rings}
-use Rattle.nv_controller.proofs.turn.turn_bank.Goals as goal
+use Rattle.nv_controller.proofs.machine.turn_bank.Goals as goal
 
 pub returns-in-Ready-clause-turn : goal.returns-in-Ready-clause-turn
 returns-in-Ready-clause-turn g c =

@@ -4,7 +4,7 @@ use Rattle.nv_command.specs.Decoding.{transfer_in}
 use Rattle.nv_command.specs.declared.decoded.Decoded.{Decoded}
 use Rattle.nv_command.specs.declared.status_code.StatusCode.{StatusCode}
 use Rattle.nv_bus.proofs.CallLaws.{has_room, within_few}
-use Rattle.nv_controller.proofs.call.read_call.Goals as goal
+use Rattle.nv_controller.proofs.entry.read_call.Goals as goal
 
 pub find_data-requires : goal.find_data-requires
 find_data-requires g c =
