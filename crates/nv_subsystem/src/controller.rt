@@ -37,7 +37,10 @@ pub struct Controller {
 pub(crate) fn rule_for(rules: &Slots<FeatureRule>, fid: u8) -> FeatureRule
     ensures { result ≡ rule_for rules.now.values fid }
 {
-    rules.get(u32::from(fid)).unwrap_or(default_rule(fid))
+    match rules.get(u32::from(fid)) {
+        Some(rule) => rule,
+        None => default_rule(fid),
+    }
 }
 
 /// Returns how a controller treats a feature.
