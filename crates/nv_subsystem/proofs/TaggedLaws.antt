@@ -49,13 +49,12 @@ use Rattle.nv_model.specs.Conditions.{concerned, free_nsid, is_allocated, is_val
 use Rattle.nv_model.specs.Meaning.{refusal_of, rows_of}
 use Rattle.nv_model.specs.Meaning.{reply_of}
 use Rattle.nv_model.specs.Step.{reset}
-use Rattle.nv_model.specs.Conditions.{first_refusal, row}
+use Rattle.nv_model.specs.Conditions.{Row, first_refusal, row}
 use Rattle.nv_model.specs.State.{Controller, Namespaces, State, changed_at, controller_at, with_controller}
 use Rattle.nv_model.specs.Answer.{answer_by, answer_to, answer_without_phases}
 use Rattle.nv_model.specs.Step.{next_count, refused, step, step_by, with_command, with_refusal}
 use Rattle.nv_model.specs.WellFormed.{IsController, IsWellFormed}
 use Rattle.nv_model.specs.declared.origin.Origin.{Origin}
-use Rattle.nv_model.specs.Conditions.{Row}
 use Rattle.nv_subsystem.specs.Tagged.{booked, newest_tagged, settled, untagged, untagged_log, with_booked, with_phase}
 
 -- ---- logs
