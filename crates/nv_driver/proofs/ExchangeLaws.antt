@@ -20,7 +20,7 @@ use Rattle.nv_driver.specs.Request.{request_for}
 use Rattle.nv_driver.specs.Schedule.{bytes_read}
 use Rattle.nv_driver.specs.HostData.{sent_by}
 use Rattle.nv_driver.specs.inner.Submitting.{request_as}
-use Rattle.nv_driver.specs.declared.outgoing.Outgoing.{Outgoing}
+use Rattle.nv_driver.specs.declared.submitting.Outgoing.{Outgoing}
 use Rattle.nv_driver.proofs.AnswerLaws.{IsAnswerTo, answer_sound}
 use Rattle.nv_driver.proofs.RequestLaws.{every_entry}
 use Rattle.nv_driver.proofs.OnWayLaws.{answer_next, begins, collects_on, completion_is, first_way, held, left_after}

@@ -8,7 +8,7 @@ use Rattle.nv_driver.proofs.Words.{end_of, limit_of, mul-le-mul_right, own_pages
 use Rattle.nv_driver.specs.Keeping.{OthersStay}
 use Rattle.nv_driver.specs.Schedule.{IsIdle, collect_ring}
 use Rattle.nv_driver.specs.UnderWay.{setting}
-use Rattle.nv_driver.specs.declared.share.PageRange.{PageRange}
+use Rattle.nv_driver.specs.declared.queue_pair.PageRange.{PageRange}
 use Rattle.nv_driver.proofs.KeptLaws.{number_zero}
 
 -- ---- the beginning

@@ -11,7 +11,7 @@ use Rattle.nv_driver.proofs.Words.{QueuePairFields, Request, RequestPlace, Sent,
 use Rattle.nv_driver.proofs.Words.{bytes_from_host, data_length, length-written_at, mul-le-mul_right, own_pages}
 use Rattle.nv_driver.proofs.Words.{page_size_bounds, places, pointed, sent_from}
 use Rattle.nv_driver.specs.inner.Submitting.{pages_at}
-use Rattle.nv_driver.specs.declared.share.PageRange.{PageRange}
+use Rattle.nv_driver.specs.declared.queue_pair.PageRange.{PageRange}
 use Rattle.nv_driver.proofs.DataLaws.{ArePlaces, sent_back}
 use Rattle.nv_driver.proofs.RegionLaws.{written_list, buffer_data, data_keeps}
 use Rattle.nv_driver.proofs.PointerLaws.{stays_in}

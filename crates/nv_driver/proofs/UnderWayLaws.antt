@@ -4,7 +4,7 @@ use Rattle.std.proofs.Common.{length-append, refl, subst, sym, take}
 use Rattle.std.proofs.lemmas.List.{get_or-take, map_push, take_more}
 use Rattle.nv_queue.specs.Numbers.{next, slot_of}
 use Rattle.nv_driver.proofs.Words.{Batch, BusValue, CanBeSent, Command, Geometry, HasFreeSlot, IsOf, IsOnWay, IsReady}
-use Rattle.nv_driver.proofs.Words.{IsSubmittedAt, IsUnderWay, QueuePairFields, Run, Sent, Share, World, first_page}
+use Rattle.nv_driver.proofs.Words.{IsSubmittedAt, IsUnderWay, QueuePairFields, Run, Sent, Share, Transfer, World, first_page}
 use Rattle.nv_driver.proofs.Words.{get_or-map, get_or_default, length_of, limit_bounds, limit_of, numbered, own_pages}
 use Rattle.nv_driver.proofs.Words.{place_from, request_of, sent_at, setting_of, slot, transfer_by, way}
 use Rattle.nv_driver.specs.Batch.{numbered_command}
@@ -13,7 +13,7 @@ use Rattle.nv_driver.specs.Layout.{most_bytes}
 use Rattle.nv_driver.specs.inner.Share.{HasShares}
 use Rattle.nv_driver.specs.UnderWay.{IsKept, numbered_of, serial_at, share, world_of}
 use Rattle.nv_driver.proofs.BatchLaws.{command_at, length-from_serial}
-use Rattle.nv_driver.proofs.DataLaws.{most, shape}
+use Rattle.nv_driver.proofs.DataLaws.{most, shape, shape_as}
 use Rattle.nv_driver.proofs.RequestLaws.{is_request}
 use Rattle.nv_driver.proofs.ShareLaws.{length-pages, page_at, share_ends, share_fits, share_holds, shares_apart}
 use Rattle.nv_driver.proofs.SubmitLaws.{each_more}
@@ -57,9 +57,13 @@ module _ {r : Run} {bells turns : ℕ} {b : Batch} {bus : BusValue} {l : QueuePa
   share_is same n = ap (λ (q : Geometry). record { geometry = q; pages = l.pages; number = n }) same
       ∙ ap (λ (q : QueuePairFields). record { geometry = r.geometry; pages = q.pages; number = n }) u.pair
 
-  pub shares_now : (n : ℕ) → HasShares (share r n) now bytes
+  shares_now : (n : ℕ) → HasShares (share r n) now bytes
   shares_now n =
       let has = has_shares n u.begun in assumption (rw (sym u.size) at has.inside, u.page_size, has)
+
+  pub shares_here : {g : Geometry} → g ≡ r.geometry → (n : ℕ)
+      → HasShares (record { geometry = g; pages = l.pages; number = n }) now bytes
+  shares_here same n = rw (share_is same n) (shares_now n)
 
   pub free_slot : b.sent < b.collected + r.geometry.window → HasFreeSlot l bytes
   free_slot more =
@@ -157,6 +161,11 @@ pub can_at : {n : ℕ} {k : Command} {ks all : List Command} (e : Command) → A
 can_at {n = n} e can same one below =
     subst CanBeSent (sym (one ∙ ap (λ xs. get_or xs n e) same))
     (can n e (omega (arith, below, ap (λ (xs : List Command). length xs) same)))
+
+-- its data
+pub few_at : {n : ℕ} {k : Command} {m : Transfer} {ks all : List Command} (e : Command) → All CanBeSent all → ks ≡ all
+    → k ≡ get_or ks n e → n < length ks → m ≡ transfer_by k → length_of m ≤ most_bytes
+few_at {k = k} {m = m} e can same one below is = most m (shape_as k m (can_at e can same one below).sends is)
 
 -- the next submission, by the number that a loop has reached
 pub submits_at : {r : Run} {bells turns : ℕ} {b : Batch} {bus : BusValue} {l l' : QueuePairFields}

@@ -29,7 +29,7 @@ pub use Rattle.nv_driver.specs.UnderWay.{IsOnWay, IsUnderWay, Run, run_of, setti
 pub use Rattle.nv_driver.specs.declared.batch.Batch.{Batch}
 pub use Rattle.nv_driver.specs.declared.geometry.Geometry.{Geometry}
 pub use Rattle.nv_driver.specs.declared.queue_pair.QueuePair.{QueuePair as QueuePairFields}
-pub use Rattle.nv_driver.specs.declared.share.Share.{Share}
+pub use Rattle.nv_driver.specs.declared.queue_pair.Share.{Share}
 pub use Rattle.nv_driver.specs.inner.Exchange.{IsLeft, KeepsBelow, side}
 pub use Rattle.nv_driver.specs.inner.Pace.{IsTold}
 pub use Rattle.nv_driver.specs.inner.Submitting.{HasFreeSlot, IsPlaceFor, IsSubmittedAt}

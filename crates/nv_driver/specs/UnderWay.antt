@@ -24,7 +24,7 @@ use Rattle.nv_driver.specs.Submitting.{place_from, sent_at}
 use Rattle.nv_driver.specs.declared.batch.Batch.{Batch}
 use Rattle.nv_driver.specs.declared.geometry.Geometry.{Geometry}
 use Rattle.nv_driver.specs.declared.queue_pair.QueuePair.{QueuePair as QueuePairFields}
-use Rattle.nv_driver.specs.declared.share.Share.{Share}
+use Rattle.nv_driver.specs.declared.queue_pair.Share.{Share}
 
 -- the schedule of a queue pair's controller, from its next command on
 abbrev pub setting : Geometry → (c limit : ℕ) → QueuePair → Setting

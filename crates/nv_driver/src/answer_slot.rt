@@ -1,13 +1,25 @@
-//! Storage for the answer to a command.
+//! Storage for the answer to a command, and how the answer is read.
 
-ghost use Rattle.std.specs.Prelude.{◌≡◌, Err, Ok, length};
-ghost use Rattle.nv_command.specs.Command.{bytes_to_host, transfer_by};
+ghost use Rattle.std.specs.Prelude.{◌≡◌, ◌≤◌, Ok, length};
+ghost use Rattle.nv_command.specs.Command.{transfer_by};
 ghost use Rattle.nv_command.specs.Logs.{IsSendable};
-ghost use Rattle.nv_command.specs.Reply.{reply_in};
 ghost use Rattle.nv_command.specs.declared.reply.Reply.TheVariants.{Done};
+ghost use Rattle.nv_bus.specs.Call.{length_of};
+ghost use Rattle.nv_prp.specs.Buffer.{IsBuffer, buffer_places};
+ghost use Rattle.nv_prp.specs.Place.{read_at};
+ghost use Rattle.nv_driver.specs.Layout.{most_bytes};
+ghost use Rattle.nv_driver.specs.Share.{first_page};
+ghost use Rattle.nv_driver.specs.inner.Share.{HasShares};
+ghost use Rattle.nv_driver.specs.inner.Submitting.{places_from};
+ghost use Rattle.nv_driver.specs.Schedule.{answer_from, received_from};
 
-use nv_command::{Command, Reply, ReplyRoom};
-use nv_layout::Status;
+use crate::host_side::HostSide;
+use crate::queue_pair::Share;
+use crate::submitting::DataPlace;
+use nv_command::{Command, Reply, ReplyRoom, Transfer};
+use nv_host::HostMemory;
+use nv_layout::{Cqe, Status};
+use nv_prp::{Buffer, Spans, copy_in};
 use std::marker::Model;
 
 /// The answer to a command: its reply, or the status of its refusal.
@@ -51,21 +63,69 @@ impl AnswerSlot {
         }
     }
 
-    /// Replaces the answer by a refusal.
-    pub(crate) fn refuse(&mut self, status: Status)
-        ensures { self.new ≡ Err status }
-    {
-        self.refusal = Some(status);
-    }
-
-    /// Replaces the answer by the reply to a command, which it reads from dword 0 of the completion
-    /// and the data that the controller sent.
-    pub(crate) fn read(&mut self, command: &Command, dword0: u32, bytes: &[u8])
+    /// Replaces the answer by that to a command, from its completion and the data that the controller
+    /// sent to its pages. Section "Completion Queue Entry".
+    pub(crate) fn receive<M: HostMemory>(
+        &mut self,
+        host: &mut HostSide<M>,
+        share: &Share,
+        command: &Command,
+        completion: &Cqe,
+    )
         requires sends { IsSendable command.now }
-        requires len { length bytes.now ≡ bytes_to_host (transfer_by command.now) }
-        ensures { self.new ≡ Ok (reply_in command.now dword0 bytes.now) }
+        requires share { HasShares share.now (M.page_len host.old.mem) (M.bytes host.old.mem) }
+        ensures answer { self.new ≡ answer_from command.now completion.now (received_from
+            (transfer_by command.now) (M.bytes host.old.mem) (places_from share.now.geometry
+            (first_page share.now) (length_of (transfer_by command.now)))) }
+        ensures mem { host.new.mem ≡ host.old.mem }
     {
+        if !completion.status.is_success() {
+            self.refusal = Some(completion.status);
+            return;
+        }
         self.refusal = None;
-        self.room.read(command, dword0, bytes);
+        let dword0 = completion.command_specific;
+        match command.transfer() {
+            Transfer::ToHost(len) => {
+                let len = len as u32;
+                let first = share.first_page();
+                let place = DataPlace::new(share.geometry, first, len, &mut host.pages);
+                let (spans, data) = (&mut host.spans, &mut host.data);
+                let sent = read_sent(&host.mem, &place.buffer, len, spans, data);
+                self.room.read(command, dword0, sent);
+            }
+            Transfer::NoData => self.room.read(command, dword0, &[]),
+            Transfer::FromHost(_) => self.room.read(command, dword0, &[]),
+        }
     }
+}
+
+/// Returns the `len` bytes that the controller sent to the buffer of a command's data: where they
+/// lie, if that is in one page, or else a copy.
+#[tactic(auto, using(crate::proofs::PaddingLaws::one_page))]
+fn read_sent<'a, M: HostMemory>(
+    mem: &'a M,
+    buffer: &Buffer,
+    len: u32,
+    spans: &mut Spans,
+    data: &'a mut [u8; 16384],
+) -> &'a [u8]
+    requires few { len ≤ most_bytes }
+    requires buffer { IsBuffer (M.bytes mem.now) (M.page_len mem.now)
+        buffer.now.pages.now buffer.now.offset len }
+    ensures bytes { result.now ≡ read_at (M.bytes mem.now)
+        (buffer_places (M.page_len mem.now) buffer.now.pages.now buffer.now.offset len) }
+    ensures len { length result.now ≡ len }
+{
+    let page_size = mem.page_size();
+    let end = buffer.offset + len;
+    let in_one_page = 0 < len && end <= page_size;
+    if in_one_page {
+        let page = mem.page(buffer.pages[0]);
+        return &page[buffer.offset as usize..end as usize];
+    }
+    buffer.spans(mem, len, spans);
+    let sent = &mut data[..len as usize];
+    copy_in(mem, spans, sent);
+    sent
 }

@@ -13,13 +13,10 @@ ghost use Rattle.nv_driver.specs.UnderWay.{IsUnderWay, Run, run_of};
 ghost use Rattle.nv_driver.specs.inner.Pace.{IsToldByPace, IsToldInTime, taken_by_turn};
 
 use crate::answer_slot::AnswerSlot;
-use crate::answering::answer;
 use crate::checked_geometry::CheckedGeometry;
-use crate::collecting::{next_completion, tell};
 use crate::host_side::HostSide;
-use crate::queue_pair::QueuePair;
-use crate::share::Share;
-use crate::submitting::submit_command;
+use crate::queue_pair::{QueuePair, Share};
+use crate::submitting::{DataPlace, HostData, Outgoing, submit};
 use crate::target::Target;
 use nv_bus::Bus;
 use nv_command::Command;
@@ -67,7 +64,15 @@ impl Batch {
                 pages: pair.pages,
                 number,
             };
-            let next = submit_command(host, pair, &share, &commands[number]);
+            let command = &commands[number];
+            let request = Outgoing {
+                entry: command.entry(0),
+                transfer: command.transfer(),
+                sends: HostData::Command(command),
+            };
+            let len = request.transfer.bytes() as u32;
+            let place = DataPlace::new(geometry, share.first_page(), len, &mut host.pages);
+            let next = submit(&mut host.mem, pair, &place, &request, &mut host.spans);
             self.sent += 1;
             tail = Some(next);
         }
@@ -107,24 +112,23 @@ impl Batch {
         let geometry = self.geometry;
         let posted = bus.turn(self.ctrl, &mut host.mem, geometry.pace);
         if posted == 0 {
-            tell(bus, self.ctrl, pair);
+            pair.tell(bus, self.ctrl);
             self.told = self.collected;
             return;
         }
         let pace = usize::from(geometry.pace);
         for _ in 0..posted {
-            let completion = next_completion(&host.mem, pair);
+            let completion = pair.next_completion(&host.mem);
             let number = self.collected;
             let share = Share {
                 geometry: self.geometry,
                 pages: pair.pages,
                 number,
             };
-            let slot = &mut answers[number];
-            answer(host, &share, &commands[number], &completion, slot);
+            answers[number].receive(host, &share, &commands[number], &completion);
             self.collected += 1;
             if self.collected - self.told == pace {
-                tell(bus, self.ctrl, pair);
+                pair.tell(bus, self.ctrl);
                 self.told = self.collected;
             }
         }
@@ -169,5 +173,5 @@ pub(crate) fn exchange_all<B: Bus, M: HostMemory>(
         batch.send(bus, host, pair, commands);
         batch.turn(bus, host, pair, commands, answers);
     }
-    tell(bus, batch.ctrl, pair);
+    pair.tell(bus, batch.ctrl);
 }

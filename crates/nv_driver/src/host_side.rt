@@ -1,6 +1,6 @@
 //! The host's side of an exchange with a controller.
 
-use crate::data_place::MOST_PAGES;
+use crate::submitting::MOST_PAGES;
 use nv_host::PageNo;
 use nv_prp::Spans;
 

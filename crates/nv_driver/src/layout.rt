@@ -5,7 +5,7 @@ ghost use Rattle.nv_driver.specs.Layout.{completion_pages, pages_of_entry, pair_
 ghost use Rattle.nv_driver.specs.Layout.{set_pages, submission_pages};
 
 use crate::checked_geometry::CheckedGeometry;
-use crate::share::PageRange;
+use crate::queue_pair::PageRange;
 
 /// The greatest length of a command's data, in bytes.
 const MOST_BYTES: u32 = 16_384;

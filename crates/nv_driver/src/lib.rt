@@ -47,25 +47,19 @@
 #![tactic(auto)]
 
 mod answer_slot;
-mod answering;
 mod batch;
 mod checked_geometry;
-mod collecting;
-mod data_place;
 mod driver;
 mod enabling;
 mod entry_data;
 mod error;
 mod geometry;
 mod geometry_field;
-mod host_data;
 mod host_side;
 mod law;
 mod layout;
-mod outgoing;
 mod passthrough;
 mod queue_pair;
-mod share;
 mod submitting;
 mod target;
 

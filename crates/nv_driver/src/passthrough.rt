@@ -7,13 +7,10 @@ ghost use Rattle.nv_driver.specs.Exchange.{IsReady};
 ghost use Rattle.nv_driver.specs.inner.Exchange.{side};
 ghost use Rattle.nv_driver.specs.Layout.{pages_of_entry};
 
-use crate::collecting::{next_completion, tell};
-use crate::data_place::DataPlace;
 use crate::entry_data::receive;
 use crate::host_side::HostSide;
-use crate::outgoing::{Outgoing, length_of};
 use crate::queue_pair::QueuePair;
-use crate::submitting::submit;
+use crate::submitting::{DataPlace, Outgoing, submit};
 use crate::target::Target;
 use nv_bus::{Bus, Told};
 use nv_host::{HostMemory, PageNo};
@@ -61,13 +58,13 @@ pub(crate) fn exchange_entry<B: Bus, M: HostMemory>(
         ..
     } = host;
     let request = Outgoing::of_entry(passed.entry, passed.bytes);
-    let len = length_of(request.transfer);
+    let len = request.transfer.bytes() as u32;
     let place = DataPlace::new(geometry, passed.first_page, len, pages);
     let tail = submit(mem, pair, &place, &request, spans);
     bus.write32(target.ctrl, offset::TAIL_DOORBELL, u32::from(tail));
     bus.turn(target.ctrl, mem, 1);
-    let completion = next_completion(mem, pair);
-    tell(bus, target.ctrl, pair);
+    let completion = pair.next_completion(mem);
+    pair.tell(bus, target.ctrl);
     let status = completion.status;
     receive(mem, &place.buffer, request.transfer, status, spans, out);
     Told {

@@ -1,28 +1,177 @@
-//! Submitting one request.
+//! A request that is sent to a controller: its entry, its data, where these lie, and how it is
+//! submitted.
 
-ghost use Rattle.std.specs.Prelude.{◌≡◌, ◌<◌, ◌≤◌, length};
-ghost use Rattle.nv_prp.specs.Buffer.{IsBuffer, buffer_places};
+ghost use Rattle.std.specs.Prelude.{◌≡◌, ◌+◌, ◌*◌, ◌<◌, ◌≤◌, ◌^◌, length};
+ghost use Rattle.nv_prp.specs.Buffer.{IsBuffer, KeepsOutside, StaysFor, buffer_places};
 ghost use Rattle.nv_prp.specs.Place.{written_at};
-ghost use Rattle.nv_command.specs.Command.{bytes_from_host, transfer_by};
-ghost use Rattle.nv_bus.specs.Call.{length_of};
+ghost use Rattle.nv_prp.specs.Transfer.{data_pages, transfer};
+ghost use Rattle.nv_command.specs.Command.{bytes_from_host};
+ghost use Rattle.nv_bus.specs.Call.{HasRoom, length_of};
 ghost use Rattle.nv_model.specs.Conditions.{greatest_limit};
-ghost use Rattle.nv_driver.specs.Request.{Asked, CanBeSent, request_of};
-ghost use Rattle.nv_driver.specs.Share.{first_page};
-ghost use Rattle.nv_driver.specs.inner.Share.{HasShares};
+ghost use Rattle.nv_driver.specs.Layout.{data_count};
+ghost use Rattle.nv_driver.specs.Request.{Asked, sent_for, transfer_for};
 ghost use Rattle.nv_driver.specs.Submitting.{place_from};
 ghost use Rattle.nv_driver.specs.inner.Submitting.{HasFreeSlot, IsPlaceFor, IsSubmittedAt};
 ghost use Rattle.nv_driver.specs.HostData.{sent_by};
 ghost use Rattle.nv_driver.specs.inner.Submitting.{place_of, request_as};
 
-use crate::data_place::{DataPlace, point_to};
-use crate::host_side::HostSide;
-use crate::outgoing::{Outgoing, length_of};
+use crate::checked_geometry::CheckedGeometry;
+use crate::layout::MOST_ENTRY_BYTES;
 use crate::queue_pair::QueuePair;
-use crate::share::Share;
 use nv_command::{Command, Transfer};
-use nv_host::HostMemory;
+use nv_host::{HostMemory, PageNo, Payload};
+use nv_layout::Sqe;
 use nv_model::SERIALS;
-use nv_prp::{Buffer, Spans, write_out};
+use nv_prp::{Buffer, ListPlace, Spans, build, write_out};
+
+/// The data that the host sends with a request. It is made where it belongs.
+#[derive(Clone, Copy)]
+pub enum HostData<'a, 'b> {
+    /// That of a command.
+    Command(&'a Command<'b>),
+    /// As many bytes: the first of these, or if they are too few, all of them and zeros after the
+    /// last one.
+    Bytes { bytes: &'a [u8], len: usize },
+}
+
+impl<'a, 'b> Payload for HostData<'a, 'b> {
+    ghost bytes = { sent_by };
+
+    #[tactic(auto, using(crate::proofs::PaddingLaws::parts_sent))]
+    fn fill(&self, at: usize, out: &mut [u8]) {
+        match self {
+            HostData::Command(command) => {
+                command.fits();
+                if let Some(page) = out.as_mut_array() {
+                    command.put(page);
+                    return;
+                }
+                let mut page = [0; 4096];
+                command.put(&mut page);
+                out.copy_from_slice(&page[at..at + out.len()]);
+            }
+            HostData::Bytes { bytes, .. } => {
+                let first = at.min(bytes.len());
+                let count = out.len().min(bytes.len() - first);
+                let (given, rest) = out.split_at_mut(count);
+                given.copy_from_slice(&bytes[first..first + count]);
+                rest.fill(0);
+            }
+        }
+    }
+}
+
+/// A request: its entry, the direction and the length of its data, and what the host sends.
+#[derive(Clone, Copy)]
+pub struct Outgoing<'a, 'b> {
+    pub entry: Sqe,
+    pub transfer: Transfer,
+    pub sends: HostData<'a, 'b>,
+}
+
+/// Returns the direction and the length of an entry's data: none if a controller refuses the entry
+/// before it reads the data pointer.
+fn transfer_for(entry: &Sqe) -> Transfer
+    ensures value { result ≡ transfer_for entry.now }
+    ensures room { HasRoom result }
+    ensures few { length_of result ≤ greatest_limit }
+{
+    let Ok(transfer) = Transfer::of(entry) else {
+        return Transfer::NoData;
+    };
+    if transfer.bytes() <= u64::from(MOST_ENTRY_BYTES) {
+        transfer
+    } else {
+        Transfer::NoData
+    }
+}
+
+impl<'a, 'b> Outgoing<'a, 'b> {
+    /// Returns the request of an entry and the host's bytes. If these are too few, zeros are sent
+    /// after them.
+    pub(crate) fn of_entry(entry: &Sqe, bytes: &'a [u8]) -> Outgoing<'a, 'b>
+        ensures entry { result.entry ≡ entry.now }
+        ensures transfer { result.transfer ≡ transfer_for entry.now }
+        ensures few { length_of result.transfer ≤ greatest_limit }
+        ensures sends { sent_by result.sends ≡ sent_for (transfer_for entry.now) bytes.now }
+    {
+        let transfer = transfer_for(entry);
+        let len = match transfer {
+            Transfer::FromHost(len) => len as usize,
+            Transfer::NoData | Transfer::ToHost(_) => 0,
+        };
+        Outgoing {
+            entry: *entry,
+            transfer,
+            sends: HostData::Bytes { bytes, len },
+        }
+    }
+}
+
+/// The greatest number of pages of a request's data: 1,048,576 bytes that begin inside a page of
+/// 4,096.
+pub(crate) const MOST_PAGES: usize = 257;
+
+/// Where the data of a request lies, and where its list does if it has one.
+#[derive(Clone, Copy)]
+pub struct DataPlace<'a> {
+    pub buffer: Buffer<'a>,
+    list: ListPlace,
+}
+
+impl<'a> DataPlace<'a> {
+    /// Returns the place of `len` bytes in consecutive pages from the first one on: two for a list,
+    /// and then those of the data, whose numbers are put into `pages`.
+    pub(crate) fn new(
+        geometry: CheckedGeometry,
+        first: PageNo,
+        len: u32,
+        pages: &'a mut [PageNo; MOST_PAGES],
+    ) -> DataPlace<'a>
+        requires limit { len ≤ greatest_limit }
+        requires numbered { first + data_count geometry len + 2 ≤ 2 ^ 32 }
+        ensures { place_of result ≡ place_from geometry first len }
+    {
+        let count = (geometry.offset + len).div_ceil(geometry.page_size) as usize;
+        for at in 0..count {
+            pages[at] = first + 2 + at as u32;
+        }
+        DataPlace {
+            buffer: Buffer {
+                pages: &pages[..count],
+                offset: geometry.offset,
+            },
+            list: ListPlace {
+                first,
+                second: first + 1,
+                offset: geometry.list_offset,
+            },
+        }
+    }
+}
+
+/// Returns the data pointer, PRP1 and PRP2, of `len` bytes at a place, or 0 and 0 if there are
+/// none. Writes its list if it has one. Section "Physical Region Page Entry and List".
+pub(crate) fn point_to<M: HostMemory>(mem: &mut M, place: &DataPlace, len: u32) -> (u64, u64)
+    requires limit { len ≤ greatest_limit }
+    requires place { IsPlaceFor (M.bytes mem.old) (M.page_len mem.old) (place_of place.now) len }
+    ensures stays { 0 < len → StaysFor (transfer (M.page_len mem.new)
+        (M.bytes mem.new) result.0 result.1 len) (place_of place.now).pages
+        (place_of place.now).offset (place_of place.now).first (place_of place.now).second }
+    ensures none { len ≡ 0 → (result.0 ≡ 0) × (result.1 ≡ 0) }
+    ensures list { 0 < len → 2 < data_pages (transfer (M.page_len mem.new)
+        (M.bytes mem.new) result.0 result.1 len) → result.1
+        ≡ (place_of place.now).first * M.page_len mem.new + (place_of place.now).list_offset }
+    ensures others { KeepsOutside (M.page_len mem.old) (place_of place.now).first
+        (place_of place.now).second (M.bytes mem.old) (M.bytes mem.new) }
+    ensures len { length (M.bytes mem.new) ≡ length (M.bytes mem.old) }
+    ensures page { M.page_len mem.new ≡ M.page_len mem.old }
+{
+    if len == 0 {
+        return (0, 0);
+    }
+    build(mem, &place.buffer, &place.list, len)
+}
 
 /// Writes what the host sends to the buffer of a request's data, if it sends anything.
 #[tactic(auto, using(crate::proofs::DataLaws::none_written))]
@@ -63,7 +212,7 @@ pub(crate) fn submit<M: HostMemory>(
         (request_as request.now asked) pair.old pair.new (M.bytes mem.old) (M.bytes mem.new)
         (M.page_len mem.new) result }
 {
-    let len = length_of(request.transfer);
+    let len = request.transfer.bytes() as u32;
     let (prp1, prp2) = point_to(mem, place, len);
     write_sent(mem, &place.buffer, request, spans);
     let mut entry = request.entry;
@@ -73,31 +222,4 @@ pub(crate) fn submit<M: HostMemory>(
     let tail = pair.submission.push(mem, &entry).unwrap();
     pair.serial = (pair.serial + 1) % SERIALS;
     tail
-}
-
-/// Submits a command with its list and its data in its share of the pages. Returns the new tail.
-pub(crate) fn submit_command<M: HostMemory>(
-    host: &mut HostSide<M>,
-    pair: &mut QueuePair,
-    share: &Share,
-    command: &Command,
-) -> u16
-    requires share { HasShares share.now (M.page_len host.old.mem) (M.bytes host.old.mem) }
-    requires can { CanBeSent command.now }
-    requires slot { HasFreeSlot pair.old (M.bytes host.old.mem) }
-    ensures { IsSubmittedAt share.now.geometry.page_size (place_from share.now.geometry
-        (first_page share.now) (length_of (transfer_by command.now))) (request_of command.now)
-        pair.old pair.new (M.bytes host.old.mem) (M.bytes host.new.mem)
-        (M.page_len host.new.mem) result }
-{
-    let HostSide {
-        mem,
-        spans,
-        pages,
-        ..
-    } = host;
-    let request = Outgoing::of_command(command);
-    let len = length_of(request.transfer);
-    let place = DataPlace::new(share.geometry, share.first_page(), len, pages);
-    submit(mem, pair, &place, &request, spans)
 }

@@ -2,7 +2,7 @@
 use Rattle.std.specs.Prelude.{◌≡◌, ℕ, ◌+◌, ◌*◌, ◌^◌, ◌≤◌, List, length}
 use Rattle.nv_driver.specs.Geometry.{IsGeometry}
 use Rattle.nv_driver.specs.Layout.{pages_of_command}
-use Rattle.nv_driver.specs.declared.share.Share.{Share}
+use Rattle.nv_driver.specs.declared.queue_pair.Share.{Share}
 
 -- the pages lie in the memory, with the pages of a command for each slot of the window, and their
 -- numbers and the next ones fit 32 bits

@@ -12,9 +12,9 @@ use Rattle.nv_model.specs.Step.{next_serial}
 use Rattle.nv_driver.specs.Request.{Asked, Request}
 use Rattle.nv_driver.specs.inner.Schedule.{IsListedAtPlace}
 use Rattle.nv_driver.specs.Schedule.{IsPrepared, entry}
-use Rattle.nv_driver.specs.declared.data_place.DataPlace.{DataPlace}
+use Rattle.nv_driver.specs.declared.submitting.DataPlace.{DataPlace}
 use Rattle.nv_driver.specs.declared.geometry.Geometry.{Geometry}
-use Rattle.nv_driver.specs.declared.outgoing.Outgoing.{Outgoing}
+use Rattle.nv_driver.specs.declared.submitting.Outgoing.{Outgoing}
 use Rattle.nv_driver.specs.declared.queue_pair.QueuePair.{QueuePair as QueuePairFields}
 use Rattle.nv_driver.specs.HostData.{sent_by}
 use Rattle.nv_driver.specs.Submitting.{RequestPlace, place_from, sent_at}

@@ -12,9 +12,9 @@ use Rattle.nv_driver.proofs.passthrough.exchange_entry.Goals as goal
 
 pub new-place-requires : goal.new-place-requires
 new-place-requires g c =
-    let len : c.length_of-len.result ≤ greatest_limit =
-    omega (arith, c.of_entry-request.ensures.few, c.length_of-len.ensures) in
-    let few = few_of_entry c.args.target.geometry c.length_of-len.result c.requires.ready.geometry len in
+    let len : c.bytes-len.result ≤ greatest_limit =
+    omega (arith, c.of_entry-request.ensures.few, c.bytes-len.ensures) in
+    let few = few_of_entry c.args.target.geometry c.bytes-len.result c.requires.ready.geometry len in
     record { limit = len; numbered = omega (arith, few.0, c.requires.numbered) }
 
 pub submit-tail-requires-clause-sent : goal.submit-tail-requires-clause-sent
@@ -28,7 +28,7 @@ pub submit-tail-requires-clause-place : goal.submit-tail-requires-clause-place
 submit-tail-requires-clause-place g c =
     let q = c.of_entry-request.ensures in
     its_place c.of_entry-request.result c.requires.ready c.requires.fits c.requires.inside c.requires.behind q.entry
-    q.transfer q.few c.length_of-len.ensures c.new-place.ensures
+    q.transfer q.few c.bytes-len.ensures c.new-place.ensures
 
 pub submit-tail-requires-clause-slot : goal.submit-tail-requires-clause-slot
 submit-tail-requires-clause-slot g c = has_slot c.requires.ready
@@ -37,7 +37,7 @@ pub next_completion-completion-requires : goal.next_completion-completion-requir
 next_completion-completion-requires g c =
     let q = c.of_entry-request.ensures in
     let begun = begun_by c.of_entry-request.result c.requires.ready c.requires.fits c.requires.inside c.requires.behind
-    q.entry q.transfer q.few c.length_of-len.ensures c.new-place.ensures q.sends c.submit-tail.ensures in
+    q.entry q.transfer q.few c.bytes-len.ensures c.new-place.ensures q.sends c.submit-tail.ensures in
     let w = c.write32.ensures in
     let t = c.turn.ensures in
     let u = took begun c.from.ensures w.state w.banks w.bus t.turn t.bus t.len t.page in
@@ -47,19 +47,19 @@ pub receive-requires-clause-buffer : goal.receive-requires-clause-buffer
 receive-requires-clause-buffer g c =
     let q = c.of_entry-request.ensures in
     let begun = begun_by c.of_entry-request.result c.requires.ready c.requires.fits c.requires.inside c.requires.behind
-    q.entry q.transfer q.few c.length_of-len.ensures c.new-place.ensures q.sends c.submit-tail.ensures in
+    q.entry q.transfer q.few c.bytes-len.ensures c.new-place.ensures q.sends c.submit-tail.ensures in
     let w = c.write32.ensures in
     let t = c.turn.ensures in
     let u = took begun c.from.ensures w.state w.banks w.bus t.turn t.bus t.len t.page in
     let place = its_place c.of_entry-request.result c.requires.ready c.requires.fits c.requires.inside c.requires.behind
-    q.entry q.transfer q.few c.length_of-len.ensures c.new-place.ensures in
+    q.entry q.transfer q.few c.bytes-len.ensures c.new-place.ensures in
     buffer_later u.size (u.page_size ∙ sym c.requires.ready.page_size) place.buffer
 
 pub returns : goal.returns
 returns g c =
     let q = c.of_entry-request.ensures in
     let begun = begun_by c.of_entry-request.result c.requires.ready c.requires.fits c.requires.inside c.requires.behind
-    q.entry q.transfer q.few c.length_of-len.ensures c.new-place.ensures q.sends c.submit-tail.ensures in
+    q.entry q.transfer q.few c.bytes-len.ensures c.new-place.ensures q.sends c.submit-tail.ensures in
     let w = c.write32.ensures in
     let t = c.turn.ensures in
     let u = took begun c.from.ensures w.state w.banks w.bus t.turn t.bus t.len t.page in
@@ -76,4 +76,4 @@ returns g c =
     (transfer_for c.args.passed.now.entry.now) after
     (buffer_places size at.pages at.offset (length_of (transfer_for c.args.passed.now.entry.now))))))
     (c.new-place.ensures ∙ ap (place_from c.args.target.geometry c.args.passed.now.first_page)
-    (c.length_of-len.ensures ∙ ap length_of q.transfer)))
+    (c.bytes-len.ensures ∙ ap length_of q.transfer)))

@@ -22,7 +22,7 @@ returns g c asked =
     let ready = g.M.HostMemory.bytes c.write_sent.new.mem in
     let size = g.M.HostMemory.page_len c.args.mem.now in
     let place = c.requires.place in
-    let len = c.length_of-len.ensures in
+    let len = c.bytes-len.ensures in
     let put : ready ≡ written_at built (places size x) q.sends = rw b.page at c.write_sent.ensures.bytes in
     let ok = c.unwrap-tail.ensures in
     record {

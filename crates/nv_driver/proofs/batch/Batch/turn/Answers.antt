@@ -4,7 +4,7 @@ use Rattle.nv_driver.specs.inner.Pace.{IsToldByPace}
 use Rattle.nv_driver.proofs.OnWayLaws.{can_collect}
 use Rattle.nv_driver.proofs.RoundLaws.{answer_sends, answers_more, awaits, collects, none_free, number_inside, tells_on}
 use Rattle.nv_driver.proofs.RoundLaws.{turns_on}
-use Rattle.nv_driver.proofs.UnderWayLaws.{share_is, shares_now}
+use Rattle.nv_driver.proofs.UnderWayLaws.{share_is, shares_here}
 use Rattle.nv_driver.proofs.batch.Batch.turn.Goals.{then-self-pace, else-self-pace}
 use Rattle.nv_driver.proofs.batch.Batch.turn.Goals as goal
 
@@ -68,8 +68,8 @@ bounds-commands-number g c =
     let i = c.loop.invariant in
     rw (c.requires.1.1.0) (number_inside i.under_way (omega (arith, i.collected, c.loop-test.true)))
 
-pub answer-requires : goal.answer-requires
-answer-requires g c =
+pub receive-requires : goal.receive-requires
+receive-requires g c =
     let i = c.loop.invariant in
     let u = i.under_way in
     let more : c.loop.self.collected < c.args.self.now.collected + c.turn-posted.result =
@@ -79,7 +79,7 @@ answer-requires g c =
     let number = c.loop.self.collected in
     record {
       sends = answer_sends u more first.value c.requires.1.1.0 c.index-commands-number.is;
-      share = rw (share_is next u.geometry number) (shares_now next number);
+      share = shares_here next u.geometry number;
     }
 
 pub loop-preserved : goal.loop-preserved
@@ -90,7 +90,7 @@ loop-preserved g c =
     let more : n < c.args.self.now.collected + c.turn-posted.result =
     omega (arith, i.collected, c.loop-test.true) in
     let first = c.next_completion-completion.ensures in
-    let one = c.answer.ensures in
+    let one = c.receive.ensures in
     let some = u.begun.geometry.pace in
     let run_pace = ap (λ (q : Geometry). q.pace) u.geometry in
     let first_pace = ap (λ (q : Geometry). q.pace) c.requires.1.1.1.0.geometry in

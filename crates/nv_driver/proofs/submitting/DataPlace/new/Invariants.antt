@@ -1,6 +1,6 @@
 use Rattle.std.proofs.Common.{◌≡◌, ◌+◌, length, take}
 use Rattle.std.specs.List.{range_with_len}
-use Rattle.nv_driver.proofs.data_place.DataPlace.new.Given as goal
+use Rattle.nv_driver.proofs.submitting.DataPlace.new.Given as goal
 
 abbrev pub invariant-loop-at : goal.invariant-loop-at
 invariant-loop-at l = record {

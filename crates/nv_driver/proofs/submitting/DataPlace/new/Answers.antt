@@ -4,7 +4,7 @@ use Rattle.std.proofs.lemmas.List.{take_more_set}
 use Rattle.nv_host.proofs.PageLaws.{page_size_bounds}
 use Rattle.nv_driver.specs.CheckedGeometry.{geometry_of}
 use Rattle.nv_driver.proofs.ShareLaws.{few_of_entry, range_more}
-use Rattle.nv_driver.proofs.data_place.DataPlace.new.Goals as goal
+use Rattle.nv_driver.proofs.submitting.DataPlace.new.Goals as goal
 
 pub overflow_add-geometry-inside : goal.overflow_add-geometry-inside
 overflow_add-geometry-inside c =

@@ -2,7 +2,7 @@ use Rattle.std.proofs.Common.{◌∙◌, ◌++◌, List, ℕ, arith, drop, lengt
 use Rattle.nv_driver.specs.HostData.{sent_by}
 use Rattle.nv_driver.proofs.DataLaws.{data_whole}
 use Rattle.nv_driver.proofs.PaddingLaws.{length-padded, padded_part}
-use Rattle.nv_driver.proofs.host_data.HostDataPayload.fill.Goals as goal
+use Rattle.nv_driver.proofs.submitting.HostDataPayload.fill.Goals as goal
 
 pub returns-in-Some : goal.returns-in-Some
 returns-in-Some c =

@@ -3,7 +3,7 @@ use Rattle.nv_command.specs.declared.transfer.Transfer.TheVariants.{ToHost}
 use Rattle.nv_driver.specs.inner.Submitting.{IsPlaceFor, place_of}
 use Rattle.nv_driver.proofs.DataLaws.{most, shape_as}
 use Rattle.nv_driver.proofs.ShareLaws.{share_fits, share_numbered}
-use Rattle.nv_driver.proofs.answering.answer.Goals as goal
+use Rattle.nv_driver.proofs.answer_slot.AnswerSlot.receive.Goals as goal
 
 pub new-place-requires-clause-numbered : goal.new-place-requires-clause-numbered
 new-place-requires-clause-numbered g c =

@@ -3,7 +3,7 @@ use Rattle.std.proofs.Common.{◌≡◌, refl, subst, sym}
 use Rattle.nv_layout.specs.declared.cqe.Cqe.{Cqe}
 use Rattle.nv_queue.specs.Numbers.{IsSlotBetween}
 use Rattle.nv_driver.proofs.SubmittingLaws.{pairs_same}
-use Rattle.nv_driver.proofs.collecting.next_completion.Goals as goal
+use Rattle.nv_driver.proofs.queue_pair.QueuePair.next_completion.Goals as goal
 
 is_awaited : {found : Option Cqe} {q c : Cqe} → found ≡ Some q → IfSome found (λ x. x ≡ c) → q ≡ c
 is_awaited {c = c} some value = subst (λ (o : Option Cqe). IfSome o (λ x. x ≡ c)) some value
@@ -16,7 +16,7 @@ unwrap-completion-requires g c = c.poll.ensures.awaited.1 c.requires.awaited
 
 pub freed-requires : goal.freed-requires
 freed-requires g c =
-    let ring = c.args.pair.now.submission in
+    let ring = c.args.self.now.submission in
     subst (λ (q : Cqe). IsSlotBetween ring.depth ring.known ring.submitted q.sq_head)
     (sym (is_awaited c.unwrap-completion.ensures c.poll.ensures.value)) c.requires.freed
 
