@@ -4,13 +4,10 @@
 
 mod ends;
 mod executing;
-mod line_buffer;
 mod listing;
-mod order;
 mod performing;
 mod running;
 mod session;
-mod shown;
 
 pub use ends::RunEnd;
 pub use nv_driver::{Geometry, GeometryField};
@@ -21,5 +18,5 @@ pub use nv_line::{
 pub use nv_stream::{
     Held, OverHeld, OverRead, OverWrite, READ_SIZE, Retrying, Sink, SinkAfter, Source, SourceAfter,
 };
+pub use performing::each_is_shown;
 pub use running::{READ_LIMIT, RunOptions, run, run_within};
-pub use shown::each_is_shown;

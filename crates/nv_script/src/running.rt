@@ -15,8 +15,7 @@ ghost use Rattle.nv_script.specs.Results.{whole};
 ghost use Rattle.nv_stream.specs.Streams.{IsFresh};
 
 use crate::ends::RunEnd;
-use crate::executing::execute_line;
-use crate::line_buffer::LineBuffer;
+use crate::executing::{LineBuffer, execute_line};
 use crate::session::Session;
 use bumpalo::Bump;
 use memchr::memchr;
@@ -69,8 +68,7 @@ fn feed<B: Bus, O: Sink, M: Sink>(
     let mut rest = piece;
     while let Some(end) = memchr(b'\n', rest) {
         line.extend(&rest[..end]);
-        execute_line(bus, session, out, messages, &mut reader, line.line())?;
-        line.clear();
+        execute_line(bus, session, out, messages, &mut reader, line)?;
         rest = &rest[end + 1..];
     }
     line.extend(rest);
@@ -83,14 +81,14 @@ fn finish<B: Bus, O: Sink, M: Sink>(
     session: &mut Session,
     out: &mut O,
     messages: &mut M,
-    line: &LineBuffer,
+    line: &mut LineBuffer,
 ) -> Result<u8, RunEnd>
     requires out_ready { (O.state out.old).has_failed ≡ false }
     requires messages_ready { (M.state messages.old).has_failed ≡ false }
     requires linked { IsLinked (B.meaning bus.old) session.old.driver }
     requires number { session.old.number + 1 < 2 ^ 64 }
     ensures left { (s : State) (bytes : List ℕ) (o m : Option (List ℕ))
-        → line.now ≡ buffer_of (pieces bytes).last
+        → line.old ≡ buffer_of (pieces bytes).last
         → Stands (whole s (pieces bytes).ended)
         (left_at o (O.state out.old).taken m (M.state messages.old).taken (B.meaning bus.old).state)
         session.old
@@ -104,7 +102,7 @@ fn finish<B: Bus, O: Sink, M: Sink>(
     let room = line_room(session.alloc);
     let mut reader = LineReader::new(session.alloc, &room);
     if !line.is_empty() {
-        execute_line(bus, session, out, messages, &mut reader, line.line())?;
+        execute_line(bus, session, out, messages, &mut reader, line)?;
     }
     Ok(session.status)
 }
@@ -141,7 +139,7 @@ fn run_session<B: Bus, R: Source, O: Sink, M: Sink>(
             if call + 1 == reads {
                 return RunEnd::Read;
             }
-            return match finish(bus, session, out, messages, &line) {
+            return match finish(bus, session, out, messages, &mut line) {
                 Ok(status) => RunEnd::Status(status),
                 Err(cut) => cut,
             };

@@ -1,4 +1,4 @@
-use Rattle.std.proofs.Common.{◌∙◌, ◌+◌, ◌++◌, [], arith, refl, take}
+use Rattle.std.proofs.Common.{◌+◌, ◌++◌, [], arith, refl, take}
 use Rattle.std.proofs.lemmas.List.{length-drop}
 use Rattle.std.proofs.lemmas.Result.{err_from_is_err_and}
 use Rattle.nv_script.specs.Results.{whole}
@@ -25,8 +25,7 @@ returns-in_err-execute_line-clause-left g c s bytes o m is stands =
     let before = pieces ((bytes ++ so_far.0) ++ take end rest) in
     let fed = so_far.2 s bytes o m (is, stands) in
     let fed = Fed-line s bytes so_far.0 rest end _ _ _ _ c.in-Some.ensures c.extend.ensures fed in
-    let line = c.line.ensures ∙ fed.0 in
-    let cut = c.in_err-execute_line.ensures.left before.last (whole s before.ended) o m line fed.1 in
+    let cut = c.in_err-execute_line.ensures.left before.last (whole s before.ended) o m fed.0 fed.1 in
     rw (e.1, e.2) (cut_at _ s bytes c.args.piece.now so_far.0 rest end _ so_far.1 c.in-Some.ensures cut)
 
 pub loop-end-preserved : goal.loop-end-preserved
@@ -47,9 +46,8 @@ loop-end-preserved g c =
             let p = pieces ((bytes ++ so_far.0) ++ take end rest) in
             let fed = so_far.2 s bytes o m fed in
             let fed = Fed-line s bytes so_far.0 rest end _ _ _ _ c.in-Some.ensures c.extend.ensures fed in
-            let line = c.line.ensures ∙ fed.0 in
-            let done = c.in_ok-execute_line.ensures.left p.last (whole s p.ended) o m line fed.1 in
-            Fed-executed s bytes so_far.0 rest end _ _ _ c.in-Some.ensures c.clear.ensures done,
+            let done = c.in_ok-execute_line.ensures.left p.last (whole s p.ended) o m fed.0 fed.1 in
+            Fed-executed s bytes so_far.0 rest end _ _ _ c.in-Some.ensures c.execute_line.ensures.emptied done,
       );
     }
 

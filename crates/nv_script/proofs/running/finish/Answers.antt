@@ -15,7 +15,7 @@ returns-in_err-execute_line-clause-left g c s bytes o m is stands =
     buffer_of-some last
     (λ h. let k : c.args.line.now ≡ Some [] = is ∙ h in
     first_of (search rules, grind (arith, c.is_empty.ensures, c.if-not-is_empty.true))) in
-    let cut = c.in_err-execute_line.ensures.left last (whole s (pieces bytes).ended) o m (c.line.ensures ∙ is) stands in
+    let cut = c.in_err-execute_line.ensures.left last (whole s (pieces bytes).ended) o m is stands in
     rw (e.1, e.2) (last_line bytes some, cut)
 
 pub returns-clause-left : goal.returns-clause-left
@@ -28,7 +28,7 @@ returns-clause-left g c s bytes o m is stands =
           buffer_of-some last
           (λ h. let k : c.args.line.now ≡ Some [] = is ∙ h in
           first_of (search rules, grind (arith, c.is_empty.ensures, w.if-not-is_empty.true))) in
-          let done = w.in_ok-execute_line.ensures.left last (whole s ended) o m (w.line.ensures ∙ is) stands in
+          let done = w.in_ok-execute_line.ensures.left last (whole s ended) o m is stands in
           rw (w.session-is, w.out-is, w.messages-is, w.bus-is)
           (ends_whole s bytes _ _ _ (ap (whole s) (last_line bytes some) ∙ whole-more s ended last) done)
       | else-not-is_empty w ↦
