@@ -4,9 +4,9 @@ use Rattle.std.proofs.Common.{length-append, refl, subst, sym, take}
 use Rattle.std.proofs.lemmas.List.{get_or-take, map_push, take_more}
 use Rattle.nv_queue.specs.Numbers.{next, slot_of}
 use Rattle.nv_driver.proofs.Words.{Batch, BusValue, CanBeSent, Command, Geometry, HasFreeSlot, IsOf, IsOnWay, IsReady}
-use Rattle.nv_driver.proofs.Words.{IsSubmittedAt, IsUnderWay, QueuePairFields, Run, Sent, Share, Transfer, World, first_page}
+use Rattle.nv_driver.proofs.Words.{IsSubmittedAt, IsUnderWay, QueuePairFields, Run, Sent, Share, World, first_page}
 use Rattle.nv_driver.proofs.Words.{get_or-map, get_or_default, length_of, limit_bounds, limit_of, numbered, own_pages}
-use Rattle.nv_driver.proofs.Words.{place_from, request_of, sent_at, setting_of, slot, transfer_by, way}
+use Rattle.nv_driver.proofs.Words.{Transfer, place_from, request_of, sent_at, setting_of, slot, transfer_by, way}
 use Rattle.nv_driver.specs.Batch.{numbered_command}
 use Rattle.nv_driver.specs.Keeping.{AreInOrder}
 use Rattle.nv_driver.specs.Layout.{most_bytes}
