@@ -7,7 +7,7 @@ use Rattle.std.proofs.lemmas.Bool.Decides.{nat_tests}
 use Rattle.nv_host.proofs.BytesLaws.{length-with_bytes}
 use Rattle.nv_layout.specs.Cqe.{bytes_of_cqe}
 use Rattle.nv_layout.proofs.RecordLaws.{length-bytes_of_cqe}
-use Rattle.nv_layout.specs.declared.status.Status.{Status}
+use Rattle.nv_layout.specs.declared.cqe.Status.{Status}
 use Rattle.nv_prp.proofs.PlaceLaws.{length-written_at}
 use Rattle.nv_command.specs.Reply.{data_of}
 use Rattle.nv_command.specs.declared.command.Command.{Command}

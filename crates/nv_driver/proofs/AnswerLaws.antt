@@ -2,7 +2,7 @@
 use Rattle.std.proofs.Common.{◌≡◌, ◌∙◌, ℕ, ◌<◌, ◌^◌, Err, None, Ok, false, Option, Some, arith, length, refl, List, ap}
 use Rattle.std.proofs.Common.{lit<, sym, subst, take}
 use Rattle.nv_layout.specs.Status.{StatusFits}
-use Rattle.nv_layout.specs.declared.status.Status.{Status}
+use Rattle.nv_layout.specs.declared.cqe.Status.{Status}
 use Rattle.nv_command.proofs.RefusalLaws.{is_refusal-refusal_by}
 use Rattle.nv_command.specs.Refusal.{IsRefusal, refusal_by}
 use Rattle.nv_command.specs.Reply.{FitsRecord, IsReplyTo, data_of, dword0_of, reply_in}

@@ -2,7 +2,7 @@
 use Rattle.std.proofs.Common.{[], ◌≡◌, ◌∙◌, ℕ, ◌+◌, ◌*◌, ◌<◌, ◌≤◌, List, ◌∷◌, ap, arith, get_or, length, Err, Ok, refl}
 use Rattle.std.proofs.Common.{subst, sym}
 use Rattle.nv_prp.specs.Buffer.{buffer_places}
-use Rattle.nv_layout.specs.declared.status.Status.{Status}
+use Rattle.nv_layout.specs.declared.cqe.Status.{Status}
 use Rattle.nv_bus.specs.declared.told.Told.{Told}
 use Rattle.nv_bus.specs.Entry.{status_in, told_by}
 use Rattle.nv_bus.specs.Call.{asked_by}

@@ -1,6 +1,6 @@
 -- The answer to a command, and how it is stored in a slot.
 use Rattle.std.specs.Prelude.{Option, None, Some, Result, Ok, Err}
-use Rattle.nv_layout.specs.declared.status.Status.{Status}
+use Rattle.nv_layout.specs.declared.cqe.Status.{Status}
 use Rattle.nv_command.specs.declared.reply.Reply.{Reply}
 
 -- the reply, or the status of the refusal

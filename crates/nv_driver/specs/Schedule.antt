@@ -7,7 +7,7 @@ use Rattle.nv_host.specs.Bytes.{bytes_at}
 use Rattle.nv_host.specs.Pages.{IsPageSize}
 use Rattle.nv_layout.specs.declared.cqe.Cqe.{Cqe}
 use Rattle.nv_layout.specs.declared.sqe.Sqe.{Sqe}
-use Rattle.nv_layout.specs.declared.status.Status.{Status}
+use Rattle.nv_layout.specs.declared.cqe.Status.{Status}
 use Rattle.nv_prp.specs.Buffer.{IsApart, IsBuffer, IsListPlace, IsOutside, StaysFor, buffer_places}
 use Rattle.nv_prp.specs.Place.{AreDistinct, read_at}
 use Rattle.nv_prp.specs.Transfer.{PrpTransfer, transfer}

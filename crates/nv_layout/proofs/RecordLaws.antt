@@ -14,7 +14,7 @@ use Rattle.nv_layout.specs.Sqe.{SqeReadsBack, bytes_of_sqe, sqe_of_bytes, sqe_pa
 use Rattle.nv_layout.specs.Status.{StatusReadsBack, number_of_status, status_of_number}
 use Rattle.nv_layout.specs.declared.cqe.Cqe.{Cqe}
 use Rattle.nv_layout.specs.declared.sqe.Sqe.{Sqe}
-use Rattle.nv_layout.specs.declared.status.Status.{Status}
+use Rattle.nv_layout.specs.declared.cqe.Status.{Status}
 use Rattle.nv_layout.proofs.NsListLaws.{before_first-padded, length-padded, padded_fits}
 use Rattle.nv_layout.proofs.TableLaws.{field_back, length-laid_out, table_back}
 

@@ -2,7 +2,7 @@
 use Rattle.std.specs.Prelude.{false, ◌^◌, ◌<◌}
 use Rattle.nv_layout.specs.Status.{StatusFits}
 use Rattle.nv_layout.specs.declared.error_entry.ErrorEntry.{ErrorEntry}
-use Rattle.nv_layout.specs.declared.status.Status.{Status}
+use Rattle.nv_layout.specs.declared.cqe.Status.{Status}
 
 -- each field fits its bits
 pub record ErrorEntryFits (r : ErrorEntry) : Type 0 where

@@ -2,7 +2,7 @@
 use Rattle.std.specs.Prelude.{◌≡◌, ℕ, ◌==◌, ◌+◌, ◌^◌, ◌<◌, false, List, ◌++◌, codes}
 use Rattle.std.specs.Fmt.{digits}
 use Rattle.nv_layout.specs.Bits.{at_bits, bit, bits}
-use Rattle.nv_layout.specs.declared.status.Status.{Status}
+use Rattle.nv_layout.specs.declared.cqe.Status.{Status}
 
 -- status code, status code type, command retry delay, more, do not retry
 unfoldable pub number_of_status : Status → ℕ

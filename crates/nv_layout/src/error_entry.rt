@@ -1,9 +1,9 @@
 //! Entries of the error log.
 
+use crate::cqe::Status;
 use crate::parts::{
     bits_of, clear, put_u8, put_u16, put_u32, put_u64, to_bits, u8_at, u16_at, u32_at, u64_at,
 };
-use crate::status::Status;
 
 /// An entry of the Error Information log, for one command that failed. Section "Error Information
 /// (Log Identifier 01h)".

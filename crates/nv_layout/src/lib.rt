@@ -43,9 +43,8 @@ mod ns_list;
 mod parts;
 mod smart;
 mod sqe;
-mod status;
 
-pub use cqe::Cqe;
+pub use cqe::{Cqe, Status};
 pub use ctrl_list::{ControllerIds, CtrlList, LayoutError, MOST_CNTLIDS};
 pub use error_entries::ErrorEntries;
 pub use error_entry::ErrorEntry;
@@ -59,7 +58,6 @@ pub use ns_list::{MOST_NSIDS, NamespaceIds, NsList, add_nsid};
 pub use parts::{bits_of, to_bits};
 pub use smart::Smart;
 pub use sqe::Sqe;
-pub use status::Status;
 
 /// States the law of this crate: a record whose fields fit their bits is read back from its bytes.
 /// The call does nothing.

@@ -7,7 +7,7 @@ use Rattle.nv_command.specs.declared.refusal.Refusal.{Refusal}
 use Rattle.nv_layout.specs.declared.error_entry.ErrorEntry.{ErrorEntry}
 use Rattle.nv_model.specs.Values.{FeatureRules, first_value, restored, FeatureValues}
 use Rattle.nv_model.specs.State.{Controller, State, with_controller}
-use Rattle.nv_layout.specs.declared.status.Status.{Status}
+use Rattle.nv_layout.specs.declared.cqe.Status.{Status}
 use Rattle.nv_command.specs.Form.{namespace_of}
 use Rattle.nv_command.specs.declared.command.Command.{Command}
 use Rattle.nv_command.specs.declared.reply.Reply.{Reply}

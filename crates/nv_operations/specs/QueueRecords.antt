@@ -4,7 +4,7 @@ use Rattle.nv_layout.specs.Bits.{bit}
 use Rattle.nv_layout.specs.Status.{number_of_status, status_of_number}
 use Rattle.nv_layout.specs.declared.cqe.Cqe.{Cqe}
 use Rattle.nv_layout.specs.declared.sqe.Sqe.{Sqe}
-use Rattle.nv_layout.specs.declared.status.Status.{Status}
+use Rattle.nv_layout.specs.declared.cqe.Status.{Status}
 use Rattle.nv_operations.specs.Field.{Field, Row, byte_of, dword_of, flag_of, number, number_of}
 use Rattle.nv_operations.specs.Field.{word_of}
 use Rattle.nv_operations.specs.Rows.{byte_row, dword_row, flag_row, number_row, qword_row, word_row}

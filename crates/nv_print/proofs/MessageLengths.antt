@@ -7,7 +7,7 @@ use Rattle.nv_command.specs.StatusCode.{first_code, name_of_code, name_of_status
 use Rattle.nv_command.specs.declared.status_code.StatusCode.{StatusCode}
 use Rattle.nv_command.specs.declared.status_code.StatusCode.TheVariants as code
 use Rattle.nv_layout.specs.Status.{number_of_status, status_text}
-use Rattle.nv_layout.specs.declared.status.Status.{Status}
+use Rattle.nv_layout.specs.declared.cqe.Status.{Status}
 use Rattle.nv_line.specs.LineFault.{fault_text}
 use Rattle.nv_line.specs.OptionName.{name_of}
 use Rattle.nv_line.specs.declared.fault.LineFault.{LineFault}

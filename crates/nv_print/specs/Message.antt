@@ -4,7 +4,7 @@ use Rattle.std.specs.Prelude.{if◌then◌else◌}
 use Rattle.std.specs.Fmt.{decimal}
 use Rattle.nv_command.specs.StatusCode.{name_of_status}
 use Rattle.nv_layout.specs.Status.{status_text}
-use Rattle.nv_layout.specs.declared.status.Status.{Status}
+use Rattle.nv_layout.specs.declared.cqe.Status.{Status}
 use Rattle.nv_line.specs.LineFault.{fault_text}
 use Rattle.nv_print.specs.declared.fault.Fault.{Fault}
 use Rattle.nv_print.specs.declared.fault.FaultCause.{FaultCause}

@@ -7,7 +7,7 @@ use Rattle.nv_command.specs.declared.command.Command.{Command}
 use Rattle.nv_command.specs.declared.reply.Reply.{Reply}
 use Rattle.nv_command.specs.declared.reply.Reply.TheVariants.{Done}
 use Rattle.nv_driver.specs.Answer.{Answer}
-use Rattle.nv_layout.specs.declared.status.Status.{Status}
+use Rattle.nv_layout.specs.declared.cqe.Status.{Status}
 use Rattle.nv_model.proofs.LookupLaws.{IsAlike, IsLookup, alike-join, alike-self, looked_alike, looked_received}
 use Rattle.nv_model.specs.Meaning.{reply_of}
 use Rattle.nv_model.specs.State.{State}

@@ -1,6 +1,6 @@
 -- The outcome of commands by that of the first.
 use Rattle.std.proofs.Common.{◌≡◌, ℕ, ap, sym, List, [], ◌∷◌, None, Some, Ok, Err}
-use Rattle.nv_layout.specs.declared.status.Status.{Status}
+use Rattle.nv_layout.specs.declared.cqe.Status.{Status}
 use Rattle.nv_model.specs.State.{State}
 use Rattle.nv_command.specs.declared.reply.Reply.{Reply}
 use Rattle.nv_script.specs.Outcomes.{Exchange, Order, exchange_of}

@@ -3,7 +3,7 @@ use Rattle.std.proofs.Common.{◌≡◌, ◌∙◌, ℕ, ◌+◌, arith, ap, sym
 use Rattle.std.proofs.Common.{Result, Ok, Err}
 use Rattle.std.specs.Option.{option_map_or}
 use Rattle.std.proofs.lemmas.List.{take_all}
-use Rattle.nv_layout.specs.declared.status.Status.{Status}
+use Rattle.nv_layout.specs.declared.cqe.Status.{Status}
 use Rattle.nv_command.specs.Received.{answer_received}
 use Rattle.nv_command.specs.declared.command.Command.{Command}
 use Rattle.nv_command.specs.declared.command.Command.TheVariants.{IdentifyController}

@@ -1,7 +1,7 @@
 -- The outcome of one act at a controller, and of orders, one after another.
 use Rattle.std.specs.Prelude.{ℕ, List, Result, Ok, slice_index, slice_set, [], ◌∷◌, Option, Some, None}
 use Rattle.std.specs.Prelude.{Err}
-use Rattle.nv_layout.specs.declared.status.Status.{Status}
+use Rattle.nv_layout.specs.declared.cqe.Status.{Status}
 use Rattle.nv_model.specs.Step.{reset, next_serial, step}
 use Rattle.nv_model.specs.State.{State}
 use Rattle.nv_command.specs.declared.reply.Reply.{Reply}

@@ -1,7 +1,7 @@
 -- What a line prints and does, and a script as a fold over its lines.
 use Rattle.std.specs.Prelude.{ℕ, ◌+◌, List, [], ◌++◌, length, replicate, Option, None, Some, Result}
 use Rattle.std.specs.Prelude.{Ok, Err, unwrap_or, fold}
-use Rattle.nv_layout.specs.declared.status.Status.{Status}
+use Rattle.nv_layout.specs.declared.cqe.Status.{Status}
 use Rattle.nv_model.specs.State.{State}
 use Rattle.nv_command.specs.declared.reply.Reply.{Reply}
 use Rattle.nv_script.specs.Orders.{orders_of}

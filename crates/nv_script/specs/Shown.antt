@@ -4,7 +4,7 @@ use Rattle.std.specs.Prelude.{Result, Ok}
 use Rattle.std.specs.Option.{option_map}
 use Rattle.nv_layout.specs.Feature.{feature_of}
 use Rattle.nv_layout.specs.declared.feature.Feature.{Feature}
-use Rattle.nv_layout.specs.declared.status.Status.{Status}
+use Rattle.nv_layout.specs.declared.cqe.Status.{Status}
 use Rattle.nv_command.specs.declared.command.Command.TheVariants.{Attachment, Create, Delete}
 use Rattle.nv_command.specs.declared.command.Command.TheVariants.{Format, GetFeature, SetFeature}
 use Rattle.nv_command.specs.declared.command.Command.TheVariants.{IdentifyController}

@@ -3,7 +3,7 @@ use Rattle.std.specs.Prelude.{ℕ, ◌/◌, ◌%◌, ◌==◌, ◌&&◌, false, 
 use Rattle.std.specs.Fmt.{decimal, digits}
 use Rattle.std.specs.Option.{option_map_or}
 use Rattle.nv_layout.specs.Status.{status_text}
-use Rattle.nv_layout.specs.declared.status.Status.{Status}
+use Rattle.nv_layout.specs.declared.cqe.Status.{Status}
 use Rattle.nv_register.specs.Register.{register_at}
 use Rattle.nv_register.specs.declared.register.Register.{Register}
 use Rattle.nv_register.specs.declared.register.Register.TheVariants as register

@@ -2,7 +2,7 @@
 -- no public contract reaches.
 use Rattle.std.specs.Prelude.{◌≡◌, ℕ, ◌*◌, List, [], if◌then◌else◌}
 use Rattle.nv_layout.specs.declared.sqe.Sqe.{Sqe}
-use Rattle.nv_layout.specs.declared.status.Status.{Status}
+use Rattle.nv_layout.specs.declared.cqe.Status.{Status}
 use Rattle.nv_bus.specs.Entry.{told_by}
 use Rattle.nv_bus.specs.declared.told.Told.{Told}
 use Rattle.nv_driver.specs.Alone.{IsReceived, asked_in, entry_step}
