@@ -1,7 +1,6 @@
 use Rattle.std.proofs.Common.{◌∙◌, ◌+◌, ◌*◌, ap, arith, refl}
 use Rattle.std.proofs.lemmas.List.{length-replicate}
 use Rattle.nv_host.proofs.BytesLaws.{length_with_bytes}
-use Rattle.nv_queue.specs.Rings.{CollectNumbers}
 use Rattle.nv_queue.proofs.ZeroLaws.{zeroed_more, zeroed_none}
 use Rattle.nv_queue.proofs.completion_ring.CompletionRing.zero.Goals as goal
 
@@ -14,8 +13,8 @@ loop-slot-init g c = record {
 pub loop-slot-preserved : goal.loop-slot-preserved
 loop-slot-preserved g c =
     let inv = c.loop-slot.invariant in
-    let base = ap (λ (r : CollectNumbers). r.base) c.self.view_is in
-    let depth = ap (λ (r : CollectNumbers). r.depth) c.self.view_is in
+    let base = ap (λ r. r.base) c.self.view_is in
+    let depth = ap (λ r. r.depth) c.self.view_is in
     record {
       bytes = zeroed_more (g.M.HostMemory.bytes c.args.mem.now) _ _ c.args.self.now.base
           c.loop-slot.slot c.args.self.now.depth (c.args.self.now.base + 16 * c.loop-slot.slot) c.requires
