@@ -69,6 +69,7 @@ impl AdminQueues {
     {
         let at = self.submission.address(mem, ENTRY_SIZE)?;
         let mut bytes = [0; 64];
+        // The slot lies in the memory.
         let _ = mem.load(at, &mut bytes);
         Some(Sqe::get(&bytes))
     }
@@ -79,6 +80,7 @@ impl AdminQueues {
     {
         let at = self.completion.address(mem, COMPLETION_SIZE)?;
         let mut bytes = [0; 16];
+        // The slot lies in the memory.
         let _ = mem.load(at, &mut bytes);
         Some(Cqe::get(&bytes))
     }
