@@ -1,5 +1,5 @@
 -- One field that is written over some bytes, and reading numbers.
-use Rattle.std.proofs.Common.{◌≡◌, ◌∙◌, ℕ, zero, suc, ◌+◌, ◌-◌, ◌*◌, ◌%◌, ◌^◌, ◌<◌, ◌≤◌, ap, inl}
+use Rattle.std.proofs.Common.{◌≡◌, ◌∙◌, ℕ, zero, suc, ◌+◌, ◌-◌, ◌*◌, ◌/◌, ◌%◌, ◌^◌, ◌<◌, ◌≤◌, ap, inl}
 use Rattle.std.proofs.Common.{inr, refl, sym, arith, mul-zero, List, [], ◌∷◌, ◌++◌, take, drop, set}
 use Rattle.std.proofs.Common.{append-nil, length, get_or, map, min, replicate}
 use Rattle.std.specs.List.{AllByRecursion, flat_map}
@@ -109,6 +109,27 @@ byte_placed b at x h small =
     let rest : drop (suc at) b ≡ drop 1 (drop at b) =
     ap (λ m. drop m b) next ∙ sym (drop-drop 1 at b) in
     set_split b at x h ∙ (λ i. take at b ++ (whole i ∷ rest i))
+
+-- the bytes of a number's lower half, and then those of its upper half, are its bytes
+pub halves : (v : ℕ) → little_bytes 8 (v % 2 ^ 64) ++ little_bytes 8 (v / 2 ^ 64) ≡ little_bytes 16 v
+halves v =
+    let a0 : v % 2 ^ 64 % 256 ≡ v % 256 = omega arith in
+    let a1 : v % 2 ^ 64 / 256 % 256 ≡ v / 256 % 256 = omega arith in
+    let a2 : v % 2 ^ 64 / 256 ^ 2 % 256 ≡ v / 256 ^ 2 % 256 = omega arith in
+    let a3 : v % 2 ^ 64 / 256 ^ 3 % 256 ≡ v / 256 ^ 3 % 256 = omega arith in
+    let a4 : v % 2 ^ 64 / 256 ^ 4 % 256 ≡ v / 256 ^ 4 % 256 = omega arith in
+    let a5 : v % 2 ^ 64 / 256 ^ 5 % 256 ≡ v / 256 ^ 5 % 256 = omega arith in
+    let a6 : v % 2 ^ 64 / 256 ^ 6 % 256 ≡ v / 256 ^ 6 % 256 = omega arith in
+    let a7 : v % 2 ^ 64 / 256 ^ 7 % 256 ≡ v / 256 ^ 7 % 256 = omega arith in
+    let b1 : v / 2 ^ 64 / 256 % 256 ≡ v / 256 ^ 9 % 256 = omega arith in
+    let b2 : v / 2 ^ 64 / 256 ^ 2 % 256 ≡ v / 256 ^ 10 % 256 = omega arith in
+    let b3 : v / 2 ^ 64 / 256 ^ 3 % 256 ≡ v / 256 ^ 11 % 256 = omega arith in
+    let b4 : v / 2 ^ 64 / 256 ^ 4 % 256 ≡ v / 256 ^ 12 % 256 = omega arith in
+    let b5 : v / 2 ^ 64 / 256 ^ 5 % 256 ≡ v / 256 ^ 13 % 256 = omega arith in
+    let b6 : v / 2 ^ 64 / 256 ^ 6 % 256 ≡ v / 256 ^ 14 % 256 = omega arith in
+    let b7 : v / 2 ^ 64 / 256 ^ 7 % 256 ≡ v / 256 ^ 15 % 256 = omega arith in
+    λ i. a0 i ∷ a1 i ∷ a2 i ∷ a3 i ∷ a4 i ∷ a5 i ∷ a6 i ∷ a7 i
+    ∷ v / 2 ^ 64 % 256 ∷ b1 i ∷ b2 i ∷ b3 i ∷ b4 i ∷ b5 i ∷ b6 i ∷ b7 i ∷ []
 
 -- ---- numbers in a row
 

@@ -62,7 +62,10 @@ pub(crate) fn put_u128(out: &mut [u8], at: usize, value: u128)
     requires { at + 16 ≤ length out.old }
     ensures { out.new ≡ placed out.old (number at 16 value) }
 {
-    put_bytes(out, at, &value.to_le_bytes());
+    let mut bytes = [0; 16];
+    LittleEndian::write_u64(&mut bytes, (value % (1 << 64)) as u64);
+    LittleEndian::write_u64(&mut bytes[8..], (value >> 64) as u64);
+    put_bytes(out, at, &bytes);
 }
 
 #[tactic(auto, unfolding(crate::specs::Parts::placed))]
