@@ -4,6 +4,7 @@ ghost use Rattle.std.specs.Prelude.{◌≡◌, ◌*◌, IsTrue, length};
 ghost use Rattle.std.specs.Borrow.{GName};
 ghost use Rattle.nv_host.specs.Pages.{are_pages, is_page_size};
 
+use crate::memory::end_of_range;
 use crate::{HostMemory, OutOfMemoryRange, Payload};
 use std::marker::{Brand, PhantomData};
 
@@ -82,18 +83,14 @@ impl<'a, L: Loan> HostMemory for LentMemory<'a, L> {
     }
 
     fn load(&self, addr: u64, out: &mut [u8]) -> Result<(), OutOfMemoryRange> {
-        let rest = self.bytes.get(addr as usize..).ok_or(OutOfMemoryRange)?;
-        out.copy_from_slice(rest.get(..out.len()).ok_or(OutOfMemoryRange)?);
+        let end = end_of_range(self.bytes.len(), addr, out.len())?;
+        out.copy_from_slice(&self.bytes[addr as usize..end]);
         Ok(())
     }
 
     fn store(&mut self, addr: u64, source: &[u8]) -> Result<(), OutOfMemoryRange> {
-        let start = addr as usize;
-        let rest = self.bytes.len().checked_sub(start).ok_or(OutOfMemoryRange)?;
-        if rest < source.len() {
-            return Err(OutOfMemoryRange);
-        }
-        self.bytes[start..start + source.len()].copy_from_slice(source);
+        let end = end_of_range(self.bytes.len(), addr, source.len())?;
+        self.bytes[addr as usize..end].copy_from_slice(source);
         Ok(())
     }
 

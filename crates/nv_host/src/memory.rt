@@ -106,6 +106,18 @@ pub fn size_of_memory<M: HostMemory>(mem: &M) -> u64
     u64::from(mem.pages()) * u64::from(mem.page_size())
 }
 
+/// Returns where the range of `len` bytes from an address on ends, in a memory of `size` bytes.
+pub(crate) fn end_of_range(size: usize, addr: u64, len: usize) -> Result<usize, OutOfMemoryRange>
+    ensures inside { IsOk result ↔ (addr + len ≤ size) }
+    ensures value { IfOk result (λ end. end ≡ addr + len) }
+{
+    let size = size as u64;
+    if addr > size || len as u64 > size - addr {
+        return Err(OutOfMemoryRange);
+    }
+    Ok(addr as usize + len)
+}
+
 /// A host's memory in one vector.
 #[derive(Drop)]
 pub struct FlatMemory {
@@ -163,18 +175,14 @@ impl HostMemory for FlatMemory {
     }
 
     fn load(&self, addr: u64, out: &mut [u8]) -> Result<(), OutOfMemoryRange> {
-        let rest = self.bytes.get(addr as usize..).ok_or(OutOfMemoryRange)?;
-        out.copy_from_slice(rest.get(..out.len()).ok_or(OutOfMemoryRange)?);
+        let end = end_of_range(self.bytes.len(), addr, out.len())?;
+        out.copy_from_slice(&self.bytes[addr as usize..end]);
         Ok(())
     }
 
     fn store(&mut self, addr: u64, source: &[u8]) -> Result<(), OutOfMemoryRange> {
-        let start = addr as usize;
-        let rest = self.bytes.len().checked_sub(start).ok_or(OutOfMemoryRange)?;
-        if rest < source.len() {
-            return Err(OutOfMemoryRange);
-        }
-        self.bytes[start..start + source.len()].copy_from_slice(source);
+        let end = end_of_range(self.bytes.len(), addr, source.len())?;
+        self.bytes[addr as usize..end].copy_from_slice(source);
         Ok(())
     }
 
