@@ -30,22 +30,18 @@ static const char *value_of(char *const environment[]) {
    that shares its parent's memory doesn't change that memory. */
 static void keep(char *const from[], char *kept[], char *preload) {
     const char *before = value_of(from);
-    size_t variable = kept_variable ? strcspn(kept_variable, "=") + 1 : 0;
     strcpy(stpcpy(preload, PRELOAD), before);
     if (!strstr(before, library))
         sprintf(preload, PRELOAD "%s%s%s", library, *before ? ":" : "", before);
     for (; from && *from; from++)
-        if (strncmp(*from, PRELOAD, strlen(PRELOAD)) != 0 &&
-            (!variable || strncmp(*from, kept_variable, variable) != 0))
+        if (strncmp(*from, PRELOAD, strlen(PRELOAD)) != 0)
             *kept++ = *from;
     *kept++ = preload;
-    if (kept_variable)
-        *kept++ = (char *)kept_variable;
     *kept = NULL;
 }
 
 #define KEEP(kept, from) \
-    char *kept[count_of(from) + 3], preload[sizeof PRELOAD + PATH_MAX + 1 + strlen(value_of(from))]; \
+    char *kept[count_of(from) + 2], preload[sizeof PRELOAD + PATH_MAX + 1 + strlen(value_of(from))]; \
     if (folder[0]) \
         keep(from, kept, preload); \
     else \
@@ -122,11 +118,8 @@ PUBLIC int posix_spawnp(pid_t *child, const char *file, const posix_spawn_file_a
 /* Programs that these calls run have the environment of this process. */
 static void keep_here(void) {
     KEEP(kept, environ);
-    if (folder[0]) {
+    if (folder[0])
         setenv("LD_PRELOAD", preload + strlen(PRELOAD), 1);
-        if (kept_variable)
-            setenv(FOLDER_VARIABLE, kept_variable + sizeof FOLDER_VARIABLE, 1);
-    }
 }
 
 PUBLIC int system(const char *line) {

@@ -1,10 +1,11 @@
-/* Runs a command whose NVMe commands are answered by device programs, one for each subsystem file. It starts the
-   devices behind pipes, makes a /dev and a /sys for the command (space.c), listens on a socket in that /dev, runs the
-   command with the library preloaded, and serves the library's requests (relay.c). It ends when the command ends, with
-   its status, and leaves nothing behind. None of this is proved. */
+/* Runs a command whose NVMe commands are answered by device programs, one for each subsystem file. The launcher first
+   becomes bubblewrap, which makes a sandbox and starts the launcher again inside (sandbox.c), as process 1. There it
+   starts the devices behind pipes, makes the nodes and the files of /sys (nodes.c, sysfs.c), listens on a socket in
+   /dev, runs the command with the library preloaded, and serves the library's requests (relay.c). It ends when the
+   command ends, with its status, and with it ends everything in the sandbox. Where no sandbox can be made and the
+   machine has no NVMe device, all this happens outside, with a folder in place of /dev. None of this is proved. */
 #define _GNU_SOURCE
 #include "launcher.h"
-#include <dirent.h>
 #include <errno.h>
 #include <fcntl.h>
 #include <ftw.h>
@@ -18,29 +19,34 @@
 #include <sys/prctl.h>
 #include <sys/socket.h>
 #include <sys/stat.h>
+#include <sys/statvfs.h>
 #include <sys/sysinfo.h>
 #include <sys/un.h>
 #include <sys/wait.h>
 #include <unistd.h>
 
-enum { FAILED = 72, NOT_EXECUTABLE = 126, NOT_FOUND = 127 };
+enum { MOST_ADDED = 64 };
 
 struct device devices[MOST_DEVICES];
 unsigned device_count;
-int listener = -1, has_namespace, waits;
+int listener = -1, has_sandbox, waits;
 char folder[96];
 uint64_t geometry[] = {[DEPTH] = 32, [PAGE_SIZE] = 4096, [WINDOW] = 1};
 
 static pid_t command;
-static int status = -1;        /* of the command, once it has ended */
-static sigset_t mask, watched; /* the signals that were blocked at the start, and the signals to wait for */
-static char parts[PATH_MAX], library[PATH_MAX + 32];
+static int status = -1;         /* of the command, once it has ended */
+static sigset_t mask, watched;  /* the signals that were blocked at the start, and the signals to wait for */
+static mode_t creation_mask;    /* of the command's files */
+static int monitor = -1;        /* tells which signals wait at bwrap, outside of the sandbox */
+static unsigned closed_streams; /* a bit for each of the standard streams that was closed at the start */
+static char parts[PATH_MAX], library[PATH_MAX + 32], program[PATH_MAX + 32];
 
 /* The values of the options. */
-static const char *files[MOST_DEVICES];
+static const char *names[MOST_DEVICES], *added[MOST_ADDED + 1];
+static int files[MOST_DEVICES];
 static char *device_options[16];
-static unsigned file_count, device_option_count;
-static int has_trace, without_namespace;
+static unsigned file_count, device_option_count, added_count;
+static int has_trace;
 static const char *trace_file;
 static uint64_t limit;
 
@@ -66,9 +72,9 @@ void remove_all(const char *path) {
         continue;
 }
 
-/* Removes the launcher's folder, which is in the machine's /tmp if there is no namespace. */
+/* Removes the launcher's folder, which is the machine's if there is no sandbox. */
 static void remove_folder(void) {
-    if (folder[0] && !has_namespace)
+    if (folder[0] && !has_sandbox)
         remove_all(folder);
 }
 
@@ -88,6 +94,31 @@ void fail(const char *format, ...) {
 
 void fail_by_errno(const char *what) { fail("%s: %s", what, strerror(errno)); }
 
+void cannot(const char *path) {
+    if (command == 0)
+        fail_by_errno(path);
+    fprintf(stderr, "nvme-model: %s: %s\n", path, strerror(errno));
+}
+
+int make_new(const char *path, mode_t mode) {
+    int file = open(path, O_RDWR | O_CREAT | O_EXCL | O_CLOEXEC, mode);
+    for (int tries = 0; file < 0 && errno == EEXIST && tries < 3; tries++) {
+        remove_all(path);
+        file = open(path, O_RDWR | O_CREAT | O_EXCL | O_CLOEXEC, mode);
+    }
+    if (file < 0)
+        cannot(path);
+    return file;
+}
+
+int resize(const char *path, off_t length) {
+    int file = open(path, O_WRONLY | O_NOFOLLOW | O_NONBLOCK | O_CLOEXEC);
+    int result = file < 0 ? -1 : ftruncate(file, length);
+    if (file >= 0)
+        close(file);
+    return result;
+}
+
 /* Finds out which processes have ended. */
 static void reap(void) {
     int how;
@@ -105,23 +136,48 @@ static void reap(void) {
     }
 }
 
-/* Waits for the command to end. Signals from the terminal's keys reach the command anyway. Other signals are passed on
-   to it. */
+/* Returns the signals that were sent to bwrap, which blocks them, and so can't be passed on by it. (Signal 1 is bit 0.) */
+static unsigned long signals_at_monitor(void) {
+    char text[4096], *line;
+    ssize_t length = monitor < 0 ? 0 : pread(monitor, text, sizeof text - 1, 0);
+    text[length < 0 ? 0 : length] = '\0';
+    line = strstr(text, "\nShdPnd:");
+    return line ? strtoul(line + strlen("\nShdPnd:"), NULL, 16) : 0;
+}
+
+/* Passes each signal that was sent to bwrap on to the command, once. A signal from the terminal's keys, which reached
+   the command anyway, is received here as well, if not before then a little later. */
+static void pass_on(unsigned long *passed, unsigned long *seen) {
+    unsigned long waiting = signals_at_monitor() & ~*passed;
+    for (int number = 1; number < NSIG; number++)
+        if ((waiting & *seen) >> (number - 1) & 1 && sigismember(&watched, number) > 0 && command > 0)
+            kill(command, number);
+    *passed |= waiting & *seen;
+    *seen = waiting;
+}
+
+/* Waits for the command to end, and passes signals on to it. */
 static void await_end(void) {
+    const struct timespec while_waiting = {.tv_nsec = 50000000};
+    unsigned long passed = 0, seen = 0;
     siginfo_t signal;
     while (status < 0) {
-        int number = sigwaitinfo(&watched, &signal);
+        int number = sigtimedwait(&watched, &signal, &while_waiting);
         int is_typed = signal.si_code == SI_KERNEL && (number == SIGINT || number == SIGQUIT);
         if (number == SIGCHLD)
             reap();
-        else if (number > 0 && command > 0 && !is_typed)
+        else if (number > 0 && is_typed)
+            passed |= 1UL << (number - 1);
+        else if (number > 0 && command > 0)
             kill(command, number);
+        else if (number < 0)
+            pass_on(&passed, &seen);
     }
 }
 
 /* Blocks the signals that are received one by one. */
 static void block_signals(void) {
-    static const int numbers[] = {SIGCHLD, SIGINT, SIGTERM, SIGHUP, SIGQUIT};
+    static const int numbers[] = {SIGCHLD, SIGINT, SIGTERM, SIGHUP, SIGQUIT, SIGUSR1, SIGUSR2};
     sigemptyset(&watched);
     for (unsigned at = 0; at < sizeof numbers / sizeof *numbers; at++)
         sigaddset(&watched, numbers[at]);
@@ -135,17 +191,18 @@ static void open_pipe(int ends[2]) {
 
 /* Runs a device's program in a session of its own, so that signals from the terminal's keys don't end it. It is killed
    when the launcher ends. */
-static void run_device(const char *file, int in, int out, int said) {
-    char program[PATH_MAX + 32], *arguments[24] = {program};
+static void run_device(int file, int in, int out, int said) {
+    char name[32], *arguments[24] = {program};
     unsigned count = 1;
-    snprintf(program, sizeof program, "%s/nvme_device", parts);
     for (unsigned at = 0; at < device_option_count; at++)
         arguments[count++] = device_options[at];
     if (has_trace)
         arguments[count++] = "--trace";
-    if (file) {
+    if (file >= 0) {
+        snprintf(name, sizeof name, "/proc/self/fd/%d", file);
         arguments[count++] = "--subsystem";
-        arguments[count++] = (char *)file;
+        arguments[count++] = name;
+        fcntl(file, F_SETFD, 0);
     }
     setsid();
     prctl(PR_SET_PDEATHSIG, SIGKILL);
@@ -156,7 +213,7 @@ static void run_device(const char *file, int in, int out, int said) {
     _exit(FAILED);
 }
 
-static void start_device(const char *file) {
+static void start_device(int file) {
     int in[2], out[2], said[2] = {-1, -1};
     struct device *device = devices + device_count++;
     open_pipe(in);
@@ -181,63 +238,6 @@ static void start_device(const char *file) {
     greet_device(device);
 }
 
-/* Returns whether a namespace can be made here. Another process tests this, because a half-made namespace can't be
-   undone. */
-static int can_enter(char reason[REASON_ROOM]) {
-    int ends[2], how;
-    open_pipe(ends);
-    pid_t child = fork();
-    if (child < 0)
-        fail_by_errno("fork");
-    if (child == 0) {
-        char why[REASON_ROOM] = "";
-        int result = enter_space(limit, why);
-        _exit(result < 0 && write(ends[1], why, strlen(why) + 1) > 0 ? 1 : result < 0);
-    }
-    close(ends[1]);
-    ssize_t length = read(ends[0], reason, REASON_ROOM - 1);
-    reason[length < 0 ? 0 : length] = '\0';
-    close(ends[0]);
-    return waitpid(child, &how, 0) == child && how == 0;
-}
-
-/* Opens each open folder again, by its path in the command's /dev, /sys and so on. Through a descriptor of the
-   machine's own folder, its nodes could be reached. */
-static void renew_folders(void) {
-    DIR *open_files = opendir("/proc/self/fd");
-    struct dirent *entry;
-    while (open_files && (entry = readdir(open_files))) {
-        char link[64], path[PATH_MAX];
-        struct stat about;
-        int file = atoi(entry->d_name), flags = fcntl(file, F_GETFL);
-        if (entry->d_name[0] == '.' || file == dirfd(open_files) || fstat(file, &about) < 0 || !S_ISDIR(about.st_mode))
-            continue;
-        snprintf(link, sizeof link, "/proc/self/fd/%d", file);
-        ssize_t length = readlink(link, path, sizeof path - 1);
-        path[length < 0 ? 0 : length] = '\0';
-        int is_kept = fcntl(file, F_GETFD) & FD_CLOEXEC, new = open(path, (flags & O_PATH) | O_DIRECTORY | O_CLOEXEC);
-        if (new < 0 || dup3(new, file, is_kept ? O_CLOEXEC : 0) < 0)
-            close(file);
-        close(new);
-    }
-    if (open_files)
-        closedir(open_files);
-}
-
-/* Fails if the command would get a descriptor of a real device. */
-static void check_descriptors(void) {
-    DIR *open_files = opendir("/proc/self/fd");
-    struct dirent *entry;
-    char path[300];
-    while (open_files && (entry = readdir(open_files))) {
-        snprintf(path, sizeof path, "/proc/self/fd/%s", entry->d_name);
-        if (is_real_node(path))
-            fail("file descriptor %s is an NVMe device of this machine: close it", entry->d_name);
-    }
-    if (open_files)
-        closedir(open_files);
-}
-
 /* Starts a process that removes the folder when the launcher has ended, even if it was killed. */
 static void start_sweeper(void) {
     int ends[2];
@@ -258,58 +258,40 @@ static void start_sweeper(void) {
     _exit(0);
 }
 
-/* Makes the folder in /tmp that replaces the one in the command's own /dev if there is no namespace. */
-static void make_folder(const char *reason) {
-    const char *node = a_real_node();
-    if (node && !without_namespace)
-        fail("%s is a device of this machine, and no namespace can be made to keep the command from it (%s): with "
-             "--without-namespace the command runs all the same, at your own risk",
-             node, reason);
-    fprintf(stderr,
-            "nvme-model: the command has no namespace (%s): nodes can be opened by their names in /dev but hold no "
-            "data, listings of /dev and /sys don't show them, and a program that doesn't see the preloaded library "
-            "finds %s\n",
-            reason, node ? "the devices of this machine" : "no NVMe device");
-    strcpy(folder, "/tmp/nvme-model.XXXXXX");
-    if (!mkdtemp(folder) || chmod(folder, 0755) < 0)
-        fail_by_errno("no folder can be made in /tmp");
-    start_sweeper();
-}
-
-static void choose_space(void) {
-    char reason[REASON_ROOM] = "--without-namespace", here[PATH_MAX];
-    if (without_namespace || !can_enter(reason)) {
-        make_folder(reason);
-        return;
-    }
-    int is_told = getcwd(here, sizeof here) != NULL;
-    if (enter_space(limit, reason) < 0)
-        fail("no namespace can be made: %s", reason);
-    has_namespace = 1;
-    strcpy(folder, MODEL_FOLDER);
-    renew_folders();
-    /* (the folder may be the machine's /dev, or another namespace's, so it is opened again by its path) */
-    if (is_told && chdir(here) < 0 && errno != EACCES)
-        fail("the folder %s isn't there for the command: run it from another one", here);
-}
-
-/* Copies the library into the /dev that the command sees, where every user can read it. */
+/* Copies the library into the folder, where every user can read it, and no blank or colon in a path cuts its name. */
 static void place_library(void) {
-    char copy[sizeof folder + 16], block[65536];
+    char block[65536];
     ssize_t count = 0;
-    if (!has_namespace)
-        return;
     int from = open(library, O_RDONLY | O_CLOEXEC);
-    snprintf(copy, sizeof copy, "%s/library.so", folder);
-    int to = open(copy, O_WRONLY | O_CREAT | O_CLOEXEC, 0755);
+    snprintf(library, sizeof library, "%s/library.so", folder);
+    int to = open(library, O_WRONLY | O_CREAT | O_EXCL | O_CLOEXEC, 0755);
     while (from >= 0 && to >= 0 && (count = read(from, block, sizeof block)) > 0)
         if (write(to, block, (size_t)count) != count)
-            fail_by_errno(copy);
-    if (from < 0 || to < 0 || count < 0 || fchmod(to, 0755) < 0)
+            fail_by_errno(library);
+    if (from < 0 || to < 0 || count < 0)
         fail_by_errno(library);
     close(from);
     close(to);
-    strcpy(library, copy);
+}
+
+/* Makes the folder that replaces the one in the command's own /dev. The library can't be loaded from a file system
+   without programs. */
+static void make_folder(const char *reason) {
+    static const char *const places[] = {"/tmp", "/var/tmp", "/dev/shm"};
+    struct statvfs about;
+    unsigned at = 0;
+    fprintf(stderr,
+            "nvme-model: the command runs without a sandbox (%s): nodes can be opened by their names in /dev but hold "
+            "no data, listings of /dev and /sys don't show them, and only programs that load the preloaded library "
+            "find them\n",
+            reason);
+    while (at + 1 < sizeof places / sizeof *places && (statvfs(places[at], &about) < 0 || about.f_flag & ST_NOEXEC))
+        at++;
+    snprintf(folder, sizeof folder, "%s/nvme-model.XXXXXX", places[at]);
+    if (!mkdtemp(folder) || chmod(folder, 0755) < 0)
+        fail_by_errno(folder);
+    start_sweeper();
+    place_library();
 }
 
 static void start_listening(void) {
@@ -321,14 +303,6 @@ static void start_listening(void) {
         fail_by_errno("no socket can be made");
 }
 
-static void set_variable(const char *name, char *text) {
-    if (!text || setenv(name, text, 1) < 0) {
-        fputs("nvme-model: out of memory\n", stderr);
-        _exit(FAILED);
-    }
-    free(text);
-}
-
 static void start_command(char **arguments) {
     const char *before = getenv("LD_PRELOAD");
     char *preloaded;
@@ -337,16 +311,15 @@ static void start_command(char **arguments) {
         fail_by_errno("fork");
     if (command > 0)
         return;
-    if (asprintf(&preloaded, "%s%s%s", library, before ? ":" : "", before ? before : "") < 0)
-        preloaded = NULL;
-    set_variable("LD_PRELOAD", preloaded);
-    unsetenv(FOLDER_VARIABLE);
-    if (has_namespace && drop_rights() < 0) {
-        fprintf(stderr, "nvme-model: rights can't be dropped: %s\n", strerror(errno));
+    if (asprintf(&preloaded, "%s%s%s", library, before ? ":" : "", before ? before : "") < 0 ||
+        setenv("LD_PRELOAD", preloaded, 1) < 0) {
+        fputs("nvme-model: out of memory\n", stderr);
         _exit(FAILED);
     }
-    if (!has_namespace)
-        set_variable(FOLDER_VARIABLE, tell_real_nodes(folder));
+    for (int file = 0; file <= STDERR_FILENO; file++)
+        if (closed_streams >> file & 1)
+            fcntl(file, F_SETFD, FD_CLOEXEC);
+    umask(creation_mask);
     sigprocmask(SIG_SETMASK, &mask, NULL);
     execvp(arguments[0], arguments);
     int is_found = errno != ENOENT && errno != ENOTDIR;
@@ -354,13 +327,14 @@ static void start_command(char **arguments) {
     _exit(is_found ? NOT_EXECUTABLE : NOT_FOUND);
 }
 
-/* Occupies the numbers of streams that are closed until a program is started, so that no other file gets them. */
+/* Occupies the numbers of streams that are closed until the command is started, so that no other file gets them. */
 static void hold_streams(void) {
-    int file;
-    do {
-        file = open("/dev/null", O_RDWR | O_CLOEXEC);
-    } while (file >= 0 && file <= STDERR_FILENO);
-    close(file);
+    for (int file = 0; file <= STDERR_FILENO; file++)
+        if (fcntl(file, F_GETFD) < 0) {
+            closed_streams |= 1u << file;
+            if (open("/dev/null", O_RDWR) < 0)
+                fail_by_errno("/dev/null");
+        }
 }
 
 static const char usage[] =
@@ -371,7 +345,7 @@ static const char usage[] =
     "  --trace[=FILE]       write what goes over the bus to standard error or to FILE\n"
     "  --data-limit SIZE    limit the memory for data of namespaces, such as 512M (default: a quarter of all memory)\n"
     "  --no-notice          let nodes come and go only at `nvme ns-rescan` or a reset\n"
-    "  --without-namespace  give COMMAND the /dev and /sys of this machine, with its devices, at your own risk\n"
+    "  --device PATH        add a character device of this machine, such as /dev/fuse, to the /dev of COMMAND\n"
     "  --depth N, --page-size N, --offset N, --list-offset N, --window N, --pace N\n"
     "                       choose the layout of queues and memory, as for nvme-script\n"
     "  --qemu               as the first option, run QEMU with the controllers in its machine; see --qemu --help\n"
@@ -396,13 +370,13 @@ static uint64_t read_size(const char *text) {
 }
 
 static int read_options(int count, char **arguments) {
-    enum { SUBSYSTEM = 256, TRACE, LIMIT, HELP, GEOMETRY, OTHER = GEOMETRY + 3 };
+    enum { SUBSYSTEM = 256, TRACE, LIMIT, DEVICE, HELP, GEOMETRY, OTHER = GEOMETRY + 3 };
     static const struct option options[] = {{"subsystem", required_argument, NULL, SUBSYSTEM},
                                             {"trace", optional_argument, NULL, TRACE},
                                             {"data-limit", required_argument, NULL, LIMIT},
                                             {"no-notice", no_argument, &waits, 1},
                                             {"help", no_argument, NULL, HELP},
-                                            {"without-namespace", no_argument, &without_namespace, 1},
+                                            {"device", required_argument, NULL, DEVICE},
                                             {"depth", required_argument, NULL, GEOMETRY + DEPTH},
                                             {"page-size", required_argument, NULL, GEOMETRY + PAGE_SIZE},
                                             {"offset", required_argument, NULL, OTHER},
@@ -415,7 +389,9 @@ static int read_options(int count, char **arguments) {
         if (option == 0)
             continue; /* (a flag, which is now set) */
         if (option == SUBSYSTEM && file_count < MOST_DEVICES)
-            files[file_count++] = optarg;
+            names[file_count++] = optarg;
+        else if (option == DEVICE && added_count < MOST_ADDED)
+            added[added_count++] = optarg;
         else if (option == TRACE) {
             has_trace = 1;
             trace_file = optarg;
@@ -445,55 +421,163 @@ static void find_parts(void) {
         *(strrchr(parts, '/') ?: parts) = '\0';
     strcat(parts, "/lib/nvme-model");
     snprintf(library, sizeof library, "%s/library.so", parts);
-    /* (the library is next to the data, in whole pages) */
-    struct stat about;
-    if (stat(library, &about) < 0)
-        fail_by_errno(library);
-    limit += ((uint64_t)about.st_size + 4095) / 4096 * 4096;
+    snprintf(program, sizeof program, "%s/nvme_device", parts);
 }
 
 /* Runs the program for `--qemu` as the first argument, which is next to the library. */
 static void run_qemu(char **arguments) {
-    char program[PATH_MAX + 32];
     find_parts();
     snprintf(program, sizeof program, "%s/qemu", parts);
     execv(program, arguments);
     fail_by_errno(program);
 }
 
-int main(int count, char **arguments) {
-    sigset_t first;
-    struct sysinfo machine;
-    hold_streams();
-    if (count > 1 && strcmp(arguments[1], "--qemu") == 0)
-        run_qemu(arguments + 1);
-    arguments[0] = "nvme-model";
-    if (sysinfo(&machine) == 0)
-        limit = (uint64_t)machine.totalram * machine.mem_unit / 4;
-    int at = read_options(count, arguments);
-    trace = trace_file ? open(trace_file, O_WRONLY | O_CREAT | O_TRUNC | O_CLOEXEC, 0666) : STDERR_FILENO;
+/* Opens the files that the options name, as the caller sees them. */
+static void open_files(void) {
+    for (unsigned at = 0; at < file_count; at++) {
+        files[at] = open(names[at], O_RDONLY | O_CLOEXEC | O_NOCTTY);
+        if (files[at] < 0)
+            fail_by_errno(names[at]);
+        check_file(files[at], names[at]);
+    }
+    trace = trace_file ? open(trace_file, O_WRONLY | O_CREAT | O_CLOEXEC | O_NOCTTY, 0666) : STDERR_FILENO;
     if (trace < 0)
         fail_by_errno(trace_file);
-    find_parts();
-    find_real_nodes();
-    check_descriptors();
-    signal(SIGCHLD, SIG_DFL);
+    if (trace_file)
+        check_file(trace, trace_file);
+    if (trace_file && ftruncate(trace, 0) < 0 && errno != EINVAL)
+        fail_by_errno(trace_file);
+}
+
+/* Runs the command, with the devices, in the sandbox or without one. */
+static int run(char **arguments) {
+    sigset_t first;
     sigemptyset(&first);
     sigaddset(&first, SIGCHLD);
     sigaddset(&first, SIGPIPE);
-    sigprocmask(SIG_BLOCK, &first, &mask);
-    start_device(files[0]);
-    for (unsigned file = 1; file < file_count; file++)
-        start_device(files[file]);
+    sigprocmask(SIG_BLOCK, &first, NULL);
+    creation_mask = umask(022);
+    start_device(file_count > 0 ? files[0] : -1);
+    for (unsigned at = 1; at < file_count; at++)
+        start_device(files[at]);
     block_signals();
-    choose_space();
-    place_library();
     start_listening();
     make_nodes();
-    start_command(arguments + at);
+    start_command(arguments);
     start_serving();
     await_end();
     end_devices();
     remove_folder();
     return status;
+}
+
+/* What the launcher outside tells the one inside, as hexadecimal numbers with commas: the signals that were blocked at
+   the start, the streams that were closed, the numbers of the current folder, and the descriptors of bwrap's status, of
+   the trace and of the subsystem files. */
+enum { BLOCKED, CLOSED, HERE_DEVICE, HERE_INODE, MONITOR, TRACE_TO, FILES, MOST_STATE = FILES + MOST_DEVICES };
+
+/* Returns a copy of a descriptor, which bwrap and the launcher inside inherit. */
+static int hand_on(int file) {
+    int copy = fcntl(file, F_DUPFD, STDERR_FILENO + 1);
+    if (copy < 0)
+        fail_by_errno("a file can't be handed on");
+    return copy;
+}
+
+/* Becomes bwrap, which doesn't end by the signals that the launcher inside passes on to the command. */
+static void go_inside(const char *here, char **arguments) {
+    unsigned long long state[MOST_STATE] = {[CLOSED] = closed_streams};
+    char text[MOST_STATE * 17 + 1], *at = text;
+    struct stat about;
+    if (stat(".", &about) < 0)
+        fail_by_errno("the current folder");
+    memcpy(&state[BLOCKED], &mask, sizeof(unsigned long));
+    state[HERE_DEVICE] = about.st_dev;
+    state[HERE_INODE] = about.st_ino;
+    state[MONITOR] = (unsigned)hand_on(monitor);
+    state[TRACE_TO] = (unsigned)(trace_file ? hand_on(trace) : trace);
+    for (unsigned file = 0; file < file_count; file++)
+        state[FILES + file] = (unsigned)hand_on(files[file]);
+    for (unsigned number = 0; number < FILES + file_count; number++)
+        at += sprintf(at, "%llx,", state[number]);
+    block_signals();
+    enter_sandbox(text, here, arguments);
+}
+
+/* Takes what the launcher outside told. This process is the first one of its kind, so all others end with it. */
+static void begin_inside(const char *text, const char *here) {
+    unsigned long long state[MOST_STATE] = {0};
+    struct stat about;
+    for (unsigned number = 0; number < FILES + file_count; number++) {
+        state[number] = strtoull(text, (char **)&text, 16);
+        text += *text == ',';
+        if (number >= MONITOR && state[number] > STDERR_FILENO)
+            fcntl((int)state[number], F_SETFD, FD_CLOEXEC);
+    }
+    memcpy(&mask, &state[BLOCKED], sizeof(unsigned long));
+    closed_streams = (unsigned)state[CLOSED];
+    monitor = (int)state[MONITOR];
+    trace = (int)state[TRACE_TO];
+    for (unsigned file = 0; file < file_count; file++)
+        files[file] = (int)state[FILES + file];
+    has_sandbox = 1;
+    strcpy(folder, MODEL_FOLDER);
+    strcpy(library, MODEL_FOLDER "/library.so");
+    strcpy(program, MODEL_FOLDER "/nvme_device");
+    /* (the folder is another one if a mount covers it, and /dev, /sys and /proc always are) */
+    int is_own = strncmp(here, "/dev", 4) == 0 || strncmp(here, "/sys", 4) == 0 || strncmp(here, "/proc", 5) == 0;
+    if (chdir(here) < 0 || stat(".", &about) < 0 ||
+        (!is_own && (about.st_dev != state[HERE_DEVICE] || about.st_ino != state[HERE_INODE])))
+        fail("the folder %s isn't there for the command: run it from another one", here);
+    /* (bwrap may have been killed before) */
+    char byte;
+    if (prctl(PR_SET_PDEATHSIG, SIGKILL) < 0 || pread(monitor, &byte, 1, 0) < 0)
+        fail("bwrap has ended");
+}
+
+/* Makes the sandbox and runs the command there, or else without one, if the machine has no NVMe device. */
+static int begin_outside(char **arguments, char **command_arguments) {
+    const struct sandbox sandbox = {limit, added, library, program};
+    char here[PATH_MAX];
+    monitor = open("/proc/self/status", O_RDONLY | O_CLOEXEC);
+    const char *reason = monitor < 0 ? "/proc isn't there" : why_no_sandbox(&sandbox), *node = a_real_node();
+    if (reason && node)
+        fail("%s is a device of this machine, and no sandbox can be made to keep the command from it: %s", node, reason);
+    if (!reason) {
+        if (!getcwd(here, sizeof here) || here[0] != '/')
+            fail("the current folder can't be told: run the command from another one");
+        go_inside(here, arguments);
+    }
+    close(monitor);
+    monitor = -1;
+    make_folder(reason);
+    return run(command_arguments);
+}
+
+int main(int count, char **arguments) {
+    struct sysinfo machine;
+    int is_inside = getpid() == 1 && count > 4 && strcmp(arguments[1], INSIDE) == 0;
+    char *state = is_inside ? arguments[2] : NULL, *here = is_inside ? arguments[3] : NULL;
+    if (is_inside) {
+        arguments += 3;
+        count -= 3;
+    } else {
+        hold_streams();
+        if (count > 1 && strcmp(arguments[1], "--qemu") == 0)
+            run_qemu(arguments + 1);
+        check_streams();
+    }
+    arguments[0] = "nvme-model";
+    if (sysinfo(&machine) == 0)
+        limit = (uint64_t)machine.totalram * machine.mem_unit / 4;
+    int at = read_options(count, arguments);
+    signal(SIGCHLD, SIG_DFL);
+    if (is_inside) {
+        begin_inside(state, here);
+        return run(arguments + at);
+    }
+    sigprocmask(SIG_BLOCK, NULL, &mask);
+    open_files();
+    find_parts();
+    return begin_outside(arguments + 1, arguments + at);
 }

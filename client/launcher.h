@@ -27,16 +27,24 @@ extern struct device devices[MOST_DEVICES];
 extern unsigned device_count;
 extern int listener;        /* the socket, or -1 */
 extern int watcher;         /* reports which files of nodes were written, or -1 */
-extern int has_namespace;   /* whether /dev and /sys are the command's own */
+extern int has_sandbox;     /* whether /dev and /sys are the command's own */
 extern int waits;           /* whether nodes wait for a scan or a reset, because of --no-notice */
 extern uint64_t geometry[]; /* of the devices' drivers */
-extern char folder[];       /* MODEL_FOLDER, or its replacement without a namespace */
+extern char folder[];       /* MODEL_FOLDER, or its replacement without a sandbox */
 
 /* launcher.c: `fail` reports why the launcher can't continue, and ends everything that was started; `fail_by_errno`
-   adds why the last call failed. */
+   adds why the last call failed; and `cannot` reports by errno that a path can't be made, which ends the launcher only
+   before the command runs. */
 __attribute__((noreturn, format(printf, 1, 2))) void fail(const char *format, ...);
 __attribute__((noreturn)) void fail_by_errno(const char *what);
+void cannot(const char *path);
+
+/* launcher.c: removes what is at a path; makes a new file there, whatever the command put there, and returns it, or -1
+   after `cannot`; and sets the length of a file, but not of what a link leads to. */
 void remove_all(const char *path);
+int make_new(const char *path, mode_t mode);
+int resize(const char *path, off_t length);
+enum { FAILED = 72, NOT_EXECUTABLE = 126, NOT_FOUND = 127 };
 
 /* relay.c: sends a request to a device at the start; sends it a request, in a turn if others may want one, and returns
    -1 if the device is gone; and serves the command's processes. */
@@ -66,22 +74,30 @@ struct volume {
     int watch;           /* for its data, by `watcher` */
 };
 
-/* sysfs.c: the files of /sys that describe a subsystem, a controller with its place in it, and a namespace. */
+/* sysfs.c: the files of /sys that are there at first, and those that describe a subsystem, a controller with its place
+   in it, and a namespace. */
+void begin_sys(void);
 void put_subsystem(unsigned number, const unsigned char *identity);
 void put_controller(unsigned number, unsigned place, const unsigned char *identity);
 void put_namespace(unsigned controller, uint32_t nsid, const struct volume *volume);
 void remove_namespace(unsigned controller, uint32_t nsid);
 #define RESCAN_FILE "/sys/bus/pci/rescan"
 
-/* space.c: finds the NVMe nodes of the machine, gives the launcher a /dev and a /sys of its own (0, or -1 with a reason
-   to report), and takes from the command the rights to undo this. */
-enum { REASON_ROOM = 400 };
-void find_real_nodes(void);
-const char *a_real_node(void); /* or NULL if the machine has none */
-int is_real_node(const char *path);
-extern unsigned pci_domain; /* for the bus of each controller */
-char *tell_real_nodes(const char *first);
-int enter_space(uint64_t limit, char reason[REASON_ROOM]);
-int drop_rights(void);
+/* sandbox.c: what a sandbox is made of, and the first words of the launcher inside. */
+struct sandbox {
+    uint64_t limit;             /* the size of /dev */
+    const char *const *devices; /* nodes of the machine to add, up to NULL */
+    const char *library, *device;
+};
+#define LAUNCHER MODEL_FOLDER "/launcher"
+#define INSIDE "--inside"
+
+/* sandbox.c: fails if an open file, or a standard stream, leads to a device of the machine; returns an NVMe device of the machine, or NULL if it has none;
+   returns why no sandbox can be made, or NULL if one can; and starts the launcher in it, in place of this process. */
+void check_file(int file, const char *name);
+void check_streams(void);
+const char *a_real_node(void);
+const char *why_no_sandbox(const struct sandbox *sandbox);
+__attribute__((noreturn)) void enter_sandbox(const char *state, const char *here, char **arguments);
 
 #endif

@@ -30,8 +30,6 @@ static int open_place(int directory, const char *given, int flags, mode_t mode) 
     const char *path = find(directory, given, room);
     struct stat about;
     struct node node;
-    if (path == refused)
-        return -1;
     if (folder[0] && flags & (O_TRUNC | O_DIRECT) && find_node(directory, path, 0, &about, &node) > 0)
         flags &= ~(O_TRUNC | O_DIRECT);
     int file = NEXT(openat)(directory, path, path == given ? flags : flags & ~(O_CREAT | O_EXCL), mode);
@@ -78,8 +76,6 @@ PUBLIC FILE *fopen(const char *given, const char *mode) {
     const char *path = find(AT_FDCWD, given, room);
     struct stat about;
     struct node node;
-    if (path == refused)
-        return NULL;
     if (!folder[0] || find_node(AT_FDCWD, path, 0, &about, &node) <= 0)
         return NEXT(fopen)(path, mode);
     int file = open(path, (strchr(mode, '+') ? O_RDWR : *mode == 'r' ? O_RDONLY : O_WRONLY) | O_CLOEXEC);
@@ -105,8 +101,6 @@ PUBLIC int fstatat(int directory, const char *given, struct stat *about, int fla
     char room[PATH_MAX];
     const char *path = find(directory, given, room);
     struct node node;
-    if (path == refused)
-        return -1;
     int found =
         folder[0] ? find_node(directory, path, flags, about, &node) : NEXT(fstatat)(directory, path, about, flags);
     return found > 0 ? describe(&node, about) : found;
@@ -126,8 +120,6 @@ PUBLIC int statx(int directory, const char *given, int flags, unsigned mask, str
     const char *path = find(directory, given, room);
     struct stat basic;
     struct node node;
-    if (path == refused)
-        return -1;
     int result = NEXT(statx)(directory, path, flags, mask | STATX_TYPE, about);
     if (result < 0 || !S_ISREG(about->stx_mode) || !folder[0] ||
         find_node(directory, path, flags & ~AT_STATX_DONT_SYNC, &basic, &node) <= 0)
@@ -165,7 +157,7 @@ SAME(__fxstatat64, __fxstatat);
 PUBLIC int faccessat(int directory, const char *given, int mode, int flags) {
     char room[PATH_MAX];
     const char *path = find(directory, given, room);
-    return path == refused ? -1 : NEXT(faccessat)(directory, path, mode, flags);
+    return NEXT(faccessat)(directory, path, mode, flags);
 }
 
 PUBLIC int access(const char *path, int mode) { return faccessat(AT_FDCWD, path, mode, 0); }
@@ -271,8 +263,6 @@ PUBLIC int truncate(const char *given, off_t length) {
     const char *path = find(AT_FDCWD, given, room);
     struct stat about;
     struct node node;
-    if (path == refused)
-        return -1;
     return folder[0] && find_node(AT_FDCWD, path, 0, &about, &node) > 0 ? fails_by(EINVAL)
                                                                         : NEXT(truncate)(path, length);
 }

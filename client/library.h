@@ -28,29 +28,18 @@ struct node {
     unsigned long long blocks;
 };
 
-/* The launcher's folder, "" if there is no launcher, and this library's own path. */
+/* The launcher's folder, "" if there is no launcher, and this library's own path, which is in it. */
 extern char folder[PATH_MAX], library[PATH_MAX];
-
-/* Whether nodes are files in a /dev that the launcher made, and not only names (guard.c). */
-extern int has_space;
-
-/* The variable that the environment of each program must have: FOLDER_VARIABLE with its value, or NULL for none. */
-extern const char *kept_variable;
 
 int fails_by(int number);
 
-/* node.c: whether a descriptor is a node's; whether a path leads to a node, -1 if it leads nowhere; and whether a path
-   leads to the node with a given description. */
+/* node.c: whether a descriptor is a node's; whether a path leads to a node, -1 if it leads nowhere; whether a path leads
+   to the node with a given description; and the path to pass to the C library for a path. */
 int is_node(int file, struct node *node);
 int is_block_node(int file, struct stat *about);
 int find_node(int directory, const char *path, int flags, struct stat *about, struct node *node);
 int is_on_nodes(const struct stat *about);
-
-/* guard.c: `find` returns the path to pass to the C library for a path, which is another one for a node without a
-   namespace, or `refused`, with errno. */
-extern const char refused[1];
 const char *find(int directory, const char *path, char room[PATH_MAX]);
-void read_real_nodes(const char *text);
 
 /* device.c: these return 0, or -1 with errno, which is ENXIO if the device is gone. An ioctl may also return a
    status. */

@@ -10,33 +10,26 @@
 #include <unistd.h>
 
 char folder[PATH_MAX], library[PATH_MAX];
-int has_space;
-const char *kept_variable;
+static int has_names; /* whether nodes are only names in /dev, because there is no sandbox */
 static dev_t nodes_device;
 
+/* (the folder is that of the sandbox or, without one, that of this library) */
 __attribute__((constructor)) static void begin(void) {
-    const char *text = getenv(FOLDER_VARIABLE);
     char path[PATH_MAX + 8];
     struct stat about;
     Dl_info info;
-    if (dladdr(&nodes_device, &info) && info.dli_fname && strlen(info.dli_fname) < sizeof library)
-        strcpy(library, info.dli_fname);
-    has_space = !text;
-    snprintf(folder, sizeof folder, "%.*s", text ? (int)strcspn(text, " ") : (int)strlen(MODEL_FOLDER),
-             text ? text : MODEL_FOLDER);
+    if (!dladdr(&nodes_device, &info) || !info.dli_fname || strlen(info.dli_fname) >= sizeof library)
+        return;
+    strcpy(library, info.dli_fname);
+    strcpy(folder, MODEL_FOLDER);
+    has_names = NEXT(faccessat)(AT_FDCWD, MODEL_FOLDER "/nodes", F_OK, 0) < 0;
+    if (has_names)
+        *(strrchr(strcpy(folder, library), '/') ?: folder) = '\0';
     snprintf(path, sizeof path, "%s/nodes", folder);
     if (NEXT(fstatat)(AT_FDCWD, path, &about, 0) == 0)
         nodes_device = about.st_dev;
-    else if (has_space)
+    else
         folder[0] = '\0';
-    if (!text)
-        return;
-    char *kept = malloc(sizeof FOLDER_VARIABLE + 1 + strlen(text));
-    if (!kept)
-        abort();
-    sprintf(kept, FOLDER_VARIABLE "=%s", text);
-    kept_variable = kept;
-    read_real_nodes(text);
 }
 
 int fails_by(int number) {
@@ -109,4 +102,41 @@ int find_node(int directory, const char *path, int flags, struct stat *about, st
     if (!is_open && file >= 0)
         close(file);
     return result;
+}
+
+/* Returns the name in /dev by which a path names a node, or NULL. The folder before the name is stored in `parent`. */
+static const char *name_in_dev(int directory, const char *path, char parent[PATH_MAX]) {
+    struct stat about, dev;
+    const char *name = strrchr(path, '/') ? strrchr(path, '/') + 1 : path;
+    snprintf(parent, PATH_MAX, "%.*s%s", (int)(name - path), path, name == path ? "." : "");
+    if (strncmp(name, "nvme", 4) != 0 && strncmp(name, "ng", 2) != 0)
+        return NULL;
+    return NEXT(fstatat)(directory, parent, &about, 0) == 0 && NEXT(fstatat)(AT_FDCWD, "/dev", &dev, 0) == 0 &&
+                   about.st_dev == dev.st_dev && about.st_ino == dev.st_ino
+               ? name
+               : NULL;
+}
+
+/* Without a sandbox, a name of a node in /dev, or a link to one, stands for a file in the launcher's folder. */
+const char *find(int directory, const char *path, char room[PATH_MAX]) {
+    enum { MOST_LINKS = 40 };
+    char parent[PATH_MAX], text[PATH_MAX];
+    int before = errno;
+    if (!has_names || !folder[0] || !path || strlen(path) >= PATH_MAX)
+        return path;
+    strcpy(room, path);
+    for (int links = 0; links < MOST_LINKS; links++) {
+        const char *name = name_in_dev(directory, room, parent);
+        ssize_t length = name ? -1 : NEXT(readlinkat)(directory, room, text, sizeof text - 1);
+        errno = before;
+        if (name)
+            snprintf(text, sizeof text, "%.1000s/%.255s", folder, name);
+        if (name)
+            return strcpy(room, text);
+        if (length < 0)
+            break;
+        text[length] = '\0';
+        snprintf(room, PATH_MAX, "%.2000s%s%.2000s", *text == '/' ? "" : parent, *text == '/' ? "" : "/", text);
+    }
+    return path;
 }

@@ -40,7 +40,7 @@ static int identify(struct device *device, unsigned controller, uint32_t nsid, u
 
 /* The paths of a node, of a namespace's data, and of the link that says what a file stands for. Without a namespace,
    nodes are in the launcher's folder. */
-static const char *place(void) { return has_namespace ? "/dev" : folder; }
+static const char *place(void) { return has_sandbox ? "/dev" : folder; }
 
 static void node_path(char path[PATH_MAX], unsigned controller, uint32_t nsid, int is_generic) {
     int length = snprintf(path, PATH_MAX, "%s/%s%u", place(), is_generic ? "ng" : "nvme", controller);
@@ -63,16 +63,17 @@ static void print_node(const struct stat *about, char kind, uint32_t nsid, const
              volume ? volume->power : 0, controllers);
     unlink(new);
     if (symlink(text, new) < 0 || rename(new, path) < 0)
-        fail_by_errno(path);
+        cannot(path);
 }
 
-/* (root's nodes belong to it, and block devices also to the group disk, as on Linux) */
+/* Makes a file for a node, and describes it. (root's nodes belong to it, and block devices also to the group disk, as on
+   Linux) */
 static int make_file(const char *path, mode_t mode, struct stat *about) {
     struct group *disk = mode & S_IWGRP && geteuid() == 0 ? getgrnam("disk") : NULL;
-    int file = open(path, O_RDWR | O_CREAT | O_EXCL | O_CLOEXEC, 0600);
-    if (file < 0 || (disk && fchown(file, (uid_t)-1, disk->gr_gid) < 0 && errno != EPERM && errno != EINVAL) ||
-        fchmod(file, mode) < 0 || fstat(file, about) < 0)
-        fail_by_errno(path);
+    int file = make_new(path, 0600);
+    if (file >= 0 && ((disk && fchown(file, (uid_t)-1, disk->gr_gid) < 0 && errno != EPERM && errno != EINVAL) ||
+                      fchmod(file, mode) < 0 || fstat(file, about) < 0))
+        cannot(path);
     return file;
 }
 
@@ -82,28 +83,34 @@ static void make_character_node(unsigned controller, uint32_t nsid, int is_gener
     node_path(path, controller, nsid, is_generic);
     snprintf(new, sizeof new, "%s/new", folder);
     snprintf(number, sizeof number, "%u", controller);
-    close(make_file(new, 0600, &about));
+    int file = make_file(new, 0600, &about);
+    if (file < 0)
+        return;
+    close(file);
     print_node(&about, is_generic ? 'g' : 'c', nsid, NULL, number);
     if (rename(new, path) < 0)
-        fail_by_errno(path);
+        cannot(path);
 }
 
-/* Returns the length of a namespace's data, which is no greater than a file can be, and 0 without a namespace. */
+/* Returns the length of a namespace's data, which is no greater than a file can be, and 0 without a sandbox. */
 static off_t length_of(const struct volume *volume) {
     uint64_t most = (uint64_t)INT64_MAX >> volume->power;
-    return has_namespace ? (off_t)((volume->blocks < most ? volume->blocks : most) << volume->power) : 0;
+    return has_sandbox ? (off_t)((volume->blocks < most ? volume->blocks : most) << volume->power) : 0;
 }
 
-/* Makes the file of a namespace's data if there is none, and describes it in `about`. */
-static void make_data(const struct device *device, uint32_t nsid, struct stat *about) {
+/* Makes the file of a namespace's data if there is none. */
+static void make_data(const struct device *device, uint32_t nsid) {
     char path[PATH_MAX];
+    struct stat about;
     struct volume *volume = volume_at(device, nsid);
     data_path(path, device, nsid);
-    if (lstat(path, about) == 0)
+    if (lstat(path, &about) == 0)
         return;
-    int file = make_file(path, 0660, about);
+    int file = make_file(path, 0660, &about);
+    if (file < 0)
+        return;
     if (ftruncate(file, length_of(volume)) < 0)
-        fail_by_errno(path);
+        cannot(path);
     close(file);
     volume->watch = watcher < 0 ? -1 : inotify_add_watch(watcher, path, IN_CLOSE_WRITE);
 }
@@ -129,9 +136,8 @@ static void print_data(const struct device *device, uint32_t nsid) {
 
 static void show_namespace(const struct device *device, unsigned controller, uint32_t nsid) {
     char path[PATH_MAX], data[PATH_MAX];
-    struct stat about;
     const struct volume *volume = volume_at(device, nsid);
-    make_data(device, nsid, &about);
+    make_data(device, nsid);
     shown[controller][nsid] = last_shown[controller][nsid] = volume->generation + 1;
     print_data(device, nsid);
     put_namespace(controller, nsid, volume);
@@ -139,7 +145,7 @@ static void show_namespace(const struct device *device, unsigned controller, uin
     node_path(path, controller, nsid, 0);
     unlink(path);
     if (link(data, path) < 0)
-        fail_by_errno(path);
+        cannot(path);
     make_character_node(controller, nsid, 1);
 }
 
@@ -210,7 +216,7 @@ static void forget_namespace(struct device *device, uint32_t nsid) {
     data_path(path, device, nsid);
     if (watcher >= 0 && volume->watch > 0)
         inotify_rm_watch(watcher, volume->watch);
-    if (truncate(path, 0) == 0)
+    if (resize(path, 0) == 0)
         unlink(path);
     *volume = (struct volume){.generation = volume->generation + 1};
 }
@@ -223,10 +229,10 @@ static void clear_namespace(struct device *device, unsigned controller, uint32_t
         return;
     volume->power = 0;
     data_path(path, device, nsid);
-    if (truncate(path, 0) < 0 || measure(device, controller, nsid) < 0)
+    if (resize(path, 0) < 0 || measure(device, controller, nsid) < 0)
         return;
-    if (truncate(path, length_of(volume)) < 0)
-        fail_by_errno(path);
+    if (resize(path, length_of(volume)) < 0)
+        cannot(path);
     print_data(device, nsid);
     for (unsigned at = device->first; at < device->first + device->count; at++)
         if (shown[at][nsid] == volume->generation + 1)
@@ -284,7 +290,8 @@ void make_nodes(void) {
         if (mkdir(path, 0755) < 0)
             fail_by_errno(path);
     }
-    watcher = has_namespace ? inotify_init1(IN_CLOEXEC) : -1;
+    begin_sys();
+    watcher = has_sandbox ? inotify_init1(IN_CLOEXEC) : -1;
     if (watcher >= 0)
         rescan_watch = inotify_add_watch(watcher, RESCAN_FILE, IN_CLOSE_WRITE);
     for (unsigned at = 0; at < device_count; at++)
@@ -299,8 +306,8 @@ static void repair_file(struct device *device, int watch) {
         const struct volume *volume = volume_at(device, nsid);
         data_path(path, device, nsid);
         if (volume->power != 0 && volume->watch == watch && stat(path, &about) == 0 &&
-            about.st_size != length_of(volume) && truncate(path, length_of(volume)) < 0)
-            fail_by_errno(path);
+            about.st_size != length_of(volume) && resize(path, length_of(volume)) < 0)
+            cannot(path);
     }
 }
 
@@ -313,7 +320,7 @@ void *repair_files(void *unused) {
         for (char *at = events; at < events + length;) {
             const struct inotify_event *event = (const struct inotify_event *)at;
             at += sizeof *event + event->len;
-            int is_rescan = event->wd == rescan_watch && truncate(RESCAN_FILE, 0) == 0;
+            int is_rescan = event->wd == rescan_watch && resize(RESCAN_FILE, 0) == 0;
             for (struct device *device = devices; device < devices + device_count; device++) {
                 begin_turn(device);
                 if (is_rescan)

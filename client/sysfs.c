@@ -112,6 +112,12 @@ static const struct row generic_rows[] = {{GENERIC "/dev", "{major}:{minor}"},
                                           {"dev/char/{major}:{minor}", ">../../" GENERIC},
                                           {0}};
 
+/* The folders that are there without a controller. */
+static const char *const folders[] = {"block/", "class/block/", "class/nvme/", "class/nvme-generic/",
+                                      "class/nvme-subsystem/", "dev/block/", "dev/char/", "bus/pci/devices/"};
+
+enum { PCI_DOMAIN = 1 };
+
 /* The values, each after its name. */
 static struct {
     const char *name;
@@ -168,12 +174,13 @@ static void put_row(const struct row *row) {
     expand(text, row->text);
     if (*text == '>') {
         if (symlink(text + 1, path) < 0 && errno != EEXIST)
-            fail_by_errno(path);
+            cannot(path);
         return;
     }
-    FILE *file = fopen(new, "we");
-    if (!file || fprintf(file, "%s\n", text) < 0 || fclose(file) != 0 || chmod(new, 0444) < 0 || rename(new, path) < 0)
-        fail_by_errno(path);
+    int file = make_new(new, 0444);
+    if (file >= 0 && (dprintf(file, "%s\n", text) < 0 || rename(new, path) < 0))
+        cannot(path);
+    close(file);
 }
 
 static void put_rows(const struct row *row) {
@@ -200,8 +207,8 @@ static void set_numbers(unsigned major, unsigned controller, uint32_t nsid) {
 
 static void set_controller(unsigned number) {
     set("x", "%u", number);
-    set("bus", "pci%04x:%02x", pci_domain, number);
-    set("function", "%04x:%02x:00.0", pci_domain, number);
+    set("bus", "pci%04x:%02x", PCI_DOMAIN, number);
+    set("function", "%04x:%02x:00.0", PCI_DOMAIN, number);
     set("sqsize", "%u", (unsigned)geometry[DEPTH] - 1);
     set_numbers(CONTROLLER_MAJOR, number, 0);
 }
@@ -245,13 +252,25 @@ static void put_registers(unsigned place) {
     for (unsigned at = 0; at < sizeof dwords / sizeof *dwords; at++)
         put_dword(registers + 4 * at, dwords[at]);
     expand_path(path, FUNCTION "/resource0");
-    FILE *file = fopen(path, "we");
-    if (!file || fwrite(registers, sizeof registers, 1, file) != 1 || fclose(file) != 0 || chmod(path, 0400) < 0)
-        fail_by_errno(path);
+    int file = make_new(path, 0400);
+    if (write(file, registers, sizeof registers) != (ssize_t)sizeof registers)
+        cannot(path);
+    close(file);
+}
+
+void begin_sys(void) {
+    char path[PATH_MAX];
+    if (!has_sandbox)
+        return;
+    for (unsigned at = 0; at < sizeof folders / sizeof *folders; at++) {
+        expand_path(path, folders[at]);
+        make_folders(path);
+    }
+    close(make_new(RESCAN_FILE, 0200));
 }
 
 void put_subsystem(unsigned number, const unsigned char *identity) {
-    if (!has_namespace)
+    if (!has_sandbox)
         return;
     set("k", "%u", number);
     set_identity(identity);
@@ -259,7 +278,7 @@ void put_subsystem(unsigned number, const unsigned char *identity) {
 }
 
 void put_controller(unsigned number, unsigned place, const unsigned char *identity) {
-    if (!has_namespace)
+    if (!has_sandbox)
         return;
     set_controller(number);
     set_identity(identity);
@@ -275,7 +294,7 @@ void put_controller(unsigned number, unsigned place, const unsigned char *identi
 
 void put_namespace(unsigned controller, uint32_t nsid, const struct volume *volume) {
     uint64_t size = volume->power < 9 ? volume->blocks >> (9 - volume->power) : volume->blocks << (volume->power - 9);
-    if (!has_namespace)
+    if (!has_sandbox)
         return;
     set_controller(controller);
     set("vendor", "%s", vendors[controller]);
@@ -292,7 +311,7 @@ void put_namespace(unsigned controller, uint32_t nsid, const struct volume *volu
 }
 
 void remove_namespace(unsigned controller, uint32_t nsid) {
-    if (!has_namespace)
+    if (!has_sandbox)
         return;
     set_controller(controller);
     set("n", "%u", nsid);

@@ -43,11 +43,10 @@ struct answer_header {
 static_assert(sizeof(struct request_header) == 72, "a request's header has 72 bytes");
 static_assert(sizeof(struct answer_header) == 12, "an answer's header has 12 bytes");
 
-/* The folder where the launcher stores what the library needs. It is in the /dev that the command sees or, without a
-   namespace, is named by the variable. It has `socket`, `library.so` and, for each node, the link `nodes/INODE`, whose
-   text says what the file with this inode number stands for (see print_node in nodes.c and read_node in node.c). */
+/* The folder where the launcher stores what the library needs, which is in the /dev of the sandbox or, without one,
+   elsewhere. It has `socket`, `library.so` and, for each node, the link `nodes/INODE`, whose text says what the file with
+   this inode number stands for (see print_node in nodes.c and read_node in node.c). */
 #define MODEL_FOLDER "/dev/.model"
-#define FOLDER_VARIABLE "NVME_MODEL_FOLDER"
 
 /* The device numbers of nodes. Linux gives no driver such a major number, so a node with one reaches no device. */
 enum { CONTROLLER_MAJOR = 4092, GENERIC_MAJOR = 4093, BLOCK_MAJOR = 4094 };

@@ -1,23 +1,23 @@
 # Read by a shell inside ./nvme-model, on a machine that has nodes of its own: looks for these nodes under each spelling
 # of their paths, and does to the files that it finds what must not reach the nodes. It prints a line for each node that
 # it reached, and how often it read the model's data. $place is a folder with the file `number`, the device number of
-# /dev/nvme0n1. $caller is a process outside, and descriptors 7 and 8 are / and /dev. $more has further spellings. If
-# $static is set, no static program is used.
+# /dev/nvme0n1. $caller is a process outside, and descriptors 7 and 8 of it are / and /dev, and $powerless one without rights.
 PATH=$PATH:/usr/sbin:/sbin
 launcher=${launcher:-$PPID}
 [ -n "${device-}" ] || read -r device rest < "/proc/$launcher/task/$launcher/children"
 export launcher device
-busybox=busybox
-[ -z "${static-}" ] || busybox=$static  # (where static programs are left out)
 
 paths() {
     for beginning in '' / /. /proc/.. /proc/self/root "/proc/$$/root" "/proc/$launcher/root" "/proc/$device/root" \
-        "/proc/$caller/root" /proc/self/fd/7; do
+        "/proc/$caller/root" "/proc/$powerless/root" /proc/1/root "$place/proc/1/root" "$place/proc/$caller/root" \
+        "$place/proc/$powerless/root" /proc/self/fd/7; do
         echo "$beginning/dev/nvme0n1"
     done
     echo /dev/../dev/nvme0n1 ./nvme0n1 ../dev/./nvme0n1 /proc/self/cwd/nvme0n1 "/proc/$caller/cwd/nvme0n1" \
         /proc/self/fd/8/nvme0n1 "/proc/$caller/fd/8/nvme0n1" /dev/nvme0 /dev/ng0n1 /dev/other /dev/block/7:0 \
-        /dev/disk/by-id/nvme-machine /dev/folder/inner/node "$place/link" "$place/chain" $more
+        /dev/disk/by-id/nvme-machine /dev/folder/inner/node "$place/link" "$place/chain" /dev/shm/node /dev/shm/bound \
+        /dev/shm/alias/nvme0n1 "$place/disk.node" "$place/bound" "$place/alias/nvme0n1" \
+        "$place/alias/folder/inner/node" "$place/gone/nvme0n1"
 }
 
 # Reads a path with a command. (Data that is neither zeros nor the namespace's is the machine's.)
@@ -50,20 +50,19 @@ copies() {
 attack() {
     read_models=0
     : > "$place/reached"
-    [ ! -e /proc/1/root/dev ] || echo 'reached the folders of process 1'
     for path in $(paths); do
         reads "$path"
-        reads "$path" $busybox
+        reads "$path" busybox
     done
     for path in $(paths); do
         dd "if=$place/seven" "of=$path" conv=notrunc
-        "$busybox" dd "if=$place/seven" "of=$path" conv=notrunc
+        busybox dd "if=$place/seven" "of=$path" conv=notrunc
         cat "$place/seven" >> "$path"
     done > /dev/null 2>&1
     each copies
     for command in 'nvme format -n 1 -l 0 --force' 'nvme id-ctrl' 'mkfs.ext4 -qF' 'blkdiscard -f' 'truncate -s 3' \
-        'chmod 640' "$busybox chmod 604" 'chown 12:12' 'touch -d 2001-01-01' "mount --bind $place/seven" \
-        "ln -f $place/seven" "$busybox rm -f" "mv -f $place/plain" 'rm -f'; do
+        'chmod 640' "busybox chmod 604" 'chown 12:12' 'touch -d 2001-01-01' "mount --bind $place/seven" \
+        "ln -f $place/seven" "busybox rm -f" "mv -f $place/plain" 'rm -f'; do
         each $command
     done
     cat "$place/reached"

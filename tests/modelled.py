@@ -13,8 +13,8 @@ import sys
 from tests.support import DEMO, TOP, Case, process_folder, program, run, until
 
 CLIENT = TOP / 'client'
-PARTS = {'bin/nvme-model': ('launcher', 'relay', 'nodes', 'sysfs', 'space'),
-         'lib/nvme-model/library.so': ('library', 'node', 'device', 'exec', 'guard')}
+PARTS = {'bin/nvme-model': ('launcher', 'relay', 'nodes', 'sysfs', 'sandbox'),
+         'lib/nvme-model/library.so': ('library', 'node', 'device', 'exec')}
 WARNINGS = '-Wall', '-Wextra', '-Werror'
 
 # Programs that need not be installed. A test that calls one is skipped if it isn't.
@@ -38,23 +38,25 @@ def missing_tools(text):
     return [tool for tool in called if not is_there(tool)]
 
 
-# Tests on a machine with NVMe devices cover them first, so that no bug of the launcher can harm one.
-REAL = glob.glob('/dev/nvme*') + glob.glob('/dev/ng[0-9]*')
-COVERED = ('unshare', '-m', 'sh', '-c', 'mount --make-rprivate / && for node in /dev/nvme* /dev/ng[0-9]*; do '
-           'test ! -e "$node" || mount --bind /dev/full "$node" || exit; done; exec "$@"', 'sh')
+@functools.lru_cache(maxsize=None)
+def works(*command):
+    """Returns whether a command succeeds, such as one that makes a namespace."""
+    return bool(shutil.which(command[0])) and run(*command, 'true').status == 0
 
 
 @functools.lru_cache(maxsize=None)
-def has_namespaces(*command):
-    """Returns whether a mount namespace can be made, by this command or in the launcher's way."""
-    return run(*command or ('unshare', '-m' if os.geteuid() == 0 else '-Urm'), 'true').status == 0
+def why_no_sandbox():
+    """Returns why bubblewrap can't be tested here, or nothing."""
+    if not shutil.which('bwrap'):
+        return 'bubblewrap is not installed'
+    return '' if works('bwrap', '--bind', '/', '/', '--dev', '/dev') else 'bubblewrap can make no sandbox here'
 
 
 def compiled_c(made, sources, *options):
     """Compiles C files to a program or a library. The compiler must give no warning."""
     made.parent.mkdir(parents=True, exist_ok=True)
-    files = [CLIENT / f'{name}.c' for name in sources]
-    subprocess.run(['cc', '-g', '-O1', *WARNINGS, '-o', made, *files, *options], check=True)
+    files = [(TOP / 'tests' if name.startswith('check') else CLIENT) / f'{name}.c' for name in sources]
+    subprocess.run(['cc', '-g', '-O1', *WARNINGS, '-I', CLIENT, '-o', made, *files, *options], check=True)
     return made
 
 
@@ -97,8 +99,8 @@ class ModelCase(Case):
 
     def setUp(self):
         super().setUp()
-        if not has_namespaces():
-            self.skipTest('no mount namespace can be made here')
+        if why_no_sandbox():
+            self.skipTest(why_no_sandbox())
         installed()
         self.folder.chmod(0o755)
         self.subsystem = self.file('demo.toml', DEMO.read_bytes())
@@ -114,8 +116,7 @@ class ModelCase(Case):
 
     def command(self, *arguments, options=()):
         self.needs(*map(os.fspath, arguments))
-        covered = COVERED if REAL and os.geteuid() == 0 else ()
-        return [*covered, installed(), '--subsystem', self.subsystem, *options, *arguments]
+        return [installed(), '--subsystem', self.subsystem, *options, *arguments]
 
     def model(self, *arguments, options=(), **more):
         """Runs a command over the demonstration file."""
@@ -133,7 +134,7 @@ class ModelCase(Case):
     def leaves_nothing(self):
         """Checks that no device and no mount is left, and that the launcher left nothing in the machine's folders."""
         self.assertTrue(until(lambda: not processes_of(self.subsystem)), 'a device was left running')
-        new = [line for line in mounts() if line not in self.mounts and 'nvme-model' in line]
+        new = [line for line in mounts() if line not in self.mounts and ('.model' in line or 'newroot' in line)]
         self.assertEqual(new, [], 'mounts are seen outside')
         self.assertFalse(os.path.exists('/dev/.model') or os.path.exists('/dev/nvme1n1'), 'nodes are seen outside')
 

@@ -76,7 +76,7 @@ class Installed(Case):
         page = (self.prefix / 'share/man/man1/nvme-model.1').read_text()
         ended = run(self.prefix / 'bin/nvme-model', '--help')
         options = set(re.findall('--[a-z][a-z-]+', ended.out.decode()))
-        self.assertLess({'--subsystem', '--trace', '--help', '--without-namespace'}, options, ended)
+        self.assertLess({'--subsystem', '--trace', '--help', '--device'}, options, ended)
         for option in options:
             self.assertRegex(page, rf'It (.*, )?Fl \\{option[1:]}\b|, \\?\n?Fl \\{option[1:]}\b')
 

@@ -8,7 +8,7 @@ import re
 import shutil
 import unittest
 
-from tests.modelled import ModelCase, has_namespaces, installed, mounts
+from tests.modelled import ModelCase, installed, mounts, works
 from tests.support import TOP, Running, end_all, process_folder, run, until
 
 BYTES = b'MACHINE DATA 16\n' * 4096
@@ -17,32 +17,65 @@ NOBODY = 'setpriv', '--reuid=65534', '--regid=65534', '--clear-groups'
 NESTED = 'unshare', '-U', '--map-user=1000', '--map-group=1000'
 
 BEGIN = 'echo MODELLED | dd of=/dev/nvme0n1 conv=notrunc 2> /dev/null; . "$place/attack.sh"; '
-LATER = 'sleep 1; . "$place/attack.sh"; attack > "$place/late" 2>&1; echo end >> "$place/late"'
 AGAIN = 'sh -c \'. "$place/attack.sh"; attack\''
 
-# The ways to run the attack: at once, or, for those in LATE, after the command has ended.
-AT_ONCE = {
+# The ways to run the attack, for everybody and for root.
+WAYS = {
     'the command itself': 'attack', 'a static shell': f'busybox {AGAIN}', 'without an environment':
-    f'env -i PATH="$PATH" static="$static" place="$place" caller=$caller launcher=$launcher device=$device {AGAIN}',
+    f'env -i PATH="$PATH" place="$place" caller=$caller powerless=$powerless launcher=$launcher device=$device {AGAIN}',
     'another library': f'LD_PRELOAD=x {AGAIN} 2> /dev/null', 'by unshare':
     f'unshare -Urm sh -c \'umount -l /dev; umount -l /dev; mount --bind / /mnt; mount -o remount,dev /tmp; '
     '. "$place/attack.sh"; attack; head -c 9 /mnt/dev/nvme0n1; :\' 2> /dev/null || attack',
     'the device is killed': 'kill -9 $device; sleep 0.2; attack',
     'by a model within': f'"$model" {AGAIN} 2> /dev/null || attack',
-    'a process without rights outside': 'more=/proc/$powerless/root/dev/nvme0n1; attack',
     'a caller of the library is killed': 'nvme id-ns /dev/nvme0 & nvme format /dev/nvme0n1 & kill -9 $!; attack; wait'}
-ELSEWHERE = {'a node in a file system below /dev': 'more=/dev/shm/node; attack', 'a node in another folder':
-             'more=$place/disk.node; attack', 'the same /dev in another folder':
-             'more="$place/alias/nvme0n1 $place/alias/folder/inner/node"; attack'}
 BY_ROOT = {'su': f'su nobody -s /bin/sh -c "place=$place caller=$caller launcher=$launcher device=$device; '
                  'export place caller powerless launcher device; . $place/attack.sh; attack"',
            'setpriv': f'setpriv --reuid=65534 --regid=65534 --clear-groups {AGAIN}',
            'sudo': f'sudo place=$place caller=$caller launcher=$launcher device=$device {AGAIN}',
-           'nsenter': f'nsenter -t $caller -m {AGAIN} || nsenter -t 1 -m true || attack'}
-LATE = {'in the background': f'({LATER}) & exit 0', 'a daemon': f'(setsid sh -c \'({LATER}) & exit 0\' &) ; exit 0',
-        'a static daemon': f'(busybox setsid busybox sh -c \'({LATER}) & exit 0\' &) ; exit 0',
-        'the launcher is killed': f'({LATER}) & kill -9 $launcher'}
+           'nsenter': f'nsenter -t $caller -m {AGAIN} || nsenter -t 1 -m true || attack',
+           'chroot': f'mkdir -p /dev/shm/c; chroot / sh -c \'cd ../../..; . "$place/attack.sh"; attack\''}
 
+ATTACH = 'nvme attach-ns /dev/nvme1 -n 1 -c 1 > /dev/null'
+DETACH = 'nvme detach-ns /dev/nvme1 -n 1 -c 1 > /dev/null'
+WRITTEN = '/sys/devices/.new /dev/.model/new /dev/.model/nodes/new /dev/nvme1n1 /dev/ng1n1'
+
+# What a command tries, and what it prints then. $place/plain is a file of the machine, with CLOBBER.
+TRIES = {
+    'links where the launcher writes': (
+        f'for n in {WRITTEN}; do ln -s "$place/plain" $n; done; {ATTACH}; cat "$place/plain"; '
+        'cat /sys/block/nvme1n1/nsid', b'CLOBBER1\n'),
+    'links while it writes': (
+        f'for n in {WRITTEN}; do while :; do ln -sf "$place/plain" $n; done 2> /dev/null & done; '
+        f'for i in 1 2 3; do {ATTACH}; {DETACH}; done 2> /dev/null; kill %1 %2 %3 %4 %5; cat "$place/plain"',
+        b'CLOBBER'),
+    'hard links there': (
+        f'echo CLOBBER > /dev/own; for n in {WRITTEN}; do ln /dev/own $n 2> /dev/null; done; {ATTACH}; cat /dev/own; '
+        'cat /sys/block/nvme1n1/nsid', b'CLOBBER\n1\n'),
+    'pipes there': (
+        f'mkfifo {WRITTEN}; {ATTACH}; cat /sys/block/nvme1n1/nsid; head -c 1 /dev/nvme1n1 | wc -c', b'1\n1\n'),
+    'folders there': (f'mkdir -p $(printf "%s/x " {WRITTEN}); {ATTACH}; cat /sys/block/nvme1n1/nsid', b'1\n'),
+    'a folder of /sys that is a link': (
+        f'mkdir "$place/victim"; : > "$place/victim/ng1n1"; {ATTACH}; mv /sys/class/nvme-generic /sys/old; '
+        f'ln -s "$place" /sys/class/nvme-generic; {DETACH}; ls "$place/victim"; rm -r "$place/victim"', b'ng1n1\n'),
+    'a full /dev': (
+        f'cat /dev/zero > /dev/fill 2> /dev/null; {ATTACH}; head -c 1 /dev/nvme1n1 | wc -c; rm /dev/fill', b'1\n'),
+    'all kinds of nodes': (
+        'busybox find /dev /sys -type b; ls -A /dev; busybox find /dev -maxdepth 1 -type c | wc -l',
+        b'.model\nfd\nfull\nmqueue\nng0n1\nng0n3\nnull\nnvme0\nnvme0n1\nnvme0n3\nnvme1\nptmx\npts\nrandom\nshm\n'
+        b'stderr\nstdin\nstdout\ntty\nurandom\nzero\n6\n'),
+    'files of the kernel': (
+        'for f in /proc/sys/kernel/core_pattern /proc/sys/vm/swappiness /proc/sysrq-trigger /proc/irq/default_smp_affinity '
+        '/sys/kernel/mm/ksm/run /sys/devices/system/cpu/cpu1/online /sys/fs/cgroup/cgroup.procs '
+        '/sys/fs/cgroup/cpu/tasks "$place/sysfs/kernel/mm/ksm/run" "$place/proc/sys/kernel/core_pattern"; '
+        'do (: >> "$f") 2> /dev/null && echo "$f"; done; ls -d /proc/$caller "$place/proc/$caller" 2> /dev/null; '
+        'echo end', b'end\n'),
+    'rights': (
+        'insmod "$place/plain" && echo module; mount -t tmpfs x /mnt && echo mount; mount -t devtmpfs x /mnt && echo dev; '
+        'mknod "$place/made" b 7 0 && echo node; date -s 12:00 > /dev/null && echo time; kill -0 $caller && echo process; '
+        'nsenter -t 1 -n true && echo network; sysctl -q kernel.panic=1 && echo kernel', b''),
+    'a user without rights': ('unshare -Ur true; cat /proc/self/status | grep NoNewPrivs', b'NoNewPrivs:\t1\n'),
+    'signals to the launcher': ('for n in KILL STOP SEGV ALRM; do kill -$n 1; done; test -c /dev/nvme0; echo $?', b'0\n')}
 
 class Machine:
     """A machine with nodes: `devices`, `files` or `none`."""
@@ -50,11 +83,11 @@ class Machine:
     def __init__(self, case, kind):
         self.kind, self.case = kind, case
         self.disk = case.file('disk', BYTES)
-        for name in 'new', 'alias':
+        for name in 'new', 'alias', 'sysfs', 'proc', 'root', 'gone':
             (case.folder / name).mkdir(exist_ok=True)
             (case.folder / name).chmod(0o777)
         private = ['unshare', '-m'] if kind == 'devices' else [*(NOBODY if IS_ROOT else ()), 'unshare', '-Urm']
-        if not has_namespaces(*private) or (kind == 'devices' and run('losetup', '--find').status != 0):
+        if not works(*private) or (kind == 'devices' and run('losetup', '--find').status != 0):
             case.skipTest('no such machine can be made here: there are no namespaces, or no loop devices')
         self.holder = Running(*private, 'sh', TOP / 'tests/machine.sh', case.folder / 'new', process_folder(), kind,
                               self.disk)
@@ -70,7 +103,7 @@ class Machine:
         if self.holder.process.poll() is None:
             end_all()
             self.holder.process.wait()
-        for name in 'late', 'disk.node', 'reached', 'copy', 'copied':
+        for name in 'disk.node', 'reached', 'copy', 'copied':
             with contextlib.suppress(FileNotFoundError):
                 (self.case.folder / name).unlink()
 
@@ -116,49 +149,21 @@ class MachineCase(ModelCase):
         (self.folder / 'link').symlink_to('/dev/nvme0n1')
         (self.folder / 'chain').symlink_to('/dev/disk/by-id/nvme-machine')
 
-    def reached_nothing(self, machine, ended, text, least=1):
+    def reached_nothing(self, machine, ended, least=1):
         """Checks that an attack ran to its end, and found the model's data at least this often and no data of the
         machine."""
-        found = re.findall(rb"(?m)^(\d+) times the model's$", text)
+        found = re.findall(rb"(?m)^(\d+) times the model's$", ended.out)
         self.assertTrue(found, ended)
-        self.assertNotIn(b'reached', text, ended)
+        self.assertNotIn(b'reached', ended.out, ended)
         self.assertGreaterEqual(max(map(int, found)), least, ended)
         machine.is_unchanged()
 
-    def attacks(self, kind, user, contexts):
-        for name, script in contexts.items():
-            with self.subTest(name, kind=kind, user=user):
-                with contextlib.closing(Machine(self, kind)) as machine:
-                    self.attack(machine, name, script, user)
-                self.leaves_nothing()
-
-    def attack(self, machine, name, script, user):
-        ended = machine.model(BEGIN + script, user, where='/dev')
-        text, late = ended.out, self.folder / 'late'
-        if name in LATE:
-            self.assertTrue(until(lambda: late.exists() and late.read_bytes().endswith(b'end\n'), 20), ended)
-            text = late.read_bytes()
-        self.reached_nothing(machine, ended, text, 0 if 'killed' in name or name in LATE or name in BY_ROOT else 5)
-
-
-class Attacks(MachineCase):
-    @unittest.skipUnless(IS_ROOT, 'true device nodes can be made by root alone')
-    def test_devices_and_root(self):
-        self.attacks('devices', (), {**AT_ONCE, **ELSEWHERE, **BY_ROOT, **LATE})
-
-    @unittest.skipUnless(IS_ROOT, 'true device nodes can be made by root alone')
-    def test_devices_and_another_user(self):
-        self.attacks('devices', NOBODY, {**AT_ONCE, **ELSEWHERE, **LATE})
-
-    def test_files_and_root_of_a_user_namespace(self):
-        self.attacks('files', (), {**AT_ONCE, **LATE})
-
-    def test_files_and_a_user(self):
-        self.attacks('files', NESTED, {**AT_ONCE, **LATE})
-
-
-class Machines(MachineCase):
-    """Tests other properties on a machine with nodes, for root and for another user."""
+    def attacks(self, kind, user, ways):
+        for name, script in ways.items():
+            with self.subTest(name, kind=kind, user=user), contextlib.closing(Machine(self, kind)) as machine:
+                ended = machine.model(BEGIN + script, user, where='/dev')
+                self.reached_nothing(machine, ended, 0 if 'killed' in name or name in BY_ROOT else 5)
+            self.leaves_nothing()
 
     def users(self):
         """Returns machines, each with a user."""
@@ -168,36 +173,86 @@ class Machines(MachineCase):
                 yield machine, user
                 machine.is_unchanged()
 
-    def test_a_node_is_not_handed_on(self):
+
+class Attacks(MachineCase):
+    @unittest.skipUnless(IS_ROOT, 'true device nodes can be made by root alone')
+    def test_devices_and_root(self):
+        self.attacks('devices', (), {**WAYS, **BY_ROOT})
+
+    @unittest.skipUnless(IS_ROOT, 'true device nodes can be made by root alone')
+    def test_devices_and_another_user(self):
+        self.attacks('devices', NOBODY, WAYS)
+
+    def test_files_and_root_of_a_user_namespace(self):
+        self.attacks('files', (), WAYS)
+
+    def test_files_and_a_user(self):
+        self.attacks('files', NESTED, WAYS)
+
+    def test_tries(self):
         for machine, user in self.users():
-            for name in 'nvme0', 'folder/inner/node':
-                by = 'sh', '-c', f'exec 9<> /dev/{name}; exec "$@"', 'sh'
-                ended = machine.model('touch "$place/touched"', user, by=by)
-                self.says(ended, 72, 'nvme-model: file descriptor 9 is an NVMe device of this machine')
-                self.assertFalse((self.folder / 'touched').exists())
+            for name, (script, wanted) in TRIES.items():
+                with self.subTest(name):
+                    ended = machine.model(script, user, options=['--data-limit=2M'])
+                    self.assertEqual(ended.out, wanted, ended)
+                    self.assertNotEqual(ended.status, 72, ended)
+
+
+class Machines(MachineCase):
+    """Tests other properties on a machine with nodes, for root and for another user."""
+
+    def test_what_is_inherited(self):
+        # a node or a folder of nodes is refused as a standard stream, and everything else isn't handed on
+        for machine, user in self.users():
+            for redirection, said in (('< /dev', 'standard input is a folder'), ('9<> /dev/nvme0 8< /dev', ''),
+                                      ('<> /dev/nvme0n1', 'standard input is a device'),
+                                      ('>> /dev/folder/inner/node', 'standard output is a device'),
+                                      ('2<> /dev/nvme0n1', None)):
+                if machine.kind == 'files' and 'n' in redirection[12:]:
+                    continue
+                by = 'sh', '-c', f'exec {redirection}; exec "$@"', 'sh'
+                ended = machine.model('touch "$place/touched"; ls /proc/$$/fd', user, by=by)
+                self.ends(ended, 72 if said != '' else 0, b'' if said != '' else b'0\n1\n2\n')
+                self.assertIn(f'nvme-model: {said}'.encode() if said else b'', ended.err)
+                self.assertEqual((self.folder / 'touched').exists(), said == '')
+                (self.folder / 'touched').unlink(missing_ok=True)
 
     def test_working_folder(self):
         script = 'echo MODELLED | dd of=nvme0n1 conv=notrunc 2> /dev/null; head -c 8 ./nvme0n1 ../dev/nvme0n1 -q; pwd'
         for machine, user in self.users():
             self.ends(machine.model(script, user, where='/dev'), 0, b'MODELLEDMODELLED/dev\n', b'')
-            # the machine's /dev by another path, and the machine's / as another namespace sees it
-            for far in ('cd "/proc/$caller/root/dev"; exec "$@"',
-                        'exec 9< /; exec unshare -m sh -c \'cd /proc/self/fd/9; exec "$@"\' sh "$@"'):
-                ended = machine.model('head -c 8 nvme0n1 dev/nvme0n1', user, by=('sh', '-c', far, 'sh'))
+            # a folder that was taken away, with nodes in it or above it; and one that others can't search
+            ways = ['mkdir -m 777 "$place/gone/x"; cd "$place/gone/x"; rmdir "$place/gone/x"; exec "$@"', 'cd /proc/$caller/root/dev/folder && exec "$@"']
+            if not user:
+                ways += ['mount --bind /dev "$place/gone"; cd "$place/gone"; umount -l "$place/gone"; exec "$@"',
+                         'mount --bind /dev "$place/gone"; cd "$place/gone"; mount -t tmpfs x "$place/gone"; exec "$@"']
+            for way in ways:
+                (self.folder / 'gone').mkdir(exist_ok=True)
+                by = 'unshare', '-m', 'sh', '-c', way, 'sh'
+                ended = machine.model('head -c 8 nvme0n1 inner/node', user, by=by if not user else by[2:])
                 self.assertNotIn(b'MACHINE', ended.out, ended)
+                if 'gone' in way:
+                    self.ends(ended, 72, b'')
+                    self.assertRegex(ended.err, b"nvme-model: the (current )?folder .*run (it|the command) from another")
 
     def test_the_rest_of_the_machine_is_there(self):
-        script = ('for f in null zero full random urandom tty fd/0 pts shm folder/inner; do '
-                  'test -e /dev/$f || echo $f; done; '
+        script = ('for f in null zero full random urandom tty fd/0 pts shm mqueue; do test -e /dev/$f || echo $f; done; '
                   'echo x > /dev/null; head -c 3 /dev/zero | wc -c; ls -A "$place" | grep -c seven; '
                   'test -w /tmp && echo yes; grep -c " /proc " /proc/self/mounts; echo kept > "$place/kept"; '
-                  'ls /sys/class | grep -c -x -e net -e tty')
+                  'cat /sys/class/net/lo/mtu | wc -l; nproc | wc -l; ls /sys/devices/system/cpu | grep -c -x online')
         for machine, user in self.users():
-            ended = machine.model(script, user)
-            kept = b'full\n' * (machine.kind != 'none')  # (which has the number of the stand-ins)
-            self.ends(ended, 0, kept + b'3\n1\nyes\n1\n2\n', b'')
+            self.ends(machine.model(script, user), 0, b'3\n1\nyes\n2\n1\n1\n1\n', b'')
             self.assertEqual((self.folder / 'kept').read_bytes(), b'kept\n')
             (self.folder / 'kept').unlink()
+
+    def test_devices_that_are_added(self):
+        for machine, user in self.users():
+            for path in '/dev/nvme0', '/dev/nvme0n1', '/dev/null/x', str(self.folder / 'plain'), '/dev/mem', '/dev/vfio/vfio':
+                ended = machine.model('echo no', user, ['--device', path])
+                self.ends(ended, 72, b'')
+                self.assertIn(f'nvme-model: '.encode(), ended.err)
+        self.ends(self.shell('test -c /dev/net/tun && test ! -e /dev/fuse', options=['--device', '/dev/net/tun']), 0) if (
+            os.path.exists('/dev/net/tun')) else None
 
     def test_less_than_all_rights(self):
         # root that can't make a mount namespace gets one through a user namespace
@@ -206,68 +261,106 @@ class Machines(MachineCase):
             self.skipTest('root alone has rights to give up')
         with contextlib.closing(Machine(self, 'devices')) as machine:
             ended = machine.model(BEGIN + 'attack', by=less)
-            self.reached_nothing(machine, ended, ended.out, 5)
+            self.reached_nothing(machine, ended, 5)
             self.assertEqual(ended.err, b'')
 
+    def test_other_callers(self):
+        # a user that the machine doesn't know, without a home; and a folder that can't be written
+        for machine, user in self.users():
+            unknown = ('setpriv', '--reuid=54321', '--regid=54321', '--clear-groups', 'env', '-u', 'HOME') if (
+                machine.kind == 'devices' and not user) else ('env', '-u', 'HOME')
+            self.ends(machine.model('test -b /dev/nvme0n1; echo $?', user, by=unknown), 0, b'0\n', b'')
+            if not user:
+                read_only = ('unshare', '-m', 'sh', '-c', 'mount --bind "$place" "$place" && mount -o remount,bind,ro '
+                             '"$place" && cd "$place" && exec "$@"', 'sh')
+                self.ends(machine.model('touch x 2> /dev/null || echo $PWD', by=read_only), 0,
+                          f'{self.folder}\n'.encode(), b'')
 
-# Runs a command in a place where no mount namespace can be made.
-WITHOUT = ('unshare', '-Ur', 'sh', '-c', 'echo 0 > /proc/sys/user/max_mnt_namespaces; exec "$@"', 'sh')
-MISSING = b'nvme-model: the command has no namespace ('
+    @unittest.skipUnless(IS_ROOT, 'root alone can chroot')
+    def test_other_roots(self):
+        # another root that is a mount point; and one with nodes in a plain folder. (Other views of its /dev would be
+        # devtmpfs on a true machine, but are tmpfs here.)
+        ways = {'a mount point': 'mount --rbind / "$place/root" && chroot "$place/root" "$@"',
+                'a plain /dev': 'for m in alias bound; do mount -o remount,bind,ro "$place/$m"; done; mount -t tmpfs x "$place/root" && cd / && for d in *; do case $d in dev) ;; *) '
+                'test -d $d && test ! -L $d && mkdir "$place/root/$d" && mount --rbind $d "$place/root/$d" || '
+                'cp -a $d "$place/root/$d" ;; esac; done; mkdir "$place/root/dev"; cp -a /dev/null /dev/zero /dev/full '
+                '/dev/random /dev/urandom /dev/tty /dev/nvme0 /dev/nvme0n1 "$place/root/dev" && '
+                'chroot "$place/root" "$@"'}
+        for name, way in ways.items():
+            with self.subTest(name), contextlib.closing(Machine(self, 'devices')) as machine:
+                by = 'unshare', '-m', 'sh', '-c', way + '; exit', 'sh'
+                ended = machine.model(BEGIN + 'cd ../../..; attack', by=by)
+                self.reached_nothing(machine, ended, 5)
 
-
-class NoNamespace(MachineCase):
-    def kinds(self):
-        return (('devices', ()), ('files', ())) if IS_ROOT else (('files', ()),)
-
-    def test_refused_where_there_are_nodes(self):
-        for kind, user in self.kinds():
-            with self.subTest(kind), contextlib.closing(Machine(self, kind)) as machine:
-                ended = machine.model('touch "$place/touched"', user, by=WITHOUT)
-                self.ends(ended, 72, b'')
-                self.assertRegex(ended.err, b'^nvme-model: /dev/n\\w+ is a device of this machine, '
-                                 b'.*No space left on device.*--without-namespace .*\n$')
-                self.assertFalse((self.folder / 'touched').exists())
-                machine.is_unchanged()
-
-    def test_runs_where_there_are_none(self):
-        with contextlib.closing(Machine(self, 'none')) as machine:
-            script = ('nvme list-ns /dev/nvme0; nvme create-ns /dev/nvme0 -s 8 -c 8 -f 0; '
-                      'nvme attach-ns /dev/nvme0 -n 2 -c 0; '
-                      'test -b /dev/nvme0n2 && test -c /dev/nvme1 && test ! -e /dev/nvme1n1; '
-                      'smartctl -i /dev/nvme0 | grep -c S0; env -i PATH="$PATH" nvme id-ctrl //dev/nvme0 | grep -c S0; '
-                      'cd /dev; nvme id-ctrl nvme1 | grep -c S1')
-            ended = machine.model(script, by=WITHOUT)
-            self.ends(ended, 0, b'[   0]:0x1\n[   1]:0x3\ncreate-ns: Success, created nsid:2\n'
-                      b'attach-ns: Success, nsid:2\n1\n1\n1\n')
-            self.assertRegex(ended.err, b'^' + re.escape(MISSING) + b'.*No space left on device.*\n$')
+    def test_eight_at_once(self):
+        with contextlib.closing(Machine(self, 'files')) as machine:
+            script = ('for i in 1 2 3 4 5 6 7 8; do "$model" sh -c "echo $i > /dev/nvme0n1; sleep 0.5; '
+                      'head -c 1 /dev/nvme0n1; echo" & done; wait')
+            ended = run(*machine.enter, 'sh', '-c', script, env={'model': installed()})
+            self.assertEqual(sorted(ended.out.split()), [b'%d' % number for number in range(1, 9)], ended)
             machine.is_unchanged()
 
-    def test_at_the_callers_risk(self):
-        # a process that sees the library reaches no device of the machine; a static program would
-        contexts = {'itself': 'attack', 'another library': f'LD_PRELOAD=x {AGAIN} 2> /dev/null',
-                    'without an environment': AT_ONCE['without an environment'],
-                    'in the background': f'({LATER}) & exit 0',
-                    'a daemon': f'(setsid sh -c \'({LATER}) & exit 0\' &) ; exit 0'}
-        for (kind, user), (name, context) in ((one, other) for one in self.kinds() for other in contexts.items()):
-            with self.subTest(name, kind=kind), contextlib.closing(Machine(self, kind)) as machine:
-                script = 'static=true; export static; . "$place/attack.sh"; ' + context
-                ended = machine.model(script, user, ['--without-namespace'], '/dev')
-                text, late = ended.out, self.folder / 'late'
-                if name in LATE:
-                    self.assertTrue(until(lambda: late.exists() and late.read_bytes().endswith(b'end\n'), 20), ended)
-                    text = late.read_bytes()
-                self.reached_nothing(machine, ended, text, 0)
-                self.assertEqual(ended.err.splitlines()[0][:len(MISSING)], MISSING)
+
+# Runs a command in a place where no mount namespace can be made, or where there is no bwrap.
+WITHOUT = ('unshare', '-Ur', 'sh', '-c', 'echo 0 > /proc/sys/user/max_mnt_namespaces; exec "$@"', 'sh')
+MISSING = b'nvme-model: the command runs without a sandbox ('
+
+
+class NoSandbox(MachineCase):
+    def ways(self):
+        """Returns ways to run a command where no sandbox can be made, each with the reason that is told."""
+        tools = self.folder / 'tools'
+        tools.mkdir(exist_ok=True)
+        for name in {name for folder in os.environ['PATH'].split(':') if os.path.isdir(folder)
+                     for name in os.listdir(folder)} - {'bwrap'}:
+            with contextlib.suppress(FileExistsError):
+                (tools / name).symlink_to(shutil.which(name) or '/none')
+        return {WITHOUT: b'amespace', ('env', f'PATH={tools}'): b'install the package bubblewrap'}
+
+    def test_refused_where_there_are_nodes(self):
+        for kind in ('devices', 'files') if IS_ROOT else ('files',):
+            for way, reason in self.ways().items():
+                with self.subTest(kind, way=way), contextlib.closing(Machine(self, kind)) as machine:
+                    ended = machine.model('touch "$place/touched"', by=way)
+                    self.ends(ended, 72, b'')
+                    self.assertRegex(ended.err, b'^nvme-model: /dev/n\\w+ is a device of this machine, and .*' + reason +
+                                     b'.*\n$')
+                    self.assertFalse((self.folder / 'touched').exists())
+                    machine.is_unchanged()
+
+    def test_runs_where_there_are_none(self):
+        for way, reason in self.ways().items():
+            with self.subTest(way), contextlib.closing(Machine(self, 'none')) as machine:
+                script = ('nvme list-ns /dev/nvme0; nvme create-ns /dev/nvme0 -s 8 -c 8 -f 0; '
+                          'nvme attach-ns /dev/nvme0 -n 2 -c 0; '
+                          'test -b /dev/nvme0n2 && test -c /dev/nvme1 && test ! -e /dev/nvme1n1; '
+                          'smartctl -i /dev/nvme0 | grep -c S0; '
+                          'env -i PATH="$PATH" nvme id-ctrl //dev/nvme0 | grep -c S0; '
+                          'cd /dev; nvme id-ctrl nvme1 | grep -c S1')
+                ended = machine.model(script, by=way)
+                self.ends(ended, 0, b'[   0]:0x1\n[   1]:0x3\ncreate-ns: Success, created nsid:2\n'
+                          b'attach-ns: Success, nsid:2\n1\n1\n1\n')
+                self.assertRegex(ended.err, b'^' + re.escape(MISSING) + b'.*' + reason + b'.*\n$')
+                machine.is_unchanged()
+
+    def test_path_with_a_blank(self):
+        place = self.folder / 'a folder: here'
+        shutil.copytree(installed().parents[1], place)
+        with contextlib.closing(Machine(self, 'none')) as machine:
+            for way in (), next(iter(self.ways())):
+                ended = run(*machine.enter, *way, place / 'bin/nvme-model', 'nvme', 'list-ns', '/dev/nvme0')
+                self.ends(ended, 0, b'[   0]:0x1\n[   1]:0x3\n')
+            machine.is_unchanged()
 
     def test_killed_launcher(self):
-        # its folder stays, and processes that the command left running reach nothing
+        # its folder goes, and processes that the command left running reach nothing
         with contextlib.closing(Machine(self, 'none')) as machine:
-            ended = machine.model('kill -9 $PPID; sleep 0.3; nvme id-ctrl /dev/nvme0 2> "$place/late"; '
-                                  'test -c /dev/nvme0 || echo end >> "$place/late"', options=['--without-namespace'])
+            ended = machine.model('kill -9 $PPID; sleep 0.5; nvme id-ctrl /dev/nvme0 2> "$place/late"; '
+                                  'test -c /dev/nvme0 || echo end >> "$place/late"', by=WITHOUT)
             self.assertEqual(ended.status, 137, ended)
-            self.assertTrue(until(lambda: b'end\n' in (self.folder / 'late').read_bytes()
-                                  if (self.folder / 'late').exists() else 0))
-            self.assertIn(b'No such device or address', (self.folder / 'late').read_bytes())
+            self.assertTrue(until(lambda: (self.folder / 'late').exists() and
+                                  b'end\n' in (self.folder / 'late').read_bytes()))
+            self.assertIn(b'No such', (self.folder / 'late').read_bytes())
 
 
 if __name__ == '__main__':

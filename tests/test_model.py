@@ -1,13 +1,15 @@
-"""Tests ./nvme-model: the ioctls of client/check.c with drivers of several geometries, arguments, several subsystems,
+"""Tests ./nvme-model: the ioctls of tests/check.c with drivers of several geometries, arguments, several subsystems,
 nodes and the data of namespaces, signals, and the tools that are installed."""
 
 import itertools
+import os
 import shutil
 import signal
 import subprocess
+import time
 
-from tests.modelled import CLIENT, PARTS, ModelCase, compiled_c, installed, processes_of
-from tests.support import TOP, Running, end_all, program, run, until
+from tests.modelled import CLIENT, PARTS, ModelCase, compiled_c, installed
+from tests.support import TOP, Running, program, run, until
 
 CHECK = 'check', 'check_client'
 PARTS_OF_CHECK = 'commands', 'wide', 'lengths', 'many', 'broken', 'killed', 'nodes'
@@ -59,7 +61,7 @@ class Arguments(ModelCase):
         for words in ('', '--', '--depth', '--depth 2', '--bogus 3 true', '--subsystem=x', '-d 3 true', '--no-notice',
                       '--no-notice=1 true', '--data-limit x true', '--data-limit 1T true', '--data-limit -1 true',
                       '--data-limit= true', '--data-limit 9999999999G true', '--d 3 true', '--help=1', '--trace',
-                      '--p 4096 true', '--without-namespace=no true', '--subsystem x ' * 17 + 'true'):
+                      '--p 4096 true', '--without-namespace true', '--device', '--subsystem x ' * 17 + 'true'):
             with self.subTest(words):
                 ended = run(installed(), *words.split())
                 self.ends(ended, 72, b'')
@@ -69,7 +71,8 @@ class Arguments(ModelCase):
         for options in ('--depth 1', '--depth x', '--page-size 5000', '--subsystem /none', '--pace 0'):
             with self.subTest(options):
                 ended = self.model('touch', self.folder / 'touched', options=options.split())
-                self.says(ended, 72, 'nvme-model: the device ended before it answered')
+                self.says(ended, 72, 'nvme-model: /none: No such file' if '/none' in options else
+                          'nvme-model: the device ended before it answered')
                 self.assertFalse((self.folder / 'touched').exists())
         for device in '/bin/false', '/none':
             launcher = self.folder / device.strip('/') / 'bin/nvme-model'
@@ -78,14 +81,15 @@ class Arguments(ModelCase):
             parts.mkdir(parents=True)
             shutil.copy(installed().parents[1] / 'lib/nvme-model/library.so', parts)
             (parts / 'nvme_device').symlink_to(device)
-            self.says(run(launcher, 'true'), 72, 'nvme-model: the device ended before it answered')
+            self.says(run(launcher, 'true'), 72, 'nvme-model: the device ended before it answered' if
+                      device == '/bin/false' else f'nvme-model: {parts}/nvme_device: No such file')
 
     def test_help(self):
         for words in (['--help'], ['--he'], ['--no-notice', '--help', 'false'], ['--help', '--bogus']):
             with self.subTest(words):
                 ended = run(installed(), *words)
                 self.ends(ended, 0, err=b'')
-                self.assertRegex(ended.out, b'^usage: nvme-model (?s:.*)--without-namespace')
+                self.assertRegex(ended.out, b'^usage: nvme-model (?s:.*)--data-limit')
         self.ends(run(installed(), '--help', out='/dev/full'), 72)
         self.ends(run(TOP / 'nvme-model', '--help'), 0, run(installed(), '--help').out, b'')
 
@@ -201,30 +205,43 @@ class Signals(ModelCase):
         running.process.terminate()
         self.ends(running.end(), 9, b'ready\n')
 
+        # once, for each signal, and whatever the command does first
+        running = self.begun('trap "echo one" TERM; trap "exit 8" USR1; echo ready; while :; do sleep 0.1; done')
+        running.process.terminate()
+        running.comes(b'one\n')
+        running.process.send_signal(signal.SIGUSR1)
+        self.ends(running.end(), 8, b'ready\none\n')
+
     def test_while_requests_and_data_are_under_way(self):
         script = ('while :; do nvme create-ns /dev/nvme0 -s 8 -c 8 -f 0; nvme delete-ns /dev/nvme0 -n 2; done '
                   '> /dev/null 2>&1 & while :; do dd if=/dev/urandom of=/dev/nvme0n1 bs=4k; done 2> /dev/null & '
                   'echo ready; wait')
         for name in ('INT', 'TERM', 'HUP', 'KILL'):
             with self.subTest(name):
-                running = self.begun('echo $$ > "$1"; ' + script, self.folder / 'group')
+                running = self.begun(script)
                 running.process.send_signal(signal.Signals['SIG' + name])
-                # a process that the command left running has no device any longer, and the launcher doesn't end it
                 self.assertTrue(until(lambda: running.process.poll() is not None))
                 self.assertEqual(running.process.returncode, {**BY_SIGNAL, 'KILL': -9}[name])
-                self.assertTrue(until(lambda: not processes_of('nvme_device\0--subsystem\0' + str(self.subsystem))))
-                end_all()
                 self.leaves_nothing()
 
-    def test_killed_launcher(self):
-        # the command continues, and each of its calls is answered at once
-        ended = self.shell('exec 3<> /dev/nvme0n1; kill -9 $PPID; sleep 0.3; for f in nvme0 nvme0n1 ng0n1; do '
-                           'stat /dev/$f; cat /dev/$f; nvme id-ctrl /dev/$f; done 2> "$1"; '
-                           'grep -c -e "No such device or address" "$1" > "$2"',
-                           self.folder / 'said', self.folder / 'count')
-        self.assertEqual(ended.status, -9, ended)
-        self.assertTrue(until(lambda: (self.folder / 'count').exists() and (self.folder / 'count').read_text()))
-        self.assertEqual((self.folder / 'count').read_text(), '9\n', (self.folder / 'said').read_text())
+    def test_killed_at_any_time(self):
+        # nothing is left of the launcher, whenever it is killed: no process, no mount, no file
+        before = set(os.listdir('/tmp')) | set(os.listdir('/dev'))
+        for delay in range(0, 100, 4):
+            running = Running(*self.command('sh', '-c', 'sleep 100 & sleep 100'))
+            time.sleep(delay / 1000)
+            running.process.kill()
+            running.process.wait()
+            self.leaves_nothing()
+        self.assertEqual({name for name in set(os.listdir('/tmp')) | set(os.listdir('/dev')) if 'nvme' in name}, {
+            name for name in before if 'nvme' in name})
+
+    def test_what_is_left_in_the_background(self):
+        ended = self.shell('(sleep 0.3; echo late > "$1") & (setsid sh -c \'trap "" TERM HUP; sleep 0.3; echo late > "$1"\''
+                           ' sh "$1" &); exit 3', self.folder / 'late')
+        self.assertEqual(ended.status, 3)
+        time.sleep(0.6)
+        self.assertFalse((self.folder / 'late').exists())
 
     def test_typed_at_a_terminal(self):
         for script, status in (('echo ready; exec sleep 100', 130),
@@ -238,4 +255,4 @@ class Signals(ModelCase):
         # the command has terminals, and makes new ones
         running = Running(*self.command('sh', '-c', 'tty; script -qec "test -t 0 && echo inner" /dev/null'),
                           terminal=True)
-        self.assertRegex(running.end().out, b'^/dev/pts/[0-9]+\n(?s:.*)inner')
+        self.assertRegex(running.end().out, b'^/dev/console\n(?s:.*)inner')
