@@ -163,15 +163,14 @@ static void await_end(void) {
     siginfo_t signal;
     while (status < 0) {
         int number = sigtimedwait(&watched, &signal, &while_waiting);
-        int is_typed = signal.si_code == SI_KERNEL && (number == SIGINT || number == SIGQUIT);
-        if (number == SIGCHLD)
-            reap();
-        else if (number > 0 && is_typed)
-            passed |= 1UL << (number - 1);
-        else if (number > 0 && command > 0)
-            kill(command, number);
-        else if (number < 0)
+        if (number < 0)
             pass_on(&passed, &seen);
+        else if (number == SIGCHLD)
+            reap();
+        else if (signal.si_code == SI_KERNEL && (number == SIGINT || number == SIGQUIT))
+            passed |= 1UL << (number - 1);
+        else if (command > 0)
+            kill(command, number);
     }
 }
 
@@ -396,7 +395,7 @@ static int read_options(int count, char **arguments) {
             has_trace = 1;
             trace_file = optarg;
         } else if (option == LIMIT)
-            limit = read_size(optarg);
+            limit = read_size(optarg) ?: 1;
         else if (option == HELP) {
             fputs(usage, stdout);
             exit(fflush(stdout) == 0 ? 0 : FAILED);
@@ -456,7 +455,6 @@ static int run(char **arguments) {
     sigaddset(&first, SIGCHLD);
     sigaddset(&first, SIGPIPE);
     sigprocmask(SIG_BLOCK, &first, NULL);
-    creation_mask = umask(022);
     start_device(file_count > 0 ? files[0] : -1);
     for (unsigned at = 1; at < file_count; at++)
         start_device(files[at]);
@@ -472,9 +470,9 @@ static int run(char **arguments) {
 }
 
 /* What the launcher outside tells the one inside, as hexadecimal numbers with commas: the signals that were blocked at
-   the start, the streams that were closed, the numbers of the current folder, and the descriptors of bwrap's status, of
-   the trace and of the subsystem files. */
-enum { BLOCKED, CLOSED, HERE_DEVICE, HERE_INODE, MONITOR, TRACE_TO, FILES, MOST_STATE = FILES + MOST_DEVICES };
+   the start, the streams that were closed, the mask of created files, the numbers of the current folder, and the
+   descriptors of bwrap's status, of the trace and of the subsystem files. */
+enum { BLOCKED, CLOSED, CREATION, HERE_DEVICE, HERE_INODE, MONITOR, TRACE_TO, FILES, MOST_STATE = FILES + MOST_DEVICES };
 
 /* Returns a copy of a descriptor, which bwrap and the launcher inside inherit. */
 static int hand_on(int file) {
@@ -486,7 +484,7 @@ static int hand_on(int file) {
 
 /* Becomes bwrap, which doesn't end by the signals that the launcher inside passes on to the command. */
 static void go_inside(const char *here, char **arguments) {
-    unsigned long long state[MOST_STATE] = {[CLOSED] = closed_streams};
+    unsigned long long state[MOST_STATE] = {[CLOSED] = closed_streams, [CREATION] = creation_mask};
     char text[MOST_STATE * 17 + 1], *at = text;
     struct stat about;
     if (stat(".", &about) < 0)
@@ -520,10 +518,11 @@ static void begin_inside(const char *text, const char *here) {
     trace = (int)state[TRACE_TO];
     for (unsigned file = 0; file < file_count; file++)
         files[file] = (int)state[FILES + file];
+    creation_mask = (mode_t)state[CREATION];
     has_sandbox = 1;
     strcpy(folder, MODEL_FOLDER);
     strcpy(library, MODEL_FOLDER "/library.so");
-    strcpy(program, MODEL_FOLDER "/nvme_device");
+    strcpy(program, MODEL_FOLDER "/device");
     /* (the folder is another one if a mount covers it, and /dev, /sys and /proc always are) */
     int is_own = strncmp(here, "/dev", 4) == 0 || strncmp(here, "/sys", 4) == 0 || strncmp(here, "/proc", 5) == 0;
     if (chdir(here) < 0 || stat(".", &about) < 0 ||
@@ -578,6 +577,7 @@ int main(int count, char **arguments) {
     }
     sigprocmask(SIG_BLOCK, NULL, &mask);
     open_files();
+    creation_mask = umask(022);
     find_parts();
     return begin_outside(arguments + 1, arguments + at);
 }

@@ -140,6 +140,17 @@ static void add_file(const char *option, int file, const char *name) {
     add_printed(option, "%d", file);
 }
 
+/* Binds a file or folder to a place whose folders every user can search. (bwrap would make them for its user alone.) */
+static void add_below(const char *option, const char *path) {
+    char *folder_of = strdup(path);
+    for (char *at = folder_of ? strchr(folder_of + 1, '/') : NULL; at && (at = strchr(at + 1, '/')); *at = '/') {
+        *at = '\0';
+        add("--dir", folder_of, NULL);
+    }
+    free(folder_of);
+    add(option, path, path, NULL);
+}
+
 /* Adds a filter that lets no process type into the caller's terminal (TIOCSTI, and the selection of TIOCLINUX). An
    ioctl has a number for each of the three kinds of system calls, and the kernel looks at 32 bits of its request. */
 static void add_filter(void) {
@@ -246,7 +257,7 @@ static void add_device(const char *path) {
     unsigned number = is_misc ? minor(about.st_rdev) : major(about.st_rdev);
     if (!begins(whole, "/dev/") || !S_ISCHR(about.st_mode) || number > UINT8_MAX || !memchr(list, (int)number, count))
         fail("--device %s: this isn't a character device that is known to lead to no storage", path);
-    add("--dev-bind", whole, whole, NULL);
+    add_below("--dev-bind", whole);
     free(whole);
 }
 
@@ -276,12 +287,12 @@ static void add_sys(void) {
     glob_t interfaces = {0};
     add("--perms", "0755", "--tmpfs", "/sys", NULL);
     for (unsigned at = 0; at < sizeof shown / sizeof *shown; at++)
-        add("--ro-bind-try", shown[at], shown[at], NULL);
+        add_below("--ro-bind-try", shown[at]);
     glob("/sys/class/net/*", 0, NULL, &interfaces);
     for (size_t at = 0; at < interfaces.gl_pathc; at++) {
         char *path = realpath(interfaces.gl_pathv[at], NULL);
         if (path && begins(path, "/sys/devices/") && !begins(path, "/sys/devices/virtual/"))
-            add("--ro-bind-try", path, path, NULL);
+            add_below("--ro-bind-try", path);
         free(path);
     }
     globfree(&interfaces);
@@ -311,7 +322,7 @@ static void compose(const struct sandbox *sandbox) {
     add_filter();
     add_part("/proc/self/exe", LAUNCHER);
     add_part(sandbox->library, MODEL_FOLDER "/library.so");
-    add_part(sandbox->device, MODEL_FOLDER "/nvme_device");
+    add_part(sandbox->device, MODEL_FOLDER "/device");
     add("--unshare-pid", "--as-pid-1", "--unshare-ipc", "--chdir", "/", NULL);
     if (geteuid() == 0) {
         if (!is_full_root())

@@ -17,7 +17,7 @@ paths() {
         /proc/self/fd/8/nvme0n1 "/proc/$caller/fd/8/nvme0n1" /dev/nvme0 /dev/ng0n1 /dev/other /dev/block/7:0 \
         /dev/disk/by-id/nvme-machine /dev/folder/inner/node "$place/link" "$place/chain" /dev/shm/node /dev/shm/bound \
         /dev/shm/alias/nvme0n1 "$place/disk.node" "$place/bound" "$place/alias/nvme0n1" \
-        "$place/alias/folder/inner/node" "$place/gone/nvme0n1"
+        "$place/alias/folder/inner/node" "$place/gone/nvme0n1" "$place/fuse/node"
 }
 
 # Reads a path with a command. (Data that is neither zeros nor the namespace's is the machine's.)

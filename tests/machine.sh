@@ -4,6 +4,7 @@
 # is `files`, a file of that name, next to bound character devices. `none` makes no NVMe nodes.
 set -eu
 new=$1 keep=$2 kind=$3 disk=$4
+place=${disk%/*}
 mount -t tmpfs machine "$new"
 cd "$new"
 mkdir dev tmp
@@ -25,6 +26,12 @@ if [ "$kind" = devices ]; then
     done
     for node in dev/nvme0 dev/ng0n1; do mknod -m 666 "$node" c 1 7; done
     chmod 666 dev/nvme* dev/ng* dev/other dev/folder/inner/node dev/shm/node "$disk.node"
+    if command -v fuse2fs > /dev/null && command -v mke2fs > /dev/null && [ -c /dev/fuse ]; then
+        mkdir inside && mknod -m 666 inside/node b $number
+        mke2fs -q -t ext2 -d inside "$place/fuse.image" 1M
+        case $keep in /tmp/*) fuse=.$place/fuse ;; *) fuse=$place/fuse ;; esac
+        fuse2fs -o allow_other,dev "$place/fuse.image" "$fuse"
+    fi
     umount -R -l /dev
 elif [ "$kind" = files ]; then
     cat "$disk" > dev/nvme0n1
@@ -37,7 +44,6 @@ fi
 [ "$kind" = none ] || ln -s ../nvme0n1 dev/block/7:0
 mount -n --move dev /dev
 mount -n --move tmp /tmp
-place=${disk%/*}
 mount --bind /dev "$place/alias"
 mount --rbind /sys "$place/sysfs"
 mount --rbind /proc "$place/proc"

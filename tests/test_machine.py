@@ -83,7 +83,7 @@ class Machine:
     def __init__(self, case, kind):
         self.kind, self.case = kind, case
         self.disk = case.file('disk', BYTES)
-        for name in 'new', 'alias', 'sysfs', 'proc', 'root', 'gone':
+        for name in 'new', 'alias', 'sysfs', 'proc', 'root', 'gone', 'fuse':
             (case.folder / name).mkdir(exist_ok=True)
             (case.folder / name).chmod(0o777)
         private = ['unshare', '-m'] if kind == 'devices' else [*(NOBODY if IS_ROOT else ()), 'unshare', '-Urm']

@@ -3,10 +3,13 @@ nodes and the data of namespaces, signals, and the tools that are installed."""
 
 import itertools
 import os
+import shlex
 import shutil
 import signal
 import subprocess
+import sys
 import time
+import unittest
 
 from tests.modelled import CLIENT, PARTS, ModelCase, compiled_c, installed
 from tests.support import TOP, Running, program, run, until
@@ -66,6 +69,13 @@ class Arguments(ModelCase):
                 ended = run(installed(), *words.split())
                 self.ends(ended, 72, b'')
                 self.assertRegex(ended.err, b'(?m)^usage: nvme-model ')
+
+    @unittest.skipUnless(os.access('/dev/kmsg', os.R_OK), '/dev/kmsg can not be read')
+    def test_refused_streams(self):
+        for redirection, name in ('< /dev/kmsg', b'input'), ('9> /dev/null < /dev', b'input'):
+            ended = run('sh', '-c', f'exec "$@" {redirection}', 'sh', *self.command('true'))
+            self.ends(ended, 72, b'')
+            self.assertRegex(ended.err, b'^nvme-model: standard ' + name + b' is a (device of this machine|folder)\n$')
 
     def test_refused_by_the_device(self):
         for options in ('--depth 1', '--depth x', '--page-size 5000', '--subsystem /none', '--pace 0'):
@@ -256,3 +266,27 @@ class Signals(ModelCase):
         running = Running(*self.command('sh', '-c', 'tty; script -qec "test -t 0 && echo inner" /dev/null'),
                           terminal=True)
         self.assertRegex(running.end().out, b'^/dev/console\n(?s:.*)inner')
+        # nothing is typed into the caller's terminal, however the request is written
+        types = (f'{sys.executable} -c \'import ctypes, os\nfor request in 0x5412, 0x541c, 0x100005412:\n'
+                 '    call = ctypes.CDLL(None, use_errno=True).syscall(ctypes.c_long(16), ctypes.c_long(0),\n'
+                 '                                                     ctypes.c_ulong(request), b"x")\n'
+                 '    print(call, os.strerror(ctypes.get_errno()))\'')
+        running = Running(*self.command('sh', '-c', types), terminal=True)
+        self.assertEqual(running.end().out, b'-1 Operation not permitted\n' * 3)
+
+    @unittest.skipUnless(shutil.which('tmux') and shutil.which('bash'), 'tmux and bash are not installed')
+    def test_job_control(self):
+        running = Running('bash', '--norc', '-i', terminal=True, env={'PS1': 'outside> ', 'TERM': 'xterm'})
+        self.addCleanup(running.process.kill)
+        for said, heard in (("{} sh -c 'echo rea\"\"dy; read x; echo got-$x; exit 3'", b'ready\n'), ('\x1a', b'outside> '),
+                            ('fg', b'\n'), ('line', b'outside> '), ('echo status-$?', b'outside> ')):
+            line = said.format(shlex.join(map(str, self.command()))) + '\n'
+            running.say((said if said == '\x1a' else line).encode())
+            running.comes(heard, 20)
+            time.sleep(0.3)
+        running.say(b'exit\n')
+        self.assertRegex(running.end().out, b'(?s)got-line\n.*status-3\n')
+        running = Running(*self.command('tmux', '-L', 'test', 'new', f'tty > {self.folder}/tty'), terminal=True,
+                          env={'TERM': 'xterm'})
+        running.end()
+        self.assertRegex((self.folder / 'tty').read_bytes(), b'^/dev/.*pts/[0-9]+\n$')

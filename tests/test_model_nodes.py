@@ -129,6 +129,14 @@ class Nodes(ModelCase):
     def test_sys_agrees_with_nodes(self):
         self.ends(self.python(NUMBERS), 0, b'ng0n1 ng0n3 nvme0 nvme0n1 nvme0n3 nvme1\n', b'')
 
+    @unittest.skipUnless(os.geteuid() == 0, 'root alone can become another user')
+    def test_other_users_see_them(self):
+        look = 'cat /sys/class/nvme/nvme1/cntlid; ls /sys/class/net/lo/mtu; test -c /dev/nvme0; echo $?'
+        ended = self.shell(f'umask 077; exec su nobody -s /bin/sh -c "$1"', look)
+        self.ends(ended, 0, b'1\n/sys/class/net/lo/mtu\n0\n', b'')
+        ended = run('sh', '-c', 'umask 077; exec "$@"', 'sh', *self.command('su', 'nobody', '-s', '/bin/sh', '-c', look))
+        self.ends(ended, 0, b'1\n/sys/class/net/lo/mtu\n0\n', b'')
+
     @unittest.skipUnless(os.geteuid() == 0, 'root alone can take /sys away')
     def test_a_machine_without_sys(self):
         look = self.command('sh', '-c', 'cat /sys/class/nvme/nvme1/cntlid; ls /sys/block')
