@@ -44,10 +44,10 @@ fi
 [ "$kind" = none ] || ln -s ../nvme0n1 dev/block/7:0
 mount -n --move dev /dev
 mount -n --move tmp /tmp
-mount --bind /dev "$place/alias"
 mount --rbind /sys "$place/sysfs"
 mount --rbind /proc "$place/proc"
 if [ "$kind" = devices ]; then
+    mount --bind /dev "$place/alias"
     for file in /dev/shm/bound "$place/bound"; do : > "$file" && mount --bind /dev/nvme0n1 "$file"; done
     mkdir /dev/shm/alias && mount --bind /dev /dev/shm/alias
 fi
