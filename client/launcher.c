@@ -1,9 +1,9 @@
 /* Runs a command whose NVMe commands are answered by device programs, one for each subsystem file. The launcher first
    becomes bubblewrap, which makes a sandbox and starts the launcher again inside (sandbox.c), as process 1. There it
-   starts the devices behind pipes, makes the nodes and the files of /sys (nodes.c, sysfs.c), listens on a socket in
-   /dev, runs the command with the library preloaded, and serves the library's requests (relay.c). It ends when the
-   command ends, with its status, and with it ends everything in the sandbox. Where no sandbox can be made and the
-   machine has no NVMe device, all this happens outside, with a folder in place of /dev. None of this is proved. */
+   starts the devices behind pipes (relay.c), makes the nodes and the files of /sys (nodes.c, sysfs.c), runs the command
+   with the library preloaded, and answers its ioctls (calls.c). It ends when the command ends, with its status, and with
+   it ends everything in the sandbox. Where no sandbox can be made and the machine has no NVMe device, all this happens
+   outside, with a folder in place of /dev. None of this is proved. */
 #define _GNU_SOURCE
 #include "launcher.h"
 #include <errno.h>
@@ -17,11 +17,9 @@
 #include <stdlib.h>
 #include <string.h>
 #include <sys/prctl.h>
-#include <sys/socket.h>
 #include <sys/stat.h>
 #include <sys/statvfs.h>
 #include <sys/sysinfo.h>
-#include <sys/un.h>
 #include <sys/wait.h>
 #include <unistd.h>
 
@@ -29,7 +27,7 @@ enum { MOST_ADDED = 64 };
 
 struct device devices[MOST_DEVICES];
 unsigned device_count;
-int listener = -1, has_sandbox, waits;
+int has_sandbox, waits;
 char folder[96];
 uint64_t geometry[] = {[DEPTH] = 32, [PAGE_SIZE] = 4096, [WINDOW] = 1};
 
@@ -206,19 +204,18 @@ static void run_device(int file, int in, int out, int said) {
     setsid();
     prctl(PR_SET_PDEATHSIG, SIGKILL);
     sigprocmask(SIG_SETMASK, &mask, NULL);
-    if (dup2(in, STDIN_FILENO) >= 0 && dup2(out, STDOUT_FILENO) >= 0 && (said < 0 || dup2(said, STDERR_FILENO) >= 0))
+    if (dup2(in, STDIN_FILENO) >= 0 && dup2(out, STDOUT_FILENO) >= 0 && dup2(said, STDERR_FILENO) >= 0)
         execv(program, arguments);
     fprintf(stderr, "nvme-model: %s: %s\n", program, strerror(errno));
     _exit(FAILED);
 }
 
-static void start_device(int file) {
-    int in[2], out[2], said[2] = {-1, -1};
+static void start_device(int file, const char *name) {
+    int in[2], out[2], said[2];
     struct device *device = devices + device_count++;
     open_pipe(in);
     open_pipe(out);
-    if (has_trace)
-        open_pipe(said);
+    open_pipe(said);
     *device = (struct device){.to = in[1],
                               .from = out[0],
                               .said = said[0],
@@ -234,7 +231,7 @@ static void start_device(int file) {
     close(in[0]);
     close(out[1]);
     close(said[1]);
-    greet_device(device);
+    greet_device(device, name);
 }
 
 /* Starts a process that removes the folder when the launcher has ended, even if it was killed. */
@@ -291,15 +288,6 @@ static void make_folder(const char *reason) {
         fail_by_errno(folder);
     start_sweeper();
     place_library();
-}
-
-static void start_listening(void) {
-    struct sockaddr_un address = {.sun_family = AF_UNIX};
-    snprintf(address.sun_path, sizeof address.sun_path, "%s/socket", folder);
-    listener = socket(AF_UNIX, SOCK_STREAM | SOCK_CLOEXEC, 0);
-    if (listener < 0 || bind(listener, (struct sockaddr *)&address, sizeof address) < 0 ||
-        chmod(address.sun_path, 0666) < 0 || listen(listener, SOMAXCONN) < 0)
-        fail_by_errno("no socket can be made");
 }
 
 static void start_command(char **arguments) {
@@ -455,12 +443,13 @@ static int run(char **arguments) {
     sigaddset(&first, SIGCHLD);
     sigaddset(&first, SIGPIPE);
     sigprocmask(SIG_BLOCK, &first, NULL);
-    start_device(file_count > 0 ? files[0] : -1);
-    for (unsigned at = 1; at < file_count; at++)
-        start_device(files[at]);
+    if (file_count == 0)
+        start_device(-1, NULL);
+    for (unsigned at = 0; at < file_count; at++)
+        start_device(files[at], names[at]);
     block_signals();
-    start_listening();
     make_nodes();
+    filter_calls();
     start_command(arguments);
     start_serving();
     await_end();

@@ -15,7 +15,7 @@ enum { DEPTH, PAGE_SIZE, WINDOW };
 /* A device is the process of one subsystem. */
 struct device {
     pid_t process;         /* 0 if it has ended */
-    int to, from, said;    /* pipes to its input, from its output and, with a trace, from its standard error, or -1 */
+    int to, from, said;    /* pipes to its input, from its output, and from its standard error */
     unsigned first, count; /* its controllers, by the numbers of /dev/nvmeX */
     _Atomic int is_lost;   /* it no longer answers */
     pthread_mutex_t lock;  /* for its turns: the current one, and how many were requested */
@@ -25,7 +25,6 @@ struct device {
 
 extern struct device devices[MOST_DEVICES];
 extern unsigned device_count;
-extern int listener;        /* the socket, or -1 */
 extern int watcher;         /* reports which files of nodes were written, or -1 */
 extern int has_sandbox;     /* whether /dev and /sys are the command's own */
 extern int waits;           /* whether nodes wait for a scan or a reset, because of --no-notice */
@@ -47,13 +46,19 @@ int resize(const char *path, off_t length);
 enum { FAILED = 72, NOT_EXECUTABLE = 126, NOT_FOUND = 127 };
 
 /* relay.c: sends a request to a device at the start; sends it a request, in a turn if others may want one, and returns
-   -1 if the device is gone; and serves the command's processes. */
-void greet_device(struct device *device);
+   -1 if the device is gone, or one for a controller by its number among all; and starts the launcher's threads. */
+void greet_device(struct device *device, const char *name);
 void lose_device(struct device *device);
 void begin_turn(struct device *device);
 void end_turn(struct device *device);
 int exchange(struct device *device, const struct request_header *header, void *data, struct answer_header *answer);
+int carry_out(struct request_header *header, void *data, struct answer_header *answer);
 void start_serving(void);
+
+/* calls.c: has the ioctls of the processes that are started from now on answered, by threads that run `answer_calls`. */
+enum { ANSWERING = 4 };
+void filter_calls(void);
+void *answer_calls(void *unused);
 
 /* relay.c: copies what a device has written to its standard error so far. */
 void copy_said(struct device *device);
@@ -65,6 +70,9 @@ void make_nodes(void);
 void look_for_changes(struct device *device, const struct request_header *request, const struct answer_header *answer);
 void scan(struct device *device, unsigned first, unsigned count);
 void *repair_files(void *unused);
+
+/* nodes.c: opens the data of a namespace that is active on a node's controller, and stores its size, or returns -1. */
+int open_data(struct node *node);
 
 /* A namespace, as the launcher knows it. */
 struct volume {

@@ -282,17 +282,19 @@ SAME(ftruncate64, ftruncate);
 SAME(truncate64, truncate);
 SAME(fallocate64, fallocate);
 
-/* Answers an ioctl of a node. No NVMe command reaches a device of the machine. */
+/* The launcher answers the ioctls of nodes. If a signal came before it took one, nothing was done, and it is made again;
+   Linux wouldn't interrupt it. Others would be answered as those of a file. */
 PUBLIC int ioctl(int file, unsigned long request, ...) {
     struct node node;
     va_list rest;
+    int result;
     va_start(rest, request);
     void *argument = va_arg(rest, void *);
     va_end(rest);
-    uint32_t number = (uint32_t)request;
-    if (folder[0] && is_node(file, &node))
-        return node_ioctl(file, &node, number, argument);
-    if (!folder[0] || _IOC_TYPE(number) != 'N' || _IOC_NR(number) < 0x40)
-        return NEXT(ioctl)(file, request, argument);
-    return fails_by(NEXT(faccessat)(AT_FDCWD, folder, F_OK, 0) == 0 ? ENOTTY : ENXIO);
+    if (!is_answered((uint32_t)request) && folder[0] && is_node(file, &node))
+        return fails_by(ENOTTY);
+    do {
+        result = NEXT(ioctl)(file, request, argument);
+    } while (result < 0 && errno == EINTR && is_answered((uint32_t)request));
+    return result;
 }

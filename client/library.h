@@ -21,13 +21,6 @@
 
 #pragma GCC visibility push(hidden)
 
-/* What a file stands for: a controller ('c'), a generic node of a namespace ('g') or its block device ('b'). */
-struct node {
-    char kind;
-    unsigned controller, nsid, power; /* a block has two to this power bytes */
-    unsigned long long blocks;
-};
-
 /* The launcher's folder, "" if there is no launcher, and this library's own path, which is in it. */
 extern char folder[PATH_MAX], library[PATH_MAX];
 
@@ -41,10 +34,8 @@ int find_node(int directory, const char *path, int flags, struct stat *about, st
 int is_on_nodes(const struct stat *about);
 const char *find(int directory, const char *path, char room[PATH_MAX]);
 
-/* device.c: these return 0, or -1 with errno, which is ENXIO if the device is gone. An ioctl may also return a
-   status. */
+/* node.c: returns 0, or -1 with errno, which is ENXIO, if the device is gone. */
 int is_alive(const struct node *node);
-int node_ioctl(int file, const struct node *node, uint32_t request, void *argument);
 
 #pragma GCC visibility pop
 #endif

@@ -39,36 +39,27 @@ int fails_by(int number) {
 
 int is_on_nodes(const struct stat *about) { return nodes_device != 0 && about->st_dev == nodes_device; }
 
-/* Returns a node's controller. If it has several, this is the one by whose name the file was opened, which the kernel
-   gives with links followed. */
-static unsigned controller_of(int file, const char *controllers) {
-    char link[64], path[PATH_MAX];
-    unsigned first = (unsigned)strtoul(controllers, NULL, 10), named, nsid;
-    snprintf(link, sizeof link, "/proc/self/fd/%d", file);
-    ssize_t length = NEXT(readlink)(link, path, sizeof path - 1);
-    path[length < 0 ? 0 : length] = '\0';
-    const char *name = strrchr(path, '/');
-    for (char *at = (char *)controllers; name && sscanf(name, "/nvme%un%u", &named, &nsid) == 2 && *at;) {
-        unsigned long number = strtoul(at, &at, 10);
-        if (number == named)
-            return named;
-        at += strspn(at, " ");
-    }
-    return first;
-}
-
 /* Returns whether a regular file is a node, and stores which node it is. */
-static int read_node(const struct stat *about, int file, struct node *node) {
-    char link[PATH_MAX + 32], text[256];
-    int before = errno, behind = 0;
+static int find_out(const struct stat *about, int file, struct node *node) {
+    char link[PATH_MAX + 32], opened[PATH_MAX], text[256];
+    int before = errno;
     snprintf(link, sizeof link, "%s/nodes/%llu", folder, (unsigned long long)about->st_ino);
     ssize_t length = NEXT(readlink)(link, text, sizeof text - 1);
-    text[length < 0 ? 0 : length] = '\0';
+    snprintf(link, sizeof link, "/proc/self/fd/%d", file);
+    ssize_t named = length < 0 ? -1 : NEXT(readlink)(link, opened, sizeof opened - 1);
+    text[length < 0 ? 0 : length] = opened[named < 0 ? 0 : named] = '\0';
     errno = before;
-    if (sscanf(text, "%c %u %llu %u %n", &node->kind, &node->nsid, &node->blocks, &node->power, &behind) < 4)
-        return 0;
-    node->controller = controller_of(file, text + behind);
-    return 1;
+    return read_node(text, opened, node);
+}
+
+int is_alive(const struct node *node) {
+    char path[PATH_MAX + 32];
+    int before = errno;
+    snprintf(path, sizeof path, "%s/lost/%u", folder, node->controller);
+    if (NEXT(faccessat)(AT_FDCWD, path, F_OK, 0) == 0 || NEXT(faccessat)(AT_FDCWD, folder, F_OK, 0) < 0)
+        return fails_by(ENXIO);
+    errno = before;
+    return 0;
 }
 
 static int may_be_node(int file, struct stat *about) {
@@ -77,14 +68,14 @@ static int may_be_node(int file, struct stat *about) {
 
 int is_node(int file, struct node *node) {
     struct stat about;
-    int before = errno, result = may_be_node(file, &about) && read_node(&about, file, node);
+    int before = errno, result = may_be_node(file, &about) && find_out(&about, file, node);
     errno = before;
     return result;
 }
 
 int is_block_node(int file, struct stat *about) {
     struct node node;
-    int before = errno, result = may_be_node(file, about) && read_node(about, file, &node) && node.kind == 'b';
+    int before = errno, result = may_be_node(file, about) && find_out(about, file, &node) && node.kind == 'b';
     errno = before;
     return result;
 }
@@ -98,7 +89,7 @@ int find_node(int directory, const char *path, int flags, struct stat *about, st
     int file = is_open
                    ? directory
                    : NEXT(openat)(directory, path, O_PATH | O_CLOEXEC | (flags & AT_SYMLINK_NOFOLLOW ? O_NOFOLLOW : 0));
-    result = file >= 0 && read_node(about, file, node);
+    result = file >= 0 && find_out(about, file, node);
     if (!is_open && file >= 0)
         close(file);
     return result;

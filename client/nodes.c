@@ -115,6 +115,24 @@ static void make_data(const struct device *device, uint32_t nsid) {
     volume->watch = watcher < 0 ? -1 : inotify_add_watch(watcher, path, IN_CLOSE_WRITE);
 }
 
+int open_data(struct node *node) {
+    char path[PATH_MAX];
+    struct device *device = devices;
+    int file = -1;
+    while (device + 1 < devices + device_count && node->controller >= device->first + device->count)
+        device++;
+    pthread_mutex_lock(&changing);
+    const struct volume *volume = node->nsid <= MOST_NSID ? volume_at(device, node->nsid) : NULL;
+    if (volume && shown[node->controller][node->nsid] == volume->generation + 1) {
+        node->blocks = volume->blocks;
+        node->power = volume->power;
+        data_path(path, device, node->nsid);
+        file = open(path, O_RDWR | O_CLOEXEC | O_NOFOLLOW);
+    }
+    pthread_mutex_unlock(&changing);
+    return file;
+}
+
 /* Records the length of a namespace's data, and the controllers under whose names it exists, followed by those under
    whose names it existed. */
 static void print_data(const struct device *device, uint32_t nsid) {
@@ -285,8 +303,9 @@ static void make_controllers(struct device *device) {
 
 void make_nodes(void) {
     char path[PATH_MAX];
-    for (unsigned at = 0; at < 2; at++) {
-        snprintf(path, sizeof path, "%s/%s", folder, at ? "nodes" : "data");
+    static const char *const folders[] = {"data", "nodes", "lost"};
+    for (unsigned at = 0; at < sizeof folders / sizeof *folders; at++) {
+        snprintf(path, sizeof path, "%s/%s", folder, folders[at]);
         if (mkdir(path, 0755) < 0)
             fail_by_errno(path);
     }

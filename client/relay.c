@@ -1,15 +1,15 @@
-/* The launcher's exchange between clients and the devices. Each client has a thread, which reads a whole request, waits
-   for its turn at the controller's device, and sends the answer, so no client waits while another one reads or writes.
-   Turns at a device are in the order in which requests were completed. None of this is proved. */
+/* The launcher's exchange with the devices. Each request waits for its turn at the controller's device. Turns at a
+   device are in the order in which requests came. None of this is proved. */
 #define _GNU_SOURCE
 #include "launcher.h"
 #include <errno.h>
 #include <fcntl.h>
+#include <limits.h>
+#include <signal.h>
 #include <stdatomic.h>
 #include <stdio.h>
 #include <stdlib.h>
 #include <string.h>
-#include <sys/socket.h>
 #include <unistd.h>
 
 int trace = -1;
@@ -44,8 +44,14 @@ void end_turn(struct device *device) {
 
 /* Marks a device as lost, and reports this. A device that doesn't even start reports the reason itself. */
 void lose_device(struct device *device) {
-    if (!atomic_exchange(&device->is_lost, 1) && device->count > 0)
-        fputs("nvme-model: the device ended, or answered what was not asked\n", stderr);
+    char path[PATH_MAX];
+    if (atomic_exchange(&device->is_lost, 1) || device->count == 0)
+        return;
+    fputs("nvme-model: the device ended, or answered what was not asked\n", stderr);
+    for (unsigned controller = device->first; controller < device->first + device->count; controller++) {
+        snprintf(path, sizeof path, "%s/lost/%u", folder, controller);
+        close(make_new(path, 0444));
+    }
 }
 
 /* Sends a request and receives its answer, which has at most as many bytes of data as were asked for, and none if data
@@ -66,7 +72,7 @@ int exchange(struct device *device, const struct request_header *header, void *d
 }
 
 /* Executes a request. A controller's number among all controllers is replaced by that among those of its device. */
-static int carry_out(struct request_header *header, void *data, struct answer_header *answer) {
+int carry_out(struct request_header *header, void *data, struct answer_header *answer) {
     unsigned controller = le16toh(header->controller), kind = le16toh(header->kind);
     struct device *device = devices;
     int result = 0;
@@ -88,56 +94,42 @@ static int carry_out(struct request_header *header, void *data, struct answer_he
     return result;
 }
 
-static void *serve_client(void *given) {
-    int client = (int)(intptr_t)given;
-    struct request_header header;
-    struct answer_header answer;
-    unsigned char *data = NULL;
-    while (move_all(client, &header, sizeof header, 0) == 0 && le32toh(header.length) <= MOST_DATA) {
-        free(data);
-        data = malloc(le32toh(header.length) + 1);
-        if (!data || move_all(client, data, data_sent(&header), 0) < 0 || carry_out(&header, data, &answer) < 0 ||
-            move_all(client, &answer, sizeof answer, 1) < 0 || move_all(client, data, le32toh(answer.length), 1) < 0)
-            break;
-    }
-    free(data);
-    close(client);
-    return NULL;
-}
-
-/* Accepts clients. If there is no room for another client, the next one waits a little. */
-static void *serve_clients(void *unused) {
-    (void)unused;
-    for (;;) {
-        pthread_t thread;
-        int client = accept4(listener, NULL, NULL, SOCK_CLOEXEC);
-        if (client < 0)
-            usleep(10000);
-        else if (pthread_create(&thread, NULL, serve_client, (void *)(intptr_t)client) == 0)
-            pthread_detach(thread);
-        else
-            close(client);
-    }
-    return NULL;
-}
-
+/* (a call that waits for its turn at a device occupies one thread) */
 void start_serving(void) {
     pthread_t thread;
-    if (pthread_create(&thread, NULL, serve_clients, NULL) != 0 ||
-        (watcher >= 0 && pthread_create(&thread, NULL, repair_files, NULL) != 0))
+    int result = watcher < 0 ? 0 : pthread_create(&thread, NULL, repair_files, NULL);
+    for (int threads = 0; threads < ANSWERING; threads++)
+        result |= pthread_create(&thread, NULL, answer_calls, NULL);
+    if (result != 0)
         fail("no thread can be started");
 }
 
+/* Ends the launcher because a device can't start, with the reason that the device told, and the file that has it. */
+__attribute__((noreturn)) static void fail_by_device(struct device *device, const char *name) {
+    static const char program[] = "nvme-device: ", subject[] = "subsystem: ";
+    char text[2048], *line = text;
+    size_t length = 0;
+    ssize_t count;
+    kill(device->process, SIGKILL);
+    fcntl(device->said, F_SETFL, 0);
+    while ((count = read(device->said, text + length, sizeof text - 1 - length)) > 0)
+        length += (size_t)count;
+    text[length > 0 ? length - 1 : 0] = '\0';
+    line = strrchr(text, '\n') ? strrchr(text, '\n') + 1 : text;
+    line += strncmp(line, program, strlen(program)) == 0 ? strlen(program) : 0;
+    if (name && strncmp(line, subject, strlen(subject)) == 0)
+        fail("%s: %s", name, line + strlen(subject));
+    fail("%s", *line ? line : "the device ended before it answered");
+}
+
 /* Asks a new device for the list of controller 0, whose answer also says how many controllers there are. */
-void greet_device(struct device *device) {
+void greet_device(struct device *device, const char *name) {
     struct request_header header = {.kind = htole16(KIND_LIST)};
     struct answer_header answer;
-    if (device->said >= 0 && fcntl(device->said, F_SETFL, O_NONBLOCK) < 0)
+    if (fcntl(device->said, F_SETFL, O_NONBLOCK) < 0)
         fail_by_errno("fcntl");
-    int result = exchange(device, &header, NULL, &answer);
-    copy_said(device);
-    if (result < 0)
-        fail("the device ended before it answered");
+    if (exchange(device, &header, NULL, &answer) < 0)
+        fail_by_device(device, name);
     device->count = le32toh(answer.dword_0);
     if (device->count == 0 || device->first + device->count > MOST_CONTROLLERS)
         fail("the device does not answer as it should");
@@ -160,7 +152,7 @@ void copy_said(struct device *device) {
     char *text = kept[device - devices], *end;
     size_t *length = &lengths[device - devices];
     ssize_t count;
-    while (device->said >= 0 && (count = read(device->said, text + *length, sizeof kept[0] - 1 - *length)) > 0) {
+    while ((count = read(device->said, text + *length, sizeof kept[0] - 1 - *length)) > 0) {
         *length += (size_t)count;
         text[*length] = '\0';
         while ((end = memchr(text, '\n', *length)) || (*length == sizeof kept[0] - 1 && (end = text + *length - 1))) {

@@ -49,7 +49,7 @@ static const char *const shown[] = {"/sys/devices/system",     "/sys/fs/cgroup",
                                     "/sys/devices/virtual/dmi"};
 /* What root may do in the sandbox: all that files need, and to become another user. */
 static const char *const rights[] = {"CAP_CHOWN",  "CAP_DAC_OVERRIDE", "CAP_FOWNER", "CAP_FSETID",     "CAP_KILL",
-                                     "CAP_SETGID", "CAP_SETUID",       "CAP_SYS_CHROOT", "CAP_AUDIT_WRITE"};
+                                     "CAP_SETGID", "CAP_SETUID",       "CAP_SYS_CHROOT", "CAP_SYS_PTRACE", "CAP_AUDIT_WRITE"};
 
 static int begins(const char *text, const char *beginning) { return strncmp(text, beginning, strlen(beginning)) == 0; }
 

@@ -1,5 +1,5 @@
-/* The other part of the check: many processes at once, clients of the launcher that misbehave, processes that are
-   killed, nodes and their descriptors, and a device that is gone. */
+/* The other part of the check: many processes at once, calls that can't be carried out, processes that are killed,
+   nodes and their descriptors, and a device that is gone. */
 #define _GNU_SOURCE
 #include "check.h"
 #include "wire.h"
@@ -14,9 +14,8 @@
 #include <stdlib.h>
 #include <string.h>
 #include <sys/ioctl.h>
-#include <sys/socket.h>
 #include <sys/stat.h>
-#include <sys/un.h>
+#include <sys/time.h>
 #include <sys/wait.h>
 #include <time.h>
 #include <unistd.h>
@@ -94,60 +93,12 @@ void try_many(void) {
     }
 }
 
-/* ---- clients of the launcher that misbehave */
+/* ---- calls that can't be carried out, and those that a signal interrupts */
 
 static double seconds(void) {
     struct timespec now;
     clock_gettime(CLOCK_MONOTONIC, &now);
     return (double)now.tv_sec + (double)now.tv_nsec / 1e9;
-}
-
-/* Checks that other clients are answered within a second, and that no namespace was created. */
-static void others_go_on(const char *beside) {
-    double begun = seconds();
-    done(0, identify(0x10, 0), 0);
-    is_list(2, (uint32_t[]){1, 3});
-    must(seconds() - begun < 1, "a command beside %s takes less than a second", beside);
-}
-
-static int connect_to_launcher(void) {
-    struct sockaddr_un address = {.sun_family = AF_UNIX, .sun_path = MODEL_FOLDER "/socket"};
-    int file = socket(AF_UNIX, SOCK_STREAM | SOCK_CLOEXEC, 0);
-    return connect(file, (struct sockaddr *)&address, sizeof address) == 0 ? file : -1;
-}
-
-/* Sends the first bytes of a request that creates a namespace, and has a page of data. */
-static int ask_partly(size_t bytes) {
-    struct {
-        struct request_header header;
-        unsigned char data[PAGE];
-    } request = {.header = {.length = htole32(PAGE), .entry = {MANAGEMENT}}};
-    int file = connect_to_launcher();
-    create(18, 18, 0, 0, 0);
-    memcpy(request.data, common, PAGE);
-    ssize_t sent = send(file, &request, bytes, MSG_NOSIGNAL);
-    must(sent == (ssize_t)bytes, "%zu bytes of a request are sent", bytes);
-    return file;
-}
-
-static int ask(uint16_t controller, uint16_t kind, uint32_t length, uint8_t opcode) {
-    struct request_header header = {
-        .controller = htole16(controller), .kind = htole16(kind), .length = htole32(length), .entry = {opcode}};
-    header.entry[40] = 1;
-    int file = connect_to_launcher();
-    must(file >= 0 && send(file, &header, sizeof header, MSG_NOSIGNAL) == sizeof header, "a request is sent");
-    return file;
-}
-
-/* Receives an answer, and returns its outcome, or -1 if there is none. */
-static int hear(int file, uint32_t length) {
-    struct answer_header answer;
-    static unsigned char data[MOST_DATA];
-    if (recv(file, &answer, sizeof answer, MSG_WAITALL) != sizeof answer)
-        return -1;
-    must(le32toh(answer.length) == length, "an answer has %u bytes, not %u", length, le32toh(answer.length));
-    must(length == 0 || recv(file, data, length, MSG_WAITALL) == (ssize_t)length, "its %u bytes are there", length);
-    return le16toh(answer.outcome);
 }
 
 /* Returns the process of the device, which is the launcher's other child. */
@@ -175,58 +126,79 @@ static void pause_for(unsigned milliseconds) {
     nanosleep(&moment, NULL);
 }
 
-/* Requests that are completely received while the device is busy are executed in this order. Each creates a
-   namespace. */
+/* Requests that come while the device is busy are carried out in this order. Each creates a namespace. */
 static void try_order(void) {
-    static const uint32_t wanted[] = {2, 4, 0};
-    pid_t device = device_of(getppid());
-    int files_of[3];
+    static const int wanted[] = {2, 4, 0};
+    pid_t device = device_of(getppid()), children[3];
     must(device > 0 && kill(device, SIGSTOP) == 0, "the device is stopped");
     for (unsigned at = 0; at < 3; at++) {
-        files_of[at] = ask_partly(72 + PAGE);
+        struct command made = create(18, 18, 0, 0, 0);
+        uint64_t result = 0;
+        children[at] = fork();
+        if (children[at] == 0) {
+            int status = send_command(files[0], &made, &result);
+            _exit(status == 0 ? (int)result : 0);
+        }
         pause_for(30);
     }
     kill(device, SIGCONT);
     for (unsigned at = 0; at < 3; at++) {
-        struct answer_header answer = {0};
-        must(recv(files_of[at], &answer, sizeof answer, MSG_WAITALL) == sizeof answer, "request %u is answered", at);
-        must(le32toh(answer.dword_0) == wanted[at], "request %u has its turn", at);
-        close(files_of[at]);
+        int how;
+        must(waitpid(children[at], &how, 0) == children[at] && WEXITSTATUS(how) == wanted[at], "request %u has its turn",
+             at);
     }
 }
 
+/* Addresses that aren't there are told, and nothing is carried out. */
+static void try_addresses(void) {
+    static const unsigned long requests[] = {NVME_IOCTL_ADMIN_CMD, NVME_IOCTL_ADMIN64_CMD};
+    uint64_t result = 0, range[2] = {0, 512};
+    int block = open("/dev/nvme0n3", O_RDONLY);
+    for (unsigned at = 0; at < 2; at++)
+        for (unsigned to = 0; to < 2; to++) {
+            errno = 0;
+            must(ioctl(files[0], requests[at], to ? (void *)8 : NULL) == -1 && errno == EFAULT, "a bad address is told");
+        }
+    struct command made = create(18, 18, 0, 0, 0), read = identify(1, 0);
+    made.data = read.data = (void *)8;
+    must(send_command(files[0], &made, &result) == -1 && errno == EFAULT, "so is that of data that is sent");
+    must(send_command(files[0], &read, &result) == -1 && errno == EFAULT, "and of data that is received");
+    must(ioctl(block, BLKGETSIZE64, 8) == -1 && errno == EFAULT, "and of a number");
+    must(ioctl(block, BLKDISCARD, range) == -1 && errno == EBADF, "a file for reading isn't discarded");
+    must(ioctl(-1, NVME_IOCTL_ID) == -1 && errno == EBADF, "a file that isn't open is told");
+    done(0, identify(0x10, 0), 0);
+    is_list(2, (uint32_t[]){1, 3});
+    close(block);
+}
+
+static volatile unsigned interruptions;
+static void interrupt(int number) { interruptions += number != 0; }
+
+/* A call that a signal interrupts is carried out once. */
+static void try_signals(int flags) {
+    struct sigaction action = {.sa_handler = interrupt, .sa_flags = flags}, before;
+    struct itimerval often = {{0, 300}, {0, 300}}, never = {{0, 0}, {0, 0}};
+    unsigned bad = 0;
+    sigaction(SIGALRM, &action, &before);
+    interruptions = 0;
+    setitimer(ITIMER_REAL, &often, NULL);
+    for (unsigned round = 0; round < 200; round++) {
+        uint64_t result = 0;
+        struct command made = create(18, 18, 0, 0, 0);
+        bad += send_command(files[0], &made, &result) != 0 || result != 2;
+        struct command gone = delete(2);
+        bad += send_command(files[0], &gone, &result) != 0;
+    }
+    setitimer(ITIMER_REAL, &never, NULL);
+    sigaction(SIGALRM, &before, NULL);
+    must(interruptions > 20, "%u signals came", interruptions);
+    must(bad == 0, "%u calls that signals interrupted were not carried out once", bad);
+}
+
 void try_broken(void) {
-    int files_of[8], count = 0;
-    others_go_on("nothing");
-    files_of[count++] = ask_partly(1);
-    files_of[count++] = ask_partly(71);
-    files_of[count++] = ask_partly(72);
-    files_of[count++] = ask_partly(72 + PAGE - 1);
-    others_go_on("half a request");
-    for (size_t bytes = 8; bytes < 72 + PAGE; bytes += 1000)
-        close(ask_partly(bytes));
-    others_go_on("half a request of a client that is gone");
-    files_of[count++] = ask(0, KIND_ENTRY, MOST_DATA, IDENTIFY);
-    files_of[count++] = ask(0, KIND_ENTRY, MOST_DATA, IDENTIFY);
-    others_go_on("clients that don't read");
-    must(hear(files_of[count - 1], MOST_DATA) == ANSWERED, "an answer waits until it is read");
-    close(ask(0, KIND_ENTRY, MOST_DATA, IDENTIFY));
-    others_go_on("a client that doesn't await its answer");
-    int file = ask(0, KIND_ENTRY, MOST_DATA + 1, IDENTIFY);
-    must(hear(file, 0) == -1, "a request that is too long has no answer");
-    close(file);
-    while (count > 0)
-        close(files_of[--count]);
-    others_go_on("closed connections");
-    file = ask(0, KIND_LIST, 4096, 0);
-    must(hear(file, 4096) == ANSWERED, "a list is answered");
-    close(file);
-    file = ask(0, 3, 0, 0);
-    must(hear(file, 0) == NO_KIND, "an unknown kind is told");
-    close(file);
-    file = ask(2, KIND_RESET, 0, 0);
-    must(hear(file, 0) == NO_CONTROLLER, "an unknown controller is told");
-    close(file);
+    try_addresses();
+    try_signals(0);
+    try_signals(SA_RESTART);
     try_order();
     done(0, identify(0x10, 0), 0);
     is_list(4, (uint32_t[]){1, 2, 3, 4});
@@ -329,7 +301,6 @@ static void try_requests(void) {
     must(ioctl(files[0], NVME_IOCTL_RESCAN) == 0, "a controller is scanned");
     must(ioctl(files[0], FIONREAD, &size) == -1 && errno == ENOTTY, "other requests aren't known");
     must(!answers(other, '0') && errno == ENOTTY, "no command goes to another device");
-    must(ioctl(-1, NVME_IOCTL_ID) == -1 && errno == ENOTTY, "no command comes to the kernel");
     close(file);
     close(other);
     close(generic);

@@ -13,8 +13,8 @@ import sys
 from tests.support import DEMO, TOP, Case, process_folder, program, run, until
 
 CLIENT = TOP / 'client'
-PARTS = {'bin/nvme-model': ('launcher', 'relay', 'nodes', 'sysfs', 'sandbox'),
-         'lib/nvme-model/library.so': ('library', 'node', 'device', 'exec')}
+PARTS = {'bin/nvme-model': ('launcher', 'relay', 'nodes', 'sysfs', 'sandbox', 'calls', 'io'),
+         'lib/nvme-model/library.so': ('library', 'node', 'exec')}
 WARNINGS = '-Wall', '-Wextra', '-Werror'
 
 # Programs that need not be installed. A test that calls one is skipped if it isn't.

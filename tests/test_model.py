@@ -49,6 +49,18 @@ class Ioctls(ModelCase):
                 for word in b'Sanitizer', b'runtime error', b'check: ':
                     self.assertNotIn(word, ended.err, ended)
 
+    def test_before_linux_5_19(self):
+        # the kernel then has a call that a signal interrupted made again, after it was carried out
+        place = self.folder / 'installed'
+        shutil.copytree(installed().parents[1], place)
+        compiled_c(place / 'bin/nvme-model', PARTS['bin/nvme-model'], '-pthread',
+                   '-DSECCOMP_FILTER_FLAG_WAIT_KILLABLE_RECV=0')
+        check = compiled_c(self.folder / 'check', CHECK, '-pthread')
+        for part in 'broken', 'killed':
+            with self.subTest(part):
+                ended = run(place / 'bin/nvme-model', '--subsystem', self.subsystem, check, part, limit=300)
+                self.ends(ended, 0, b'', b'')
+
     def test_device_is_killed_in_a_call(self):
         # each of several calls that wait for an answer gets one, and later calls fail at once
         check = compiled_c(self.folder / 'check', CHECK, '-pthread')
@@ -78,11 +90,14 @@ class Arguments(ModelCase):
             self.assertRegex(ended.err, b'^nvme-model: standard ' + name + b' is a (device of this machine|folder)\n$')
 
     def test_refused_by_the_device(self):
-        for options in ('--depth 1', '--depth x', '--page-size 5000', '--subsystem /none', '--pace 0'):
+        bad = self.file('bad.toml', b'x = 1\n')
+        for options, said in (('--depth 1', 'geometry: depth'), ('--depth x', 'arguments'), ('--pace 0', 'geometry: pace'),
+                              ('--page-size 5000', 'geometry: page_size'), ('--subsystem /none', '/none: No such file'),
+                              (f'--subsystem {bad}', f'{bad}: missing top.version')):
             with self.subTest(options):
                 ended = self.model('touch', self.folder / 'touched', options=options.split())
-                self.says(ended, 72, 'nvme-model: /none: No such file' if '/none' in options else
-                          'nvme-model: the device ended before it answered')
+                self.ends(ended, 72, b'')
+                self.assertRegex(ended.err.decode(), f'^nvme-model: {said}.*\n$')
                 self.assertFalse((self.folder / 'touched').exists())
         for device in '/bin/false', '/none':
             launcher = self.folder / device.strip('/') / 'bin/nvme-model'

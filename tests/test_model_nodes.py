@@ -65,6 +65,45 @@ print(*sorted(names))
 """
 
 
+# Sends I/O commands, and prints for each its status or the name of its error. (A block has 512 bytes.)
+SENT = '''
+import fcntl, struct
+def sent(opcode, first=0, count=1, data=b"", path="/dev/nvme0n1", nsid=1, request=0xc0484e43, flags=0, cdw11=0):
+    room = ctypes.create_string_buffer(data, max(len(data), 1))
+    fields = [opcode, flags, 0, nsid, 0, 0, 0, ctypes.addressof(room), 0, len(data), first, cdw11, count - 1, 0, 0, 0, 0, 0]
+    if request == 0xc0504e48:
+        fields += [0]
+    command = bytearray(struct.pack("<BBHIIIQQIIIIIIIIII" + "Q" * (len(fields) - 18), *fields))
+    if request == 0x40304e42:
+        command = bytearray(struct.pack("<BBHHHQQQIIHH", opcode, flags, 0, count - 1, 0, 0, fields[7], first, 0, 0, 0, 0))
+    file = os.open(path, os.O_RDONLY)
+    try:
+        said = f"{fcntl.ioctl(file, request, command):x}"
+    except OSError as error:
+        said = errno.errorcode[error.errno]
+    os.close(file)
+    print(said, room.raw[:3].decode() if opcode == 2 and said == "0" and data else "", end=";")
+    return room.raw
+'''
+IO = SENT + '''
+block, zeros = b"abc" + bytes(509), bytes(512)
+sent(1, 5, data=block); sent(2, 5, data=zeros); sent(2, 5, data=zeros, path="/dev/ng0n1")
+sent(2, 5, data=zeros, request=0xc0504e48); sent(2, 5, data=zeros, request=0x40304e42)
+assert os.pread(os.open("/dev/nvme0n1", os.O_RDONLY), 3, 5 * 512) == b"abc"
+sent(5, 5, data=block); sent(5, 6, data=block); sent(0); sent(0x0c, 2047); sent(0x0c, 2047, 2)
+sent(1, 2048, data=block); sent(1, 2047, 2, bytes(1024)); sent(1, 0, 2, data=zeros); sent(2, 0, 4096, bytes(1 << 21))
+sent(8, 5); sent(5, 5, data=zeros); sent(1, 5, data=block); sent(9, 0, data=struct.pack("<IIQ", 0, 1, 5), cdw11=4)
+sent(5, 5, data=zeros); sent(9, 0, data=struct.pack("<IIQ", 0, 2, 2047), cdw11=4); sent(9, 1, data=zeros[:16])
+sent(0x7f); sent(2, data=zeros, nsid=3); sent(2, data=zeros, flags=1); sent(2, data=zeros, path="/dev/nvme0")
+sent(9, request=0x40304e42); os.system("nvme detach-ns /dev/nvme0 -n 1 -c 0 > /dev/null")
+'''
+IO_ANSWERS = (b'0 ;0 abc;0 abc;0 abc;0 abc;0 ;4285 ;0 ;0 ;4080 ;4080 ;4080 ;4002 ;4002 ;0 ;0 ;0 ;0 ;0 ;4080 ;4002 ;4001 ;EINVAL ;'
+              b'EINVAL ;ENOTTY ;EINVAL ;')
+IO_TO_THE_LIMIT = SENT + '''
+for first in 0, 512, 1024:
+    sent(1, first, 512, bytes(range(256)) * 1024)
+'''
+
 class Nodes(ModelCase):
     def test_listed(self):
         nodes = b'ng0n1\nng0n3\nnvme0\nnvme0n1\nnvme0n3\nnvme1\n'
@@ -191,12 +230,21 @@ class Data(ModelCase):
             with self.subTest(length):
                 self.ends(self.model('sh', '-c', script, cuts, str(length)), 0,
                           b'0\n' + first + b'\n4608\nregular file 4608\n', b'')
-        # the ioctl of a static program reaches a file
+        # the ioctls of a static program are answered too
         asks = static_program('#include <fcntl.h>\n#include <stdio.h>\n#include <sys/ioctl.h>\n'
-                              'int main(int n, char **a) '
-                              '{ int f = open(a[n - 1], O_RDWR); ioctl(f, 0x4e40); perror("ioctl"); return 0; }\n')
-        self.ends(self.model(asks, '/dev/nvme0n1'), 0, b'', b'ioctl: Inappropriate ioctl for device\n')
-        self.ends(self.model(asks, '/dev/nvme0'), 0, b'', b'ioctl: Inappropriate ioctl for device\n')
+                              'int main(int n, char **a) { int f = open(a[n - 1], O_RDWR); long long size = 0; '
+                              'int id = ioctl(f, 0x4e40), told = ioctl(f, 0x80081272, &size); '
+                              'printf("%d %d %lld\\n", id, told, size); '
+                              'return 0; }\n')
+        self.ends(self.model(asks, '/dev/nvme0n3'), 0, b'3 0 4608\n', b'')
+        self.ends(self.model(asks, '/dev/nvme0'), 0, b'-1 -1 0\n', b'')
+        self.ends(self.model('env', '-i', asks, '/dev/nvme0n3'), 0, b'3 0 4608\n', b'')
+        self.ends(self.shell('strace -o /dev/null -f "$1" /dev/nvme0n3', asks), 0, b'3 0 4608\n', b'')
+
+    def test_io_commands(self):
+        self.ends(self.python(IO), 0, IO_ANSWERS, b'')
+        ended = self.python(IO_TO_THE_LIMIT, options=['--data-limit=512K'])
+        self.ends(ended, 0, b'0 ;4081 ;4081 ;', b'')
 
     def test_limit(self):
         big = 'nvme create-ns /dev/nvme0 -s 8192 -c 8192 -f 0 && nvme attach-ns /dev/nvme0 -n 2 -c 0 && '

@@ -1,0 +1,135 @@
+/* I/O commands by ioctl, over the data of a namespace, with the statuses of a drive. No controller is asked, and no proof
+   speaks about them. */
+#define _GNU_SOURCE
+#include "calls.h"
+#include <errno.h>
+#include <fcntl.h>
+#include <linux/nvme_ioctl.h>
+#include <stdlib.h>
+#include <string.h>
+#include <sys/ioctl.h>
+#include <unistd.h>
+
+enum { FLUSH = 0x00, WRITE = 0x01, READ = 0x02, COMPARE = 0x05, WRITE_ZEROES = 0x08, DATASET = 0x09, VERIFY = 0x0c };
+
+/* Statuses, with the bit Do Not Retry. */
+enum {
+    DONE = 0,
+    INVALID_OPCODE = 0x4001,
+    INVALID_FIELD = 0x4002,
+    INVALID_NAMESPACE = 0x400b,
+    OUT_OF_RANGE = 0x4080,
+    NO_CAPACITY = 0x4081,
+    DIFFERS = 0x4285
+};
+
+/* What a dataset management command deallocates: up to 256 ranges of 16 bytes. */
+enum { RANGE_BYTES = 16, MOST_RANGES = 256, DEALLOCATES = 4 };
+
+static int is_within(const struct node *node, uint64_t first, uint64_t count) {
+    return first <= node->blocks && count <= node->blocks - first;
+}
+
+static int clear(const struct node *node, int file, uint64_t first, uint64_t count) {
+    int how = FALLOC_FL_PUNCH_HOLE | FALLOC_FL_KEEP_SIZE;
+    if (!is_within(node, first, count))
+        return OUT_OF_RANGE;
+    return count == 0 || fallocate(file, how, (off_t)(first << node->power), (off_t)(count << node->power)) == 0
+               ? DONE
+               : -errno;
+}
+
+/* Deallocates ranges of blocks, all or none. */
+static int deallocate(const struct call *call, int file, const struct nvme_passthru_cmd *given) {
+    unsigned char ranges[MOST_RANGES * RANGE_BYTES];
+    uint32_t count = (given->cdw10 & 0xff) + 1;
+    int status = DONE;
+    if (given->data_len < count * RANGE_BYTES)
+        return INVALID_FIELD;
+    if (copy_in(call, given->addr, ranges, count * RANGE_BYTES) < 0)
+        return -EFAULT;
+    for (uint32_t at = 0; at < count; at++)
+        if (!is_within(&call->node, number_at(ranges + RANGE_BYTES * at + 8, 8), number_at(ranges + RANGE_BYTES * at + 4, 4)))
+            return OUT_OF_RANGE;
+    for (uint32_t at = 0; at < count && status == DONE && given->cdw11 & DEALLOCATES; at++)
+        status = clear(&call->node, file, number_at(ranges + RANGE_BYTES * at + 8, 8),
+                       number_at(ranges + RANGE_BYTES * at + 4, 4));
+    return status;
+}
+
+/* Reads, writes or compares blocks. */
+static int transfer(const struct call *call, int file, const struct nvme_passthru_cmd *given, uint64_t first, size_t size) {
+    unsigned char *data = malloc(2 * size);
+    off_t at = (off_t)(first << call->node.power);
+    int status = data ? DONE : -ENOMEM;
+    if (status == DONE && given->opcode != READ && copy_in(call, given->addr, data, size) < 0)
+        status = -EFAULT;
+    if (status == DONE && given->opcode == WRITE && pwrite(file, data, size, at) != (ssize_t)size)
+        status = NO_CAPACITY;
+    if (status == DONE && given->opcode != WRITE && pread(file, data + size, size, at) != (ssize_t)size)
+        status = INVALID_NAMESPACE;
+    if (status == DONE && given->opcode == COMPARE && memcmp(data, data + size, size) != 0)
+        status = DIFFERS;
+    if (status == DONE && given->opcode == READ && copy_out(call, given->addr, data + size, size) < 0)
+        status = -EFAULT;
+    free(data);
+    return status;
+}
+
+static int carry_out_io(const struct call *call, int file, const struct nvme_passthru_cmd *given) {
+    uint64_t first = (uint64_t)given->cdw11 << 32 | given->cdw10, count = (given->cdw12 & 0xffff) + 1;
+    uint64_t size = count << call->node.power;
+    switch (given->opcode) {
+    case FLUSH:
+        return DONE;
+    case DATASET:
+        return deallocate(call, file, given);
+    case WRITE_ZEROES:
+        return clear(&call->node, file, first, count);
+    case VERIFY:
+        return is_within(&call->node, first, count) ? DONE : OUT_OF_RANGE;
+    case READ:
+    case WRITE:
+    case COMPARE:
+        if (size > MOST_DATA || given->data_len < size)
+            return INVALID_FIELD;
+        return is_within(&call->node, first, count) ? transfer(call, file, given, first, size) : OUT_OF_RANGE;
+    default:
+        return INVALID_OPCODE;
+    }
+}
+
+/* (the older form, for one kind of command, becomes the newer one) */
+static int read_user_io(const struct call *call, struct nvme_passthru_cmd *given) {
+    struct nvme_user_io io;
+    if (copy_in(call, call->argument, &io, sizeof io) < 0)
+        return -EFAULT;
+    if (io.flags || (io.opcode != READ && io.opcode != WRITE && io.opcode != COMPARE))
+        return -EINVAL;
+    *given = (struct nvme_passthru_cmd){.opcode = io.opcode,
+                                        .nsid = call->node.nsid,
+                                        .addr = io.addr,
+                                        .data_len = (io.nblocks + 1u) << call->node.power,
+                                        .cdw10 = (uint32_t)io.slba,
+                                        .cdw11 = (uint32_t)(io.slba >> 32),
+                                        .cdw12 = io.nblocks};
+    return 0;
+}
+
+int io(struct call *call) {
+    struct nvme_passthru_cmd given;
+    int is_wide = call->request == NVME_IOCTL_IO64_CMD, is_user_io = call->request == NVME_IOCTL_SUBMIT_IO;
+    size_t place = is_wide ? offsetof(struct nvme_passthru_cmd64, result) : offsetof(struct nvme_passthru_cmd, result);
+    uint64_t none = 0;
+    int file = open_data(&call->node);
+    int status = is_user_io ? read_user_io(call, &given) : copy_in(call, call->argument, &given, sizeof given);
+    if (status == 0 && (given.flags || given.nsid != call->node.nsid))
+        status = -EINVAL;
+    if (status == 0)
+        status = file < 0 ? INVALID_NAMESPACE : carry_out_io(call, file, &given);
+    if (file >= 0)
+        close(file);
+    if (status >= 0 && !is_user_io && copy_out(call, call->argument + place, &none, is_wide ? 8 : 4) < 0)
+        return -EFAULT;
+    return status;
+}
