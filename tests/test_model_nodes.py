@@ -243,8 +243,8 @@ class Data(ModelCase):
 
     def test_io_commands(self):
         self.ends(self.python(IO), 0, IO_ANSWERS, b'')
-        ended = self.python(IO_TO_THE_LIMIT, options=['--data-limit=512K'])
-        self.ends(ended, 0, b'0 ;4081 ;4081 ;', b'')
+        ended = self.python(IO_TO_THE_LIMIT, options=['--data-limit=600K'])
+        self.ends(ended, 0, b'0 ;0 ;4081 ;', b'')
 
     def test_limit(self):
         big = 'nvme create-ns /dev/nvme0 -s 8192 -c 8192 -f 0 && nvme attach-ns /dev/nvme0 -n 2 -c 0 && '
