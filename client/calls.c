@@ -148,7 +148,7 @@ static int admin(const struct call *call) {
     uint32_t dword_0 = 0;
     if (copy_in(call, call->argument, &given, sizeof given) < 0)
         return -EFAULT;
-    if (given.data_len > MOST_DATA)
+    if (given.flags || given.data_len > MOST_DATA)
         return -EINVAL;
     void *data = malloc(given.data_len + 1);
     int status = data ? pass_through(call, &given, data, &dword_0) : -ENOMEM;

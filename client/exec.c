@@ -42,10 +42,11 @@ static void keep(char *const from[], char *kept[], char *preload) {
 
 #define KEEP(kept, from) \
     char *kept[count_of(from) + 2], preload[sizeof PRELOAD + PATH_MAX + 1 + strlen(value_of(from))]; \
+    kept[count_of(from)] = NULL; \
     if (folder[0]) \
         keep(from, kept, preload); \
-    else \
-        memcpy(kept, from, (count_of(from) + 1) * sizeof *kept)
+    else if (from) \
+        memcpy(kept, from, count_of(from) * sizeof *kept)
 
 PUBLIC int execve(const char *path, char *const arguments[], char *const environment[]) {
     KEEP(kept, environment);

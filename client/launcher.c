@@ -290,19 +290,26 @@ static void make_folder(const char *reason) {
     place_library();
 }
 
+/* Puts a value before that of a variable of the environment. */
+static void prepend(const char *name, const char *value) {
+    const char *before = getenv(name);
+    char *whole;
+    if (asprintf(&whole, "%s%s%s", value, before ? ":" : "", before ? before : "") < 0 || setenv(name, whole, 1) < 0) {
+        fputs("nvme-model: out of memory\n", stderr);
+        _exit(FAILED);
+    }
+    free(whole);
+}
+
 static void start_command(char **arguments) {
-    const char *before = getenv("LD_PRELOAD");
-    char *preloaded;
     command = fork();
     if (command < 0)
         fail_by_errno("fork");
     if (command > 0)
         return;
-    if (asprintf(&preloaded, "%s%s%s", library, before ? ":" : "", before ? before : "") < 0 ||
-        setenv("LD_PRELOAD", preloaded, 1) < 0) {
-        fputs("nvme-model: out of memory\n", stderr);
-        _exit(FAILED);
-    }
+    prepend("LD_PRELOAD", library);
+    /* (the address sanitizer wants to be the first library) */
+    prepend("ASAN_OPTIONS", "verify_asan_link_order=0");
     for (int file = 0; file <= STDERR_FILENO; file++)
         if (closed_streams >> file & 1)
             fcntl(file, F_SETFD, FD_CLOEXEC);

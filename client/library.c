@@ -83,6 +83,16 @@ PUBLIC FILE *fopen(const char *given, const char *mode) {
 }
 SAME(fopen64, fopen);
 
+PUBLIC FILE *freopen(const char *given, const char *mode, FILE *stream) {
+    char room[PATH_MAX];
+    const char *path = find(AT_FDCWD, given, room);
+    struct stat about;
+    struct node node;
+    int is_node_written = path && *mode == 'w' && folder[0] && find_node(AT_FDCWD, path, 0, &about, &node) > 0;
+    return NEXT(freopen)(path, is_node_written ? "r+" : mode, stream);
+}
+SAME(freopen64, freopen);
+
 /* ---- calls that describe a file */
 
 static unsigned major_of(const struct node *node) {

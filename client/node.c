@@ -81,11 +81,10 @@ int is_block_node(int file, struct stat *about) {
 }
 
 int find_node(int directory, const char *path, int flags, struct stat *about, struct node *node) {
-    int result =
-        flags & AT_EMPTY_PATH && !*path ? NEXT(fstat)(directory, about) : NEXT(fstatat)(directory, path, about, flags);
+    int is_open = flags & AT_EMPTY_PATH && (!path || !*path);
+    int result = is_open ? NEXT(fstat)(directory, about) : NEXT(fstatat)(directory, path, about, flags);
     if (result < 0 || !S_ISREG(about->st_mode) || !is_on_nodes(about))
         return result;
-    int is_open = flags & AT_EMPTY_PATH && !*path;
     int file = is_open
                    ? directory
                    : NEXT(openat)(directory, path, O_PATH | O_CLOEXEC | (flags & AT_SYMLINK_NOFOLLOW ? O_NOFOLLOW : 0));

@@ -364,8 +364,6 @@ static void try_others(void) {
         if (!memchr(known, (int)opcode, sizeof known))
             refused(0, (struct command){(uint8_t)opcode, 1, 0, 0, 0, 0, 0, NULL}, INVALID_OPCODE);
     is_booked(0, 0);
-    refused(0, (struct command){IDENTIFY, 0, 1, PAGE, 0, 0, 1, NULL}, INVALID_FIELD);
-    refused(0, (struct command){IDENTIFY, 0, 1, PAGE, 0, 0, 0x40, NULL}, INVALID_FIELD);
     refused(0, (struct command){MANAGEMENT, 1, 2, 0, 0, 0, 0, NULL}, INVALID_FIELD);
     refused(0, (struct command){ATTACHMENT, 1, 2, 0, 0, 0, 0, NULL}, INVALID_FIELD);
     is_booked(0, 0);

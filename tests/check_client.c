@@ -163,6 +163,11 @@ static void try_addresses(void) {
     made.data = read.data = (void *)8;
     must(send_command(files[0], &made, &result) == -1 && errno == EFAULT, "so is that of data that is sent");
     must(send_command(files[0], &read, &result) == -1 && errno == EFAULT, "and of data that is received");
+    for (unsigned flags = 1; flags < 256; flags <<= 1) {
+        struct command fused = identify(1, 0);
+        fused.flags = (uint8_t)flags;
+        must(send_command(files[0], &fused, &result) == -1 && errno == EINVAL, "flags that aren't 0 are refused");
+    }
     must(ioctl(block, BLKGETSIZE64, 8) == -1 && errno == EFAULT, "and of a number");
     must(ioctl(block, BLKDISCARD, range) == -1 && errno == EBADF, "a file for reading isn't discarded");
     must(ioctl(-1, NVME_IOCTL_ID) == -1 && errno == EBADF, "a file that isn't open is told");

@@ -312,6 +312,32 @@ class Library(ModelCase):
         self.ends(self.model(program), 0, b'', b'')
         self.ends(self.shell('unset LD_PRELOAD; exec env -i "$1"', program), 0, b'', b'')
 
+    def test_other_calls(self):
+        # descriptors without a path, a stream that is opened anew, no environment, and the address sanitizer
+        text = ('''#define _GNU_SOURCE
+#include <fcntl.h>
+#include <stdio.h>
+#include <sys/stat.h>
+#include <unistd.h>
+int main(int count, char **words) {
+    struct stat about;
+    struct statx more;
+    char text[5] = "", *no = count > 9 ? words[9] : NULL, *test[] = {"/usr/bin/test", "-b", "/dev/nvme0n3", NULL};
+    int file = open("/dev/nvme0n3", O_RDWR);
+    printf("%d ", fstatat(file, no, &about, AT_EMPTY_PATH) == 0 && S_ISBLK(about.st_mode));
+    printf("%d ", statx(file, no, AT_EMPTY_PATH, STATX_TYPE, &more) == 0 && S_ISBLK(more.stx_mode));
+    int is_done = pwrite(file, "data", 4, 100) == 4 && freopen("/dev/nvme0n3", "w", stdin) != NULL;
+    printf("%d %d %s\\n", is_done, (int)pread(file, text, 4, 100), text);
+    fflush(stdout);
+    return execve(test[0], test, (char **)no);
+}
+''').replace('\\\\n', '\\n')
+        for options in (), ('-fsanitize=address',):
+            with self.subTest(options):
+                made = self.folder / 'calls'
+                subprocess.run(['cc', '-w', *options, '-o', made, '-x', 'c', '-'], input=text.encode(), check=True)
+                self.ends(self.model(made), 0, b'1 1 1 4 data\n', b'')
+
     def test_preloaded_already(self):
         other = self.folder / 'other.so'
         subprocess.run(['cc', '-shared', '-fPIC', '-o', other, '-x', 'c', '-'], input=b'int unused;', check=True)
