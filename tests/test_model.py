@@ -251,15 +251,17 @@ class Signals(ModelCase):
 
     def test_killed_at_any_time(self):
         # nothing is left of the launcher, whenever it is killed: no process, no mount, no file
-        before = set(os.listdir('/tmp')) | set(os.listdir('/dev'))
+        def looks():
+            return [name for place in ('/tmp', '/dev') for name in sorted(os.listdir(place))
+                    if name.startswith(('nvme-model', 'nvme0', 'nvme1', '.model'))]
+        before = looks()
         for delay in range(0, 100, 4):
             running = Running(*self.command('sh', '-c', 'sleep 100 & sleep 100'))
             time.sleep(delay / 1000)
             running.process.kill()
             running.process.wait()
             self.leaves_nothing()
-        self.assertEqual({name for name in set(os.listdir('/tmp')) | set(os.listdir('/dev')) if 'nvme' in name}, {
-            name for name in before if 'nvme' in name})
+        self.assertEqual(looks(), before)
 
     def test_what_is_left_in_the_background(self):
         ended = self.shell('(sleep 0.3; echo late > "$1") & (setsid sh -c \'trap "" TERM HUP; sleep 0.3; echo late > "$1"\''
