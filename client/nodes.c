@@ -25,6 +25,9 @@ static struct volume volumes[MOST_DEVICES][MOST_NSID + 1];
 static pthread_mutex_t changing = PTHREAD_MUTEX_INITIALIZER; /* for everything that is changed here */
 int watcher = -1;
 static int rescan_watch = -1;
+/* The watches of the files by which a controller is reset and its namespaces are scanned, as of other written files. */
+enum { RESET, RESCAN };
+static int control_watches[MOST_CONTROLLERS][2];
 
 static struct volume *volume_at(const struct device *device, uint32_t nsid) { return &volumes[device - devices][nsid]; }
 
@@ -287,6 +290,16 @@ void look_for_changes(struct device *device, const struct request_header *reques
         scan(device, device->first, device->count);
 }
 
+static void make_controls(unsigned controller) {
+    static const char *const controls[] = {[RESET] = "reset_controller", [RESCAN] = "rescan_controller"};
+    char path[PATH_MAX];
+    for (int at = RESET; at <= RESCAN; at++) {
+        snprintf(path, sizeof path, "/sys/class/nvme/nvme%u/%s", controller, controls[at]);
+        close(make_new(path, 0200));
+        control_watches[controller][at] = inotify_add_watch(watcher, path, IN_CLOSE_WRITE);
+    }
+}
+
 /* Makes the files that describe the controllers, and then the nodes. */
 static void make_controllers(struct device *device) {
     unsigned char data[IDENTIFY_BYTES];
@@ -296,6 +309,8 @@ static void make_controllers(struct device *device) {
         if (at == device->first)
             put_subsystem((unsigned)(device - devices), data);
         put_controller(at, at - device->first, data);
+        if (has_sandbox)
+            make_controls(at);
         make_character_node(at, 0, 0);
     }
     scan(device, device->first, device->count);
@@ -330,6 +345,18 @@ static void repair_file(struct device *device, int watch) {
     }
 }
 
+/* Resets a controller, or scans its namespaces, if this is the watch of its file for it. */
+static void control(int watch) {
+    for (unsigned controller = 0; controller < MOST_CONTROLLERS; controller++)
+        for (int at = RESET; at <= RESCAN; at++)
+            if (control_watches[controller][at] == watch) {
+                struct request_header header = {.controller = htole16((uint16_t)controller),
+                                                .kind = htole16(at == RESET ? KIND_RESET : KIND_RESCAN)};
+                struct answer_header answer;
+                carry_out(&header, NULL, &answer);
+            }
+}
+
 /* A process that doesn't see the library can make the file of a namespace shorter or longer until it closes it. A write
    to the file that stands for the rescan of PCI causes all nodes to be scanned. */
 void *repair_files(void *unused) {
@@ -339,6 +366,7 @@ void *repair_files(void *unused) {
         for (char *at = events; at < events + length;) {
             const struct inotify_event *event = (const struct inotify_event *)at;
             at += sizeof *event + event->len;
+            control(event->wd);
             int is_rescan = event->wd == rescan_watch && resize(RESCAN_FILE, 0) == 0;
             for (struct device *device = devices; device < devices + device_count; device++) {
                 begin_turn(device);

@@ -1,8 +1,9 @@
 /* The launcher's part of /sys: the files and links that Linux has for NVMe subsystems, controllers and namespaces
-   without native multipath. Each controller has a PCI bus of its own, in a domain that the machine doesn't have. None
-   of this is proved. */
+   without native multipath, and the links of /dev/disk that udev makes. Each controller has a PCI bus of its own, in a
+   domain that the machine doesn't have. None of this is proved. */
 #define _GNU_SOURCE
 #include "launcher.h"
+#include <ctype.h>
 #include <errno.h>
 #include <limits.h>
 #include <stdarg.h>
@@ -12,8 +13,8 @@
 #include <sys/stat.h>
 #include <unistd.h>
 
-/* A file below /sys with its line, or a link, whose text begins with >. Names in braces stand for their
-   values. */
+/* A file below /sys with its line, or a link, whose text begins with >. The path of a link elsewhere begins with /. Names
+   in braces stand for their values. */
 struct row {
     const char *path, *text;
 };
@@ -29,6 +30,7 @@ static const struct row subsystem_rows[] = {{SUBSYSTEM "/subsysnqn", "{nqn}"},
                                             {SUBSYSTEM "/model", "{model}"},
                                             {SUBSYSTEM "/firmware_rev", "{firmware}"},
                                             {SUBSYSTEM "/subsystype", "nvm"},
+                                            {SUBSYSTEM "/iopolicy", "numa"},
                                             {SUBSYSTEM "/subsystem", ">../../../../class/nvme-subsystem"},
                                             {"class/nvme-subsystem/nvme-subsys{k}", ">../../" SUBSYSTEM},
                                             {0}};
@@ -48,6 +50,8 @@ static const struct row controller_rows[] = {
     {CONTROLLER "/firmware_rev", "{firmware}"},
     {CONTROLLER "/cntlid", "{cntlid}"},
     {CONTROLLER "/cntrltype", "io"},
+    {CONTROLLER "/dctype", "none"},
+    {CONTROLLER "/kato", "0"},
     {CONTROLLER "/transport", "pcie"},
     {CONTROLLER "/address", "{function}"},
     {CONTROLLER "/state", "live"},
@@ -112,6 +116,13 @@ static const struct row generic_rows[] = {{GENERIC "/dev", "{major}:{minor}"},
                                           {"dev/char/{major}:{minor}", ">../../" GENERIC},
                                           {0}};
 
+static const struct row disk_rows[] = {
+    {"/dev/disk/by-id/nvme-nvme.{vendor}-{serial_hex}-{model_hex}-{nsid_hex}", ">../../nvme{x}n{n}"},
+    {"/dev/disk/by-id/nvme-{model_name}_{serial_name}", ">../../nvme{x}n{n}"},
+    {"/dev/disk/by-id/nvme-{model_name}_{serial_name}_{n}", ">../../nvme{x}n{n}"},
+    {"/dev/disk/by-path/pci-{function}-nvme-{n}", ">../../nvme{x}n{n}"},
+    {0}};
+
 /* The folders that are there without a controller. */
 static const char *const folders[] = {"block/", "class/block/", "class/nvme/", "class/nvme-generic/",
                                       "class/nvme-subsystem/", "dev/block/", "dev/char/", "bus/pci/devices/"};
@@ -124,8 +135,10 @@ static struct {
     char text[300];
 } values[24];
 
-/* What is known about each controller: the vendor and the texts of its namespaces' identifiers. */
-static char identifiers[MOST_CONTROLLERS][2][2 * 40 + 1], vendors[MOST_CONTROLLERS][8];
+/* What is known about each controller: the vendor, and its serial number and model as hexadecimal digits and as names of
+   files. */
+enum { SERIAL, MODEL };
+static char digits[MOST_CONTROLLERS][2][2 * 40 + 1], file_names[MOST_CONTROLLERS][2][40 + 1], vendors[MOST_CONTROLLERS][8];
 
 __attribute__((format(printf, 2, 3))) static void set(const char *name, const char *format, ...) {
     unsigned at = 0;
@@ -152,7 +165,7 @@ static void expand(char *into, const char *text) {
 }
 
 static void expand_path(char into[PATH_MAX], const char *path) {
-    strcpy(into, "/sys/");
+    strcpy(into, *path == '/' ? "" : "/sys/");
     expand(into + strlen(into), path);
 }
 
@@ -188,14 +201,23 @@ static void put_rows(const struct row *row) {
         put_row(row);
 }
 
+/* Removes the rows' links in other folders, unless another row has made them. */
+static void remove_links(const struct row *row) {
+    char path[PATH_MAX], text[PATH_MAX], found[PATH_MAX];
+    for (; row->path; row++) {
+        expand_path(path, row->path);
+        expand(text, row->text ? row->text : "");
+        ssize_t length = *text == '>' ? readlink(path, found, sizeof found - 1) : -1;
+        found[length < 0 ? 0 : length] = '\0';
+        if (length >= 0 && strcmp(found, text + 1) == 0)
+            unlink(path);
+    }
+}
+
 /* Removes the rows' links in other folders, and then their folder. */
 static void remove_rows(const struct row *row, const char *folder_of) {
     char path[PATH_MAX];
-    for (; row->path; row++) {
-        expand_path(path, row->path);
-        if (row->text && *row->text == '>')
-            unlink(path);
-    }
+    remove_links(row);
     expand_path(path, folder_of);
     remove_all(path);
 }
@@ -277,6 +299,19 @@ void put_subsystem(unsigned number, const unsigned char *identity) {
     put_rows(subsystem_rows);
 }
 
+/* Keeps a text without its spaces at the end, as digits and as a part of a file's name, as udev makes it. */
+static void put_name(unsigned controller, int kind, const char *text, size_t length) {
+    char *into = file_names[controller][kind];
+    while (length > 0 && (text[length - 1] == ' ' || text[length - 1] == '\0'))
+        length--;
+    for (size_t at = 0; at < length; at++) {
+        sprintf(digits[controller][kind] + 2 * at, "%02x", (unsigned char)text[at]);
+        int is_kept = isalnum((unsigned char)text[at]) || (text[at] && strchr("#+-.:=@_", text[at]));
+        if (text[at] != ' ' || at == 0 || text[at - 1] != ' ')
+            *into++ = is_kept ? text[at] : '_';
+    }
+}
+
 void put_controller(unsigned number, unsigned place, const unsigned char *identity) {
     if (!has_sandbox)
         return;
@@ -285,11 +320,19 @@ void put_controller(unsigned number, unsigned place, const unsigned char *identi
     put_rows(controller_rows);
     put_registers(place);
     snprintf(vendors[number], sizeof vendors[number], "%04x", (unsigned)number_at(identity, 2));
-    for (unsigned at = 0; at < 40; at++) {
-        if (at < 20)
-            sprintf(identifiers[number][0] + 2 * at, "%02x", identity[4 + at]);
-        sprintf(identifiers[number][1] + 2 * at, "%02x", identity[24 + at]);
-    }
+    put_name(number, SERIAL, (const char *)identity + 4, 20);
+    put_name(number, MODEL, (const char *)identity + 24, 40);
+}
+
+/* Sets the values of a controller's name that its namespaces need, too. */
+static void set_names(unsigned controller, uint32_t nsid) {
+    set("vendor", "%s", vendors[controller]);
+    set("serial_hex", "%s", digits[controller][SERIAL]);
+    set("model_hex", "%s", digits[controller][MODEL]);
+    set("serial_name", "%s", file_names[controller][SERIAL]);
+    set("model_name", "%s", file_names[controller][MODEL]);
+    set("n", "%u", nsid);
+    set("nsid_hex", "%08x", nsid);
 }
 
 void put_namespace(unsigned controller, uint32_t nsid, const struct volume *volume) {
@@ -297,15 +340,12 @@ void put_namespace(unsigned controller, uint32_t nsid, const struct volume *volu
     if (!has_sandbox)
         return;
     set_controller(controller);
-    set("vendor", "%s", vendors[controller]);
-    set("serial_hex", "%s", identifiers[controller][0]);
-    set("model_hex", "%s", identifiers[controller][1]);
-    set("n", "%u", nsid);
-    set("nsid_hex", "%08x", nsid);
+    set_names(controller, nsid);
     set("size", "%llu", (unsigned long long)size);
     set("block", "%llu", 1ULL << volume->power);
     set_numbers(BLOCK_MAJOR, controller, nsid);
     put_rows(block_rows);
+    put_rows(disk_rows);
     set_numbers(GENERIC_MAJOR, controller, nsid);
     put_rows(generic_rows);
 }
@@ -314,8 +354,9 @@ void remove_namespace(unsigned controller, uint32_t nsid) {
     if (!has_sandbox)
         return;
     set_controller(controller);
-    set("n", "%u", nsid);
+    set_names(controller, nsid);
     set_numbers(BLOCK_MAJOR, controller, nsid);
+    remove_links(disk_rows);
     remove_rows(block_rows, BLOCK);
     set_numbers(GENERIC_MAJOR, controller, nsid);
     remove_rows(generic_rows, GENERIC);

@@ -108,15 +108,38 @@ class Nodes(ModelCase):
     def test_listed(self):
         nodes = b'ng0n1\nng0n3\nnvme0\nnvme0n1\nnvme0n3\nnvme1\n'
         for script in ('ls /dev | grep -e ^nvme -e ^ng', 'cd /dev; printf "%s\\n" n[gv]*[0-9]*',
-                       'find /dev -name "n[vg]*" | sed s,/dev/,, | sort', 'busybox ls -1 /dev | grep -e ^ng -e ^nvme',
+                       'find /dev -maxdepth 1 -name "n[vg]*" | sed s,/dev/,, | sort', 'busybox ls -1 /dev | grep -e ^ng -e ^nvme',
                        sys.executable + ' -c \'import glob; print(*sorted(glob.glob("n[gv]*[0-9]*", '
                        'root_dir="/dev")), sep="\\n")\''):
             with self.subTest(script):
                 self.ends(self.shell(script), 0, nodes, b'')
         self.ends(self.shell('find /dev -maxdepth 1 -name "nvme*" -type b | sort; '
-                             'find /dev -name "n[vg]*" -type c | sort; '
+                             'find /dev -maxdepth 1 -name "n[vg]*" -type c | sort; '
                              'find /dev -maxdepth 1 -name "n[vg]*" -type f; ls -l /dev/nvme0n1 | cut -c 1'), 0,
                   b'/dev/nvme0n1\n/dev/nvme0n3\n/dev/ng0n1\n/dev/ng0n3\n/dev/nvme0\n/dev/nvme1\nb\n', b'')
+
+    def test_controls(self):
+        ended = self.shell('echo 1 > /sys/class/nvme/nvme1/reset_controller; sleep 0.3; nvme list-ns /dev/nvme1',
+                           options=['--trace'])
+        self.ends(ended, 0, b'')
+        self.assertEqual(ended.err.count(b'\nnvme1 write CC=0x460001\n'), 2, ended)
+        self.ends(self.shell('nvme attach-ns /dev/nvme1 -n 1 -c 1 > /dev/null; ls /dev/nvme1n1 2> /dev/null; '
+                             'echo 1 > /sys/class/nvme/nvme1/rescan_controller; sleep 0.3; ls /dev/nvme1n1',
+                             options=['--no-notice']), 0, b'/dev/nvme1n1\n', b'')
+
+    def test_links(self):
+        # (the names are those that udev and Linux give such drives)
+        script = ('cd /dev/disk/by-id; for l in *; do echo $l $(readlink $l); done; cd ../by-path; '
+                  'for l in *; do echo $l $(readlink $l); done; cat /sys/block/nvme0n3/wwid; '
+                  'nvme detach-ns /dev/nvme0 -n 1 -c 0 > /dev/null; ls /dev/disk/by-id; test -b /dev/disk/by-path/*-3')
+        self.ends(self.shell(script), 0,
+                  b'nvme-Demo_Controller_S0 ../../nvme0n1\nnvme-Demo_Controller_S0_1 ../../nvme0n1\n'
+                  b'nvme-Demo_Controller_S0_3 ../../nvme0n3\n'
+                  b'nvme-nvme.0000-5330-44656d6f20436f6e74726f6c6c6572-00000001 ../../nvme0n1\n'
+                  b'nvme-nvme.0000-5330-44656d6f20436f6e74726f6c6c6572-00000003 ../../nvme0n3\n'
+                  b'pci-0001:00:00.0-nvme-1 ../../nvme0n1\npci-0001:00:00.0-nvme-3 ../../nvme0n3\n'
+                  b'nvme.0000-5330-44656d6f20436f6e74726f6c6c6572-00000003\n'
+                  b'nvme-Demo_Controller_S0_3\nnvme-nvme.0000-5330-44656d6f20436f6e74726f6c6c6572-00000003\n', b'')
 
     def test_come_and_go(self):
         script = ('inotifywait -mq -e create,delete,moved_to --format "%e %f" -o "$1" /dev & sleep 0.5; '
