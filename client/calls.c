@@ -34,6 +34,8 @@ enum { MOST_STRUCT = 512, KEPT = 16 };
 /* The two lowest bits of an opcode give the direction of its data. */
 enum { TO_DEVICE = 1, FROM_DEVICE = 2 };
 
+static uid_t user;     /* of the launcher, and its group */
+static gid_t group;
 static int calls = -1; /* where the filter's calls come from */
 static int may_repeat; /* whether a signal may have a call made again after it was carried out */
 static dev_t nodes_device;
@@ -60,6 +62,8 @@ void filter_calls(void) {
     if (stat(folder, &about) < 0 || prctl(PR_SET_NO_NEW_PRIVS, 1, 0, 0, 0) < 0)
         fail_by_errno(folder);
     nodes_device = about.st_dev;
+    user = getuid();
+    group = getgid();
     calls = (int)syscall(SYS_seccomp, SECCOMP_SET_MODE_FILTER, flags, &program);
     may_repeat = SECCOMP_FILTER_FLAG_WAIT_KILLABLE_RECV == 0 || (calls < 0 && errno == EINVAL);
     if (calls < 0 && may_repeat)
@@ -70,15 +74,35 @@ void filter_calls(void) {
 
 /* ---- the node and the memory of a call */
 
+/* Takes the identity of a process for what a thread does of it, because its memory and its files are open to nobody
+   else. (These calls change the one thread, and the right to do so stays.) */
+static void act_as(uid_t as_user, gid_t as_group) {
+    if (user != 0)
+        return;
+    syscall(SYS_setresgid, as_group, -1, -1);
+    syscall(SYS_setfsgid, as_group);
+    syscall(SYS_setresuid, as_user, -1, -1);
+    syscall(SYS_setfsuid, as_user);
+}
+
 /* Returns whether the file of a call is a node, and stores which node it is. */
 static int find_node(struct call *call) {
     char link[64], path[PATH_MAX], name[PATH_MAX], text[256];
     struct stat about;
+    snprintf(link, sizeof link, "/proc/%d", call->process);
+    if (stat(link, &about) < 0)
+        return 0;
+    call->user = about.st_uid;
+    call->group = about.st_gid;
     snprintf(link, sizeof link, "/proc/%d/fd/%d", call->process, call->file);
-    if (stat(link, &about) < 0 || !S_ISREG(about.st_mode) || about.st_dev != nodes_device)
+    act_as(call->user, call->group);
+    int is_file = stat(link, &about) == 0 && S_ISREG(about.st_mode) && about.st_dev == nodes_device;
+    ssize_t named = is_file ? readlink(link, name, sizeof name - 1) : -1;
+    act_as(user, group);
+    if (!is_file)
         return 0;
     snprintf(path, sizeof path, "%s/nodes/%llu", folder, (unsigned long long)about.st_ino);
-    ssize_t length = readlink(path, text, sizeof text - 1), named = readlink(link, name, sizeof name - 1);
+    ssize_t length = readlink(path, text, sizeof text - 1);
     text[length < 0 ? 0 : length] = name[named < 0 ? 0 : named] = '\0';
     return read_node(text, name, &call->node);
 }
@@ -88,7 +112,9 @@ static int is_writable(const struct call *call) {
     char path[64];
     unsigned flags = O_RDONLY;
     snprintf(path, sizeof path, "/proc/%d/fdinfo/%d", call->process, call->file);
+    act_as(call->user, call->group);
     FILE *file = fopen(path, "re");
+    act_as(user, group);
     if (file && fscanf(file, "pos: %*d flags: %o", &flags) != 1)
         flags = O_RDONLY;
     if (file)
@@ -98,12 +124,18 @@ static int is_writable(const struct call *call) {
 
 int copy_in(const struct call *call, uint64_t from, void *into, size_t size) {
     struct iovec here = {into, size}, there = {(void *)(uintptr_t)from, size};
-    return size == 0 || process_vm_readv(call->process, &here, 1, &there, 1, 0) == (ssize_t)size ? 0 : -EFAULT;
+    act_as(call->user, call->group);
+    ssize_t count = size == 0 ? 0 : process_vm_readv(call->process, &here, 1, &there, 1, 0);
+    act_as(user, group);
+    return count == (ssize_t)size ? 0 : -EFAULT;
 }
 
 int copy_out(const struct call *call, uint64_t into, const void *from, size_t size) {
     struct iovec here = {(void *)from, size}, there = {(void *)(uintptr_t)into, size};
-    return size == 0 || process_vm_writev(call->process, &here, 1, &there, 1, 0) == (ssize_t)size ? 0 : -EFAULT;
+    act_as(call->user, call->group);
+    ssize_t count = size == 0 ? 0 : process_vm_writev(call->process, &here, 1, &there, 1, 0);
+    act_as(user, group);
+    return count == (ssize_t)size ? 0 : -EFAULT;
 }
 
 /* ---- what the ioctls do */
@@ -190,7 +222,9 @@ static int discard(const struct call *call) {
     if ((range[0] | range[1]) & mask || range[1] == 0 || range[0] > size || range[1] > size - range[0])
         return -EINVAL;
     snprintf(path, sizeof path, "/proc/%d/fd/%d", call->process, call->file);
+    act_as(call->user, call->group);
     int file = open(path, O_RDWR | O_CLOEXEC), punched = FALLOC_FL_PUNCH_HOLE | FALLOC_FL_KEEP_SIZE;
+    act_as(user, group);
     int result = file >= 0 && fallocate(file, punched, (off_t)range[0], (off_t)range[1]) == 0 ? 0 : -errno;
     if (file >= 0)
         close(file);
@@ -272,8 +306,11 @@ static int is_kept(const struct seccomp_notif *got, int *result) {
 
 /* Answers a call, or lets the kernel carry it out. */
 static void answer_call(const struct seccomp_notif *got, struct seccomp_notif_resp *answer) {
-    struct call call = {(pid_t)got->pid, (int)got->data.args[0], got->data.arch != AUDIT_ARCH_X86_64,
-                        (uint32_t)got->data.args[1], got->data.args[2], {0}};
+    struct call call = {.process = (pid_t)got->pid,
+                        .file = (int)got->data.args[0],
+                        .is_old = got->data.arch != AUDIT_ARCH_X86_64,
+                        .request = (uint32_t)got->data.args[1],
+                        .argument = got->data.args[2]};
     uint64_t id = got->id;
     int result = 0, is_done = may_repeat && is_kept(got, &result);
     *answer = (struct seccomp_notif_resp){.id = id};

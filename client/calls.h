@@ -6,6 +6,8 @@
 /* An ioctl of a node. */
 struct call {
     pid_t process;
+    uid_t user; /* of the process, and its group */
+    gid_t group;
     int file, is_old; /* whether it is one of a 32-bit program */
     uint32_t request;
     uint64_t argument;

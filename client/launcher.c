@@ -519,6 +519,7 @@ static void begin_inside(const char *text, const char *here) {
     strcpy(folder, MODEL_FOLDER);
     strcpy(library, MODEL_FOLDER "/library.so");
     strcpy(program, MODEL_FOLDER "/device");
+    check_mounts();
     /* (the folder is another one if a mount covers it, and /dev, /sys and /proc always are) */
     int is_own = strncmp(here, "/dev", 4) == 0 || strncmp(here, "/sys", 4) == 0 || strncmp(here, "/proc", 5) == 0;
     if (chdir(here) < 0 || stat(".", &about) < 0 ||

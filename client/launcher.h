@@ -101,11 +101,13 @@ struct sandbox {
 #define INSIDE "--inside"
 
 /* sandbox.c: fails if an open file, or a standard stream, leads to a device of the machine; returns an NVMe device of the machine, or NULL if it has none;
-   returns why no sandbox can be made, or NULL if one can; and starts the launcher in it, in place of this process. */
+   returns why no sandbox can be made, or NULL if one can; starts the launcher in it, in place of this process; and, in
+   it, fails if a mount of the machine isn't kept from the command. */
 void check_file(int file, const char *name);
 void check_streams(void);
 const char *a_real_node(void);
 const char *why_no_sandbox(const struct sandbox *sandbox);
 __attribute__((noreturn)) void enter_sandbox(const char *state, const char *here, char **arguments);
+void check_mounts(void);
 
 #endif

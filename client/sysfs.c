@@ -125,7 +125,8 @@ static const struct row disk_rows[] = {
 
 /* The folders that are there without a controller. */
 static const char *const folders[] = {"block/", "class/block/", "class/nvme/", "class/nvme-generic/",
-                                      "class/nvme-subsystem/", "dev/block/", "dev/char/", "bus/pci/devices/"};
+                                      "class/nvme-subsystem/", "dev/block/", "dev/char/", "bus/pci/devices/",
+                                      "bus/pci/slots/"};
 
 enum { PCI_DOMAIN = 1 };
 
@@ -177,23 +178,28 @@ static void make_folders(char *path) {
     }
 }
 
-/* Makes a row's link, or its file, which replaces an existing one. */
-static void put_row(const struct row *row) {
-    char path[PATH_MAX], text[PATH_MAX], new[] = "/sys/devices/.new";
-    expand_path(path, row->path);
-    make_folders(path);
-    if (!row->text)
-        return;
-    expand(text, row->text);
-    if (*text == '>') {
-        if (symlink(text + 1, path) < 0 && errno != EEXIST)
-            cannot(path);
-        return;
-    }
+/* Makes a row's link, or its file, which replaces an existing one, and fails without a message. */
+static int make_row(const char *path, const char *text) {
+    static const char new[] = "/sys/devices/.new";
+    if (*text == '>')
+        return symlink(text + 1, path) == 0 || errno == EEXIST ? 0 : -1;
+    size_t length = strlen(text);
     int file = make_new(new, 0444);
-    if (file >= 0 && (dprintf(file, "%s\n", text) < 0 || rename(new, path) < 0))
-        cannot(path);
+    int result = file >= 0 && write(file, text, length) == (ssize_t)length && write(file, "\n", 1) == 1 ? 0 : -1;
     close(file);
+    return result == 0 ? rename(new, path) : -1;
+}
+
+/* (the folders are made when they turn out to be missing) */
+static void put_row(const struct row *row) {
+    char path[PATH_MAX], text[PATH_MAX];
+    expand_path(path, row->path);
+    expand(text, row->text ? row->text : "");
+    if (row->text && make_row(path, text) == 0)
+        return;
+    make_folders(path);
+    if (row->text && make_row(path, text) < 0)
+        cannot(path);
 }
 
 static void put_rows(const struct row *row) {

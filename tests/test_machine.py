@@ -6,6 +6,7 @@ import os
 import pathlib
 import re
 import shutil
+import sys
 import unittest
 
 from tests.modelled import ModelCase, installed, mounts, works
@@ -33,8 +34,7 @@ BY_ROOT = {'su': f'su nobody -s /bin/sh -c "place=$place caller=$caller launcher
                  'export place caller powerless launcher device; . $place/attack.sh; attack"',
            'setpriv': f'setpriv --reuid=65534 --regid=65534 --clear-groups {AGAIN}',
            'sudo': f'sudo place=$place caller=$caller launcher=$launcher device=$device {AGAIN}',
-           'nsenter': f'nsenter -t $caller -m {AGAIN} || nsenter -t 1 -m true || attack',
-           'chroot': f'mkdir -p /dev/shm/c; chroot / sh -c \'cd ../../..; . "$place/attack.sh"; attack\''}
+           'nsenter': f'nsenter -t $caller -m {AGAIN} || nsenter -t 1 -m true || attack'}
 
 ATTACH = 'nvme attach-ns /dev/nvme1 -n 1 -c 1 > /dev/null'
 DETACH = 'nvme detach-ns /dev/nvme1 -n 1 -c 1 > /dev/null'
@@ -73,7 +73,10 @@ TRIES = {
     'rights': (
         'insmod "$place/plain" && echo module; mount -t tmpfs x /mnt && echo mount; mount -t devtmpfs x /mnt && echo dev; '
         'mknod "$place/made" b 7 0 && echo node; date -s 12:00 > /dev/null && echo time; kill -0 $caller && echo process; '
-        'nsenter -t 1 -n true && echo network; sysctl -q kernel.panic=1 && echo kernel', b''),
+        'nsenter -t 1 -n true && echo network; chroot / true && echo root; sysctl -q kernel.panic=1 && echo kernel', b''),
+    'open files of other processes': (
+        f'{sys.executable} -c "import ctypes; libc = ctypes.CDLL(None, use_errno=True); '
+        'print(libc.syscall(438, -1, 0, 0), ctypes.get_errno())"', b'-1 1\n'),
     'a user without rights': ('unshare -Ur true; cat /proc/self/status | grep NoNewPrivs', b'NoNewPrivs:\t1\n'),
     'signals to the launcher': ('for n in KILL STOP SEGV ALRM; do kill -$n 1; done; test -c /dev/nvme0; echo $?', b'0\n')}
 
@@ -275,6 +278,29 @@ class Machines(MachineCase):
                              '"$place" && cd "$place" && exec "$@"', 'sh')
                 self.ends(machine.model('touch x 2> /dev/null || echo $PWD', by=read_only), 0,
                           f'{self.folder}\n'.encode(), b'')
+
+    @unittest.skipUnless(IS_ROOT, 'root alone can mount without a user namespace')
+    def test_other_mounts(self):
+        # what is mounted later isn't seen, by root or by others
+        waits = 'echo > "$place/started"; until test -e "$place/go"; do sleep 0.1; done; head -c 7 "$place/gone/nvme0n1"; :'
+        later = ('mount --make-rshared / && { "$@" & until test -e "$place/started"; do sleep 0.1; done; '
+                 'mount --bind /dev "$place/gone"; : > "$place/go"; wait; }')
+        # a mount that its user can't reach before the folder above it is opened
+        opened = 'chmod 755 "$place/hidden"; head -c 7 "$place/hidden/dev/nvme0n1"; echo no'
+        hidden = ('mkdir -p "$place/hidden/dev"; mount --bind /dev "$place/hidden/dev"; chown 65534:12 "$place/hidden"; '
+                  'chmod 000 "$place/hidden"; exec "$@"')
+        for user in (), NOBODY:
+            with self.subTest('mounted later', user=user), contextlib.closing(Machine(self, 'devices')) as machine:
+                ended = machine.model(waits, by=('unshare', '-m', 'sh', '-c', later, 'sh', *user))
+                self.ends(ended, 0, b'')
+                self.assertTrue((self.folder / 'started').exists())
+            for name in 'started', 'go':
+                (self.folder / name).unlink()
+        with contextlib.closing(Machine(self, 'devices')) as machine:
+            ended = machine.model(opened, by=('unshare', '-m', 'sh', '-c', hidden, 'sh', *NOBODY))
+            self.ends(ended, 72, b'')
+            self.assertIn(b"can't be kept from the command", ended.err)
+            (self.folder / 'hidden').chmod(0o755)
 
     @unittest.skipUnless(IS_ROOT, 'root alone can chroot')
     def test_other_roots(self):

@@ -84,10 +84,12 @@ class Arguments(ModelCase):
 
     @unittest.skipUnless(os.access('/dev/kmsg', os.R_OK), '/dev/kmsg can not be read')
     def test_refused_streams(self):
-        for redirection, name in ('< /dev/kmsg', b'input'), ('9> /dev/null < /dev', b'input'):
+        for redirection, said in (('< /dev/kmsg', b'input is a device of this machine'),
+                                  ('9> /dev/null < /dev', b'input is a folder'),
+                                  ('< /proc/sys/kernel/core_pattern', b'input leads to the kernel or to a process')):
             ended = run('sh', '-c', f'exec "$@" {redirection}', 'sh', *self.command('true'))
             self.ends(ended, 72, b'')
-            self.assertRegex(ended.err, b'^nvme-model: standard ' + name + b' is a (device of this machine|folder)\n$')
+            self.assertRegex(ended.err, b'^nvme-model: standard ' + said)
 
     def test_refused_by_the_device(self):
         bad = self.file('bad.toml', b'x = 1\n')
