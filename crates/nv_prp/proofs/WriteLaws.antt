@@ -1,20 +1,20 @@
 -- Qwords that are written, and lists of them.
 use Rattle.std.proofs.Common.{◌≡◌, ◌≢◌, ◌∙◌, ◌⊎◌, ℕ, ◌+◌, ◌-◌, ◌*◌, ◌/◌, ◌%◌, ◌<◌, ◌≤◌, ◌^◌, List, ap, arith, get_or}
-use Rattle.std.proofs.Common.{inl, inr, length, refl, sym}
+use Rattle.std.proofs.Common.{inl, inr, length, refl, subst, sym}
 use Rattle.std.specs.Int.{from_le_bytes, to_le_bytes, w64}
 use Rattle.std.proofs.Math.Nat.{mul-le-mul_right}
 use Rattle.std.proofs.lemmas.Bool.Decides.{nat_tests}
 use Rattle.std.proofs.lemmas.Bool.{cases_lt, cases_order}
 use Rattle.std.proofs.lemmas.Nat.{from_le_bytes-to_le_bytes_8, mod-mul-add}
-use Rattle.nv_host.specs.Bytes.{bytes_at, with_bytes}
+use Rattle.nv_host.specs.Bytes.{with_bytes}
 use Rattle.nv_host.proofs.BytesLaws.{bytes_at-with_after, bytes_at-with_before, bytes_at-with_same}
 use Rattle.nv_host.specs.Pages.{IsPageSize}
 use Rattle.nv_host.proofs.PageLaws.{page_size_bounds, page_size_in_qwords}
 use Rattle.nv_prp.specs.inner.Buffer.{ChangesOnly, NamesPages}
-use Rattle.nv_prp.specs.Buffer.{IsApart, IsListPlace}
+use Rattle.nv_prp.specs.Buffer.{IsApart, IsListPlace, KeepsOutside, KeepsOutsideList}
 use Rattle.nv_prp.proofs.FaultLaws.{multiple_stays}
 use Rattle.nv_prp.proofs.ListLaws.{whole_room}
-use Rattle.nv_prp.specs.Transfer.{list_place, naming_number, qword}
+use Rattle.nv_prp.specs.Transfer.{list_place, list_qwords, naming_number, qword}
 
 -- ---- one Qword
 
@@ -132,10 +132,29 @@ chain_names old new size space start first second pages count n at lies few chai
       ∙ named j later (omega arith);
 }
 
--- bytes outside the pages don't change if only bytes in them change
-pub outside_kept : (size first second addr n : ℕ) (all old new : List ℕ) → IsWithin size first second addr n
-    → ((from k : ℕ) → IsApart first size from k → IsApart second size from k
-    → bytes_at old from k ≡ bytes_at all from k)
-    → ChangesOnly addr n old new
-    → (from k : ℕ) → IsApart first size from k → IsApart second size from k → bytes_at new from k ≡ bytes_at all from k
-outside_kept size first second addr n all old new within kept others from k apart behind = grind (arith, nat_tests)
+-- bytes outside a list don't change if only those of one of its Qwords change
+pub one_kept : (space start second count q at : ℕ) (all old new : List ℕ) → q < list_qwords space count
+    → at ≡ list_place space start second q → KeepsOutsideList space start second count all old
+    → ChangesOnly at 8 old new → KeepsOutsideList space start second count all new
+one_kept space start second count q at all old new used is kept others = λ from n apart.
+    others from n (subst (λ a. IsApart a 8 from n) (sym is) (apart q used)) ∙ kept from n apart
+
+pub naming_kept : (space start second count j behind at : ℕ) (all old new : List ℕ) → 0 < j → j < count
+    → behind ≡ second → at ≡ naming_place space start behind count j
+    → KeepsOutsideList space start second count all old → ChangesOnly at 8 old new
+    → KeepsOutsideList space start second count all new
+naming_kept space start second count j behind at all old new later below same is =
+    one_kept space start second count (naming_number space count j) at all old new (grind (arith, nat_tests)) cc
+
+pub chain_kept : (space start second count at : ℕ) (all old new : List ℕ) → 0 < space → space + 1 < count
+    → at ≡ start + 8 * (space - 1) → KeepsOutsideList space start second count all old → ChangesOnly at 8 old new
+    → KeepsOutsideList space start second count all new
+chain_kept space start second count at all old new some more is =
+    one_kept space start second count (space - 1) at all old new (grind (arith, nat_tests)) (grind (arith, nat_tests))
+
+-- bytes outside the pages of a list are outside the list
+pub pages_kept : (size space start first second count : ℕ) (old new : List ℕ)
+    → Lies size space start (first * size) (second * size) → count ≤ 257
+    → KeepsOutsideList space start (second * size) count old new → KeepsOutside size first second old new
+pages_kept size space start first second count old new lies few kept = λ from n apart behind.
+    kept from n (λ q used. grind (arith, nat_tests))

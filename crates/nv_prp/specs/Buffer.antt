@@ -3,7 +3,7 @@ use Rattle.std.specs.Prelude.{◌≡◌, ℕ, ◌+◌, ◌*◌, ◌/◌, ◌%◌
 use Rattle.nv_host.specs.Bytes.{bytes_at}
 use Rattle.nv_host.specs.Pages.{HasPage}
 use Rattle.nv_prp.specs.Place.{AreDistinct, table}
-use Rattle.nv_prp.specs.Transfer.{IsLegal, PrpTransfer, data_pages, place_of, transfer_places}
+use Rattle.nv_prp.specs.Transfer.{IsLegal, PrpTransfer, data_pages, list_place, list_qwords, place_of, transfer_places}
 
 -- the place of byte i of a buffer, given the numbers of its pages and its offset in the first page
 unfoldable pub buffer_place : ℕ → List ℕ → ℕ → ℕ → ℕ
@@ -44,6 +44,14 @@ IsOutside page_size page from n = IsApart (page * page_size) page_size from n
 abbrev pub KeepsOutside : ℕ → ℕ → ℕ → List ℕ → List ℕ → Type 0
 KeepsOutside page_size first second old new =
     (from n : ℕ) → IsOutside page_size first from n → IsOutside page_size second from n
+    → bytes_at new from n ≡ bytes_at old from n
+
+-- only the Qwords of a list for so many data pages change. It begins at `start`, and continues at
+-- `second` where the room of its first page ends
+abbrev pub KeepsOutsideList : ℕ → ℕ → ℕ → ℕ → List ℕ → List ℕ → Type 0
+KeepsOutsideList room start second pages old new =
+    (from n : ℕ)
+    → ((q : ℕ) → q < list_qwords room pages → IsApart (list_place room start second q) 8 from n)
     → bytes_at new from n ≡ bytes_at old from n
 
 -- ---- what a built transfer is

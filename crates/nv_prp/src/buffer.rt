@@ -1,12 +1,12 @@
 //! Buffers in pages of the host's memory, and the PRP entries of transfers to and from them.
 
 ghost use Rattle.std.specs.Prelude.{◌≡◌, ◌≢◌, ℕ, ◌+◌, ◌-◌, ◌*◌, ◌/◌, ◌%◌, ◌<◌, ◌≤◌, ◌∷◌, length};
-ghost use Rattle.nv_prp.specs.Buffer.{IsBuffer, IsListPlace, KeepsOutside, StaysFor, buffer_place};
-ghost use Rattle.nv_prp.specs.Buffer.{buffer_places};
+ghost use Rattle.nv_prp.specs.Buffer.{IsBuffer, IsListPlace, KeepsOutside, KeepsOutsideList, StaysFor};
+ghost use Rattle.nv_prp.specs.Buffer.{buffer_place, buffer_places};
 ghost use Rattle.nv_prp.specs.inner.Buffer.{NamesPages};
 ghost use Rattle.nv_prp.specs.Place.{AreDistinct, LieIn, places};
 ghost use Rattle.nv_prp.specs.Transfer.{IsLegal, data_pages as pages_of, most_bytes, place_of};
-ghost use Rattle.nv_prp.specs.Transfer.{transfer};
+ghost use Rattle.nv_prp.specs.Transfer.{room as room_of, transfer};
 
 use crate::pointer::{DataPointer, ListShape, page_address, qwords_in_page, store_qword};
 use crate::{Span, Spans};
@@ -70,9 +70,9 @@ pub struct ListPlace {
 /// buffer, from 1 to 1,048,576 bytes. Section "Physical Region Page Entry and List".
 ///
 /// PRP2 is 0 if there is one data page, the address of the second page if there are two, and the
-/// address of the list if there are more. Then the list is written, and bytes outside its two pages
-/// don't change. As long as the bytes in these pages don't change, the transfer stays the same,
-/// whatever else changes in the memory.
+/// address of the list if there are more. Then the list is written, and only its bytes change; with
+/// one or two data pages, no byte of the memory does. As long as the bytes in the list's pages don't
+/// change, the transfer stays the same, whatever else changes in the memory.
 ///
 /// All pages must lie in the memory, also those of the list if none is written, and must be
 /// distinct. The offsets must be below the page size and multiples of 4 (the buffer) and 8 (the
@@ -99,6 +99,11 @@ pub fn build<M: HostMemory>(mem: &mut M, buffer: &Buffer, list: &ListPlace, len:
         pages_of t ≡ 1 → result.1 ≡ 0 }
     ensures list { let t = transfer (M.page_len mem.new) (M.bytes mem.new) result.0 result.1 len in
         2 < pages_of t → result.1 ≡ list.now.first * M.page_len mem.new + list.now.offset }
+    ensures no_list { let t = transfer (M.page_len mem.new) (M.bytes mem.new) result.0 result.1 len in
+        pages_of t ≤ 2 → M.bytes mem.new ≡ M.bytes mem.old }
+    ensures only_list { let t = transfer (M.page_len mem.new) (M.bytes mem.new) result.0 result.1 len in
+        2 < pages_of t → KeepsOutsideList (room_of t) result.1 (list.now.second * M.page_len mem.new)
+        (pages_of t) (M.bytes mem.old) (M.bytes mem.new) }
     ensures others { KeepsOutside (M.page_len mem.old) list.now.first list.now.second
         (M.bytes mem.old) (M.bytes mem.new) }
     ensures len { length (M.bytes mem.new) ≡ length (M.bytes mem.old) }
@@ -127,7 +132,8 @@ fn write_list<M: HostMemory>(mem: &mut M, pages: &[PageNo], list: &ListPlace, co
     ensures names { let room = (M.page_len mem.old - result % M.page_len mem.old) / 8 in
         NamesPages (M.bytes mem.new) (M.page_len mem.old) room result
         (list.now.second * M.page_len mem.old) pages.now count }
-    ensures others { KeepsOutside (M.page_len mem.old) list.now.first list.now.second
+    ensures others { let room = (M.page_len mem.old - result % M.page_len mem.old) / 8 in
+        KeepsOutsideList room result (list.now.second * M.page_len mem.old) count
         (M.bytes mem.old) (M.bytes mem.new) }
     ensures len { length (M.bytes mem.new) ≡ length (M.bytes mem.old) }
     ensures page { M.page_len mem.new ≡ M.page_len mem.old }

@@ -7,7 +7,7 @@ use Rattle.nv_prp.proofs.BufferLaws.{buffer_kept, list_place_kept}
 use Rattle.nv_prp.specs.Transfer.{data_pages, room, transfer}
 use Rattle.nv_prp.proofs.BuiltLaws.{Begins, keeps_itself, many_pages, names_kept, few_pages, pages_enough}
 use Rattle.nv_prp.proofs.PageLaws.{at_least_one}
-use Rattle.nv_prp.proofs.WriteLaws.{lies_at}
+use Rattle.nv_prp.proofs.WriteLaws.{lies_at, pages_kept}
 use Rattle.nv_prp.proofs.buffer.build.Goals as goal
 
 -- PRP1 is the address of the buffer's first byte
@@ -100,3 +100,11 @@ returns-in_default-clause-legal g c = (returns-in_default-clause-stays g c _ (ke
 
 pub returns-in_default-clause-places : goal.returns-in_default-clause-places
 returns-in_default-clause-places g c = (returns-in_default-clause-stays g c _ (keeps_itself _ _ _)).places
+
+pub returns-in_default-clause-others : goal.returns-in_default-clause-others
+returns-in_default-clause-others g c =
+    let list = c.args.list.now in
+    let wrote = c.write_list.ensures in
+    pages_kept _ _ c.write_list.result list.first list.second _ _ _
+    (lies_at _ _ list.first list.second list.offset _ _ c.page_address.ensures.size c.requires.list
+    (c.requires.distinct 0 1 0 (omega arith) (omega arith)) wrote.value refl) (omega (arith, c.data_pages.ensures)) wrote.others

@@ -1,9 +1,9 @@
 use Rattle.std.proofs.Common.{◌≡◌, ◌*◌, length}
-use Rattle.nv_prp.specs.Buffer.{KeepsOutside}
+use Rattle.nv_prp.specs.Buffer.{KeepsOutsideList}
 use Rattle.nv_prp.proofs.WriteLaws.{HasNamed, Lies}
 use Rattle.nv_prp.proofs.buffer.write_list.Given as goal
 
--- the list holds the addresses of the first data pages, and only bytes of its pages have changed
+-- the list holds the addresses of the first data pages, and only bytes of the list have changed
 abbrev pub invariant-loop-page : goal.invariant-loop-page
 invariant-loop-page g l =
     let size = g.M.HostMemory.page_len l.initial.mem in
@@ -11,8 +11,8 @@ invariant-loop-page g l =
       lies : Lies size l.shape.room l.start (l.list.first * size) (l.list.second * size);
       named : HasNamed (g.M.HostMemory.bytes l.mem) size l.shape.room l.start
           (l.list.second * size) l.pages l.count l.page;
-      others : KeepsOutside size l.list.first l.list.second (g.M.HostMemory.bytes l.initial.mem)
-          (g.M.HostMemory.bytes l.mem);
+      others : KeepsOutsideList l.shape.room l.start (l.list.second * size) l.count
+          (g.M.HostMemory.bytes l.initial.mem) (g.M.HostMemory.bytes l.mem);
       len : length (g.M.HostMemory.bytes l.mem) ≡ length (g.M.HostMemory.bytes l.initial.mem);
       page : g.M.HostMemory.page_len l.mem ≡ size;
     }
