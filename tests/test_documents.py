@@ -2,8 +2,8 @@
 and each named file or folder. The words in the last column of a table of clauses, or of where to look, occur in the
 sources of the crates. A block of code that is said to be from a file occurs in it. No line is wider than 140 columns
 outside of tables and code, and none names a folder of a machine. The numbers of lines, programs, files and definitions
-in pages are those of the sources, and scripts write what pages show. codespell finds no misspelled word. What the
-sentences claim isn't checked."""
+in pages are those of the sources, and scripts write what pages show. codespell finds no misspelled word. Must-fail
+edits are as CONTRIBUTING says. What the sentences claim isn't checked."""
 
 import re
 import shutil
@@ -170,6 +170,10 @@ class Copies(Case):
     def test_no_public_contract_reaches_inner_definitions(self):
         said = subprocess.run([TOP / 'tools/believed', '--inner'], capture_output=True, check=True, text=True).stdout
         self.assertEqual(said, '')
+
+    def test_each_edit_shows_something(self):
+        said = subprocess.run([TOP / 'tools/edits'], capture_output=True, text=True)
+        self.assertEqual((said.stderr, said.returncode), ('', 0))
 
     def test_demonstration_file(self):
         source_file, = TOP.glob('crates/*/src/demo.rt')

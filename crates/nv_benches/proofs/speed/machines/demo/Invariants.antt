@@ -1,5 +1,0 @@
-use Rattle.nv_model.specs.WellFormed.{IsWellFormed}
-use Rattle.nv_benches.proofs.speed.machines.demo.Given as goal
-
-abbrev pub invariant-loop-round : goal.invariant-loop-round
-invariant-loop-round l = record { well_formed : IsWellFormed l.subsystem }
