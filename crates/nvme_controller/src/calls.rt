@@ -40,10 +40,11 @@ fn machine_of(alloc: Global, file: &[u8]) -> Result<Box<Machine>, SubsystemError
     Ok(place)
 }
 
-/// Opens the machine of a subsystem file. Returns 0, or the number of the file's first fault, whose
-/// text is written to `fault`.
+/// Opens the machine of a subsystem file in a closed handle. Returns 0, or the number of the file's
+/// first fault, whose text is written to `fault`.
 #[tactic(auto, using(crate::proofs::OpenLaws::faults))]
 fn open(alloc: Global, file: &[u8], handle: &mut Handle, fault: &mut [u8]) -> i32
+    requires closed { handle.old.machine ≡ None }
     ensures opens { Opens (subsystem file.now) result handle.old.machine handle.new.machine }
     ensures open { result ≡ pos 0 → IsOpen handle.new.machine }
     ensures fault { Tells (subsystem file.now) result fault.new }
@@ -58,8 +59,8 @@ fn open(alloc: Global, file: &[u8], handle: &mut Handle, fault: &mut [u8]) -> i3
     }
 }
 
-/// Opens the machine of a subsystem file. Returns 0, or the number of the file's first fault, whose
-/// text is written to `fault`.
+/// Opens the machine of a subsystem file in a closed handle. Returns 0, or the number of the file's
+/// first fault, whose text is written to `fault`.
 #[unsafe(no_mangle)]
 pub extern "C" fn nvme_handle_open(
     alloc: Global,
@@ -67,6 +68,7 @@ pub extern "C" fn nvme_handle_open(
     handle: &mut Handle,
     fault: &mut [u8],
 ) -> i32
+    requires closed { handle.old.machine ≡ None }
     ensures opens { Opens (subsystem file.now) result handle.old.machine handle.new.machine }
     ensures open { result ≡ pos 0 → IsOpen handle.new.machine }
     ensures fault { Tells (subsystem file.now) result fault.new }
@@ -74,10 +76,11 @@ pub extern "C" fn nvme_handle_open(
     open(alloc, file, handle, fault)
 }
 
-/// Opens the machine of the demonstration subsystem. Returns 0, or the number of the fault, which
-/// is too little memory.
+/// Opens the machine of the demonstration subsystem in a closed handle. Returns 0, or the number of
+/// the fault, which is too little memory.
 #[unsafe(no_mangle)]
 pub extern "C" fn nvme_handle_demo(alloc: Global, handle: &mut Handle) -> i32
+    requires closed { handle.old.machine ≡ None }
     ensures opens { Opens (subsystem DEMO.now) result handle.old.machine handle.new.machine }
     ensures open { result ≡ pos 0 → IsOpen handle.new.machine }
 {
