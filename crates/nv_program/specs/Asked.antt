@@ -4,7 +4,7 @@ use Rattle.std.specs.Prelude.{IfSome, Result, Ok, Err}
 use Rattle.nv_arguments.specs.Arguments.{Told}
 use Rattle.nv_arguments.specs.declared.fault.ArgumentsFault.{ArgumentsFault}
 use Rattle.nv_driver.specs.declared.geometry.Geometry.{Geometry}
-use Rattle.nv_file.specs.declared.demo.TheConstants.{DEMO}
+use Rattle.nv_file.specs.Demo.{demo_text}
 use Rattle.nv_model.specs.State.{State}
 use Rattle.nv_model.specs.WellFormed.{IsWellFormed}
 use Rattle.nv_program.specs.Stops.{of_arguments}
@@ -58,14 +58,14 @@ IsOfSomeFile {F} remaining (Err _) = Unit {0}
 
 -- what stops the program if it reads no file: a fault of the built-in one, or lack of memory
 abbrev pub IsBuiltInStop : Stop → Type 0
-IsBuiltInStop (stop.Subsystem e) = subsystem DEMO.now ≡ Err e
+IsBuiltInStop (stop.Subsystem e) = subsystem demo_text ≡ Err e
 IsBuiltInStop stop.Memory = Unit {0}
 IsBuiltInStop _ = ⊥
 
 -- the subsystem of a file, if one is named, and otherwise the built-in one
 abbrev pub IsSubsystemAt : {F : Type 0} → (F → Option (List ℕ)) → Option (List ℕ)
     → Result State Stop → Type 0
-IsSubsystemAt remaining None (Ok s) = IsWellFormed s × (subsystem DEMO.now ≡ Ok s)
+IsSubsystemAt remaining None (Ok s) = IsWellFormed s × (subsystem demo_text ≡ Ok s)
 IsSubsystemAt remaining None (Err why) = IsBuiltInStop why
 IsSubsystemAt remaining (Some path) r = IsRead r × IsOfSomeFile remaining r
 

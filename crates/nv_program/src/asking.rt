@@ -55,7 +55,7 @@ fn subsystem_in<F: Read + Drop>(alloc: Global, file: F) -> Result<Subsystem, Sto
 }
 
 /// Returns the subsystem of a file, or the built-in one.
-#[tactic(auto, using(crate::proofs::Files::named))]
+#[tactic(auto, using(crate::proofs::Files::named, nv_file::proofs::DemoLaws::demo_is))]
 fn subsystem_at<S: Files>(files: &S, alloc: Global, path: Option<&str>) -> Result<Subsystem, Stop>
     ensures { IsSubsystemAt S.File.remaining (option_map (λ p. p.now) path.entry) result }
 {
