@@ -2,6 +2,7 @@
 ghost use Rattle.std.specs.Prelude.{◌≡◌, ◌<◌, IfErr, IfOk, IfSome, IsTrue, None, Option, Some};
 ghost use Rattle.std.specs.Prelude.{ℕ, [], List, length, pos};
 ghost use Rattle.nv_bus.specs.Bus.{BusValue, IsBus};
+ghost use Rattle.nv_file.specs.Demo.{demo_text};
 ghost use Rattle.nv_host.specs.Pages.{are_pages};
 ghost use Rattle.nv_model.specs.LogEntry.{counts_of, log_entry_of};
 ghost use Rattle.nv_subsystem.specs.FromFile.{subsystem};
@@ -81,7 +82,7 @@ pub extern "C" fn nvme_handle_open(
 #[unsafe(no_mangle)]
 pub extern "C" fn nvme_handle_demo(alloc: Global, handle: &mut Handle) -> i32
     requires closed { handle.old.machine ≡ None }
-    ensures opens { Opens (subsystem DEMO.now) result handle.old.machine handle.new.machine }
+    ensures opens { Opens (subsystem demo_text) result handle.old.machine handle.new.machine }
     ensures open { result ≡ pos 0 → IsOpen handle.new.machine }
 {
     open(alloc, DEMO.as_bytes(), handle, &mut [])
