@@ -17,6 +17,7 @@ pub struct CutSource<'a> {
     ended: bool,
     calls: u64,
     pub given: u64,
+    last_given: u64,
 }
 
 impl<'a> CutSource<'a> {
@@ -31,6 +32,7 @@ impl<'a> CutSource<'a> {
             ended: false,
             calls: 0,
             given: 0,
+            last_given: 0,
         }
     }
 }
@@ -42,11 +44,13 @@ impl<'a> Source for CutSource<'a> {
       has_ended = s.ended;
       calls = s.calls;
       given = s.given;
+      last_given = s.last_given;
     } };
 
     fn read(&mut self, buf: &mut [u8]) -> Option<usize> {
         let call = self.calls;
         self.calls += 1;
+        self.last_given = 0;
         if call == self.fails_at {
             self.failed = true;
             return None;
@@ -55,7 +59,8 @@ impl<'a> Source for CutSource<'a> {
         buf[..count].copy_from_slice(&self.script[..count]);
         self.script = &self.script[count..];
         self.ended = count == 0;
-        self.given += count as u64;
+        self.last_given = count as u64;
+        self.given += self.last_given;
         Some(count)
     }
 }

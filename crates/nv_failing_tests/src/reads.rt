@@ -7,7 +7,7 @@ use crate::cases::cases;
 use crate::cut_source::CutSource;
 use crate::kept::Kept;
 use nv_controller::Machine;
-use nv_script::{Geometry, OverWrite, RunEnd, RunOptions, run, run_within};
+use nv_script::{Geometry, OverWrite, RunEnd, run, run_within};
 use nv_subsystem::{DEMO, Subsystem};
 use std::alloc::Global;
 use std::process::Abort;
@@ -93,17 +93,14 @@ fn ends_within(rt: &impl Abort, alloc: Global, reads: u32) -> Result<RunEnd, Fai
     let mut script = CutSource::new(b"list-ns /dev/nvme0\n", 4096, u64::MAX);
     let mut out = OverWrite::new(Vec::new(alloc));
     let mut messages = OverWrite::new(Vec::new(alloc));
-    let options = RunOptions {
-        geometry: Geometry::default(),
-        reads,
-    };
     let end = run_within(
         alloc,
         &mut machine,
-        options,
+        Geometry::default(),
         &mut script,
         &mut out,
         &mut messages,
+        reads,
     );
     assert!(rt; out.into_inner().as_slice() == "[   0]:0x1\n[   1]:0x3\n".as_bytes());
     assert!(rt; messages.into_inner().is_empty());

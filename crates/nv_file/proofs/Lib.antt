@@ -1,6 +1,7 @@
 pub mod Among
 pub mod Attached
 pub mod CheckLaws
+pub mod DemoLaws
 pub mod Distinct
 pub mod EmptyTables
 pub mod Fused

@@ -30,13 +30,18 @@ use Rattle.nv_layout.specs.Limits.{most_nsids}
 abbrev pub nn_of : Members → ℕ
 nn_of m = number_at key.Nn 0 m
 
-unfoldable pub top_checks : Members → List Check
-top_checks m =
+-- the keys before the lists of tables
+abbrev pub first_top_checks : Members → List Check
+first_top_checks m =
     integer table.Top key.Version 1 2 m
     ++ integer table.Top key.Nn 1 most_nsids m
     ++ integer table.Top key.Tnvmcap 0 greatest_integer m
     ++ optional_integer table.Top key.Mc 0 3 m
     ++ text table.Top key.Subnqn 223 m
+
+unfoldable pub top_checks : Members → List Check
+top_checks m =
+    first_top_checks m
     ++ tables table.Top key.Format 16 m
     ++ tables table.Top key.Controller 16 m
     ++ of_kind table.Top key.Namespace as_tables m

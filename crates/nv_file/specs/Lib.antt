@@ -1,4 +1,5 @@
 pub mod Check
+pub mod Demo
 pub mod FaultText
 pub mod File
 pub mod FileValue

@@ -253,8 +253,9 @@ abbrev pub can_extend : ℕ → List Format → Members → Bool
 can_extend mc formats m =
     option_map_or (λ f. may_extend mc f (is_extended m)) (format_of formats m) false
 
-unfoldable pub namespace_checks : ℕ → ℕ → List Format → List ℕ → Members → List Check
-namespace_checks nn mc formats before m =
+-- the keys before the list of controllers
+abbrev pub first_namespace_checks : ℕ → ℕ → List Format → List ℕ → Members → List Check
+first_namespace_checks nn mc formats before m =
     integer table.Namespace key.Nsid 1 nn m
     ++ not_repeated table.Namespace key.Nsid before (nsid_of m)
     ++ integer table.Namespace key.Format 0 15 m
@@ -263,6 +264,10 @@ namespace_checks nn mc formats before m =
     ++ flag table.Namespace key.Extended m
     ++ in_limits table.Namespace key.Extended (can_extend mc formats m)
     ++ flag table.Namespace key.Shared m
+
+unfoldable pub namespace_checks : ℕ → ℕ → List Format → List ℕ → Members → List Check
+namespace_checks nn mc formats before m =
+    first_namespace_checks nn mc formats before m
     ++ of_kind table.Namespace key.Controllers as_integers m
     ++ no_other table.Namespace (keys_of table.Namespace) m
 

@@ -1,14 +1,16 @@
 //! The namespaces of a file.
-ghost use Rattle.std.specs.Prelude.{◌≡◌, ◌≢◌, ◌==◌, ◌≤◌, ◌^◌, [], length, map, slice_get, All};
+ghost use Rattle.std.specs.Prelude.{◌≡◌, ◌≢◌, ◌==◌, ◌≤◌, ◌^◌, ◌++◌, [], length, map, slice_get, All};
 ghost use Rattle.std.specs.Prelude.{AllPairs, IfOk, Some, false, is_some};
+ghost use Rattle.toml.specs.Data.{as_array};
 ghost use Rattle.toml.specs.View.{table_view};
 ghost use Rattle.nv_file.specs.FileValue.{namespace_entry_view};
 ghost use Rattle.nv_file.specs.inner.SectionView.{tables_view};
 ghost use Rattle.nv_model.specs.Conditions.{may_extend};
 ghost use Rattle.nv_model.specs.Ranges.{IsFormat};
-ghost use Rattle.nv_file.specs.KeyChecks.{each, in_limits, is_among};
-ghost use Rattle.nv_file.specs.TableChecks.{namespace_checks, namespace_value, nsid_of};
-ghost use Rattle.nv_file.specs.inner.Reading.{IsChecked, IsCheckedUnlessMemory};
+ghost use Rattle.nv_file.specs.KeyChecks.{each, in_limits, is_among, of_kind};
+ghost use Rattle.nv_file.specs.TableChecks.{first_namespace_checks, namespace_checks};
+ghost use Rattle.nv_file.specs.TableChecks.{namespace_value, nsid_of};
+ghost use Rattle.nv_file.specs.inner.Reading.{IsChecked, IsCheckedUnlessMemory, IsToldFirst};
 ghost use Rattle.nv_file.specs.IsFile.{IsNamespaceEntry};
 
 use crate::error::{SubsystemError, ensure};
@@ -90,6 +92,10 @@ fn namespace_entry_of(
     ensures exact { IsCheckedUnlessMemory namespace_entry_view
         (namespace_checks nn mc formats.now (map (λ n. n.nsid) before.now) (table_view table.now))
         (namespace_value (table_view table.now)) result }
+    ensures told { IsToldFirst
+        (first_namespace_checks nn mc formats.now (map (λ n. n.nsid) before.now)
+        (table_view table.now)
+        ++ of_kind TableName.Namespace Key.Controllers as_array (table_view table.now)) result }
     ensures sound { IfOk result (λ n. IsNamespaceEntry nn mc formats.now (namespace_entry_view n)) }
     ensures new { IfOk result (λ n. is_among (map (λ m. m.nsid) before.now) n.nsid ≡ false) }
 {

@@ -5,13 +5,14 @@ ghost use Rattle.std.specs.List.{list_all, list_any};
 ghost use Rattle.std.specs.Option.{option_map_or};
 ghost use Rattle.std.specs.BTreeMap.{keys};
 ghost use Rattle.std.specs.Str.{bytes_eq};
-ghost use Rattle.toml.specs.Data.{get_member, as_bool, as_integer, as_table};
+ghost use Rattle.toml.specs.Data.{get_member, as_array, as_bool, as_integer, as_table};
 ghost use Rattle.toml.specs.View.{view, items_view, table_view};
 ghost use Rattle.nv_file.specs.Check.{check};
 ghost use Rattle.nv_file.specs.KeyChecks as row;
 ghost use Rattle.nv_file.specs.KeyChecks.{has_key, has_only, is_within, number};
 ghost use Rattle.nv_file.specs.Names.{key_text, keys_of};
 ghost use Rattle.nv_file.specs.inner.Reading.{IsChecked, IsCheckedUnlessMemory, IsPassed};
+ghost use Rattle.nv_file.specs.inner.Reading.{IsToldFirst};
 ghost use Rattle.nv_file.specs.inner.SectionView.{tables_view};
 ghost use Rattle.nv_model.specs.Ranges.{is_text};
 
@@ -177,6 +178,8 @@ impl<'a> Section<'a> {
         ensures exact { IsCheckedUnlessMemory string_bytes
             (row.text self.now.name key most (table_view self.now.table.now))
             (row.text_at key (table_view self.now.table.now)) result }
+        ensures told { IsToldFirst
+            (row.text self.now.name key most (table_view self.now.table.now)) result }
         ensures sound { IfOk result (λ s. is_text most (string_bytes s) ≡ true) }
     {
         let value = self.find(key).ok_or(self.missing(key))?;
@@ -272,9 +275,12 @@ impl<'a> Section<'a> {
         key: Key,
         value: &Value,
     ) -> Result<Vec<i64>, SubsystemError>
-        ensures { IsCheckedUnlessMemory (λ v. v.items)
+        ensures exact { IsCheckedUnlessMemory (λ v. v.items)
             (check (is_some (row.as_integers (view value.now))) (SubsystemError.Kind self.now.name key))
             (unwrap_or (row.as_integers (view value.now)) []) result }
+        ensures told { IsToldFirst
+            (check (is_some (as_array (view value.now))) (SubsystemError.Kind self.now.name key))
+            result }
     {
         let values: &[Value] = value.as_array().ok_or(self.wrong_kind(key))?;
         let mut integers = Vec::new(alloc);
@@ -291,9 +297,11 @@ impl<'a> Section<'a> {
         alloc: Global,
         key: Key,
     ) -> Result<Vec<i64>, SubsystemError>
-        ensures { IsCheckedUnlessMemory (λ v. v.items)
+        ensures exact { IsCheckedUnlessMemory (λ v. v.items)
             (row.of_kind self.now.name key row.as_integers (table_view self.now.table.now))
             (row.integers_at key (table_view self.now.table.now)) result }
+        ensures told { IsToldFirst
+            (row.of_kind self.now.name key as_array (table_view self.now.table.now)) result }
     {
         let Some(value) = self.find(key) else {
             return Ok(Vec::new(alloc));

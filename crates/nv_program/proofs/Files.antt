@@ -8,8 +8,7 @@ use Rattle.std.specs.declared.io.traits.Take.{Take}
 use Rattle.nv_file.specs.declared.error.SubsystemError.{SubsystemError}
 use Rattle.nv_file.specs.declared.error.SubsystemError.TheVariants as error
 use Rattle.nv_model.specs.State.{State}
-use Rattle.nv_program.specs.inner.Asked.{IsOfSomeFile, IsSubsystemIn, is_unread, most_bytes}
-use Rattle.nv_program.specs.Asked.{is_of_file}
+use Rattle.nv_program.specs.Asked.{IsOfSomeFile, IsSubsystemIn, is_of_file, is_unread, most_bytes}
 use Rattle.nv_program.specs.Stops.{of_file}
 use Rattle.nv_program.specs.declared.stop.Stop.{Stop}
 use Rattle.nv_program.specs.declared.stop.Stop.TheVariants as stop
@@ -75,3 +74,5 @@ pub no_file : {F : Type 0} (remaining : F → Option (List ℕ)) (why : Stop) �
     → IsOfSomeFile remaining (Err why)
 no_file remaining (stop.Subsystem e) is = absurd (cc)
 no_file remaining _ is = tt
+
+pub ruleset named = (of_some, no_file, unread)

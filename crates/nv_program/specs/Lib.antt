@@ -1,4 +1,3 @@
 pub mod Asked
 pub mod Stops
 pub mod StopText
-pub mod inner

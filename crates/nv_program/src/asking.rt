@@ -1,11 +1,11 @@
 //! Reads what the arguments of a program ask for.
 
-ghost use Rattle.std.specs.Prelude.{◌≡◌, ◌≤◌, IfErr, IfOk, IfSome, IsSome, IsTrue, length, map};
+ghost use Rattle.std.specs.Prelude.{◌≡◌, ◌≤◌, IfErr, IfOk, IfSome, IsTrue, length, map};
 ghost use Rattle.std.specs.Prelude.{option_map};
 ghost use Rattle.nv_arguments.specs.Arguments.{arguments_of};
 ghost use Rattle.nv_model.specs.WellFormed.{IsWellFormed};
-ghost use Rattle.nv_program.specs.Asked.{IsAsked, IsRead, IsSubsystemAt, is_of_arguments};
-ghost use Rattle.nv_program.specs.inner.Asked.{IsOfSomeFile, IsSubsystemIn, is_unread, most_bytes};
+ghost use Rattle.nv_program.specs.Asked.{IsAsked, IsRead, IsSubsystemAt, IsSubsystemIn};
+ghost use Rattle.nv_program.specs.Asked.{is_of_arguments, is_unread, most_bytes};
 
 use crate::stop::Stop;
 use nv_arguments::Arguments;
@@ -55,10 +55,9 @@ fn subsystem_in<F: Read + Drop>(alloc: Global, file: F) -> Result<Subsystem, Sto
 }
 
 /// Returns the subsystem of a file, or the built-in one.
-#[tactic(auto, using(crate::proofs::Files::of_some, crate::proofs::Files::no_file, crate::proofs::Files::unread))]
+#[tactic(auto, using(crate::proofs::Files::named, nv_file::proofs::DemoLaws::demo_is))]
 fn subsystem_at<S: Files>(files: &S, alloc: Global, path: Option<&str>) -> Result<Subsystem, Stop>
-    ensures exact { IsSubsystemAt (option_map (λ p. p.now) path.entry) result }
-    ensures file { IsSome path.entry → IsOfSomeFile S.File.remaining result }
+    ensures { IsSubsystemAt S.File.remaining (option_map (λ p. p.now) path.entry) result }
 {
     match path {
         Some(path) => match fs::open(files, path) {
@@ -80,8 +79,8 @@ pub fn words_given(rt: &HostRuntime) -> Result<Vec<String>, Stop>
 
 /// Returns the subsystem and the geometry that the arguments ask for, of which the first is the
 /// program's name. If they name a file, it is read.
-pub fn asked(rt: &HostRuntime, words: &[&str]) -> Result<(Subsystem, Geometry), Stop>
-    ensures exact { IsAsked (arguments_of (map (λ w. w.now) words.now)) result }
+pub fn asked<R: Files + AllocGlobal>(rt: &R, words: &[&str]) -> Result<(Subsystem, Geometry), Stop>
+    ensures exact { IsAsked R.File.remaining (arguments_of (map (λ w. w.now) words.now)) result }
     ensures well_formed { IfOk result (λ asked. IsWellFormed asked.0) }
 {
     let arguments = Arguments::read(rt.alloc(), words)?;

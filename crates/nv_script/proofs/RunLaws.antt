@@ -7,7 +7,7 @@ use Rattle.std.specs.Io.KnownBytes.{Appends, Consumes, IsAtEnd, Keeps}
 use Rattle.std.proofs.lemmas.Bool.Decides.{nat_tests}
 use Rattle.std.proofs.lemmas.List.{length-append, length-take-le}
 use Rattle.nv_model.specs.State.{State}
-use Rattle.nv_script.specs.Cuts.{AreFailed, IsCutShort, Holds, Left}
+use Rattle.nv_script.specs.Cuts.{AreFailed, IsCutShort, Holds, Left, joined_lines}
 use Rattle.nv_driver.specs.inner.Driver.{error_without}
 use Rattle.nv_driver.specs.Geometry.{fault_of}
 use Rattle.nv_driver.specs.declared.error.DriverError.{DriverError}
@@ -106,32 +106,38 @@ last_cut end reads script s bytes left read h =
       later = [];
       lines = inr (read, h.0);
       beginning = h.1;
+      at_once = omega (arith, length-joined ended last, length-pieces bytes);
       ahead = omega (arith, length-joined ended last, length-pieces bytes);
     }
 
 -- in a line of a further piece
 pub piece_cut : (end : RunEnd) (reads : ℕ) (script : SourceState) (s : State) (bytes piece : List ℕ)
     (line : Option (List ℕ)) (left : Left) (session : Session) → length piece ≤ read_size
+    → script.last_given ≡ length piece
     → PieceLeaves {A = Unit {0}} (Err end) s bytes piece line left session
     → IsCutShort end reads script s (bytes ++ piece) left
-piece_cut end reads script s bytes piece line left session small h =
+piece_cut end reads script s bytes piece line left session small last h =
     let i = h.0 in
     let xs = bytes ++ take i piece in
     let among = piece-among bytes piece i h.1 h.2 in
+    let at_once : length (bytes ++ piece)
+    < length (joined_lines ((pieces xs).ended ++ (pieces xs).last ∷ [])) + script.last_given = omega (
+      arith,
+      last,
+      length-joined (pieces xs).ended (pieces xs).last,
+      length-pieces xs,
+      length-append bytes (take i piece),
+      length-take-le i piece (omega arith),
+      length-append bytes piece,
+    ) in
     record {
       before = (pieces xs).ended;
       line = (pieces xs).last;
       later = among.0;
       lines = inl among.1;
       beginning = h.3;
-      ahead = omega (
-        arith,
-        length-joined (pieces xs).ended (pieces xs).last,
-        length-pieces xs,
-        length-append bytes (take i piece),
-        length-take-le i piece (omega arith),
-        length-append bytes piece,
-      );
+      at_once = at_once;
+      ahead = omega (arith, at_once, last, small);
     }
 
 -- what a run leaves that was cut short in a line

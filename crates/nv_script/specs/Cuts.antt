@@ -86,8 +86,9 @@ AreFailed _ out messages = ⊥
 abbrev pub joined_lines : List (List ℕ) → List ℕ
 joined_lines lines = flat_map (λ line. line ++ 10 ∷ []) lines
 
--- a run that read these bytes was cut short in one of the lines that were read, and had read at most
--- 4,095 bytes past that line's newline
+-- A run that read these bytes was cut short in one of the lines that were read. The last read
+-- returned that line's newline, or there is none: no read left a line undone whose newline had been
+-- read before. At most 4,095 bytes past that newline were read.
 pub record IsCutShort (end : RunEnd) (reads : ℕ) (script : SourceState) (s : State) (bytes : List ℕ)
     (left : Left) : Type 0 where
   pub before : List (List ℕ)
@@ -95,4 +96,5 @@ pub record IsCutShort (end : RunEnd) (reads : ℕ) (script : SourceState) (s : S
   pub later : List (List ℕ)
   pub lines : AreRead reads script bytes (before ++ line ∷ later)
   pub beginning : IsCutIn end (whole s before) line left
+  pub at_once : length bytes < length (joined_lines (before ++ line ∷ [])) + script.last_given
   pub ahead : length bytes < length (joined_lines (before ++ line ∷ [])) + read_size

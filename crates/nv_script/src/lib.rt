@@ -19,4 +19,4 @@ pub use nv_stream::{
     Held, OverHeld, OverRead, OverWrite, READ_SIZE, Retrying, Sink, SinkAfter, Source, SourceAfter,
 };
 pub use performing::each_is_shown;
-pub use running::{READ_LIMIT, RunOptions, run, run_within};
+pub use running::{READ_LIMIT, run, run_within};

@@ -155,32 +155,24 @@ fn run_session<B: Bus, R: Source, O: Sink, M: Sink>(
 /// The greatest number of reads of one run.
 pub const READ_LIMIT: u32 = u32::MAX;
 
-/// What a run is given besides its bus and its streams.
-#[derive(Clone, Copy, Debug, PartialEq, Eq)]
-pub struct RunOptions {
-    /// The geometry of the driver.
-    pub geometry: Geometry,
-    /// The greatest number of reads.
-    pub reads: u32,
-}
-
-/// Runs a script as `run` does, with at most `options.reads` reads. The bytes of the last read
-/// count, and after it the run ends as after a failed read, whatever it returned.
+/// Runs a script as `run` does, with at most `reads` reads. The bytes of the last read count, and
+/// after it the run ends as after a failed read, whatever it returned.
 pub fn run_within<B: Bus, R: Source, O: Sink, M: Sink>(
     alloc: Global,
     bus: &mut B,
-    options: RunOptions,
+    geometry: Geometry,
     script: &mut R,
     out: &mut O,
     messages: &mut M,
+    reads: u32,
 ) -> RunEnd
     requires bus { IsBus (B.meaning bus.old) }
     requires fresh_script { IsFresh (R.state script.old) }
     requires fresh_out { (O.state out.old).has_failed ≡ false }
     requires fresh_messages { (M.state messages.old).has_failed ≡ false }
-    requires some_read { 0 < options.reads }
+    requires some_read { 0 < reads }
     // The main promise: how the run ends, what each end leaves behind, and when each fault comes.
-    ensures run { IsRun options.geometry options.reads result
+    ensures run { IsRun geometry reads result
         (run_state (B.meaning bus.old) (R.state script.old) (O.state out.old)
         (M.state messages.old))
         (run_state (B.meaning bus.new) (R.state script.new) (O.state out.new)
@@ -188,8 +180,8 @@ pub fn run_within<B: Bus, R: Source, O: Sink, M: Sink>(
     // The bus can be used for another run.
     ensures bus { IsBus (B.meaning bus.new) }
 {
-    match Session::begin(alloc, bus, options.geometry) {
-        Ok(mut session) => run_session(bus, &mut session, script, out, messages, options.reads),
+    match Session::begin(alloc, bus, geometry) {
+        Ok(mut session) => run_session(bus, &mut session, script, out, messages, reads),
         Err(end) => end,
     }
 }
@@ -221,9 +213,5 @@ pub fn run<B: Bus, R: Source, O: Sink, M: Sink>(
     // The bus can be used for another run.
     ensures bus { IsBus (B.meaning bus.new) }
 {
-    let options = RunOptions {
-        geometry,
-        reads: READ_LIMIT,
-    };
-    run_within(alloc, bus, options, script, out, messages)
+    run_within(alloc, bus, geometry, script, out, messages, READ_LIMIT)
 }

@@ -421,6 +421,18 @@ fn writes_again_after_interrupted_writes(rt: HostRuntime) -> Result<(), Fail> {
 }
 
 #[test]
+fn repeats_a_write_that_is_interrupted_a_thousand_times(rt: HostRuntime) {
+    let turns = [INTERRUPTED; 1000];
+    let mut inner = TurnWriter::new(&turns);
+    let mut writer = Retrying::new(&mut inner);
+    match writer.write(b"abc") {
+        Ok(count) => assert_eq!(rt; count, 3),
+        Err(_) => assert!(rt; false),
+    }
+    inner.check(&rt, ("abc", 1001));
+}
+
+#[test]
 fn tries_no_write_again_after_another_error(rt: HostRuntime) -> Result<(), Fail> {
     let turns = [
         INTERRUPTED,

@@ -30,7 +30,8 @@ pub trait Source {
         ensures failure { (state self.new).has_failed ≡ is_none result }
         ensures end { (state self.new).has_ended ≡ is_end result }
         ensures call { (state self.new).calls ≡ (state self.old).calls + 1 }
-        ensures count { (state self.new).given ≡ (state self.old).given + unwrap_or result 0 };
+        ensures count { (state self.new).given ≡ (state self.old).given + unwrap_or result 0 }
+        ensures last { (state self.new).last_given ≡ unwrap_or result 0 };
 }
 
 /// Takes bytes in pieces. A write that fails takes none.
@@ -57,6 +58,7 @@ pub struct OverRead<R> {
     ended: bool,
     calls: u64,
     given: u64,
+    last_given: u64,
 }
 
 impl<R: Read> OverRead<R> {
@@ -70,6 +72,7 @@ impl<R: Read> OverRead<R> {
             ended: false,
             calls: 0,
             given: 0,
+            last_given: 0,
         }
     }
 }
@@ -81,6 +84,7 @@ impl<R: Read> Source for OverRead<R> {
       has_ended = s.ended;
       calls = s.calls;
       given = s.given;
+      last_given = s.last_given;
     } };
 
     fn read(&mut self, buf: &mut [u8]) -> Option<usize> {
@@ -88,11 +92,13 @@ impl<R: Read> Source for OverRead<R> {
         match self.reader.read(buf) {
             Ok(n) => {
                 self.ended = n == 0;
-                self.given += n as u64;
+                self.last_given = n as u64;
+                self.given += self.last_given;
                 Some(n)
             }
             Err(_) => {
                 self.failed = true;
+                self.last_given = 0;
                 None
             }
         }

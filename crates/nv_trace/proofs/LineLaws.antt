@@ -1,9 +1,13 @@
 -- Lines that get longer.
-use Rattle.std.proofs.Common.{◌≡◌, ◌∙◌, ℕ, ◌+◌, ◌-◌, ◌<◌, ◌≤◌, List, [], ◌∷◌, ◌++◌}
-use Rattle.std.proofs.Common.{ap, arith, drop, length, min, set, suc, sym, take}
+use Rattle.std.proofs.Common.{◌≡◌, ◌∙◌, ℕ, ◌+◌, ◌-◌, ◌<◌, ◌≤◌, List, [], ◌∷◌, ◌++◌, append_assoc, append-nil}
+use Rattle.std.proofs.Common.{ap, arith, drop, inl, inr, length, min, refl, set, subst, suc, sym, take, zero}
+use Rattle.std.proofs.Common.{Option, None, Some}
 use Rattle.std.proofs.Math.Seq.{take-append-add}
 use Rattle.std.proofs.lemmas.List.{length-take, length-take-le, same_lists, set_split, places}
 use Rattle.std.proofs.lemmas.Slice.{take-put_mid}
+use Rattle.std.specs.Fmt.{WritesText}
+use Rattle.std.specs.List.{FoldsTo, concat}
+use Rattle.nv_trace.specs.inner.Said.{IsLineOf}
 use borrow.Rule.Slice.PartMut.{put_mid}
 
 -- the first n and k of a line and what follows it
@@ -26,3 +30,34 @@ longer xs ys n k few long is =
     ∙ ap (λ zs. take n xs ++ zs) (ap (λ m. take m ys) is ∙ take_least ys (319 - n))
     ∙ sym (first_of xs ys n (319 - n) (omega arith))
     ∙ ap (λ m. take m (take n xs ++ ys)) {y = 319} (omega arith)
+
+-- ---- a text in several parts
+
+first_of_both : (n : ℕ) (xs ys : List ℕ) → take n (take n xs ++ ys) ≡ take n (xs ++ ys)
+first_of_both zero xs ys = refl
+first_of_both (suc n) [] ys = refl
+first_of_both (suc n) (x ∷ xs) ys = ap (λ l. x ∷ l) (first_of_both n xs ys)
+
+-- what a line is after one more part
+abbrev pub Took : ℕ → List ℕ → List ℕ → List ℕ → Type 0
+Took n line part longer = longer ≡ take n (line ++ part)
+
+all_parts : (n : ℕ) (line : List ℕ) (parts : List (List ℕ)) (longer : List ℕ)
+    → FoldsTo (Took n) (take n line) parts longer → longer ≡ take n (line ++ concat parts)
+all_parts n line [] longer same = sym same ∙ ap (λ l. take n l) (sym (append-nil line))
+all_parts n line (part ∷ parts) longer h =
+    let is : h.0 ≡ take n (line ++ part) = h.1 ∙ first_of_both n line part in
+    all_parts n (line ++ part) parts longer (subst (λ l. FoldsTo (Took n) l parts longer) is h.2)
+    ∙ ap (λ l. take n l) (append_assoc line part (concat parts))
+
+-- the line of a whole text
+pub line_made : (said : Option (List ℕ)) (line longer : List ℕ) → line ≡ []
+    → WritesText (Took 319) line said longer → IsLineOf said longer
+line_made None line longer none h = tt
+line_made (Some text) line longer none h =
+    inl (all_parts 319 [] h.parts longer (subst (λ l. FoldsTo (Took 319) l h.parts longer) none h.calls)
+    ∙ ap (λ l. take 319 l) h.whole)
+
+pub empty_line : (said : Option (List ℕ)) (line : List ℕ) → line ≡ [] → IsLineOf said line
+empty_line None line is = tt
+empty_line (Some text) line is = inr is

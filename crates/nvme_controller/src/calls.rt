@@ -2,6 +2,7 @@
 ghost use Rattle.std.specs.Prelude.{◌≡◌, ◌<◌, IfErr, IfOk, IfSome, IsTrue, None, Option, Some};
 ghost use Rattle.std.specs.Prelude.{ℕ, [], List, length, pos};
 ghost use Rattle.nv_bus.specs.Bus.{BusValue, IsBus};
+ghost use Rattle.nv_file.specs.Demo.{demo_text};
 ghost use Rattle.nv_host.specs.Pages.{are_pages};
 ghost use Rattle.nv_model.specs.LogEntry.{counts_of, log_entry_of};
 ghost use Rattle.nv_subsystem.specs.FromFile.{subsystem};
@@ -40,10 +41,11 @@ fn machine_of(alloc: Global, file: &[u8]) -> Result<Box<Machine>, SubsystemError
     Ok(place)
 }
 
-/// Opens the machine of a subsystem file. Returns 0, or the number of the file's first fault, whose
-/// text is written to `fault`.
+/// Opens the machine of a subsystem file in a closed handle. Returns 0, or the number of the file's
+/// first fault, whose text is written to `fault`.
 #[tactic(auto, using(crate::proofs::OpenLaws::faults))]
 fn open(alloc: Global, file: &[u8], handle: &mut Handle, fault: &mut [u8]) -> i32
+    requires closed { handle.old.machine ≡ None }
     ensures opens { Opens (subsystem file.now) result handle.old.machine handle.new.machine }
     ensures open { result ≡ pos 0 → IsOpen handle.new.machine }
     ensures fault { Tells (subsystem file.now) result fault.new }
@@ -58,8 +60,8 @@ fn open(alloc: Global, file: &[u8], handle: &mut Handle, fault: &mut [u8]) -> i3
     }
 }
 
-/// Opens the machine of a subsystem file. Returns 0, or the number of the file's first fault, whose
-/// text is written to `fault`.
+/// Opens the machine of a subsystem file in a closed handle. Returns 0, or the number of the file's
+/// first fault, whose text is written to `fault`.
 #[unsafe(no_mangle)]
 pub extern "C" fn nvme_handle_open(
     alloc: Global,
@@ -67,6 +69,7 @@ pub extern "C" fn nvme_handle_open(
     handle: &mut Handle,
     fault: &mut [u8],
 ) -> i32
+    requires closed { handle.old.machine ≡ None }
     ensures opens { Opens (subsystem file.now) result handle.old.machine handle.new.machine }
     ensures open { result ≡ pos 0 → IsOpen handle.new.machine }
     ensures fault { Tells (subsystem file.now) result fault.new }
@@ -74,11 +77,12 @@ pub extern "C" fn nvme_handle_open(
     open(alloc, file, handle, fault)
 }
 
-/// Opens the machine of the demonstration subsystem. Returns 0, or the number of the fault, which
-/// is too little memory.
+/// Opens the machine of the demonstration subsystem in a closed handle. Returns 0, or the number of
+/// the fault, which is too little memory.
 #[unsafe(no_mangle)]
 pub extern "C" fn nvme_handle_demo(alloc: Global, handle: &mut Handle) -> i32
-    ensures opens { Opens (subsystem DEMO.now) result handle.old.machine handle.new.machine }
+    requires closed { handle.old.machine ≡ None }
+    ensures opens { Opens (subsystem demo_text) result handle.old.machine handle.new.machine }
     ensures open { result ≡ pos 0 → IsOpen handle.new.machine }
 {
     open(alloc, DEMO.as_bytes(), handle, &mut [])

@@ -61,8 +61,9 @@ impl Handle {
         held.into_parts().into_box()
     }
 
-    /// Puts a machine into the handle.
+    /// Puts a machine into the handle. A machine that it had would never be dropped.
     pub(crate) fn put(&mut self, machine: Box<Machine>)
+        requires { self.old.machine ≡ None }
         ensures { self.new.machine ≡ Some machine.value }
     {
         *self = Handle::of_parts(Parts::of(machine));

@@ -1,5 +1,5 @@
 -- What reading answers, by the checks of what is read and by what it holds.
-use Rattle.std.specs.Prelude.{◌≡◌, ◌⊎◌, List, None, Some, Result, Ok, Err}
+use Rattle.std.specs.Prelude.{◌≡◌, ◌⊎◌, List, None, Some, IfSome, Result, Ok, Err}
 use Rattle.nv_file.specs.declared.error.SubsystemError.{SubsystemError}
 use Rattle.nv_file.specs.declared.error.SubsystemError.TheVariants.{Memory}
 use Rattle.nv_file.specs.Check.{Check, first_fault}
@@ -25,3 +25,7 @@ abbrev pub IsCheckedUnlessMemory : {X Y : Type 0} → (X → Y) → List Check �
     → Result X SubsystemError → Type 0
 IsCheckedUnlessMemory view checks value (Ok x) = (first_fault checks ≡ None) × (view x ≡ value)
 IsCheckedUnlessMemory view checks value (Err e) = (e ≡ Memory) ⊎ (first_fault checks ≡ Some e)
+
+-- the first of these checks that fails is answered, whatever memory there is
+abbrev pub IsToldFirst : {X : Type 0} → List Check → Result X SubsystemError → Type 0
+IsToldFirst checks result = IfSome (first_fault checks) (λ e. result ≡ Err e)

@@ -1,6 +1,6 @@
 use Rattle.std.proofs.Common.{◌≤◌, arith, length}
 use Rattle.std.proofs.lemmas.Grind.{common_steps}
-use Rattle.nv_program.specs.inner.Asked.{most_bytes}
+use Rattle.nv_program.specs.Asked.{most_bytes}
 use Rattle.nv_program.proofs.Files.{all_read}
 use Rattle.nv_program.proofs.asking.bytes_of.Goals as goal
 

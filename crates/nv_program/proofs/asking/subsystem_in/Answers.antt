@@ -1,7 +1,7 @@
 use Rattle.std.proofs.Common.{◌≡◌, ◌⊎◌, ◌∙◌, ap, subst, sym, Ok, Err}
 use Rattle.std.proofs.lemmas.Result.{err_from_is_err_and}
 use Rattle.nv_file.specs.declared.error.SubsystemError.TheVariants.{Memory}
-use Rattle.nv_program.specs.inner.Asked.{IsSubsystemIn}
+use Rattle.nv_program.specs.Asked.{IsSubsystemIn}
 use Rattle.nv_program.specs.Stops.{of_file}
 use Rattle.nv_program.proofs.Files.{in_file, refused_in}
 use Rattle.nv_program.proofs.asking.subsystem_in.Goals as goal

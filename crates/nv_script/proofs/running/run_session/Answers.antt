@@ -1,4 +1,4 @@
-use Rattle.std.proofs.Common.{◌∙◌, ◌≤◌, ◌++◌, [], arith, length, refl, take}
+use Rattle.std.proofs.Common.{◌≡◌, ◌∙◌, ◌≤◌, ◌++◌, [], arith, length, refl, sym, take}
 use Rattle.std.proofs.lemmas.Bool.Decides.{nat_tests}
 use Rattle.std.proofs.lemmas.List.{length-take-le}
 use Rattle.nv_stream.specs.Streams.{read_size}
@@ -61,8 +61,10 @@ returns-in-Err-feed-clause-runs g c =
       c.read.auto.buf,
       c.loop-call.invariant.room,
     ) in
+    let last : (g.R.Source.state c.read.new.self).last_given ≡ length piece =
+    some.last ∙ sym (length-take-le c.in-Some.count c.read.new.buf some.bound) in
     let cut =
-    piece_cut c.in-Err-feed.cut c.args.reads _ s run.0 piece c.feed.new.line _ c.feed.new.session small
+    piece_cut c.in-Err-feed.cut c.args.reads _ s run.0 piece c.feed.new.line _ c.feed.new.session small last
     (c.in-Err-feed.ensures.left s run.0 _ _ run.2 run.3) in
     record {
       bytes = run.0 ++ piece;

@@ -10,10 +10,10 @@ returns-in-Ok-clause-run g c =
     let old : RunState = run_state (g.B.Bus.meaning c.args.bus.now) (g.R.Source.state c.args.script.now)
     (g.O.Sink.state c.args.out.now) (g.M.Sink.state c.args.messages.now) in
     let begun = g.B.Bus.meaning c.begin.new.bus in
-    let well = fresh_well c.args.options.reads old c.requires.fresh_script c.requires.some_read c.requires.fresh_out
+    let well = fresh_well c.args.reads old c.requires.fresh_script c.requires.some_read c.requires.fresh_out
     c.requires.fresh_messages in
-    is_run c.args.options.geometry c.args.options.reads c.run_session.result old _ well
-    (with_driver c.args.options.geometry c.args.options.reads c.run_session.result old _ begun.state
+    is_run c.args.geometry c.args.reads c.run_session.result old _ well
+    (with_driver c.args.geometry c.args.reads c.run_session.result old _ begun.state
     (enabled_in begun.banks) c.in-Ok.ensures.fault c.in-Ok.ensures.state c.run_session.ensures.runs
     (all_enabled (g.B.Bus.meaning c.run_session.new.bus) c.run_session.new.session.driver c.run_session.ensures.linked))
 
@@ -23,6 +23,6 @@ returns-in-Err-clause-run g c =
     (g.O.Sink.state c.args.out.now) (g.M.Sink.state c.args.messages.now) in
     let same = ap (λ (b : BusValue). run_state b (g.R.Source.state c.args.script.now) (g.O.Sink.state c.args.out.now)
     (g.M.Sink.state c.args.messages.now)) c.in-Err.ensures.untouched in
-    let well = fresh_well c.args.options.reads old c.requires.fresh_script c.requires.some_read c.requires.fresh_out
+    let well = fresh_well c.args.reads old c.requires.fresh_script c.requires.some_read c.requires.fresh_out
     c.requires.fresh_messages in
-    is_run c.args.options.geometry c.args.options.reads c.in-Err.end old _ well (inl (c.in-Err.ensures.fault, same))
+    is_run c.args.geometry c.args.reads c.in-Err.end old _ well (inl (c.in-Err.ensures.fault, same))
