@@ -1,23 +1,20 @@
-//! Commands, and their conversion to and from submission queue entries.
+//! Commands, and their conversion to submission queue entries.
 
 ghost use Rattle.std.specs.Prelude.{◌≡◌};
 ghost use Rattle.nv_layout.specs.Sqe.{SqeFits};
 ghost use Rattle.nv_command.specs.Command.{CommandFits, host_data_of, transfer_by};
 ghost use Rattle.nv_command.specs.Form.{namespace_of};
-ghost use Rattle.nv_command.specs.Decoding.{command_of};
 ghost use Rattle.nv_command.specs.Entry.{entry_of};
 ghost use Rattle.nv_command.specs.Form.{form_of};
 ghost use Rattle.nv_command.specs.Reply.{with_data};
 ghost use Rattle.nv_command.specs.Travel.{Arrives};
 
-use crate::decoded::Decoded;
 use crate::features::{FeatureQuery, FeatureSetting};
 use crate::format::NewFormat;
 use crate::identify;
 use crate::logs::LogQuery;
-use crate::status_code::StatusCode;
 use crate::transfer::{Form, PAGE_FROM_HOST, ReplyKind, Transfer};
-use nv_layout::{ControllerIds, CtrlList, NewNamespace, Sqe};
+use nv_layout::{ControllerIds, NewNamespace, Sqe};
 
 /// The NSID that stands for all namespaces. Section "Namespace Identifier".
 pub const BROADCAST_NSID: u32 = 0xffff_ffff;
@@ -178,13 +175,5 @@ impl<'a> Command<'a> {
             Command::Attachment { list, .. } => list.put(page),
             _ => {}
         }
-    }
-
-    /// Returns the command of an entry and of the data that the host sent with it, or the status of
-    /// the first rule that the entry or its data breaks, as `Decoded::of` and `Decoded::command` do.
-    pub fn of(entry: &Sqe, sent: &[u8], place: &'a mut CtrlList) -> Result<Command<'a>, StatusCode>
-        ensures { result ≡ command_of entry.now sent.now }
-    {
-        Decoded::of(entry)?.command(sent, place)
     }
 }

@@ -1,8 +1,8 @@
-//! Replies, and their conversion to what a completion and the data to the host hold.
+//! Replies, and the bytes of those that are logs.
 
 ghost use Rattle.std.specs.Prelude.{◌≡◌, length};
 ghost use Rattle.nv_layout.specs.Parts.{part};
-ghost use Rattle.nv_command.specs.Reply.{dword0_of, log_of, page_of, with_data};
+ghost use Rattle.nv_command.specs.Reply.{log_of};
 
 use crate::borrowed::Borrowed;
 use nv_layout::{ErrorEntries, IdCtrl, IdNs, NamespaceIds, Smart};
@@ -27,28 +27,6 @@ pub enum Reply<'a> {
 }
 
 impl<'a> Reply<'a> {
-    /// Returns dword 0 of its completion.
-    pub fn dword0(&self) -> u32
-        ensures { result ≡ dword0_of self.now }
-    {
-        match self {
-            Reply::Number(number) => *number,
-            _ => 0,
-        }
-    }
-
-    /// Writes its page to the beginning of a page of 4,096 bytes. Writes nothing if it has none.
-    pub fn put(&self, page: &mut [u8; 4096])
-        ensures { page.new ≡ with_data (page_of self.now) page.old }
-    {
-        match self {
-            Reply::Controller(controller) => controller.get().put(page),
-            Reply::Namespace(namespace) => namespace.get().put(page),
-            Reply::List(list) => list.put(page),
-            _ => {}
-        }
-    }
-
     /// Fills `out` with the bytes of its log from `from` on, and with zeros past the log's end, or
     /// with zeros alone if it is no log.
     pub fn fill(&self, from: usize, out: &mut [u8])

@@ -18,7 +18,7 @@ ghost use Rattle.nv_driver.specs.inner.Submitting.{place_of, request_as};
 use crate::checked_geometry::CheckedGeometry;
 use crate::layout::MOST_ENTRY_BYTES;
 use crate::queue_pair::QueuePair;
-use nv_command::{Command, Transfer};
+use nv_command::{Command, Decoded, Transfer};
 use nv_host::{HostMemory, PageNo, Payload};
 use nv_layout::Sqe;
 use nv_model::SERIALS;
@@ -76,9 +76,10 @@ fn transfer_for(entry: &Sqe) -> Transfer
     ensures room { HasRoom result }
     ensures few { length_of result ≤ greatest_limit }
 {
-    let Ok(transfer) = Transfer::of(entry) else {
+    let Ok(asked) = Decoded::of(entry) else {
         return Transfer::NoData;
     };
+    let transfer = asked.transfer();
     if transfer.bytes() <= u64::from(MOST_ENTRY_BYTES) {
         transfer
     } else {

@@ -2,7 +2,7 @@
 
 use nv_controller::Machine;
 use nv_layout::ThreeBits;
-use nv_subsystem::{Command, FeatureQuery, Reply, ReplyRoom, Subsystem};
+use nv_subsystem::{Command, FeatureQuery, Subsystem};
 
 /// How many refusals and commands the controller has counted, and the current value of its write
 /// cache, if there is one.
@@ -23,10 +23,9 @@ fn cache_of(subsystem: &Subsystem) -> Option<u32> {
     if subsystem.controllers() == 0 {
         return None;
     }
-    let mut room = ReplyRoom::new();
-    match subsystem.answer(0, &get, &mut room) {
-        Ok(Reply::Number(value)) => Some(value),
-        _ => None,
+    match subsystem.refusal(0, &get) {
+        None => Some(subsystem.dword0(0, &get)),
+        Some(_) => None,
     }
 }
 

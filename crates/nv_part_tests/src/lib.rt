@@ -1,5 +1,5 @@
 //! Tests of the parts of which controllers and drivers are made: lists, logs, sets, pages, replies,
-//! and errors as text.
+//! a subsystem without a bus, and errors as text.
 #![tactic(auto)]
 
 #[cfg(test)]
@@ -18,3 +18,5 @@ mod queue;
 mod records_of_logs;
 #[cfg(test)]
 mod replies;
+#[cfg(test)]
+mod subsystem;

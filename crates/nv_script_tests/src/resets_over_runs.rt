@@ -5,7 +5,7 @@ ghost use Rattle.nv_bus.specs.Bus.{IsBus};
 use nv_controller::Machine;
 use nv_layout::ThreeBits;
 use nv_script::{Geometry, GeometryField, OverRead, OverWrite, RunEnd, run};
-use nv_subsystem::{Command, DEMO, FeatureQuery, Reply, ReplyRoom, Subsystem};
+use nv_subsystem::{Command, DEMO, FeatureQuery, Subsystem};
 use std::alloc::Global;
 use std::process::Abort;
 use std::test::Fail;
@@ -91,14 +91,10 @@ fn expect_cache_off(rt: &impl Abort, machine: &Machine) {
         nsid: 0,
         cdw11: 0,
     });
-    let mut room = ReplyRoom::new();
-    assert!(rt; machine.subsystem().controllers() == 2);
-    assert!(rt;
-        matches!(
-            machine.subsystem().answer(0, &get, &mut room),
-            Ok(Reply::Number(0))
-        )
-    );
+    let subsystem = machine.subsystem();
+    assert!(rt; subsystem.controllers() == 2);
+    assert!(rt; subsystem.refusal(0, &get).is_none());
+    assert!(rt; subsystem.dword0(0, &get) == 0);
 }
 
 /// If the geometry is out of its limits, no controller is touched.

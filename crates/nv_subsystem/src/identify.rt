@@ -1,22 +1,19 @@
 //! The Identify commands: when they are refused, and what they return. Section "Identify command".
 
 ghost use Rattle.std.specs.Prelude.{◌≡◌, ◌≤◌, ◌<◌, ◌∷◌, [], length, All};
-ghost use Rattle.nv_command.specs.Reply.{page_of};
 ghost use Rattle.nv_command.specs.declared.reply.Reply.TheVariants as reply;
 ghost use Rattle.nv_model.specs.WellFormed.{blocks};
-ghost use Rattle.nv_model.specs.Identify.{active_list_reply, active_namespace, active_reply};
-ghost use Rattle.nv_model.specs.Identify.{active_rows, allocated_list_reply};
-ghost use Rattle.nv_model.specs.Identify.{allocated_namespace, allocated_reply, allocated_rows};
+ghost use Rattle.nv_model.specs.Identify.{active_namespace, active_reply};
+ghost use Rattle.nv_model.specs.Identify.{active_rows, allocated_namespace, allocated_rows};
 ghost use Rattle.nv_model.specs.Identify.{blank, common_of, flbas_of, id_ns_of, lbaf_of};
 ghost use Rattle.nv_model.specs.Identify.{lbafs_of, list_rows};
 ghost use Rattle.nv_model.specs.Conditions.{is_active, row};
 ghost use Rattle.nv_command.specs.declared.status_code.StatusCode.TheVariants.{InvalidNamespaceOrFormat};
 ghost use Rattle.nv_model.specs.inner.Conditions.{Checks};
 
-use crate::nsid_lists::{list_above, put_above};
 use crate::subsystem::Subsystem;
-use nv_command::{BROADCAST_NSID, Borrowed, Refusal, Reply, ReplyRoom, StatusCode};
-use nv_layout::{IdNs, Lbaf, NsList};
+use nv_command::{BROADCAST_NSID, Refusal, StatusCode};
+use nv_layout::{IdNs, Lbaf};
 use nv_model::{Format, Namespace};
 
 /// The least NSID after which no list can be requested.
@@ -56,7 +53,7 @@ impl Subsystem {
     }
 
     /// Returns the data of an allocated namespace, or zeros if there is none.
-    fn allocated(&self, nsid: u32) -> IdNs
+    pub(crate) fn allocated(&self, nsid: u32) -> IdNs
         ensures { result ≡ allocated_namespace self.now nsid }
     {
         match self.slots.get(nsid) {
@@ -86,7 +83,7 @@ impl Subsystem {
     }
 
     /// Returns the data for an active namespace, or for the broadcast NSID what all have in common.
-    fn active_data(&self, ctrl: u16, nsid: u32) -> IdNs
+    pub(crate) fn active_data(&self, ctrl: u16, nsid: u32) -> IdNs
         requires { ctrl < length self.now.controllers }
         ensures { active_reply self.now ctrl nsid ≡ reply.Namespace result }
     {
@@ -95,72 +92,6 @@ impl Subsystem {
         } else {
             self.active(ctrl, nsid)
         }
-    }
-
-    /// Stores the reply for an active namespace.
-    pub(crate) fn keep_active(&self, ctrl: u16, nsid: u32, room: &mut ReplyRoom)
-        requires { ctrl < length self.now.controllers }
-        ensures { room.new ≡ active_reply self.now ctrl nsid }
-    {
-        let data = self.active_data(ctrl, nsid);
-        room.keep(&Reply::Namespace(Borrowed::new(&data)));
-    }
-
-    /// Writes the page of that reply.
-    pub(crate) fn put_active(&self, ctrl: u16, nsid: u32, page: &mut [u8; 4096])
-        requires { ctrl < length self.now.controllers }
-        ensures { page.new ≡ page_of (active_reply self.now ctrl nsid) }
-    {
-        self.active_data(ctrl, nsid).put(page);
-    }
-
-    /// Stores the reply for an allocated namespace.
-    pub(crate) fn keep_allocated(&self, nsid: u32, room: &mut ReplyRoom)
-        ensures { room.new ≡ allocated_reply self.now nsid }
-    {
-        let data = self.allocated(nsid);
-        room.keep(&Reply::Namespace(Borrowed::new(&data)));
-    }
-
-    /// Writes the page of that reply.
-    pub(crate) fn put_allocated(&self, nsid: u32, page: &mut [u8; 4096])
-        ensures { page.new ≡ page_of (allocated_reply self.now nsid) }
-    {
-        self.allocated(nsid).put(page);
-    }
-
-    /// Stores the reply with the NSIDs above `after` that are attached to a controller.
-    pub(crate) fn keep_active_list(&self, ctrl: u16, after: u32, room: &mut ReplyRoom)
-        requires { ctrl < length self.now.controllers }
-        ensures { room.new ≡ active_list_reply self.now ctrl after }
-    {
-        let mut list = NsList::new();
-        list_above(&self.controllers[ctrl as usize].attached, after, &mut list);
-        room.keep(&Reply::List(list.ids()));
-    }
-
-    /// Writes the page of that reply.
-    pub(crate) fn put_active_list(&self, ctrl: u16, after: u32, page: &mut [u8; 4096])
-        requires { ctrl < length self.now.controllers }
-        ensures { page.new ≡ page_of (active_list_reply self.now ctrl after) }
-    {
-        put_above(&self.controllers[ctrl as usize].attached, after, page);
-    }
-
-    /// Stores the reply with the allocated NSIDs above `after`.
-    pub(crate) fn keep_allocated_list(&self, after: u32, room: &mut ReplyRoom)
-        ensures { room.new ≡ allocated_list_reply self.now after }
-    {
-        let mut list = NsList::new();
-        list_above(&self.slots, after, &mut list);
-        room.keep(&Reply::List(list.ids()));
-    }
-
-    /// Writes the page of that reply.
-    pub(crate) fn put_allocated_list(&self, after: u32, page: &mut [u8; 4096])
-        ensures { page.new ≡ page_of (allocated_list_reply self.now after) }
-    {
-        put_above(&self.slots, after, page);
     }
 }
 

@@ -1,14 +1,12 @@
 //! The Identify data of a controller. Section "Identify Controller data structure (CNS 01h)".
 
-ghost use Rattle.std.specs.Prelude.{◌≡◌, ◌<◌, length};
+ghost use Rattle.std.specs.Prelude.{◌≡◌};
 ghost use Rattle.nv_subsystem.specs.inner.ControllerView.{controller_view};
-ghost use Rattle.nv_command.specs.Reply.{page_of};
-ghost use Rattle.nv_model.specs.IdentifyController.{cmic_of, controller_reply, fna_of};
+ghost use Rattle.nv_model.specs.IdentifyController.{cmic_of, fna_of};
 ghost use Rattle.nv_model.specs.IdentifyController.{id_ctrl_of, padded};
 
 use crate::controller::Controller;
 use crate::subsystem::Subsystem;
-use nv_command::{Borrowed, Reply, ReplyRoom};
 use nv_layout::IdCtrl;
 
 /// Returns a text with padding after it.
@@ -42,7 +40,7 @@ impl Subsystem {
     /// Returns the data of a controller: version 1.4, with Format NVM and Namespace Management
     /// (OACS), one firmware slot (FRMW), offsets into logs (LPA), entries of 64 and of 16 bytes
     /// (SQES, CQES), and feature values that can be saved (ONCS).
-    fn id_ctrl(&self, controller: &Controller) -> IdCtrl
+    pub(crate) fn id_ctrl(&self, controller: &Controller) -> IdCtrl
         ensures { result ≡ id_ctrl_of self.now (controller_view controller.now) }
     {
         let identity = &controller.identity;
@@ -76,22 +74,5 @@ impl Subsystem {
             vwc: numbers.vwc,
             subnqn: padded(self.subnqn.as_bytes(), 0),
         }
-    }
-
-    /// Stores the reply with a controller's data.
-    pub(crate) fn keep_controller(&self, ctrl: u16, room: &mut ReplyRoom)
-        requires { ctrl < length self.now.controllers }
-        ensures { room.new ≡ controller_reply self.now ctrl }
-    {
-        let data = self.id_ctrl(&self.controllers[ctrl as usize]);
-        room.keep(&Reply::Controller(Borrowed::new(&data)));
-    }
-
-    /// Writes the page of that reply.
-    pub(crate) fn put_controller(&self, ctrl: u16, page: &mut [u8; 4096])
-        requires { ctrl < length self.now.controllers }
-        ensures { page.new ≡ page_of (controller_reply self.now ctrl) }
-    {
-        self.id_ctrl(&self.controllers[ctrl as usize]).put(page);
     }
 }

@@ -24,6 +24,7 @@
 mod attachment;
 mod controller;
 mod error_log;
+mod execute;
 mod feature_value;
 mod feature_values;
 mod features;

@@ -12,14 +12,13 @@ ghost use Rattle.nv_model.specs.inner.Conditions.{Checks};
 use crate::controller::Controller;
 use crate::subsystem::Subsystem;
 use nv_command::{
-    BROADCAST_NSID, Borrowed, ERROR_INFORMATION, HEALTH, LogQuery, Refusal, Reply, ReplyRoom,
-    StatusCode,
+    BROADCAST_NSID, Borrowed, ERROR_INFORMATION, HEALTH, LogQuery, Refusal, Reply, StatusCode,
 };
 use nv_layout::{ErrorEntries, Smart};
 
 impl Controller {
     /// Returns the error log, newest first, with entries without an error up to ELPE + 1.
-    fn errors(&self) -> ErrorEntries<'_>
+    pub(crate) fn errors(&self) -> ErrorEntries<'_>
         requires { self.now.log.most ≡ self.now.identity.numbers.elpe + 1 }
         ensures { result ≡ errors_of (controller_view self.now) }
     {
@@ -27,7 +26,7 @@ impl Controller {
     }
 
     /// Returns the health log: what the file says, and how many commands were refused.
-    fn health(&self) -> Smart
+    pub(crate) fn health(&self) -> Smart
         ensures { result ≡ smart_of (controller_view self.now) }
     {
         let smart = self.smart;
@@ -95,21 +94,7 @@ impl Subsystem {
         }
     }
 
-    /// Stores the reply with a log of a controller.
-    pub(crate) fn keep_log(&self, ctrl: u16, lid: u8, room: &mut ReplyRoom)
-        requires { ctrl < length self.now.controllers }
-        ensures { room.new ≡ log_reply self.now ctrl lid }
-    {
-        let controller = &self.controllers[ctrl as usize];
-        if lid == ERROR_INFORMATION {
-            room.keep(&Reply::Errors(controller.errors()));
-        } else {
-            let health = controller.health();
-            room.keep(&Reply::Smart(Borrowed::new(&health)));
-        }
-    }
-
-    /// Fills `out` with the bytes of that log from `from` on, and with zeros past its end.
+    /// Fills `out` with the bytes of a log of a controller from `from` on, and with zeros past its end.
     pub fn fill_log(&self, ctrl: u16, lid: u8, from: usize, out: &mut [u8])
         requires { ctrl < length self.now.controllers }
         ensures { out.new ≡ part (log_of (log_reply self.now ctrl lid)) from (length out.old) }

@@ -16,7 +16,6 @@ ghost use Rattle.nv_model.specs.Fits.{RepliesFit};
 ghost use Rattle.nv_model.specs.Conditions.{greatest_limit, limit_of, mdts_of, is_valid};
 ghost use Rattle.nv_model.specs.Meaning.{refusal_of};
 ghost use Rattle.nv_model.specs.Meaning.{reply_of};
-ghost use Rattle.nv_model.specs.Answer.{answer_to, answer_without_phases};
 ghost use Rattle.nv_model.specs.Step.{refused, step, with_command};
 ghost use Rattle.nv_model.specs.WellFormed.{IsWellFormed};
 ghost use Rattle.nv_command.specs.Refusal.{IsRefusal};
@@ -24,8 +23,9 @@ ghost use Rattle.nv_command.specs.Refusal.{IsRefusal};
 use crate::controller::Controller;
 use crate::from_file::{controllers, slots, unallocated};
 use crate::identify::check_list;
+use crate::nsid_lists::put_above;
 use nv_bits::Slots;
-use nv_command::{Command, Refusal, Reply, ReplyRoom};
+use nv_command::{Command, Refusal};
 use nv_file::{File, SubsystemError};
 use nv_layout::ErrorEntry;
 use nv_model::{Format, Namespace, Origin};
@@ -207,36 +207,18 @@ impl Subsystem {
             MatchBool result (page.new ≡ bytes) (bytes ≡ []) }
     {
         match command {
-            Command::IdentifyController => self.put_controller(ctrl, page),
-            Command::IdentifyNamespace { nsid } => self.put_active(ctrl, *nsid, page),
-            Command::AllocatedNamespace { nsid } => self.put_allocated(*nsid, page),
-            Command::ActiveList { after } => self.put_active_list(ctrl, *after, page),
-            Command::AllocatedList { after } => self.put_allocated_list(*after, page),
+            Command::IdentifyController => {
+                self.id_ctrl(&self.controllers[ctrl as usize]).put(page);
+            }
+            Command::IdentifyNamespace { nsid } => self.active_data(ctrl, *nsid).put(page),
+            Command::AllocatedNamespace { nsid } => self.allocated(*nsid).put(page),
+            Command::ActiveList { after } => {
+                put_above(&self.controllers[ctrl as usize].attached, *after, page);
+            }
+            Command::AllocatedList { after } => put_above(&self.slots, *after, page),
             _ => return false,
         }
         true
-    }
-
-    /// Stores the reply to a command that isn't refused.
-    fn keep_reply(&self, ctrl: u16, command: &Command, room: &mut ReplyRoom)
-        requires { ctrl < length self.now.controllers }
-        ensures { room.new ≡ reply_of self.now ctrl command.now }
-    {
-        match command {
-            Command::IdentifyController => self.keep_controller(ctrl, room),
-            Command::IdentifyNamespace { nsid } => self.keep_active(ctrl, *nsid, room),
-            Command::AllocatedNamespace { nsid } => self.keep_allocated(*nsid, room),
-            Command::ActiveList { after } => self.keep_active_list(ctrl, *after, room),
-            Command::AllocatedList { after } => self.keep_allocated_list(*after, room),
-            Command::Create(_) | Command::GetFeature(_) => {
-                room.keep(&Reply::Number(self.dword0(ctrl, command)))
-            }
-            Command::Delete { .. }
-            | Command::Attachment { .. }
-            | Command::Format(_)
-            | Command::SetFeature(_) => room.keep(&Reply::Done),
-            Command::GetLog(asked) => self.keep_log(ctrl, asked.lid, room),
-        }
     }
 
     /// Makes the changes of a command that isn't refused.
@@ -296,26 +278,6 @@ impl Subsystem {
         self.count(ctrl);
     }
 
-    /// Returns the answer to a command of a controller, without its changes. The reply is stored in
-    /// `room`, whose contents don't matter after a refusal.
-    pub fn answer<'a>(
-        &self,
-        ctrl: u16,
-        command: &Command,
-        room: &'a mut ReplyRoom,
-    ) -> Result<Reply<'a>, Refusal>
-        requires { ctrl < length self.now.controllers }
-        ensures answer { result ≡ answer_to self.now ctrl command.now }
-        ensures without_tags { answer_without_phases result
-            ≡ answer_to (untagged self.now) ctrl command.now }
-    {
-        if let Some(refusal) = self.refusal(ctrl, command) {
-            return Err(refusal);
-        }
-        self.keep_reply(ctrl, command, room);
-        Ok(room.reply())
-    }
-
     /// Completes a command that was answered: makes its changes, or records its refusal in the
     /// error log of the controller. The controller counts the command in both cases.
     pub fn settle(&mut self, ctrl: u16, command: &Command, origin: Origin, refusal: Option<Refusal>)
@@ -331,37 +293,6 @@ impl Subsystem {
         } else {
             self.apply(ctrl, command);
             self.count(ctrl);
-        }
-    }
-
-    /// Executes a command of a controller, and stores its reply in `room`. After a refusal the
-    /// contents of `room` don't matter. A refusal is recorded in the controller's error log, and
-    /// the controller counts the command in both cases.
-    pub fn execute<'a>(
-        &mut self,
-        ctrl: u16,
-        command: &Command,
-        origin: Origin,
-        room: &'a mut ReplyRoom,
-    ) -> Result<Reply<'a>, Refusal>
-        requires { ctrl < length self.old.controllers }
-        ensures answer { result ≡ answer_to self.old ctrl command.now }
-        ensures state { self.new
-            ≡ settled self.old ctrl command.now origin (refusal_of self.old ctrl command.now) }
-        ensures answer_without_tags { answer_without_phases result
-            ≡ answer_to (untagged self.old) ctrl command.now }
-        ensures without_tags { untagged self.new
-            ≡ (step (untagged self.old) ctrl command.now origin.cid).state }
-        ensures well_formed { IsWellFormed self.old → IsWellFormed self.new }
-    {
-        let refusal = self.refusal(ctrl, command);
-        if refusal.is_none() {
-            self.keep_reply(ctrl, command, room);
-        }
-        self.settle(ctrl, command, origin, refusal);
-        match refusal {
-            None => Ok(room.reply()),
-            Some(refusal) => Err(refusal),
         }
     }
 }
