@@ -6,7 +6,8 @@ and as many namespaces as there may be. tests/rows has single commands.
 
 import unittest
 
-from tests.test_rows import answers_to, edited, entry_of
+from tests.records import encoded
+from tests.test_rows import answers_to, edited
 
 REFUSALS = 300
 REFUSED = 'status=0x600b dword0=0x0 bytes='
@@ -36,7 +37,7 @@ def booked(number):
     is one less. Its phase tag is that of its completion, and is inverted on each pass over the ring of 32 slots.
     Section "Completion Queue Entry", Phase Tag."""
     phase = 1 - (number - 1) // 32 % 2
-    return entry_of('error_entry', f'count={number} cid={number - 1} status=0x600b phase={phase} location=0xffff')
+    return encoded('error_entry', f'count={number} cid={number - 1} status=0x600b phase={phase} location=0xffff')
 
 
 class ManyCommands(unittest.TestCase):
@@ -78,12 +79,12 @@ class ManyCommands(unittest.TestCase):
         told = ['passthrough 0 0x06', 'counts 0', 'log_entry 0 0']
         answers = answers_to(['subsystem', 'bring_up'] + accepted + told)
         self.assertEqual(answers[2:-3], 65536 * ['status=0x0 dword0=0x1 bytes='])
-        entry = entry_of('error_entry', 'count=1 cid=1 status=0x600b phase=1 location=0xffff')
+        entry = encoded('error_entry', 'count=1 cid=1 status=0x600b phase=1 location=0xffff')
         self.assertEqual(answers[-3:], [REFUSED, 'refusals=0x1 commands=0x10001', f'bytes={entry}'])
 
     def test_namespaces(self):
         """Each of 1,024 NSIDs is assigned, the least free one first. Section "Namespace Management command"."""
-        create = f'passthrough 0 0x0d data={entry_of("id_ns", "nsze=1 ncap=1")}'
+        create = f'passthrough 0 0x0d data={encoded("id_ns", "nsze=1 ncap=1")}'
         full = 'status=0x6116 dword0=0x0 bytes='
         answers = answers_to([subsystem('nn = 4', 'nn = 1024'), 'bring_up'] + 1023 * [create]
                              + ['passthrough 0 0x0d nsid=500 cdw10=1', create, create])

@@ -5,9 +5,9 @@ such line. Lines that begin with `#` are comments. A file is one session, from i
 stands for N times HH, and a line `> include NAME` for the operations of the file NAME beside it. Rows of rings over
 many commands are computed.
 
-`@sqe(KEY=NUMBER ..)`, `@cqe(..)` and `@error_entry(..)` stand for the bytes of such an entry, whose other fields are 0,
-and `@id_ns(..)` for the first bytes of the data that creates a namespace. `@enable(ctrl=NUMBER aqa=.. asq=.. acq=..
-cc=..)` stands for the register writes that enable a controller, as `saw` answers them.
+`@sqe(KEY=VALUE ..)` stands for the bytes of an entry with these fields, and others of 0. tests/records.py has the fields
+of each such record, and a failed row names those of the record that was found. `@enable(ctrl=NUMBER aqa=.. asq=..
+acq=.. cc=..)` stands for the register writes that enable a controller, as `saw` answers them.
 
 `@NAME` stands for the bytes of a subsystem file of examples/, such as `@demo.toml`, and `@NAME["OLD", "NEW"]` for those
 of the file with NEW in place of OLD. There may be more such pairs. `@"TEXT"` stands for the bytes of a text. In these
@@ -17,6 +17,7 @@ texts, `(TEXT*N)` stands for N times TEXT.
     NVME_BENCH=path/of/the/program python3 -m unittest tests.test_rows.Rows.test_records_of_queues
 """
 
+import contextlib
 import json
 import os
 import re
@@ -25,6 +26,8 @@ import subprocess
 import unittest
 from pathlib import Path
 
+from tests.records import KINDS, decoded, encoded
+
 TOP = Path(__file__).resolve().parent.parent
 PLACE = TOP / "tests" / "rows"
 PROGRAM = Path(os.environ.get("NVME_BENCH", TOP / "crates" / "nvme_bench" / "out" / "nvme_bench"))
@@ -32,18 +35,8 @@ SECONDS = 300
 REPEATED = re.compile(r"\(([0-9a-f]{2})\*([0-9]+)\)")
 REPEATED_TEXT = re.compile(r"\(([^()]+)\*([0-9]+)\)")
 FILE = re.compile(r'@(?:([a-z_]+\.toml)(\[.*\])?|(".*"))')
-ENTRY = re.compile(r"@(sqe|cqe|error_entry|id_ns)\(([^()]*)\)")
+RECORD = re.compile(rf'@({"|".join(KINDS)})\(([^()]*)\)')
 ENABLE = re.compile(r"@enable\(([^()]*)\)")
-
-# The places of the fields of entries, the lowest byte of each field first, and their keys in this order. Reserved
-# fields are 0. Sections "Submission Queue Entry - Command Format", "Completion Queue Entry", "Error Information (Log
-# Identifier 01h)" and "Identify Namespace data structure (CNS 00h)".
-LAYOUTS = {
-    "sqe": ("<BBHIQQQQ6I", "opcode flags cid nsid reserved mptr prp1 prp2 cdw10 cdw11 cdw12 cdw13 cdw14 cdw15"),
-    "cqe": ("<IIHHHH", "command_specific reserved sq_head sq_identifier cid status_and_phase"),
-    "error_entry": ("<QHHHHQIB3xQ24x", "count sqid cid status_and_phase location lba nsid vendor specific"),
-    "id_ns": ("<QQQ7B", "nsze ncap nuse nsfeat nlbaf flbas mc dpc dps nmic"),
-}
 
 
 def numbers_in(fields):
@@ -51,21 +44,21 @@ def numbers_in(fields):
     return {key: int(number, 0) for key, number in (field.split("=") for field in fields.split())}
 
 
-def entry_of(kind, fields):
-    """Returns an entry's bytes, in hexadecimal digits."""
-    layout, keys = LAYOUTS[kind]
-    values = numbers_in(fields)
-    values["status_and_phase"] = values.pop("status", 0) << 1 | values.pop("phase", 0)
-    values["flags"] = values.pop("fuse", 0) | values.pop("psdt", 0) << 6
-    numbers = [values.pop(key, 0) for key in keys.split()]
-    if any(values.pop(key, 0) for key in ["status_and_phase", "flags"]) or values:
-        raise ValueError(f"{kind} has no {list(values)}")
-    return struct.pack(layout, *numbers).hex()
+def with_records(text):
+    """Returns the text with each record written out."""
+    return RECORD.sub(lambda record: encoded(record[1], record[2]), text)
 
 
-def with_entries(text):
-    """Returns the text with each entry written out."""
-    return ENTRY.sub(lambda entry: entry_of(entry[1], entry[2]), text)
+def named(row, found):
+    """Returns an answer in which each record that the row expects has its fields by name, if it can be read as one."""
+    expected = re.findall(r"(?:@\w+\([^()]*\)|\S)+", with_repeats(row))
+    words = found.split()
+    for place, (wanted, word) in enumerate(zip(expected, words)):
+        record = re.fullmatch(r"(\w+=)" + RECORD.pattern, wanted)
+        if record and word.startswith(record[1]):
+            with contextlib.suppress(ValueError, struct.error):
+                words[place] = f"{record[1]}@{record[2]}({decoded(record[2], word[len(record[1]):])})"
+    return " ".join(words)
 
 
 def enabling(ctrl, aqa, asq, acq, cc):
@@ -113,11 +106,12 @@ def with_file(text):
 
 
 def written_out(text):
-    return with_repeats(with_writes(with_entries(with_file(text))))
+    return with_writes(with_records(with_repeats(with_file(text))))
 
 
 def rows_of(path):
-    """Returns the rows of a file: the number of each operation's line, the operation, and the expected answer."""
+    """Returns the rows of a file: the number of each operation's line, the operation, and the expected answer, with
+    records as they are written there."""
     rows = []
     answered = True
     for number, line in enumerate(path.read_text("utf-8").splitlines(), 1):
@@ -125,12 +119,12 @@ def rows_of(path):
             rows += [(number, operation, wanted) for _, operation, wanted in rows_of(path.parent / line[10:])]
             answered = True
         elif line.startswith("> "):
-            rows.append((number, written_out(line[2:]), "done"))
+            rows.append((number, line[2:], "done"))
             answered = False
         elif line and not line.startswith("#"):
             if answered:
                 raise ValueError(f"{path}:{number}: no operation stands above this line")
-            rows[-1] = (*rows[-1][:2], written_out(line))
+            rows[-1] = (*rows[-1][:2], line)
             answered = True
     if not rows:
         raise ValueError(f"{path}: no rows")
@@ -157,12 +151,12 @@ class Rows(unittest.TestCase):
 
     def check(self, path):
         rows = rows_of(path)
-        answers = answers_to(operation for _, operation, _ in rows)
+        answers = answers_to(written_out(operation) for _, operation, _ in rows)
         for (number, operation, wanted), found in zip(rows, answers):
-            if found != wanted:
+            if found != written_out(wanted):
                 self.fail(
                     f"{path.relative_to(TOP)}:{number}: {short(operation)}\n"
-                    f"  wanted {short(wanted)}\n  found  {short(found)}\n"
+                    f"  wanted {short(wanted)}\n  found  {short(named(wanted, found))}\n"
                     f"  python3 -m unittest tests.test_rows.Rows.test_{path.stem}"
                 )
         self.assertEqual(len(answers), len(rows), f"{path}: as many answers as operations")
@@ -178,10 +172,8 @@ for file in FILES:
 
 
 def command(number):
-    """Returns the fields of a command with this number as its identifier."""
-    fields = {"opcode": 6, "fuse": 0, "psdt": 0, "cid": number, "nsid": 7, "mptr": 0, "prp1": 0x5004, "prp2": 0x9000}
-    dwords = {"cdw10": 1, "cdw11": 0, "cdw12": 0, "cdw13": 0, "cdw14": 0, "cdw15": 0xffffffff}
-    return " ".join(f"{key}={value:#x}" for key, value in {**fields, **dwords}.items())
+    """Returns the bytes of a command with this number as its identifier."""
+    return encoded("sqe", f"opcode=6 cid={number} nsid=7 prp1=0x5004 prp2=0x9000 cdw10=1 cdw15=0xffffffff")
 
 
 def exchange(depth, number):
@@ -191,16 +183,16 @@ def exchange(depth, number):
     Entry"."""
     slot, after = number % depth, (number + 1) % depth
     phase = 1 - number // depth % 2
-    completion = f"command_specific=0x1020304 sq_head={after:#x} sq_identifier=0x0 cid={number:#x}"
+    completion = f"command_specific=0x1020304 sq_head={after} cid={number} status=0x600b"
     return [
         (f"submit {command(number)}", f"tail={after:#x}"),
         ("slots", f"sq_head={slot:#x} sq_empty=0x1 phase={phase:#x} cq_full=0x0"),
         (f"tail {after}", "done"),
-        ("take", command(number)),
+        ("take", f"bytes={command(number)}"),
         ("slots", f"sq_head={after:#x} sq_empty=0x1 phase={phase:#x} cq_full=0x0"),
         ("collect", "refused: no completion"),
-        (f"post {completion} status=0x600b", "done"),
-        ("collect", f"{completion} phase={phase:#x} status=0x600b"),
+        (f"post {encoded('cqe', completion)}", "done"),
+        ("collect", f"bytes={encoded('cqe', f'{completion} phase={phase}')}"),
         ("tell", f"head={after:#x}"),
         ("tell", "refused: no head to tell"),
         (f"head {after}", "done"),
@@ -234,8 +226,8 @@ class Rings(unittest.TestCase):
         for depth, count in (2, 6), (3, 9), (17, 51), (4096, 8194):
             with self.subTest(depth=depth):
                 tails = ((count + number) % depth for number in range(1, depth))
-                fill = [("submit", f"tail={tail:#x}") for tail in tails]
-                full = [("submit", "refused: submission ring full")]
+                fill = [("submit 00", f"tail={tail:#x}") for tail in tails]
+                full = [("submit 00", "refused: submission ring full")]
                 self.check(new_rings(depth) + exchanges(depth, count) + fill + full)
 
     def test_both_rings_begin_anew(self):
@@ -248,6 +240,16 @@ class Rings(unittest.TestCase):
                 begun = [("slots", "sq_head=0x0 sq_empty=0x1 phase=0x1 cq_full=0x0")]
                 rows = exchanges(depth, before) + waiting + renewed + begun + exchanges(depth, count)
                 self.check(new_rings(depth) + rows)
+
+
+class Records(unittest.TestCase):
+    """Each record that a row writes is read back from its bytes."""
+
+    def test_are_read_back(self):
+        for kind, fields in sorted({found for path in FILES for found in RECORD.findall(with_repeats(path.read_text()))}):
+            with self.subTest(kind, fields=short(fields)):
+                written = encoded(kind, fields)
+                self.assertEqual(encoded(kind, decoded(kind, written)), written)
 
 
 class Pipes(unittest.TestCase):

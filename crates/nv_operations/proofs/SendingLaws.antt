@@ -1,21 +1,13 @@
--- The commands of a line's entries, one after another.
-use Rattle.std.proofs.Common.{◌≡◌, List, [], ◌∷◌, ◌++◌, arith, get_or, inl, inr, length}
-use Rattle.std.proofs.Common.{length-append, subst, sym}
-use Rattle.std.proofs.Math.Seq.{get_or-append_seam}
-use Rattle.std.proofs.lemmas.Bool.{cases_lt}
-use Rattle.std.proofs.lemmas.List.{get_or_append_left}
-use Rattle.nv_command.specs.declared.command.Command.{Command}
-use Rattle.nv_operations.specs.Field.{Field}
-use Rattle.nv_operations.specs.Sending.{AreReadAs, IsReadAs, command_at}
+-- Dwords that make whole entries of an error log.
+use Rattle.std.proofs.Common.{◌≡◌, ℕ, ◌%◌, ◌<◌, ◌≤◌, arith}
+use Rattle.nv_command.specs.Logs.{AreEntries}
 
--- one more command
-pub one_more_read : (fs : List Field) (ks : List Command) (k : Command) → AreReadAs fs ks
-    → IsReadAs (command_at fs (length ks)) k → AreReadAs fs (ks ++ k ∷ [])
-one_more_read fs ks k read new i d below = elim (cases_lt i (length ks)) [
-  | inl before ↦ subst (IsReadAs (command_at fs i)) (sym (get_or_append_left ks (k ∷ []) d i before))
-      (read i d before)
-  | inr past ↦ last (omega (arith, below, past, length-append ks (k ∷ [])))
-] where
-  last : i ≡ length ks → IsReadAs (command_at fs i) (get_or (ks ++ k ∷ []) i d)
-  last same = subst (λ n. IsReadAs (command_at fs n) (get_or (ks ++ k ∷ []) n d)) (sym same)
-      (subst (IsReadAs (command_at fs (length ks))) (sym (get_or-append_seam ks k [] d)) new)
+pub entries_from : (dwords : ℕ) → 0 < dwords → dwords % 16 ≡ 0 → dwords ≤ 4096 → AreEntries dwords
+entries_from dwords one whole few = record {
+  whole = omega (arith, whole);
+  some = omega (arith, one, whole);
+  few = omega (arith, few);
+}
+
+pub entries_to : (dwords : ℕ) → AreEntries dwords → (dwords % 16 ≡ 0) × (dwords ≤ 4096)
+entries_to dwords h = (omega (arith, h.whole), omega (arith, h.whole, h.few))

@@ -3,14 +3,14 @@
 ghost use Rattle.std.specs.Prelude.{◌≡◌, ◌≢◌, ◌+◌, ◌*◌, ◌%◌, ◌<◌, ◌≤◌, ◌↔◌, ◌∷◌, All, IsTrue, length};
 ghost use Rattle.nv_host.specs.Pages.{HasPage};
 ghost use Rattle.nv_prp.specs.Place.{AreDistinct, LieIn, places};
-ghost use Rattle.nv_operations.specs.Transfers.{IsLength};
+ghost use Rattle.nv_prp.specs.Transfer.{most_bytes};
 
 use nv_host::{HostMemory, PageNo, size_of_memory};
 use nv_prp::{Span, Spans};
 
 /// Returns whether a transfer may have this many bytes.
 pub(crate) fn is_length(len: u32) -> bool
-    ensures { IsTrue result ↔ IsLength len }
+    ensures { IsTrue result ↔ ((0 < len) × (len ≤ most_bytes)) }
 {
     0 < len && len <= 1_048_576
 }

@@ -1,144 +1,162 @@
-//! The controllers of a subsystem: creating them, and the operations on one.
+//! Operations on the controllers of a subsystem, and on a driver of them.
 
-ghost use Rattle.std.specs.Prelude.{◌≡◌, ◌<◌, IfOk, false, length};
-ghost use Rattle.nv_bus.specs.Bus.{IsBus};
-ghost use Rattle.nv_model.specs.LogEntry.{counts_of, log_entry_of};
-ghost use Rattle.nv_model.specs.WellFormed.{IsWellFormed};
-ghost use Rattle.nv_operations.specs.ControllerOperations.{is_by_hand};
-ghost use Rattle.nv_operations.specs.Controllers.{Asked, TellsEntry, Turns, counts_alone, powered_in};
-ghost use Rattle.nv_operations.specs.Controllers.{subsystem_in, value_read};
+use crate::answer::{Answer, Answered};
+use crate::arguments::Arguments;
+use crate::commands::MOST_SENT;
+use crate::device::Device;
+use crate::error::OperationError;
+use crate::row::{MOST_MOVED, Row};
+use crate::session::Session;
+use nv_driver::Geometry;
+use nv_subsystem::DEMO;
+use std::alloc::Global;
 
-use crate::controller_operation::ControllerOperation;
-use crate::fields::Fields;
-use crate::refusal::Refusal;
-use nv_controller::{Bus, Machine};
-use nv_host::FlatMemory;
-use nv_subsystem::{Subsystem, SubsystemError};
-use std::alloc::{AllocError, Global};
+/// The most bytes of a subsystem file.
+const MOST_OF_FILE: usize = 4_194_304;
 
-/// Reads a subsystem from a file.
-#[tactic(auto, using(crate::proofs::DeviceLaws::other_fault))]
-fn subsystem_of(alloc: Global, file: &[u8]) -> Result<Result<Subsystem, Refusal>, AllocError>
-    ensures exact { IfOk result (λ read. read ≡ subsystem_in file.now) }
-    ensures well_formed { IfOk result (λ read. IfOk read IsWellFormed) }
-{
-    match Subsystem::from_toml(alloc, file) {
-        Ok(subsystem) => Ok(Ok(subsystem)),
-        Err(SubsystemError::Memory) => Err(AllocError),
-        Err(fault) => Ok(Err(Refusal::File(fault))),
+/// Returns the geometry that the arguments describe.
+fn geometry_in(given: &Arguments) -> Geometry {
+    Geometry {
+        depth: given.dword_or("depth", 32),
+        page_size: given.dword_or("page_size", 4096),
+        offset: given.dword("offset"),
+        list_offset: given.dword("list_offset"),
+        window: given.dword_or("window", 1),
+        pace: given.dword_or("pace", 1),
     }
 }
 
-/// Powers on the controllers of a file's subsystem, or returns the file's first fault.
-pub(crate) fn power_on(alloc: Global, file: &[u8]) -> Result<Result<Machine, Refusal>, AllocError>
-    ensures value { IfOk result (λ made. made ≡ powered_in file.now) }
-    ensures bus { IfOk result (λ made. IfOk made IsBus) }
-{
-    match subsystem_of(alloc, file)? {
-        Ok(subsystem) => match Machine::new(alloc, subsystem) {
-            Ok(machine) => Ok(Ok(machine)),
-            Err(_) => Err(AllocError),
-        },
-        Err(refusal) => Ok(Err(refusal)),
+impl Session {
+    fn device(&mut self) -> Result<&mut Device, OperationError> {
+        self.device.as_mut().ok_or(OperationError::NoController)
     }
-}
 
-/// Reads a register of a controller, as the field `value`.
-fn read(alloc: Global, machine: &Machine, ctrl: u16, offset: u32) -> Result<Fields, AllocError>
-    requires { ctrl < length machine.now.banks }
-    ensures { IfOk result (λ fields. fields ≡ value_read machine.now ctrl offset) }
-{
-    let mut fields = Fields::new(alloc);
-    fields.push_number("value", u64::from(machine.read32(ctrl, offset)))?;
-    Ok(fields)
-}
-
-/// Gives a controller a turn of at most `most` entries, and returns how many it took, as the field
-/// `taken`.
-fn take(
-    alloc: Global,
-    machine: &mut Machine,
-    memory: &mut FlatMemory,
-    ctrl: u16,
-    most: u16,
-) -> Result<Fields, AllocError>
-    requires ctrl { ctrl < length machine.old.banks }
-    requires bus { IsBus machine.old }
-    ensures turn { IfOk result
-        (λ fields. Turns ctrl most machine.old memory.old fields machine.new memory.new) }
-    ensures bus { IsBus machine.new }
-{
-    let count = machine.turn(ctrl, memory, most);
-    let mut fields = Fields::new(alloc);
-    fields.push_number("taken", u64::from(count))?;
-    Ok(fields)
-}
-
-/// Returns how many commands a controller has refused and taken, as the fields `refusals` and
-/// `commands`.
-#[tactic(auto, using(crate::proofs::DeviceLaws::controller_within, crate::proofs::DeviceLaws::counts_untagged))]
-fn counts(alloc: Global, machine: &Machine, ctrl: u16) -> Result<Fields, AllocError>
-    requires ctrl { ctrl < length machine.now.banks }
-    requires bus { IsBus machine.now }
-    ensures { IfOk result (λ fields. fields ≡ counts_alone (counts_of machine.now.state ctrl)) }
-{
-    let (refusals, commands) = machine.subsystem().counts(ctrl);
-    let mut fields = Fields::new(alloc);
-    fields.push_number("refusals", refusals)?;
-    fields.push_number("commands", commands)?;
-    Ok(fields)
-}
-
-/// Returns the bytes of an entry of a controller's error log, if there is one. Entry 0 is the
-/// newest.
-#[tactic(auto, using(crate::proofs::DeviceLaws::controller_within, crate::proofs::DeviceLaws::entry_untagged))]
-fn log_entry(
-    alloc: Global,
-    machine: &Machine,
-    ctrl: u16,
-    index: u16,
-) -> Result<Result<Fields, Refusal>, AllocError>
-    requires ctrl { ctrl < length machine.now.banks }
-    requires bus { IsBus machine.now }
-    ensures { IfOk result
-        (λ outcome. TellsEntry (log_entry_of machine.now.state ctrl index) outcome) }
-{
-    match machine.subsystem().log_entry(ctrl, usize::from(index)) {
-        Some(entry) => {
-            let mut bytes = [0; 64];
-            entry.put(&mut bytes);
-            Ok(Ok(Fields::copied(alloc, &bytes)?))
-        }
-        None => Ok(Err(Refusal::NoEntry)),
+    pub(crate) fn subsystem(&mut self, alloc: Global, words: &[&str]) -> Answered {
+        let rows = [Row::bytes("file", MOST_OF_FILE).optional()];
+        let given = Arguments::read(alloc, words, &rows)?;
+        let file = if given.has("file") {
+            given.bytes("file")
+        } else {
+            DEMO.as_bytes()
+        };
+        self.device = Some(Device::new(alloc, file)?);
+        Ok(Answer::new(alloc))
     }
-}
 
-/// Performs an operation on a controller, over the host's memory.
-pub(crate) fn ask(
-    alloc: Global,
-    machine: &mut Machine,
-    memory: &mut FlatMemory,
-    operation: ControllerOperation,
-    ctrl: u16,
-    fields: &Fields,
-) -> Result<Result<Fields, Refusal>, AllocError>
-    requires ctrl { ctrl < length machine.old.banks }
-    requires bus { IsBus machine.old }
-    ensures asked { IfOk result (λ outcome. Asked
-        operation ctrl fields.now machine.old memory.old outcome machine.new memory.new) }
-    ensures bus { IsBus machine.new }
-    ensures kept { is_by_hand operation ≡ false → machine.new ≡ machine.old }
-{
-    match operation {
-        ControllerOperation::Read => Ok(Ok(read(alloc, machine, ctrl, fields.dword("offset"))?)),
-        ControllerOperation::Write => {
-            machine.write32(ctrl, fields.dword("offset"), fields.dword("value"));
-            Ok(Ok(Fields::new(alloc)))
-        }
-        ControllerOperation::Turn => {
-            Ok(Ok(take(alloc, machine, memory, ctrl, fields.word("most"))?))
-        }
-        ControllerOperation::Counts => Ok(Ok(counts(alloc, machine, ctrl)?)),
-        ControllerOperation::LogEntry => log_entry(alloc, machine, ctrl, fields.word("index")),
+    pub(crate) fn controllers(&self, alloc: Global, words: &[&str]) -> Answered {
+        Arguments::read(alloc, words, &[])?;
+        let count = match &self.device {
+            Some(device) => device.controllers(),
+            None => 0,
+        };
+        Ok(Answer::new(alloc).number("controllers", u64::from(count))?)
+    }
+
+    pub(crate) fn read32(&mut self, alloc: Global, words: &[&str]) -> Answered {
+        let given = Arguments::read(alloc, words, &[Row::word("ctrl"), Row::dword("offset")])?;
+        let value = self
+            .device()?
+            .read32(given.word("ctrl"), given.dword("offset"))?;
+        Ok(Answer::new(alloc).number("value", u64::from(value))?)
+    }
+
+    pub(crate) fn write32(&mut self, alloc: Global, words: &[&str]) -> Answered {
+        let rows = [Row::word("ctrl"), Row::dword("offset"), Row::dword("value")];
+        let given = Arguments::read(alloc, words, &rows)?;
+        let (offset, value) = (given.dword("offset"), given.dword("value"));
+        self.device()?.write32(given.word("ctrl"), offset, value)?;
+        Ok(Answer::new(alloc))
+    }
+
+    pub(crate) fn turn(&mut self, alloc: Global, words: &[&str]) -> Answered {
+        let given = Arguments::read(alloc, words, &[Row::word("ctrl"), Row::word("most")])?;
+        let Some(device) = &mut self.device else {
+            return Err(OperationError::NoController);
+        };
+        let taken = device.turn(given.word("ctrl"), &mut self.memory, given.word("most"))?;
+        Ok(Answer::new(alloc).number("taken", u64::from(taken))?)
+    }
+
+    pub(crate) fn counts(&mut self, alloc: Global, words: &[&str]) -> Answered {
+        let given = Arguments::read(alloc, words, &[Row::word("ctrl")])?;
+        let (refusals, commands) = self.device()?.counts(given.word("ctrl"))?;
+        let answer = Answer::new(alloc)
+            .number("refusals", refusals)?
+            .number("commands", commands)?;
+        Ok(answer)
+    }
+
+    pub(crate) fn log_entry(&mut self, alloc: Global, words: &[&str]) -> Answered {
+        let given = Arguments::read(alloc, words, &[Row::word("ctrl"), Row::word("index")])?;
+        let entry = self
+            .device()?
+            .log_entry(given.word("ctrl"), given.word("index"))?;
+        let mut bytes = [0xff; 64];
+        entry.put(&mut bytes);
+        Ok(Answer::new(alloc).bytes("bytes", &bytes)?)
+    }
+
+    pub(crate) fn bring_up(&mut self, alloc: Global, words: &[&str]) -> Answered {
+        let rows = [
+            "depth",
+            "page_size",
+            "offset",
+            "list_offset",
+            "window",
+            "pace",
+        ]
+        .map(|key| Row::dword(key).optional());
+        let given = Arguments::read(alloc, words, &rows)?;
+        let pages = self.device()?.bring_up(alloc, geometry_in(&given))?;
+        Ok(Answer::new(alloc).number("pages", pages)?)
+    }
+
+    pub(crate) fn admin(&mut self, alloc: Global, words: &[&str]) -> Answered {
+        let rows = [
+            Row::word("ctrl"),
+            Row::bytes("entry", 64),
+            Row::bytes("sent", MOST_SENT).optional(),
+        ];
+        let given = Arguments::read(alloc, words, &rows)?;
+        self.device()?.admin(alloc, &given)
+    }
+
+    pub(crate) fn admin_all(&mut self, alloc: Global, words: &[&str]) -> Answered {
+        let rows = [
+            Row::word("ctrl"),
+            Row::bytes("entries", 4096),
+            Row::bytes("sent", 262_144).optional(),
+        ];
+        let given = Arguments::read(alloc, words, &rows)?;
+        self.device()?.admin_all(alloc, &given)
+    }
+
+    pub(crate) fn passthrough(&mut self, alloc: Global, words: &[&str]) -> Answered {
+        let rows = [
+            Row::word("ctrl"),
+            Row::byte("opcode"),
+            Row::dword("nsid").optional(),
+            Row::dword("cdw10").optional(),
+            Row::dword("cdw11").optional(),
+            Row::dword("cdw12").optional(),
+            Row::dword("cdw13").optional(),
+            Row::dword("cdw14").optional(),
+            Row::dword("cdw15").optional(),
+            Row::bytes("data", MOST_MOVED).optional(),
+            Row::number("room", MOST_MOVED as u64).optional(),
+        ];
+        let given = Arguments::read(alloc, words, &rows)?;
+        self.device()?.passthrough(alloc, &given)
+    }
+
+    pub(crate) fn reset(&mut self, alloc: Global, words: &[&str]) -> Answered {
+        let given = Arguments::read(alloc, words, &[Row::word("ctrl")])?;
+        self.device()?.reset(given.word("ctrl"))?;
+        Ok(Answer::new(alloc))
+    }
+
+    pub(crate) fn saw(&mut self, alloc: Global, words: &[&str]) -> Answered {
+        Arguments::read(alloc, words, &[])?;
+        self.device()?.saw(alloc)
     }
 }

@@ -1,142 +1,84 @@
 //! The controllers of a subsystem with their driver.
 
-ghost use Rattle.std.specs.Prelude.{◌≡◌, ◌<◌, All, IfOk, Some, length};
+ghost use Rattle.std.specs.Prelude.{◌<◌, All, IfOk, Some, length};
+ghost use Rattle.nv_command.specs.Command.{CommandFits};
 ghost use Rattle.nv_command.specs.Logs.{IsSendable};
 ghost use Rattle.nv_layout.specs.Sqe.{SqeFits};
-ghost use Rattle.nv_driver.specs.Geometry.{fault_of};
-ghost use Rattle.nv_operations.specs.Device.{Administers, AdministersAll, AreAnswered, BringsUp, Drives};
-ghost use Rattle.nv_operations.specs.Device.{IsAnswered, IsDevice, PerformsOn, Resets, Sends};
-ghost use Rattle.nv_operations.specs.Device.{SendsBy, Tells};
-ghost use Rattle.nv_operations.specs.Device.{device_of};
-ghost use Rattle.nv_operations.specs.Device.{controller_in, dword_or, entry_in, geometry_in, told_fields};
+ghost use Rattle.nv_operations.specs.Device.{IsDevice};
 
-use crate::controller_operation::ControllerOperation;
-use crate::controllers::{ask, power_on};
-use crate::driver_operation::DriverOperation;
-use crate::field::Field;
-use crate::fields::{Fields, array_of};
-use crate::items::Items;
-use crate::refusal::Refusal;
-use crate::replies::answer_fields;
-use crate::sending::{
-    all_fit, answers_fields, are_whole_entries, new_places, new_slots, read_commands, read_sendable,
-};
-use crate::value::Value;
+use crate::answer::{Answer, Answered};
+use crate::arguments::Arguments;
+use crate::error::OperationError;
+use crate::replies::add_reply;
+use crate::sending::{read_command, read_commands};
 use crate::watched::Watched;
-use nv_bus::Bus;
 use nv_command::Command;
-use nv_driver::{AnswerSlot, Driver, DriverError, Geometry, Told};
+use nv_controller::{Bus, Machine};
+use nv_driver::{AnswerSlot, Driver, Geometry};
 use nv_host::FlatMemory;
-use nv_layout::{CtrlList, Sqe};
-use std::alloc::{AllocError, Global};
+use nv_layout::{CtrlList, ErrorEntry, Sqe};
+use nv_subsystem::Subsystem;
+use std::alloc::Global;
 use std::marker::Model;
 
 /// The controllers of a subsystem, and their driver if one was brought up and nothing has changed
 /// the controllers directly since.
 #[derive(Drop)]
-pub struct Device {
+pub(crate) struct Device {
     bus: Watched,
     driver: Option<Driver>,
 }
 
 impl Model for Device {
-    ghost use Rattle.nv_operations.specs.Device.{DeviceValue, IsDevice};
+    ghost use Rattle.nv_operations.specs.Device.{IsDevice};
 
-    ghost Value = { DeviceValue };
+    ghost Value = { Unit {0} };
 
-    ghost use Rattle.nv_operations.specs.DeviceCode.{device_code};
-
-    ghost coded = { device_code };
-
-    ghost view = { λ d. record { bus = d.bus.machine; driver = d.driver; seen = d.bus.seen } };
+    ghost view = { λ _. tt };
 
     ghost invariant = { λ d. IsDevice d.bus.machine d.driver };
 }
 
-/// Returns the number of an optional field, or else `otherwise`.
-fn dword_or(fields: &Fields, key: &str, otherwise: u32) -> u32
-    ensures { result ≡ dword_or key.now otherwise fields.now }
-{
-    if fields.has(key) {
-        fields.dword(key)
-    } else {
-        otherwise
-    }
-}
-
-/// Returns the geometry that the fields describe.
-fn geometry_in(fields: &Fields) -> Geometry
-    ensures { result ≡ geometry_in fields.now }
-{
-    Geometry {
-        depth: dword_or(fields, "depth", 32),
-        page_size: dword_or(fields, "page_size", 4096),
-        offset: dword_or(fields, "offset", 0),
-        list_offset: dword_or(fields, "list_offset", 0),
-        window: dword_or(fields, "window", 1),
-        pace: dword_or(fields, "pace", 1),
-    }
-}
-
-/// Returns the entry that the fields describe.
-#[tactic(auto, unfolding(crate::specs::Device::entry_in))]
-fn entry_in(fields: &Fields) -> Sqe
-    ensures value { result ≡ entry_in fields.now }
-    ensures fits { SqeFits result }
+/// Returns the entry that the arguments describe.
+fn entry_in(given: &Arguments) -> Sqe
+    ensures { SqeFits result }
 {
     Sqe {
-        opcode: fields.byte("opcode"),
-        nsid: fields.dword("nsid"),
-        cdw10: fields.dword("cdw10"),
-        cdw11: fields.dword("cdw11"),
-        cdw12: fields.dword("cdw12"),
-        cdw13: fields.dword("cdw13"),
-        cdw14: fields.dword("cdw14"),
-        cdw15: fields.dword("cdw15"),
+        opcode: given.byte("opcode"),
+        nsid: given.dword("nsid"),
+        cdw10: given.dword("cdw10"),
+        cdw11: given.dword("cdw11"),
+        cdw12: given.dword("cdw12"),
+        cdw13: given.dword("cdw13"),
+        cdw14: given.dword("cdw14"),
+        cdw15: given.dword("cdw15"),
         ..Sqe::default()
     }
 }
 
-/// Returns the fields of a completion, `status` and `dword0`, and the bytes that came, as the field
-/// `bytes`.
-fn told_fields(alloc: Global, told: Told, came: Vec<u8>) -> Result<Fields, AllocError>
-    ensures { IfOk result (λ fields. fields ≡ told_fields told came.items) }
-{
-    let mut fields = Fields::new(alloc);
-    fields.push_number("status", u64::from(told.status.number()))?;
-    fields.push_number("dword0", u64::from(told.dword0))?;
-    fields.push(Field::new("bytes", Value::Bytes(Items::of(came))))?;
-    Ok(fields)
-}
-
-/// Sends the entry that the fields describe to a controller, and returns the completion and the
-/// bytes that came.
+/// Sends an entry to a controller, and answers its completion and the bytes that came.
 fn pass_through(
     alloc: Global,
     bus: &mut Watched,
     driver: &mut Driver,
     ctrl: u16,
-    fields: &Fields,
-) -> Result<Fields, AllocError>
+    given: &Arguments,
+) -> Answered
     requires ctrl { ctrl < length driver.old.pairs }
     requires device { IsDevice bus.old.machine (Some driver.old) }
-    ensures sent { IfOk result (λ told. SendsBy
-        ctrl fields.now told bus.old.machine driver.old bus.new.machine driver.new) }
-    ensures device { IsDevice bus.new.machine (Some driver.new) }
+    ensures { IsDevice bus.new.machine (Some driver.new) }
 {
-    let mut came = vec![in alloc; 0u8; fields.qword("room") as usize]?;
-    let told = driver.passthrough(
-        bus,
-        ctrl,
-        &entry_in(fields),
-        fields.bytes("data"),
-        came.as_mut_slice(),
-    );
-    let fields = told_fields(alloc, told, came)?;
-    Ok(fields)
+    let mut came = vec![in alloc; 0u8; given.qword("room") as usize]?;
+    let data = given.bytes("data");
+    let told = driver.passthrough(bus, ctrl, &entry_in(given), data, came.as_mut_slice());
+    let answer = Answer::new(alloc)
+        .number("status", u64::from(told.status.number()))?
+        .number("dword0", u64::from(told.dword0))?
+        .bytes("bytes", came.as_slice())?;
+    Ok(answer)
 }
 
-/// Sends a command to a controller, and returns the fields of its reply.
+/// Sends a command to a controller, and answers its reply.
 #[tactic(auto, using(nv_driver::proofs::PassthroughLaws::room_stays))]
 fn send_command(
     alloc: Global,
@@ -144,21 +86,19 @@ fn send_command(
     driver: &mut Driver,
     ctrl: u16,
     command: &Command,
-) -> Result<Fields, AllocError>
+) -> Answered
     requires ctrl { ctrl < length driver.old.pairs }
     requires device { IsDevice bus.old.machine (Some driver.old) }
     requires sends { IsSendable command.now }
-    ensures answered { IfOk result (λ told. IsAnswered
-        ctrl command.now told bus.old.machine driver.old bus.new.machine driver.new) }
-    ensures device { IsDevice bus.new.machine (Some driver.new) }
+    requires fits { CommandFits command.now }
+    ensures { IsDevice bus.new.machine (Some driver.new) }
 {
-    command.fits();
     let mut slot = AnswerSlot::new();
-    let answer = driver.admin(bus, ctrl, command, &mut slot);
-    answer_fields(alloc, &answer)
+    let told = driver.admin(bus, ctrl, command, &mut slot);
+    Ok(add_reply(alloc, Answer::new(alloc), &told)?)
 }
 
-/// Sends commands to a controller, and returns the fields of their replies.
+/// Sends commands to a controller, and answers their replies, each after its number.
 #[tactic(auto, using(nv_driver::proofs::PassthroughLaws::room_stays))]
 fn send_commands(
     alloc: Global,
@@ -166,222 +106,182 @@ fn send_commands(
     driver: &mut Driver,
     ctrl: u16,
     commands: &[Command],
-) -> Result<Fields, AllocError>
+) -> Answered
     requires ctrl { ctrl < length driver.old.pairs }
     requires device { IsDevice bus.old.machine (Some driver.old) }
     requires sends { All IsSendable commands.now }
-    ensures answered { IfOk result (λ told. AreAnswered
-        ctrl commands.now told bus.old.machine driver.old bus.new.machine driver.new) }
-    ensures device { IsDevice bus.new.machine (Some driver.new) }
+    requires fits { All CommandFits commands.now }
+    ensures { IsDevice bus.new.machine (Some driver.new) }
 {
-    all_fit(commands);
-    let mut slots = new_slots(alloc, commands.len())?;
+    let mut slots = Vec::new(alloc);
+    slots.resize_with(commands.len(), AnswerSlot::new)?;
     driver.admin_all(bus, ctrl, commands, slots.as_mut_slice());
-    answers_fields(alloc, slots.as_slice())
+    let mut answer = Answer::new(alloc);
+    for (index, slot) in slots.iter().enumerate() {
+        answer = answer.number("command", index as u64)?;
+        answer = add_reply(alloc, answer, &slot.answer())?;
+    }
+    Ok(answer)
+}
+
+/// Returns room for the lists of the commands of 1 to 64 whole entries.
+fn places_for(alloc: Global, entries: &[u8]) -> Result<Vec<CtrlList>, OperationError> {
+    let len = entries.len();
+    if len == 0 || len > 4096 || len % 64 != 0 {
+        return Err(OperationError::Entries);
+    }
+    let mut places = Vec::new(alloc);
+    places.resize_with(len / 64, CtrlList::new)?;
+    Ok(places)
 }
 
 impl Device {
-    /// Powers on the controllers of a file's subsystem, without a driver, or returns the file's
-    /// first fault.
-    pub(crate) fn new(alloc: Global, file: &[u8]) -> Result<Result<Device, Refusal>, AllocError>
-        ensures { IfOk result (λ made. made ≡ device_of file.now) }
-    {
-        match power_on(alloc, file)? {
-            Ok(machine) => Ok(Ok(Device {
-                bus: Watched::new(alloc, machine),
-                driver: None,
-            })),
-            Err(refusal) => Ok(Err(refusal)),
-        }
+    /// Powers on the controllers of a file's subsystem, without a driver.
+    pub(crate) fn new(alloc: Global, file: &[u8]) -> Result<Device, OperationError> {
+        let machine = Machine::new(alloc, Subsystem::from_toml(alloc, file)?)?;
+        Ok(Device {
+            bus: Watched::new(alloc, machine),
+            driver: None,
+        })
     }
 
-    /// Returns the number of controllers.
-    pub(crate) fn controllers(&self) -> u16
-        ensures { result ≡ length self.now.bus.banks }
-    {
+    pub(crate) fn controllers(&self) -> u16 {
         self.bus.controllers()
     }
 
-    /// Returns the number of a controller, if there is such a controller.
-    fn controller(&self, ctrl: u16) -> Result<u16, Refusal>
-        ensures value { result ≡ controller_in self.now.bus ctrl }
-        ensures within { IfOk result (λ c. c < length self.now.bus.banks) }
-    {
-        if ctrl < self.controllers() {
-            Ok(ctrl)
-        } else {
-            Err(Refusal::NoController)
+    /// Returns a register of a controller.
+    pub(crate) fn read32(&self, ctrl: u16, offset: u32) -> Result<u32, OperationError> {
+        if ctrl >= self.bus.controllers() {
+            return Err(OperationError::NoController);
         }
+        Ok(self.bus.read32(ctrl, offset))
     }
 
-    /// Performs an operation on a controller, if it exists, over the host's memory. Writing a
-    /// register or giving a turn drops the driver.
-    pub(crate) fn ask(
+    /// Writes a register of a controller. This ends the driver.
+    pub(crate) fn write32(
         &mut self,
-        alloc: Global,
-        memory: &mut FlatMemory,
-        operation: ControllerOperation,
-        fields: &Fields,
-    ) -> Result<Result<Fields, Refusal>, AllocError>
-        ensures { IfOk result (λ outcome. PerformsOn
-            operation fields.now self.old memory.old outcome self.new memory.new) }
-    {
-        match self.controller(fields.word("ctrl")) {
-            Ok(ctrl) => {
-                if operation.is_by_hand() {
-                    self.driver = None;
-                }
-                let machine = &mut self.bus.machine;
-                ask(alloc, machine, memory, operation, ctrl, fields)
-            }
-            Err(refusal) => Ok(Err(refusal)),
+        ctrl: u16,
+        offset: u32,
+        value: u32,
+    ) -> Result<(), OperationError> {
+        if ctrl >= self.bus.controllers() {
+            return Err(OperationError::NoController);
         }
+        self.driver = None;
+        self.bus.machine.write32(ctrl, offset, value);
+        Ok(())
+    }
+
+    /// Lets a controller take at most `most` entries, and returns how many it took. This ends the
+    /// driver.
+    pub(crate) fn turn(
+        &mut self,
+        ctrl: u16,
+        memory: &mut FlatMemory,
+        most: u16,
+    ) -> Result<u16, OperationError> {
+        if ctrl >= self.bus.controllers() {
+            return Err(OperationError::NoController);
+        }
+        self.driver = None;
+        Ok(self.bus.machine.turn(ctrl, memory, most))
+    }
+
+    /// Returns how many commands a controller refused, and how many it took.
+    #[tactic(auto, using(crate::proofs::DeviceLaws::controller_within))]
+    pub(crate) fn counts(&self, ctrl: u16) -> Result<(u64, u64), OperationError> {
+        if ctrl >= self.bus.controllers() {
+            return Err(OperationError::NoController);
+        }
+        Ok(self.bus.machine.subsystem().counts(ctrl))
+    }
+
+    /// Returns an entry of a controller's error log, the newest one first.
+    #[tactic(auto, using(crate::proofs::DeviceLaws::controller_within))]
+    pub(crate) fn log_entry(&self, ctrl: u16, index: u16) -> Result<ErrorEntry, OperationError> {
+        if ctrl >= self.bus.controllers() {
+            return Err(OperationError::NoController);
+        }
+        self.bus
+            .machine
+            .subsystem()
+            .log_entry(ctrl, usize::from(index))
+            .ok_or(OperationError::NoEntry)
     }
 
     /// Brings up a driver with pages for the data of any entry, and returns how many pages its
-    /// memory has, as the field `pages`. If the geometry is out of its limits, returns its first
-    /// such field, and nothing changes.
+    /// memory has.
     pub(crate) fn bring_up(
         &mut self,
         alloc: Global,
-        fields: &Fields,
-    ) -> Result<Result<Fields, Refusal>, AllocError>
-        ensures { IfOk result (λ outcome. BringsUp (geometry_in fields.now)
-            (fault_of (geometry_in fields.now)) self.old outcome self.new) }
-    {
-        let geometry = geometry_in(fields);
-        if let Err(field) = geometry.check() {
-            return Ok(Err(Refusal::Geometry(field)));
-        }
+        geometry: Geometry,
+    ) -> Result<u64, OperationError> {
+        geometry.check()?;
+        self.driver = None;
         self.bus.begin(alloc)?;
-        match Driver::bring_up_for_entries(alloc, &mut self.bus, geometry) {
-            Ok(driver) => {
-                let pages = driver.pages();
-                self.driver = Some(driver);
-                let mut fields = Fields::new(alloc);
-                fields.push_number("pages", pages)?;
-                Ok(Ok(fields))
-            }
-            Err(DriverError::Memory) => Err(AllocError),
-            Err(DriverError::Geometry(_)) => unreachable!(),
-            Err(DriverError::NoReady) => unreachable!(),
-        }
+        let driver = Driver::bring_up_for_entries(alloc, &mut self.bus, geometry)?;
+        let pages = driver.pages();
+        self.driver = Some(driver);
+        Ok(pages)
     }
 
-    /// Sends an entry to a controller, and returns the completion and the bytes that came.
-    fn send(
-        &mut self,
-        alloc: Global,
-        fields: &Fields,
-    ) -> Result<Result<Fields, Refusal>, AllocError>
-        ensures { IfOk result (λ outcome. Sends fields.now self.old outcome self.new) }
-    {
-        let ctrl = fields.word("ctrl");
+    /// Sends an entry to a controller, and answers its completion and the bytes that came.
+    pub(crate) fn passthrough(&mut self, alloc: Global, given: &Arguments) -> Answered {
+        let ctrl = given.word("ctrl");
         let Some(driver) = &mut self.driver else {
-            return Ok(Err(Refusal::NoDriver));
+            return Err(OperationError::NoDriver);
         };
         if usize::from(ctrl) >= driver.controllers() {
-            return Ok(Err(Refusal::NoController));
+            return Err(OperationError::NoController);
         }
-        Ok(Ok(pass_through(alloc, &mut self.bus, driver, ctrl, fields)?))
+        pass_through(alloc, &mut self.bus, driver, ctrl, given)
     }
 
-    /// Sends the command of an entry to a controller, and returns the fields of its reply.
-    fn administer(
-        &mut self,
-        alloc: Global,
-        fields: &Fields,
-    ) -> Result<Result<Fields, Refusal>, AllocError>
-        ensures { IfOk result (λ outcome. Administers fields.now self.old outcome self.new) }
-    {
-        let ctrl = fields.word("ctrl");
+    /// Sends the command of an entry to a controller, and answers its reply.
+    pub(crate) fn admin(&mut self, alloc: Global, given: &Arguments) -> Answered {
+        let ctrl = given.word("ctrl");
         let Some(driver) = &mut self.driver else {
-            return Ok(Err(Refusal::NoDriver));
+            return Err(OperationError::NoDriver);
         };
         if usize::from(ctrl) >= driver.controllers() {
-            return Ok(Err(Refusal::NoController));
+            return Err(OperationError::NoController);
         }
-        let entry = Sqe::get(&array_of(fields.bytes("entry")));
         let mut place = CtrlList::new();
-        match read_sendable(&entry, fields.bytes("sent"), &mut place) {
-            Ok(command) => Ok(Ok(send_command(alloc, &mut self.bus, driver, ctrl, &command)?)),
-            Err(refusal) => Ok(Err(refusal)),
-        }
+        let command = read_command(given.bytes("entry"), given.bytes("sent"), &mut place)?;
+        send_command(alloc, &mut self.bus, driver, ctrl, &command)
     }
 
-    /// Sends the commands of several entries to a controller, and returns the fields of their
-    /// replies.
-    fn administer_all(
-        &mut self,
-        alloc: Global,
-        fields: &Fields,
-    ) -> Result<Result<Fields, Refusal>, AllocError>
-        ensures { IfOk result (λ outcome. AdministersAll fields.now self.old outcome self.new) }
-    {
-        let ctrl = fields.word("ctrl");
+    /// Sends the commands of several entries to a controller, and answers their replies.
+    pub(crate) fn admin_all(&mut self, alloc: Global, given: &Arguments) -> Answered {
+        let ctrl = given.word("ctrl");
         let Some(driver) = &mut self.driver else {
-            return Ok(Err(Refusal::NoDriver));
+            return Err(OperationError::NoDriver);
         };
         if usize::from(ctrl) >= driver.controllers() {
-            return Ok(Err(Refusal::NoController));
+            return Err(OperationError::NoController);
         }
-        let len = fields.bytes("entries").len();
-        if !are_whole_entries(len) {
-            return Ok(Err(Refusal::Entries));
-        }
-        let mut places = new_places(alloc, len / 64)?;
-        match read_commands(alloc, fields, places.as_mut_slice())? {
-            Ok(commands) => {
-                let commands = commands.as_slice();
-                Ok(Ok(send_commands(alloc, &mut self.bus, driver, ctrl, commands)?))
-            }
-            Err(refusal) => Ok(Err(refusal)),
-        }
+        let entries = given.bytes("entries");
+        let mut places = places_for(alloc, entries)?;
+        let commands = read_commands(alloc, entries, given.bytes("sent"), places.as_mut_slice())?;
+        send_commands(alloc, &mut self.bus, driver, ctrl, commands.as_slice())
     }
 
     /// Resets a controller.
-    fn reset(&mut self, alloc: Global, fields: &Fields) -> Result<Fields, Refusal>
-        ensures { Resets fields.now self.old result self.new }
-    {
-        let ctrl = fields.word("ctrl");
+    pub(crate) fn reset(&mut self, ctrl: u16) -> Result<(), OperationError> {
         let Some(driver) = &mut self.driver else {
-            return Err(Refusal::NoDriver);
+            return Err(OperationError::NoDriver);
         };
         if usize::from(ctrl) >= driver.controllers() {
-            return Err(Refusal::NoController);
+            return Err(OperationError::NoController);
         }
-        match driver.reset(&mut self.bus, ctrl) {
-            Ok(()) => Ok(Fields::new(alloc)),
-            Err(_) => unreachable!(),
-        }
+        Ok(driver.reset(&mut self.bus, ctrl)?)
     }
 
-    /// Returns what the bus saw of the driver, as fields, and forgets it.
-    fn tell(&mut self, alloc: Global) -> Result<Result<Fields, Refusal>, AllocError>
-        ensures { IfOk result (λ outcome. Tells self.old outcome self.new) }
-    {
+    /// Answers what the bus saw of the driver, and forgets it.
+    pub(crate) fn saw(&mut self, alloc: Global) -> Answered {
         if self.driver.is_none() {
-            return Ok(Err(Refusal::NoDriver));
+            return Err(OperationError::NoDriver);
         }
-        Ok(Ok(self.bus.seen.tell(alloc)?))
-    }
-
-    /// Performs an operation on the driver, if there is one and it has the controller.
-    pub(crate) fn drive(
-        &mut self,
-        alloc: Global,
-        operation: DriverOperation,
-        fields: &Fields,
-    ) -> Result<Result<Fields, Refusal>, AllocError>
-        ensures { IfOk result
-            (λ outcome. Drives operation fields.now self.old outcome self.new) }
-    {
-        match operation {
-            DriverOperation::Admin => self.administer(alloc, fields),
-            DriverOperation::AdminAll => self.administer_all(alloc, fields),
-            DriverOperation::Passthrough => self.send(alloc, fields),
-            DriverOperation::Reset => Ok(self.reset(alloc, fields)),
-            DriverOperation::Saw => self.tell(alloc),
-        }
+        self.bus.tell(alloc)
     }
 }

@@ -1,81 +1,61 @@
 //! Operations on the host's memory.
 
-ghost use Rattle.std.specs.Prelude.{◌≡◌, IfOk, OnErr, OnOk};
-ghost use Rattle.nv_operations.specs.Memory.{AreSizes, loaded, new_memory, page_of, store_outcome};
-ghost use Rattle.nv_operations.specs.Memory.{stored};
-
-use crate::conditions::has_page;
-use crate::fields::Fields;
-use crate::refusal::Refusal;
+use crate::answer::{Answer, Answered};
+use crate::arguments::Arguments;
+use crate::error::OperationError;
+use crate::row::{MOST_MOVED, Row};
+use crate::session::Session;
 use nv_host::{FlatMemory, HostMemory, is_page_size};
-use std::alloc::{AllocError, Global};
+use std::alloc::Global;
 
-/// Reads `len` bytes from an address on, as the field `bytes`.
-pub fn load(
-    alloc: Global,
-    memory: &FlatMemory,
-    address: u64,
-    len: usize,
-) -> Result<Result<Fields, Refusal>, AllocError>
-    ensures { IfOk result (λ outcome. outcome ≡ loaded memory.now address len) }
-{
-    let mut bytes = vec![in alloc; 0u8; len]?;
-    match memory.load(address, bytes.as_mut_slice()) {
-        Ok(()) => Ok(Ok(Fields::of_bytes(alloc, bytes)?)),
-        Err(_) => Ok(Err(Refusal::OutsideMemory)),
+impl Session {
+    pub(crate) fn renew_memory(&mut self, alloc: Global, words: &[&str]) -> Answered {
+        let rows = [Row::dword("page_size"), Row::number("pages", 16_384)];
+        let given = Arguments::read(alloc, words, &rows)?;
+        let page_size = given.dword("page_size");
+        if !is_page_size(page_size) {
+            return Err(OperationError::PageSize);
+        }
+        self.memory = FlatMemory::new(alloc, page_size, given.dword("pages"))?;
+        Ok(Answer::new(alloc))
     }
-}
 
-/// Writes bytes from an address on. After a refusal, the memory is unchanged.
-pub fn store(memory: &mut FlatMemory, address: u64, bytes: &[u8]) -> Result<(), Refusal>
-    ensures outcome { result ≡ store_outcome memory.old address bytes.now }
-    ensures memory { OnOk result (memory.new ≡ stored memory.old address bytes.now) }
-    ensures err { OnErr result (memory.new ≡ memory.old) }
-{
-    match memory.store(address, bytes) {
-        Ok(()) => Ok(()),
-        Err(_) => Err(Refusal::OutsideMemory),
+    pub(crate) fn sizes(&self, alloc: Global, words: &[&str]) -> Answered {
+        Arguments::read(alloc, words, &[])?;
+        let answer = Answer::new(alloc)
+            .number("page_size", u64::from(self.memory.page_size()))?
+            .number("pages", u64::from(self.memory.pages()))?;
+        Ok(answer)
     }
-}
 
-/// Creates a memory of pages of zeros, if pages can have this size.
-pub fn new_memory(
-    alloc: Global,
-    page_size: u32,
-    pages: u32,
-) -> Result<Result<FlatMemory, Refusal>, AllocError>
-    ensures { IfOk result (λ memory. memory ≡ new_memory page_size pages) }
-{
-    if !is_page_size(page_size) {
-        return Ok(Err(Refusal::PageSize));
+    pub(crate) fn load(&self, alloc: Global, words: &[&str]) -> Answered {
+        let rows = [
+            Row::qword("address"),
+            Row::number("length", MOST_MOVED as u64),
+        ];
+        let given = Arguments::read(alloc, words, &rows)?;
+        let mut bytes = vec![in alloc; 0u8; given.qword("length") as usize]?;
+        self.memory
+            .load(given.qword("address"), bytes.as_mut_slice())?;
+        Ok(Answer::new(alloc).bytes("bytes", bytes.as_slice())?)
     }
-    match FlatMemory::new(alloc, page_size, pages) {
-        Ok(memory) => Ok(Ok(memory)),
-        Err(_) => Err(AllocError),
-    }
-}
 
-/// Reads a page, as the field `bytes`, if the memory has it.
-pub fn page(
-    alloc: Global,
-    memory: &FlatMemory,
-    number: u32,
-) -> Result<Result<Fields, Refusal>, AllocError>
-    ensures { IfOk result (λ outcome. outcome ≡ page_of memory.now number) }
-{
-    if !has_page(memory, number) {
-        return Ok(Err(Refusal::NoPage));
+    pub(crate) fn store(&mut self, alloc: Global, words: &[&str]) -> Answered {
+        let rows = [Row::qword("address"), Row::bytes("bytes", MOST_MOVED)];
+        let given = Arguments::read(alloc, words, &rows)?;
+        self.memory
+            .store(given.qword("address"), given.bytes("bytes"))?;
+        Ok(Answer::new(alloc))
     }
-    let bytes = Vec::from_slice(alloc, memory.page(number))?;
-    Ok(Ok(Fields::of_bytes(alloc, bytes)?))
-}
 
-/// Returns the page size and the number of pages, as the fields `page_size` and `pages`.
-pub fn sizes(alloc: Global, memory: &FlatMemory) -> Result<Fields, AllocError>
-    ensures { IfOk result (AreSizes memory.now) }
-{
-    let mut fields = Fields::new(alloc);
-    fields.push_number("page_size", u64::from(memory.page_size()))?;
-    fields.push_number("pages", u64::from(memory.pages()))?;
-    Ok(fields)
+    pub(crate) fn page(&self, alloc: Global, words: &[&str]) -> Answered {
+        let given = Arguments::read(alloc, words, &[Row::dword("number")])?;
+        let page_size = self.memory.page_size();
+        let address = u64::from(given.dword("number")) * u64::from(page_size);
+        let mut bytes = vec![in alloc; 0u8; page_size as usize]?;
+        if self.memory.load(address, bytes.as_mut_slice()).is_err() {
+            return Err(OperationError::NoPage);
+        }
+        Ok(Answer::new(alloc).bytes("bytes", bytes.as_slice())?)
+    }
 }

@@ -1,192 +1,223 @@
 //! Operations on the rings of a queue pair, from both sides.
 
-ghost use Rattle.std.specs.Prelude.{◌≡◌, IfOk, map};
+ghost use Rattle.std.specs.Prelude.{◌+◌, ◌*◌, ◌≤◌, ◌↔◌, IsTrue, length};
 ghost use Rattle.nv_queue.specs.Numbers.{IsDepth};
-ghost use Rattle.nv_operations.specs.Field.{fields_in};
-ghost use Rattle.nv_operations.specs.Rings.{PerformsRing, new_pair, renewed_pair, ring_rows};
-ghost use Rattle.nv_operations.specs.Rings.{ring_word, Begins, fields_of_pair};
 
-use crate::device_rings::{post, push_fetch, push_post, take};
-use crate::fields::Fields;
-use crate::host_rings::{Completions, Submissions};
-use crate::queue_records::{cqe_of, cqe_rows, sqe_of, sqe_rows};
-use crate::reading::read_fields;
-use crate::refusal::Refusal;
+use crate::answer::{Answer, Answered};
+use crate::arguments::Arguments;
+use crate::error::OperationError;
 use crate::row::Row;
-use crate::slip::Fault;
-use nv_host::FlatMemory;
-use nv_queue::{Fetch, Post};
+use crate::session::Session;
+use nv_host::{FlatMemory, size_of_memory};
+use nv_layout::{Cqe, Sqe};
+use nv_queue::{CompletionRing, Fetch, Post, SubmitRing};
 use std::alloc::{AllocError, Global};
+use std::marker::Model;
 
-/// An operation on the rings.
-#[derive(Clone, Copy, Debug, PartialEq, Eq)]
-pub enum RingOperation {
-    /// Creates new rings.
-    Begin,
-    /// Makes both sides of both rings begin anew.
-    Renew,
-    /// Zeroes the slots of the completion ring.
-    Zero,
-    /// Submits a command, as the host.
-    Submit,
-    /// Writes a tail to the tail doorbell.
-    Tail,
-    /// Takes a submission, as the device.
-    Take,
-    /// Posts a completion, as the device.
-    Post,
-    /// Collects a completion, as the host.
-    Collect,
-    /// Takes over the SQ head of a completion, as the host.
-    Free,
-    /// Returns the head that the host has to write to the head doorbell.
-    Tell,
-    /// Writes a head to the head doorbell.
-    Head,
-    /// Returns the numbers of the device's sides of the rings.
-    State,
-}
-
-impl RingOperation {
-    /// Returns the first word of the operation's lines.
-    pub(crate) fn word<'a>(self) -> &'a str
-        ensures { result.now ≡ ring_word self }
-    {
-        match self {
-            RingOperation::Begin => "rings",
-            RingOperation::Renew => "renew",
-            RingOperation::Zero => "zero",
-            RingOperation::Submit => "submit",
-            RingOperation::Tail => "tail",
-            RingOperation::Take => "take",
-            RingOperation::Post => "post",
-            RingOperation::Collect => "collect",
-            RingOperation::Free => "free",
-            RingOperation::Tell => "tell",
-            RingOperation::Head => "head",
-            RingOperation::State => "slots",
-        }
-    }
-}
-
-/// Reads the fields from the words after the operation's name.
-pub(crate) fn read_ring_arguments(
-    alloc: Global,
-    operation: RingOperation,
-    words: &[&str],
-) -> Result<Result<Fields, Fault>, AllocError>
-    ensures { IfOk result
-        (λ read. read ≡ fields_in (ring_rows operation) (map (λ w. w.now) words.now)) }
-{
-    match operation {
-        RingOperation::Begin => {
-            let depth = Row::word("depth").needed();
-            let submissions = Row::qword("submissions").needed();
-            read_fields(
-                alloc,
-                &[depth, submissions, Row::qword("completions").needed()],
-                words,
-            )
-        }
-        RingOperation::Submit => read_fields(alloc, &sqe_rows(), words),
-        RingOperation::Post => read_fields(alloc, &cqe_rows(), words),
-        RingOperation::Tail => read_fields(alloc, &[Row::dword("tail").needed()], words),
-        RingOperation::Head => read_fields(alloc, &[Row::dword("head").needed()], words),
-        RingOperation::Free => read_fields(alloc, &[Row::word("head").needed()], words),
-        _ => read_fields(alloc, &[], words),
-    }
-}
-
-/// Both sides of both rings of a queue pair.
+/// Both sides of both rings of a queue pair, with the places of the rings.
 #[derive(Drop)]
-pub struct QueuePair {
-    pub submissions: Submissions,
-    pub fetch: Fetch,
-    pub post: Post,
-    pub completions: Completions,
+pub(crate) struct QueuePair {
+    depth: u16,
+    submissions: u64,
+    completions: u64,
+    submit: SubmitRing,
+    fetch: Fetch,
+    post: Post,
+    collect: CompletionRing,
+}
+
+impl Model for QueuePair {
+    ghost use Rattle.std.specs.Prelude.{◌≡◌};
+
+    ghost Value = { Unit {0} };
+
+    ghost view = { λ _. tt };
+
+    ghost invariant = { λ q. (q.submit.base ≡ q.submissions) × (q.submit.depth ≡ q.depth)
+        × (q.collect.base ≡ q.completions) × (q.collect.depth ≡ q.depth) };
+}
+
+/// Returns whether `depth` slots of `size` bytes lie in the memory from an address on.
+fn lies_in(memory: &FlatMemory, base: u64, size: u16, depth: u16) -> bool
+    ensures { IsTrue result ↔ (base + size * depth ≤ length memory.now.bytes) }
+{
+    let slots = u128::from(size) * u128::from(depth);
+    u128::from(base) + slots <= u128::from(size_of_memory(memory))
+}
+
+/// Adds the numbers of the device's sides of rings.
+pub(crate) fn add_slots(answer: Answer, fetch: &Fetch, post: &Post) -> Result<Answer, AllocError> {
+    answer
+        .number("sq_head", u64::from(fetch.head()))?
+        .number("sq_empty", u64::from(fetch.is_empty()))?
+        .number("phase", u64::from(post.phase()))?
+        .number("cq_full", u64::from(post.is_full()))
 }
 
 impl QueuePair {
     /// Creates rings of `depth` slots at these addresses.
-    pub fn new(depth: u16, submissions: u64, completions: u64) -> QueuePair
+    pub(crate) fn new(depth: u16, submissions: u64, completions: u64) -> QueuePair
         requires { IsDepth depth }
-        ensures { result ≡ new_pair depth submissions completions }
     {
         QueuePair {
-            submissions: Submissions::new(submissions, depth),
+            depth,
+            submissions,
+            completions,
+            submit: SubmitRing::new(submissions, depth),
             fetch: Fetch::new(submissions, depth),
             post: Post::new(completions, depth),
-            completions: Completions::new(completions, depth),
+            collect: CompletionRing::new(completions, depth),
         }
     }
 
-    /// Makes both sides of both rings begin anew.
-    fn renew(&mut self)
-        ensures { self.new ≡ renewed_pair self.old }
-    {
-        self.submissions.renew();
+    fn renew(&mut self) {
+        self.submit.renew();
         self.fetch.renew();
         self.post.renew();
-        self.completions.renew();
+        self.collect.renew();
     }
 
-    /// Replaces the rings with new ones, if rings can have this many slots.
-    fn begin(&mut self, alloc: Global, fields: &Fields) -> Result<Fields, Refusal>
-        ensures { Begins fields.now self.old result self.new }
-    {
-        let depth = fields.word("depth");
-        if depth < 2 || depth > 4096 {
-            return Err(Refusal::Depth);
+    /// Zeroes the slots of the completions.
+    fn zero(&self, memory: &mut FlatMemory) -> Result<(), OperationError> {
+        if !lies_in(memory, self.completions, 16, self.depth) {
+            return Err(OperationError::RingOutside);
         }
-        let submissions = fields.qword("submissions");
-        *self = QueuePair::new(depth, submissions, fields.qword("completions"));
-        Ok(Fields::new(alloc))
+        self.collect.zero(memory);
+        Ok(())
     }
 
-    /// Returns the numbers of the device's sides of the rings.
-    fn state(&self, alloc: Global) -> Result<Fields, AllocError>
-        ensures { IfOk result (λ fields. fields ≡ fields_of_pair self.now) }
-    {
-        let mut fields = Fields::new(alloc);
-        push_fetch(&mut fields, &self.fetch)?;
-        push_post(&mut fields, &self.post)?;
-        Ok(fields)
+    /// Submits an entry, and returns the new tail.
+    fn submit(&mut self, memory: &mut FlatMemory, entry: &Sqe) -> Result<u16, OperationError> {
+        if !lies_in(memory, self.submissions, 64, self.depth) {
+            return Err(OperationError::RingOutside);
+        }
+        Ok(self.submit.push(memory, entry)?)
+    }
+
+    /// Takes the next submission.
+    fn take(&mut self, memory: &FlatMemory) -> Result<Sqe, OperationError> {
+        if !self.fetch.fits(memory) {
+            return Err(OperationError::SlotOutside);
+        }
+        self.fetch.next(memory).ok_or(OperationError::NoSubmission)
+    }
+
+    /// Posts a completion with the due phase tag.
+    fn post(&mut self, memory: &mut FlatMemory, completion: Cqe) -> Result<(), OperationError> {
+        if !self.post.fits(memory) {
+            return Err(OperationError::SlotOutside);
+        }
+        Ok(self.post.put(memory, completion)?)
+    }
+
+    /// Collects the awaited completion.
+    fn collect(&mut self, memory: &FlatMemory) -> Result<Cqe, OperationError> {
+        if !lies_in(memory, self.completions, 16, self.depth) {
+            return Err(OperationError::RingOutside);
+        }
+        self.collect
+            .poll(memory)
+            .ok_or(OperationError::NoCompletion)
+    }
+
+    /// Frees the slots of the submissions before an SQ head.
+    fn free(&mut self, head: u16) -> Result<(), OperationError> {
+        if !self.submit.may_free(head) {
+            return Err(OperationError::Head);
+        }
+        self.submit.freed(head);
+        Ok(())
     }
 }
 
-/// Performs an operation on the rings, and returns the fields that answer it, or why it was
-/// refused.
-pub fn perform_ring(
-    alloc: Global,
-    operation: RingOperation,
-    fields: &Fields,
-    memory: &mut FlatMemory,
-    rings: &mut QueuePair,
-) -> Result<Result<Fields, Refusal>, AllocError>
-    ensures { IfOk result (λ outcome. PerformsRing
-        operation fields.now memory.old rings.old outcome memory.new rings.new) }
-{
-    match operation {
-        RingOperation::Begin => Ok(rings.begin(alloc, fields)),
-        RingOperation::Renew => {
-            rings.renew();
-            Ok(Ok(Fields::new(alloc)))
+impl Session {
+    pub(crate) fn new_rings(&mut self, alloc: Global, words: &[&str]) -> Answered {
+        let rows = [
+            Row::word("depth"),
+            Row::qword("submissions"),
+            Row::qword("completions"),
+        ];
+        let given = Arguments::read(alloc, words, &rows)?;
+        let depth = given.word("depth");
+        if depth < 2 || depth > 4096 {
+            return Err(OperationError::Depth);
         }
-        RingOperation::Zero => Ok(rings.completions.zero(alloc, memory)),
-        RingOperation::Submit => rings.submissions.submit(alloc, memory, &sqe_of(fields)),
-        RingOperation::Tail => {
-            rings.fetch.tail(fields.dword("tail"));
-            Ok(Ok(Fields::new(alloc)))
+        self.rings = QueuePair::new(
+            depth,
+            given.qword("submissions"),
+            given.qword("completions"),
+        );
+        Ok(Answer::new(alloc))
+    }
+
+    pub(crate) fn renew_rings(&mut self, alloc: Global, words: &[&str]) -> Answered {
+        Arguments::read(alloc, words, &[])?;
+        self.rings.renew();
+        Ok(Answer::new(alloc))
+    }
+
+    pub(crate) fn zero(&mut self, alloc: Global, words: &[&str]) -> Answered {
+        Arguments::read(alloc, words, &[])?;
+        self.rings.zero(&mut self.memory)?;
+        Ok(Answer::new(alloc))
+    }
+
+    pub(crate) fn submit(&mut self, alloc: Global, words: &[&str]) -> Answered {
+        let given = Arguments::read(alloc, words, &[Row::bytes("entry", 64)])?;
+        let entry = Sqe::get(&given.array("entry"));
+        let tail = self.rings.submit(&mut self.memory, &entry)?;
+        Ok(Answer::new(alloc).number("tail", u64::from(tail))?)
+    }
+
+    pub(crate) fn tail(&mut self, alloc: Global, words: &[&str]) -> Answered {
+        let given = Arguments::read(alloc, words, &[Row::dword("tail")])?;
+        self.rings.fetch.tail(given.dword("tail"));
+        Ok(Answer::new(alloc))
+    }
+
+    pub(crate) fn take(&mut self, alloc: Global, words: &[&str]) -> Answered {
+        Arguments::read(alloc, words, &[])?;
+        let mut bytes = [0xff; 64];
+        self.rings.take(&self.memory)?.put(&mut bytes);
+        Ok(Answer::new(alloc).bytes("bytes", &bytes)?)
+    }
+
+    pub(crate) fn post(&mut self, alloc: Global, words: &[&str]) -> Answered {
+        let given = Arguments::read(alloc, words, &[Row::bytes("completion", 16)])?;
+        let completion = Cqe::get(&given.array("completion"));
+        self.rings.post(&mut self.memory, completion)?;
+        Ok(Answer::new(alloc))
+    }
+
+    pub(crate) fn collect(&mut self, alloc: Global, words: &[&str]) -> Answered {
+        Arguments::read(alloc, words, &[])?;
+        let mut bytes = [0xff; 16];
+        self.rings.collect(&self.memory)?.put(&mut bytes);
+        Ok(Answer::new(alloc).bytes("bytes", &bytes)?)
+    }
+
+    pub(crate) fn free(&mut self, alloc: Global, words: &[&str]) -> Answered {
+        let given = Arguments::read(alloc, words, &[Row::word("head")])?;
+        self.rings.free(given.word("head"))?;
+        Ok(Answer::new(alloc))
+    }
+
+    pub(crate) fn tell(&mut self, alloc: Global, words: &[&str]) -> Answered {
+        Arguments::read(alloc, words, &[])?;
+        match self.rings.collect.head_to_tell() {
+            Some(head) => Ok(Answer::new(alloc).number("head", u64::from(head))?),
+            None => Err(OperationError::NoHead),
         }
-        RingOperation::Take => take(alloc, memory, &mut rings.fetch),
-        RingOperation::Post => Ok(post(alloc, memory, &mut rings.post, cqe_of(fields))),
-        RingOperation::Collect => rings.completions.collect(alloc, memory),
-        RingOperation::Free => Ok(rings.submissions.free(alloc, fields.word("head"))),
-        RingOperation::Tell => rings.completions.tell(alloc),
-        RingOperation::Head => {
-            rings.post.head(fields.dword("head"));
-            Ok(Ok(Fields::new(alloc)))
-        }
-        RingOperation::State => Ok(Ok(rings.state(alloc)?)),
+    }
+
+    pub(crate) fn head(&mut self, alloc: Global, words: &[&str]) -> Answered {
+        let given = Arguments::read(alloc, words, &[Row::dword("head")])?;
+        self.rings.post.head(given.dword("head"));
+        Ok(Answer::new(alloc))
+    }
+
+    pub(crate) fn slots(&self, alloc: Global, words: &[&str]) -> Answered {
+        Arguments::read(alloc, words, &[])?;
+        Ok(add_slots(Answer::new(alloc), &self.rings.fetch, &self.rings.post)?)
     }
 }

@@ -1,104 +1,119 @@
-//! The rows of a table of fields.
+//! The table of an operation's arguments.
 
-ghost use Rattle.std.specs.Prelude.{◌≡◌};
-ghost use Rattle.nv_operations.specs.Rows.{byte_row, bytes_row, dword_row, flag_row, number_row};
-ghost use Rattle.nv_operations.specs.Rows.{numbers_row, needed, qword_row, word_row};
+use hex::FromHexError;
+use nv_host::PageNo;
+use nv_line::parse_number;
+use std::alloc::{AllocError, Global};
 
-use crate::form::Form;
-use std::marker::Model;
+/// The most bytes that one operation moves.
+pub(crate) const MOST_MOVED: usize = 1_048_576;
 
-/// A field that a line may have: its key, the form of its value, and whether it is required.
-#[derive(Drop)]
-pub struct Row {
+/// The most pages of a transfer.
+const MOST_PAGES: usize = 257;
+
+/// The form of an argument's value: a number up to this one, at most so many bytes of two
+/// hexadecimal digits each, or page numbers with commas between them.
+#[derive(Clone, Copy, Debug, PartialEq, Eq)]
+enum Form {
+    Number(u64),
+    Bytes(usize),
+    Pages,
+}
+
+/// The value of an argument.
+#[derive(Debug, Drop)]
+pub(crate) enum Value {
+    Number(u64),
+    Bytes(Vec<u8>),
+    Pages(Vec<PageNo>),
+}
+
+/// An argument that an operation takes.
+#[derive(Clone, Copy, Debug, PartialEq, Eq)]
+pub(crate) struct Row {
     pub(crate) key: &'static str,
-    pub(crate) form: Form,
+    form: Form,
     pub(crate) is_needed: bool,
 }
 
-impl Model for Row {
-    ghost use Rattle.nv_operations.specs.Field.{Row, row};
+/// Reads page numbers.
+fn read_pages(alloc: Global, text: &str) -> Result<Option<Vec<PageNo>>, AllocError> {
+    let mut pages = Vec::new(alloc);
+    for piece in text.split(',') {
+        match parse_number(piece, 0, u64::from(u32::MAX)).map(u32::try_from) {
+            Some(Ok(page)) if pages.len() < MOST_PAGES => pages.push(page)?,
+            _ => return Ok(None),
+        }
+    }
+    Ok(Some(pages))
+}
 
-    ghost Value = { Row };
-
-    ghost view = { λ r. row r.key.now r.form r.is_needed };
+/// Reads at most `most` bytes.
+fn read_bytes(alloc: Global, most: usize, text: &str) -> Result<Option<Vec<u8>>, AllocError> {
+    match hex::decode(alloc, text) {
+        Ok(bytes) if bytes.len() <= most => Ok(Some(bytes)),
+        Err(FromHexError::OutOfMemory) => Err(AllocError),
+        _ => Ok(None),
+    }
 }
 
 impl Row {
-    /// Creates the row of an optional number from 0 to `most`.
-    pub(crate) fn number(key: &'static str, most: u64) -> Row
-        ensures { result ≡ number_row key.now most }
-    {
+    fn new(key: &'static str, form: Form) -> Row {
         Row {
             key,
-            form: Form::Number(most),
-            is_needed: false,
+            form,
+            is_needed: true,
         }
     }
 
-    /// Creates the row of an optional number of one byte.
-    pub(crate) fn byte(key: &'static str) -> Row
-        ensures { result ≡ byte_row key.now }
-    {
+    /// Creates the row of a number up to `most`.
+    pub(crate) fn number(key: &'static str, most: u64) -> Row {
+        Row::new(key, Form::Number(most))
+    }
+
+    pub(crate) fn byte(key: &'static str) -> Row {
         Row::number(key, 0xff)
     }
 
-    /// Creates the row of an optional number of a word, which has two bytes.
-    pub(crate) fn word(key: &'static str) -> Row
-        ensures { result ≡ word_row key.now }
-    {
+    /// Creates the row of a number of two bytes.
+    pub(crate) fn word(key: &'static str) -> Row {
         Row::number(key, 0xffff)
     }
 
-    /// Creates the row of an optional number of a dword, which has four bytes.
-    pub(crate) fn dword(key: &'static str) -> Row
-        ensures { result ≡ dword_row key.now }
-    {
+    /// Creates the row of a number of four bytes.
+    pub(crate) fn dword(key: &'static str) -> Row {
         Row::number(key, 0xffff_ffff)
     }
 
-    /// Creates the row of an optional number of a qword, which has eight bytes.
-    pub(crate) fn qword(key: &'static str) -> Row
-        ensures { result ≡ qword_row key.now }
-    {
+    /// Creates the row of a number of eight bytes.
+    pub(crate) fn qword(key: &'static str) -> Row {
         Row::number(key, u64::MAX)
     }
 
-    /// Creates the row of an optional number of one bit.
-    pub(crate) fn flag(key: &'static str) -> Row
-        ensures { result ≡ flag_row key.now }
-    {
-        Row::number(key, 1)
+    /// Creates the row of at most `most` bytes.
+    pub(crate) fn bytes(key: &'static str, most: usize) -> Row {
+        Row::new(key, Form::Bytes(most))
     }
 
-    /// Creates the row of an optional value of at most `most` bytes.
-    pub(crate) fn bytes(key: &'static str, most: usize) -> Row
-        ensures { result ≡ bytes_row key.now most }
-    {
+    /// Creates the row of the pages of a transfer.
+    pub(crate) fn pages() -> Row {
+        Row::new("pages", Form::Pages)
+    }
+
+    /// Returns the row of an argument that may be missing.
+    pub(crate) fn optional(self) -> Row {
         Row {
-            key,
-            form: Form::Bytes(most),
             is_needed: false,
-        }
-    }
-
-    /// Creates the row of an optional list of at most `most` numbers from 0 to `each`.
-    pub(crate) fn numbers(key: &'static str, each: u64, most: usize) -> Row
-        ensures { result ≡ numbers_row key.now each most }
-    {
-        Row {
-            key,
-            form: Form::Numbers(each, most),
-            is_needed: false,
-        }
-    }
-
-    /// Makes the field of this row required.
-    pub(crate) fn needed(self) -> Row
-        ensures { result ≡ needed self }
-    {
-        Row {
-            is_needed: true,
             ..self
+        }
+    }
+
+    /// Reads a value of this form from a text.
+    pub(crate) fn read(self, alloc: Global, text: &str) -> Result<Option<Value>, AllocError> {
+        match self.form {
+            Form::Number(most) => Ok(parse_number(text, 0, most).map(Value::Number)),
+            Form::Bytes(most) => Ok(read_bytes(alloc, most, text)?.map(Value::Bytes)),
+            Form::Pages => Ok(read_pages(alloc, text)?.map(Value::Pages)),
         }
     }
 }

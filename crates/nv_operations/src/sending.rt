@@ -1,126 +1,94 @@
 //! The commands that a driver sends for a line.
 
-ghost use Rattle.std.specs.Prelude.{◌≡◌, ◌<◌, ◌≤◌, ◌↔◌, All, IfOk, IsTrue, MatchResult, length};
+ghost use Rattle.std.specs.Prelude.{◌↔◌, All, IfOk, IsTrue};
 ghost use Rattle.nv_command.specs.Command.{CommandFits};
-ghost use Rattle.nv_command.specs.Decoding.{command_of};
-ghost use Rattle.nv_operations.specs.Sending.{AreReadAs, AreWholeEntries, IsFirstHeld, IsHeld, IsReadAs};
-ghost use Rattle.nv_operations.specs.Sending.{answers_from, entry_at, sent_at};
+ghost use Rattle.nv_command.specs.Form.{is_error_log};
+ghost use Rattle.nv_command.specs.Logs.{AreEntries, IsSendable, IsWhole};
 
-use crate::fields::{Fields, array_of};
-use crate::refusal::Refusal;
-use crate::replies::{answer_fields, is_sendable};
-use nv_command::Command;
-use nv_driver::AnswerSlot;
+use crate::arguments::array_of;
+use crate::error::OperationError;
+use nv_command::{Command, Decoded, DwordCount, ERROR_INFORMATION, LogQuery};
 use nv_layout::{CtrlList, Sqe};
-use std::alloc::{AllocError, Global};
+use std::alloc::Global;
 
-/// Reads a command from its entry and the data sent with it, if a driver can send it.
-pub(crate) fn read_sendable<'a>(
-    entry: &Sqe,
+/// Returns whether this many dwords are 1 to 256 whole entries of an error log.
+#[tactic(auto, using(crate::proofs::SendingLaws::entries_from, crate::proofs::SendingLaws::entries_to))]
+fn are_entries(dwords: DwordCount) -> bool
+    ensures { IsTrue result ↔ AreEntries dwords }
+{
+    let count = u64::from(dwords.zeros_based()) + 1;
+    count % 16 == 0 && count <= 4096
+}
+
+/// Returns whether a query asks for a whole log: for entries of the error log from the first on, or
+/// for the 512 bytes of another log.
+fn is_whole(asked: &LogQuery) -> bool
+    ensures { IsTrue result ↔ IsWhole (is_error_log asked.now.lid) asked.now.offset asked.now.dwords }
+{
+    if asked.offset != 0 {
+        return false;
+    }
+    if asked.lid == ERROR_INFORMATION {
+        are_entries(asked.dwords)
+    } else {
+        asked.dwords.bytes() == 512
+    }
+}
+
+/// Returns whether a driver can decode the reply to a command.
+fn is_sendable(command: &Command) -> bool
+    ensures { IsTrue result ↔ IsSendable command.now }
+{
+    match command {
+        Command::GetLog(asked) => is_whole(asked),
+        _ => true,
+    }
+}
+
+/// Reads a command that a driver can send from its entry and the data sent with it.
+pub(crate) fn read_command<'a>(
+    entry: &[u8],
     sent: &[u8],
     place: &'a mut CtrlList,
-) -> Result<Command<'a>, Refusal>
-    ensures { MatchResult result (IsReadAs (command_of entry.now sent.now))
-        (IsHeld (command_of entry.now sent.now)) }
+) -> Result<Command<'a>, OperationError>
+    ensures sends { IfOk result IsSendable }
+    ensures fits { IfOk result CommandFits }
 {
-    match Command::of(entry, sent, place) {
-        Ok(command) => {
-            if is_sendable(&command) {
-                Ok(command)
-            } else {
-                Err(Refusal::PartOfLog)
-            }
-        }
-        Err(code) => Err(Refusal::Status(code)),
+    let command = Decoded::of(&Sqe::get(&array_of(entry)))?.command(sent, place)?;
+    command.fits();
+    if is_sendable(&command) {
+        Ok(command)
+    } else {
+        Err(OperationError::PartOfLog)
     }
 }
 
-/// States a law: each field of each command fits its bits, as its type says. The call does nothing
-/// else.
-pub(crate) fn all_fit(commands: &[Command])
-    ensures { All CommandFits commands.now }
-{
-    for command in commands {
-        command.fits();
-    }
+/// Returns the piece with this number, from 0 on, of bytes in pieces of `size` bytes.
+fn piece(bytes: &[u8], index: usize, size: usize) -> &[u8] {
+    let start = index.saturating_mul(size).min(bytes.len());
+    let end = start.saturating_add(size).min(bytes.len());
+    &bytes[start..end]
 }
 
-/// Returns whether this many bytes are those of 1 to 64 entries.
-pub(crate) fn are_whole_entries(len: usize) -> bool
-    ensures { IsTrue result ↔ AreWholeEntries len }
-{
-    len > 0 && len <= 4096 && len % 64 == 0
-}
-
-/// Returns the entry of a number below 64.
-fn entry_at(fields: &Fields, index: usize) -> Sqe
-    requires { index < 64 }
-    ensures { result ≡ entry_at fields.now index }
-{
-    let entries = fields.bytes("entries");
-    Sqe::get(&array_of(&entries[(64 * index).min(entries.len())..]))
-}
-
-/// Returns the data that the host sends with the command of a number below 64.
-fn sent_at(fields: &Fields, index: usize) -> &[u8]
-    requires { index < 64 }
-    ensures { result.now ≡ sent_at fields.now index }
-{
-    let sent = fields.bytes("sent");
-    let rest = &sent[(4096 * index).min(sent.len())..];
-    &rest[..rest.len().min(4096)]
-}
-
-/// Returns room for the lists of controllers of so many commands.
-pub(crate) fn new_places(alloc: Global, count: usize) -> Result<Vec<CtrlList>, AllocError>
-    ensures { IfOk result (λ places. length places.items ≡ count) }
-{
-    let mut places = Vec::new(alloc);
-    places.resize_with(count, CtrlList::new)?;
-    Ok(places)
-}
-
-/// Returns room for the answers to so many commands.
-pub(crate) fn new_slots(alloc: Global, count: usize) -> Result<Vec<AnswerSlot>, AllocError>
-    ensures { IfOk result (λ slots. length slots.items ≡ count) }
-{
-    let mut slots = Vec::new(alloc);
-    slots.resize_with(count, AnswerSlot::new)?;
-    Ok(slots)
-}
-
-/// Reads as many commands of a line as there are places, or returns why the first of them that
-/// isn't sent is held back.
+/// Reads as many commands as there are places. Each has an entry of 64 bytes and 4,096 bytes of the
+/// data.
 pub(crate) fn read_commands<'a>(
     alloc: Global,
-    fields: &Fields,
+    entries: &[u8],
+    sent: &[u8],
     places: &'a mut [CtrlList],
-) -> Result<Result<Vec<Command<'a>>, Refusal>, AllocError>
-    requires { length places.old ≤ 64 }
-    ensures sent { IfOk result (λ read. MatchResult read (λ ks. AreReadAs fields.now ks.items)
-        (IsFirstHeld fields.now (length places.entry.now))) }
-    ensures count { IfOk result
-        (λ read. IfOk read (λ ks. length ks.items ≡ length places.entry.now)) }
+) -> Result<Vec<Command<'a>>, OperationError>
+    ensures sends { IfOk result (λ commands. All IsSendable commands.items) }
+    ensures fits { IfOk result (λ commands. All CommandFits commands.items) }
 {
     let mut commands = Vec::new(alloc);
     for place in places {
         let index = commands.len();
-        match read_sendable(&entry_at(fields, index), sent_at(fields, index), place) {
+        let entry = piece(entries, index, 64);
+        match read_command(entry, piece(sent, index, 4096), place) {
             Ok(command) => commands.push(command)?,
-            Err(refusal) => return Ok(Err(refusal)),
+            Err(error) => return Err(error),
         }
     }
-    Ok(Ok(commands))
-}
-
-/// Returns the fields of the answers, each after the number of its command.
-pub(crate) fn answers_fields(alloc: Global, slots: &[AnswerSlot]) -> Result<Fields, AllocError>
-    ensures { IfOk result (λ fields. fields ≡ answers_from 0 slots.now) }
-{
-    let mut fields = Fields::new(alloc);
-    for (index, slot) in slots.iter().enumerate() {
-        fields.push_number("command", index as u64)?;
-        fields.append(answer_fields(alloc, &slot.answer())?)?;
-    }
-    Ok(fields)
+    Ok(commands)
 }

@@ -1,108 +1,33 @@
-//! The state that operations work on.
+//! The state that operations work on, and the operations by their names.
 
-ghost use Rattle.std.specs.Prelude.{◌≡◌, ◌∷◌, ◌%◌, ◌^◌, [], IfOk, codes, map};
-ghost use Rattle.nv_operations.specs.Controllers.{file_in};
-ghost use Rattle.nv_operations.specs.Field.{number};
-ghost use Rattle.nv_operations.specs.Transfers.{Builds};
-ghost use Rattle.nv_operations.specs.Session.{done, pages_of, request_in};
-
-use crate::commands::perform_command;
-use crate::controller_operation::ControllerOperation;
+use crate::answer::Answered;
+use crate::commands::{describe, host_data, status_name, transfer};
 use crate::device::Device;
-use crate::driver_operation::DriverOperation;
-use crate::fields::Fields;
-use crate::get::get_record;
-use crate::items::Items;
-use crate::memory::{load, new_memory, page, sizes, store};
-use crate::operation::Operation;
-use crate::put::put_record;
-use crate::refusal::Refusal;
-use crate::registers::perform_register;
-use crate::rings::{QueuePair, perform_ring};
-use crate::transfers::{build_entries, copy_from_host, copy_to_host, spread_buffer, walk_entries};
-use nv_host::{FlatMemory, PageNo};
-use nv_prp::{Buffer, ListPlace, Spans};
+use crate::error::OperationError;
+use crate::records::rewrite_entry;
+use crate::rings::QueuePair;
+use nv_host::FlatMemory;
+use nv_line::{is_skipped_line, split_words};
+use nv_prp::Spans;
 use nv_register::RegisterBank;
-use nv_subsystem::DEMO;
 use std::alloc::{AllocError, Global};
 
 /// The state that operations work on: the host's memory, the spans of the last walk, the registers
 /// of a controller, a pair of rings, and the controllers of the last subsystem.
 #[derive(Drop)]
 pub struct Session {
-    pub memory: FlatMemory,
-    pub spans: Spans,
-    pub bank: RegisterBank,
-    pub rings: QueuePair,
-    pub device: Option<Device>,
-}
-
-/// Turns the outcome of an operation that returns no value into an answer without fields.
-fn done(alloc: Global, outcome: Result<(), Refusal>) -> Result<Fields, Refusal>
-    ensures { result ≡ done outcome }
-{
-    match outcome {
-        Ok(()) => Ok(Fields::new(alloc)),
-        Err(refusal) => Err(refusal),
-    }
-}
-
-/// Cuts numbers down to page numbers of 32 bits.
-#[tactic(auto, using(std::proofs::lemmas::List::map_more))]
-fn pages_of(alloc: Global, numbers: &[u64]) -> Result<Items<PageNo>, AllocError>
-    ensures { IfOk result (λ pages. pages ≡ pages_of numbers.now) }
-{
-    let mut pages = Items::new(alloc);
-    for number in numbers {
-        pages.push((*number % 0x1_0000_0000) as u32)?;
-    }
-    Ok(pages)
-}
-
-/// Returns the field `file`, or the demonstration file if there is no such field.
-fn file_in(fields: &Fields) -> &[u8]
-    ensures { result.now ≡ file_in fields.now }
-{
-    if fields.has("file") {
-        fields.bytes("file")
-    } else {
-        DEMO.as_bytes()
-    }
-}
-
-/// Builds the entries of the transfer that the fields describe.
-fn build_asked(
-    alloc: Global,
-    memory: &mut FlatMemory,
-    fields: &Fields,
-) -> Result<Result<Fields, Refusal>, AllocError>
-    ensures { IfOk result
-        (λ outcome. Builds memory.old memory.new (request_in fields.now) outcome) }
-{
-    let pages = pages_of(alloc, fields.numbers("pages"))?;
-    let buffer = Buffer {
-        pages: pages.as_slice(),
-        offset: fields.dword("offset"),
-    };
-    let list = ListPlace {
-        first: fields.dword("first"),
-        second: fields.dword("second"),
-        offset: fields.dword("list_offset"),
-    };
-    build_entries(alloc, memory, &buffer, &list, fields.dword("length"))
+    pub(crate) memory: FlatMemory,
+    pub(crate) spans: Spans,
+    pub(crate) bank: RegisterBank,
+    pub(crate) rings: QueuePair,
+    pub(crate) device: Option<Device>,
 }
 
 impl Session {
-    ghost use Rattle.nv_operations.specs.Session.{Asks, BringsUpIn, BuildsIn, CopiesOutIn, DrivesIn};
-    ghost use Rattle.nv_operations.specs.Session.{IsNew, Performs, Renews, SetsUp, SpreadsIn, StoresIn};
-    ghost use Rattle.nv_operations.specs.Session.{WalksIn, count_of};
-
     /// Creates a session with a memory of 16 pages of 4,096 zero bytes, no spans, the registers
     /// after power on, rings of 16 slots in the first two pages, and no controllers.
     #[tactic(auto, unfolding(nv_host::specs::Pages::IsPageSize))]
-    pub fn new(alloc: Global) -> Result<Session, AllocError>
-        ensures { IfOk result IsNew }
-    {
+    pub fn new(alloc: Global) -> Result<Session, AllocError> {
         match FlatMemory::new(alloc, 4096, 16) {
             Ok(memory) => Ok(Session {
                 memory,
@@ -115,202 +40,85 @@ impl Session {
         }
     }
 
-    /// Replaces the memory with a new one. After a refusal, the old one stays.
-    fn renew(
-        &mut self,
-        alloc: Global,
-        fields: &Fields,
-    ) -> Result<Result<Fields, Refusal>, AllocError>
-        ensures { IfOk result (λ outcome. Renews fields.now self.old outcome self.new) }
-    {
-        match new_memory(alloc, fields.dword("page_size"), fields.dword("pages"))? {
-            Ok(memory) => {
-                self.memory = memory;
-                Ok(Ok(Fields::new(alloc)))
-            }
-            Err(refusal) => Ok(Err(refusal)),
+    /// Does what a line asks for, and returns the line that answers it. A blank line or a comment
+    /// has no answer.
+    pub fn answer(&mut self, alloc: Global, line: &[u8]) -> Result<Option<String>, AllocError> {
+        if is_skipped_line(line) {
+            return Ok(None);
+        }
+        match self.perform_line(alloc, line) {
+            Ok(answer) => Ok(Some(answer.line()?)),
+            Err(OperationError::Memory) => Err(AllocError),
+            Err(error) => Ok(Some(format!(in alloc; "{error}\n")?)),
         }
     }
 
-    fn store(&mut self, alloc: Global, fields: &Fields) -> Result<Fields, Refusal>
-        ensures { StoresIn fields.now self.old result self.new }
-    {
-        let outcome = store(
-            &mut self.memory,
-            fields.qword("address"),
-            fields.bytes("bytes"),
-        );
-        done(alloc, outcome)
-    }
-
-    fn build(
-        &mut self,
-        alloc: Global,
-        fields: &Fields,
-    ) -> Result<Result<Fields, Refusal>, AllocError>
-        ensures { IfOk result (λ outcome. BuildsIn fields.now self.old outcome self.new) }
-    {
-        build_asked(alloc, &mut self.memory, fields)
-    }
-
-    fn walk(
-        &mut self,
-        alloc: Global,
-        fields: &Fields,
-    ) -> Result<Result<Fields, Refusal>, AllocError>
-        ensures { IfOk result (λ outcome. WalksIn fields.now self.old outcome self.new) }
-    {
-        walk_entries(
-            alloc,
-            &self.memory,
-            &mut self.spans,
-            fields.qword("prp1"),
-            fields.qword("prp2"),
-            fields.dword("length"),
-        )
-    }
-
-    fn spread(
-        &mut self,
-        alloc: Global,
-        fields: &Fields,
-    ) -> Result<Result<Fields, Refusal>, AllocError>
-        ensures { IfOk result (λ outcome. SpreadsIn fields.now self.old outcome self.new) }
-    {
-        let pages = pages_of(alloc, fields.numbers("pages"))?;
-        let buffer = Buffer {
-            pages: pages.as_slice(),
-            offset: fields.dword("offset"),
+    fn perform_line(&mut self, alloc: Global, line: &[u8]) -> Answered {
+        let Ok(text) = str::from_utf8(line) else {
+            return Err(OperationError::NotText);
         };
-        spread_buffer(
-            alloc,
-            &self.memory,
-            &mut self.spans,
-            &buffer,
-            fields.dword("length"),
-        )
-    }
-
-    fn copy_out(&mut self, alloc: Global, fields: &Fields) -> Result<Fields, Refusal>
-        ensures { CopiesOutIn fields.now self.old result self.new }
-    {
-        let outcome = copy_to_host(&mut self.memory, &self.spans, fields.bytes("bytes"));
-        done(alloc, outcome)
-    }
-
-    /// Replaces the controllers with those of a subsystem. After a refusal, the old ones stay.
-    fn set_up(
-        &mut self,
-        alloc: Global,
-        fields: &Fields,
-    ) -> Result<Result<Fields, Refusal>, AllocError>
-        ensures { IfOk result (λ outcome. SetsUp fields.now self.old outcome self.new) }
-    {
-        match Device::new(alloc, file_in(fields))? {
-            Ok(device) => {
-                self.device = Some(device);
-                Ok(Ok(Fields::new(alloc)))
-            }
-            Err(refusal) => Ok(Err(refusal)),
+        let words = split_words(alloc, text)?;
+        match words.as_slice().split_first() {
+            Some((name, words)) => self.perform(alloc, name, words),
+            None => Err(OperationError::NoOperation),
         }
     }
 
-    /// Returns the number of controllers, as the field `controllers`.
-    fn controllers(&self, alloc: Global) -> Result<Fields, AllocError>
-        ensures { IfOk result (λ fields. fields
-            ≡ number (codes "controllers") (count_of self.now.device) ∷ []) }
-    {
-        let count = match &self.device {
-            Some(device) => device.controllers(),
-            None => 0,
-        };
-        let mut fields = Fields::new(alloc);
-        fields.push_number("controllers", u64::from(count))?;
-        Ok(fields)
-    }
-
-    fn ask(
-        &mut self,
-        alloc: Global,
-        operation: ControllerOperation,
-        fields: &Fields,
-    ) -> Result<Result<Fields, Refusal>, AllocError>
-        ensures { IfOk result (λ outcome. Asks operation fields.now self.old outcome self.new) }
-    {
-        match &mut self.device {
-            Some(device) => device.ask(alloc, &mut self.memory, operation, fields),
-            None => Ok(Err(Refusal::NoController)),
+    /// Performs an operation on the memory, on registers or on rings, or another one.
+    fn perform(&mut self, alloc: Global, name: &str, words: &[&str]) -> Answered {
+        match name {
+            "memory" => self.renew_memory(alloc, words),
+            "sizes" => self.sizes(alloc, words),
+            "load" => self.load(alloc, words),
+            "store" => self.store(alloc, words),
+            "page" => self.page(alloc, words),
+            "build" => self.build(alloc, words),
+            "walk" => self.walk(alloc, words),
+            "spans" => self.spread(alloc, words),
+            "copy_out" => self.copy_out(alloc, words),
+            "copy_in" => self.copy_in(alloc, words),
+            "power_on" => self.power_on(alloc, words),
+            "read" => self.read_bank(alloc, words),
+            "write" => self.write_bank(alloc, words),
+            "registers" => self.registers(alloc, words),
+            "fail" => self.fail(alloc, words),
+            "rings" => self.new_rings(alloc, words),
+            "renew" => self.renew_rings(alloc, words),
+            "zero" => self.zero(alloc, words),
+            "submit" => self.submit(alloc, words),
+            "tail" => self.tail(alloc, words),
+            "take" => self.take(alloc, words),
+            "post" => self.post(alloc, words),
+            "collect" => self.collect(alloc, words),
+            "free" => self.free(alloc, words),
+            "tell" => self.tell(alloc, words),
+            "head" => self.head(alloc, words),
+            "slots" => self.slots(alloc, words),
+            _ => self.perform_on_device(alloc, name, words),
         }
     }
 
-    fn bring_up(
-        &mut self,
-        alloc: Global,
-        fields: &Fields,
-    ) -> Result<Result<Fields, Refusal>, AllocError>
-        ensures { IfOk result (λ outcome. BringsUpIn fields.now self.old outcome self.new) }
-    {
-        match &mut self.device {
-            Some(device) => device.bring_up(alloc, fields),
-            None => Ok(Err(Refusal::NoController)),
-        }
-    }
-
-    fn drive(
-        &mut self,
-        alloc: Global,
-        operation: DriverOperation,
-        fields: &Fields,
-    ) -> Result<Result<Fields, Refusal>, AllocError>
-        ensures { IfOk result (λ outcome. DrivesIn operation fields.now self.old outcome self.new) }
-    {
-        match &mut self.device {
-            Some(device) => device.drive(alloc, operation, fields),
-            None => Ok(Err(Refusal::NoController)),
-        }
-    }
-
-    /// Performs an operation with the fields of its line, and returns the fields that answer it, or
-    /// why it was refused.
-    pub fn perform(
-        &mut self,
-        alloc: Global,
-        operation: Operation,
-        fields: &Fields,
-    ) -> Result<Result<Fields, Refusal>, AllocError>
-        ensures { IfOk result
-            (λ outcome. Performs operation fields.now self.old outcome self.new) }
-    {
-        match operation {
-            Operation::Put(kind) => Ok(Ok(put_record(alloc, kind, fields)?)),
-            Operation::Get(kind) => get_record(alloc, kind, fields),
-            Operation::Memory => self.renew(alloc, fields),
-            Operation::Sizes => Ok(Ok(sizes(alloc, &self.memory)?)),
-            Operation::Load => load(
-                alloc,
-                &self.memory,
-                fields.qword("address"),
-                fields.qword("length") as usize,
-            ),
-            Operation::Store => Ok(self.store(alloc, fields)),
-            Operation::Page => page(alloc, &self.memory, fields.dword("number")),
-            Operation::Build => self.build(alloc, fields),
-            Operation::Walk => self.walk(alloc, fields),
-            Operation::Spread => self.spread(alloc, fields),
-            Operation::CopyOut => Ok(self.copy_out(alloc, fields)),
-            Operation::CopyIn => copy_from_host(alloc, &self.memory, &self.spans),
-            Operation::Command(operation) => perform_command(alloc, operation, fields),
-            Operation::Register(operation) => {
-                Ok(Ok(perform_register(alloc, operation, fields, &mut self.bank)?))
-            }
-            Operation::Ring(operation) => {
-                perform_ring(alloc, operation, fields, &mut self.memory, &mut self.rings)
-            }
-            Operation::Subsystem => self.set_up(alloc, fields),
-            Operation::Controllers => Ok(Ok(self.controllers(alloc)?)),
-            Operation::Controller(asked) => self.ask(alloc, asked, fields),
-            Operation::BringUp => self.bring_up(alloc, fields),
-            Operation::Driver(asked) => self.drive(alloc, asked, fields),
+    /// Performs an operation on controllers, on a driver or on an entry.
+    fn perform_on_device(&mut self, alloc: Global, name: &str, words: &[&str]) -> Answered {
+        match name {
+            "subsystem" => self.subsystem(alloc, words),
+            "controllers" => self.controllers(alloc, words),
+            "read32" => self.read32(alloc, words),
+            "write32" => self.write32(alloc, words),
+            "turn" => self.turn(alloc, words),
+            "counts" => self.counts(alloc, words),
+            "log_entry" => self.log_entry(alloc, words),
+            "bring_up" => self.bring_up(alloc, words),
+            "admin" => self.admin(alloc, words),
+            "admin_all" => self.admin_all(alloc, words),
+            "passthrough" => self.passthrough(alloc, words),
+            "reset" => self.reset(alloc, words),
+            "saw" => self.saw(alloc, words),
+            "command" => describe(alloc, words),
+            "transfer" => transfer(alloc, words),
+            "host_data" => host_data(alloc, words),
+            "status_name" => status_name(alloc, words),
+            _ => rewrite_entry(alloc, name, words),
         }
     }
 }

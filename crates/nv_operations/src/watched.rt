@@ -1,63 +1,108 @@
 //! A bus that records what its driver does.
 
-ghost use Rattle.std.specs.Prelude.{◌≡◌, OnOk};
-ghost use Rattle.nv_operations.specs.Seen.{nothing_seen};
+ghost use Rattle.std.specs.Prelude.{◌≡◌};
 
-use crate::seen::Seen;
+use crate::answer::{Answer, Answered};
+use crate::error::OperationError;
 use nv_controller::{Bus, Machine};
 use nv_host::HostMemory;
+use nv_layout::Sqe;
 use nv_register::{Readiness, RegisterBank};
 use std::alloc::{AllocError, Global};
 
-/// The controllers of a subsystem, with a record of what their driver did.
+/// The controllers of a subsystem, and what they saw of their driver: its register writes, their
+/// turns, and the bytes of the entries that they took.
 #[derive(Drop)]
-pub struct Watched {
+pub(crate) struct Watched {
     pub(crate) machine: Machine,
-    pub(crate) seen: Seen,
-    /// A copy of each controller's registers, as the driver wrote them. Its submission ring shows
-    /// which entries a turn took.
-    copies: Vec<RegisterBank>,
+    /// The registers of each controller as the driver wrote them, which say where the rings are.
+    banks: Vec<RegisterBank>,
+    writes: Vec<u64>,
+    turns: Vec<u64>,
+    entries: Vec<u8>,
+    /// Whether there was memory for all that was seen.
+    is_whole: bool,
 }
 
-/// Records the next entries of the submission ring that these registers make, as a turn left them.
+/// Adds the next entries of a submission ring, with only the offsets in a page of their PRP
+/// entries.
 #[tactic(auto, using(nv_host::proofs::PageLaws::page_size_bounds))]
-fn record_entries<M: HostMemory>(seen: &mut Seen, bank: &mut RegisterBank, mem: &M, count: u16) {
+fn add_entries<M: HostMemory>(
+    entries: &mut Vec<u8>,
+    bank: &mut RegisterBank,
+    mem: &M,
+    count: u16,
+) -> Result<(), AllocError> {
     let Readiness::Ready { rings, .. } = &mut bank.readiness else {
-        return;
+        return Ok(());
     };
+    let page_size = u64::from(mem.page_size());
     for _ in 0..count {
         if !rings.submission.fits(mem) {
-            return;
+            return Ok(());
         }
         if let Some(entry) = rings.submission.next(mem) {
-            seen.add_entry(mem.page_size(), &entry);
+            let shown = Sqe {
+                prp1: entry.prp1 % page_size,
+                prp2: entry.prp2 % page_size,
+                ..entry
+            };
+            let mut bytes = [0xff; 64];
+            shown.put(&mut bytes);
+            entries.extend_from_slice(&bytes)?;
         }
     }
+    Ok(())
 }
 
 impl Watched {
-    /// Creates a bus of which nothing is recorded yet.
+    /// Creates a bus of which nothing was seen yet.
     pub(crate) fn new(alloc: Global, machine: Machine) -> Watched
-        ensures machine { result.machine ≡ machine }
-        ensures seen { result.seen ≡ nothing_seen }
+        ensures { result.machine ≡ machine }
     {
         Watched {
             machine,
-            seen: Seen::new(alloc),
-            copies: Vec::new(alloc),
+            banks: Vec::new(alloc),
+            writes: Vec::new(alloc),
+            turns: Vec::new(alloc),
+            entries: Vec::new(alloc),
+            is_whole: true,
         }
     }
 
-    /// Begins a record of a driver that is brought up next.
-    pub(crate) fn begin(&mut self, alloc: Global) -> Result<(), AllocError>
-        ensures machine { self.new.machine ≡ self.old.machine }
-        ensures seen { OnOk result (self.new.seen ≡ nothing_seen) }
+    fn forget(&mut self)
+        ensures { self.new.machine ≡ self.old.machine }
     {
-        let mut copies = Vec::new(alloc);
-        copies.resize_with(usize::from(self.machine.controllers()), RegisterBank::new)?;
-        self.copies = copies;
-        self.seen = Seen::new(alloc);
+        self.writes.clear();
+        self.turns.clear();
+        self.entries.clear();
+        self.is_whole = true;
+    }
+
+    /// Begins the record of a driver that is brought up next.
+    pub(crate) fn begin(&mut self, alloc: Global) -> Result<(), AllocError>
+        ensures { self.new.machine ≡ self.old.machine }
+    {
+        let mut banks = Vec::new(alloc);
+        banks.resize_with(usize::from(self.machine.controllers()), RegisterBank::new)?;
+        self.banks = banks;
+        self.forget();
         Ok(())
+    }
+
+    /// Answers what was seen, and forgets it.
+    pub(crate) fn tell(&mut self, alloc: Global) -> Answered
+        ensures { self.new.machine ≡ self.old.machine }
+    {
+        if !self.is_whole {
+            return Err(OperationError::Memory);
+        }
+        let answer = Answer::new(alloc)
+            .numbers("writes", self.writes.as_slice())?
+            .numbers("turns", self.turns.as_slice())?
+            .bytes("entries", self.entries.as_slice())?;
+        self.forget();
+        Ok(answer)
     }
 }
 
@@ -74,18 +119,20 @@ impl Bus for Watched {
 
     fn write32(&mut self, ctrl: u16, offset: u32, dword: u32) {
         self.machine.write32(ctrl, offset, dword);
-        self.seen.add_write(ctrl, offset, dword);
-        if let Some(bank) = self.copies.get_mut(usize::from(ctrl)) {
+        if let Some(bank) = self.banks.get_mut(usize::from(ctrl)) {
             bank.write32(offset, dword);
         }
+        let numbers = [u64::from(ctrl), u64::from(offset), u64::from(dword)];
+        self.is_whole &= self.writes.extend_from_slice(&numbers).is_ok();
     }
 
     fn turn<M: HostMemory>(&mut self, ctrl: u16, mem: &mut M, most: u16) -> u16 {
         let count = self.machine.turn(ctrl, mem, most);
-        self.seen.add_turn(ctrl, most, count);
-        if let Some(bank) = self.copies.get_mut(usize::from(ctrl)) {
-            record_entries(&mut self.seen, bank, mem, count);
+        if let Some(bank) = self.banks.get_mut(usize::from(ctrl)) {
+            self.is_whole &= add_entries(&mut self.entries, bank, mem, count).is_ok();
         }
+        let numbers = [u64::from(ctrl), u64::from(most), u64::from(count)];
+        self.is_whole &= self.turns.extend_from_slice(&numbers).is_ok();
         count
     }
 }

@@ -1,10 +1,8 @@
-use Rattle.std.proofs.Common.{◌≡◌, length}
-use Rattle.nv_operations.specs.Sending.{AreReadAs}
+use Rattle.std.proofs.Common.{All}
+use Rattle.nv_command.specs.Command.{CommandFits}
+use Rattle.nv_command.specs.Logs.{IsSendable}
 use Rattle.nv_operations.proofs.sending.read_commands.Given as goal
 
--- the commands of the entries so far
+-- the commands so far can be sent
 abbrev pub invariant-loop-place : goal.invariant-loop-place
-invariant-loop-place l = record {
-  count : length l.commands.items ≡ l.place-index;
-  sent : AreReadAs l.fields l.commands.items;
-}
+invariant-loop-place l = All IsSendable l.commands.items × All CommandFits l.commands.items
