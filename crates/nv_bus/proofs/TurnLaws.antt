@@ -146,7 +146,7 @@ reached_slot r page_size size h =
     let slot = completion_place r.completion.base r.completion.depth r.completion.posted + 16 in
     reaches_last page_size r.page_size taken slot size h
 
-length_one : (page_size c : ℕ) (old new : Scene) → Takes page_size c old new → length new.bytes
+pub length_one : (page_size c : ℕ) (old new : Scene) → Takes page_size c old new → length new.bytes
     ≡ length old.bytes
 length_one page_size c old new t =
     let ring = old.rings.completion in

@@ -1,3 +1,2 @@
-pub mod SlotLaws
 pub mod FollowedLaws
 pub mod LineLaws

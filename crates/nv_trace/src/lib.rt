@@ -8,11 +8,10 @@
 //! Sections are named as in the NVM Express Base Specification, revision 1.4.
 #![tactic(auto)]
 
-mod admin_queues;
+mod followed;
 mod line_text;
 mod marked;
 mod posted;
-mod slots;
 mod taken;
 #[cfg(test)]
 mod tests;

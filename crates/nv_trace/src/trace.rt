@@ -1,78 +1,63 @@
 //! The lines of a trace, and what has to be known for them.
 
-ghost use Rattle.std.specs.Prelude.{◌≡◌, ◌<◌, ℕ, None, Some, false, length, slice_index_or};
-ghost use Rattle.std.specs.Prelude.{slice_set};
-ghost use Rattle.nv_register.specs.Readiness.{is_enabled};
+ghost use Rattle.std.specs.Prelude.{◌≡◌, ◌<◌, ℕ, None, false, length, slice_index_or};
+ghost use Rattle.std.specs.Option.{ForSome, option_map};
+ghost use Rattle.nv_register.specs.RegisterBank.{with_register_at};
 ghost use Rattle.nv_bus.specs.Bus.{bank_at};
-ghost use Rattle.nv_trace.specs.inner.Followed.{AreFurther, IsFurther};
+ghost use Rattle.nv_trace.specs.Followed.{AreFollowed};
+ghost use Rattle.nv_trace.specs.inner.Followed.{AreOthers, AreTaken, AreTakenBy, FollowsWritten};
+ghost use Rattle.nv_trace.specs.inner.Followed.{rings_after, turned};
 
-use crate::admin_queues::{AdminQueues, Exchange};
+use crate::followed::{Exchange, is_running, next_exchange, registers_of};
 use crate::posted::Posted;
 use crate::taken::Taken;
 use crate::voice::Voice;
 use crate::written::Written;
 use nv_bus::Bus;
 use nv_host::HostMemory;
-use nv_register::{ControllerConfiguration, offset};
+use nv_register::{Readiness, RegisterBank, Rings};
 use nv_stream::Sink;
+use std::array;
 
 /// The greatest number of controllers of a subsystem.
 const MOST_CONTROLLERS: usize = 16;
 
-/// Writes lines to a sink, and keeps the queues of each controller that was enabled since the trace
-/// began. For other controllers, and from the seventeenth on, entries and completions are not
-/// traced.
+/// Writes lines to a sink, and keeps the registers and rings of each controller, once it was seen
+/// when it took no entries. For other controllers, and from the seventeenth on, entries and
+/// completions are not traced.
 #[derive(Drop)]
 pub(crate) struct Trace<S: Sink> {
     pub(crate) voice: Voice<S>,
-    pub(crate) queues: [Option<AdminQueues>; MOST_CONTROLLERS],
+    pub(crate) banks: [Option<RegisterBank>; MOST_CONTROLLERS],
 }
 
-/// Returns whether a controller is enabled.
-#[tactic(auto, using(crate::proofs::FollowedLaws::en_read))]
-pub(crate) fn is_enabled<B: Bus>(bus: &B, ctrl: u16) -> bool
-    requires { ctrl < length (B.meaning bus.now).banks }
-    ensures { result ≡ is_enabled (bank_at (B.meaning bus.now).banks ctrl).readiness }
-{
-    ControllerConfiguration::of(bus.read32(ctrl, offset::CC)).en
-}
-
-/// Writes the lines of an entry that a controller took, and of its completion.
-fn say_exchange<S: Sink>(voice: &mut Voice<S>, ctrl: u16, exchange: Exchange) {
-    if let Some(entry) = exchange.entry {
-        voice.say(&Taken { ctrl, entry });
-    }
-    if let Some(completion) = exchange.completion {
-        voice.say(&Posted { ctrl, completion });
-    }
-}
-
-/// Writes the lines of the next `count` entries that a controller took, and of their completions,
-/// and returns its queues after them.
+/// Writes the lines of the next `count` entries that a controller with these rings took, and of
+/// their completions, and moves on to those after them.
 fn say_all<M: HostMemory, S: Sink>(
     voice: &mut Voice<S>,
     ctrl: u16,
-    first: AdminQueues,
+    rings: &mut Rings,
     mem: &M,
     count: u16,
-) -> AdminQueues
-    ensures { IsFurther count first result }
+)
+    requires { AreTaken count (length (M.bytes mem.now)) rings.old }
+    ensures { rings.new ≡ rings_after count rings.old }
 {
-    let mut queues = first;
     for _ in 0..count {
-        say_exchange(voice, ctrl, queues.next(mem));
+        let Exchange { entry, completion } = next_exchange(rings, mem);
+        voice.say(&Taken { ctrl, entry });
+        voice.say(&Posted { ctrl, completion });
     }
-    queues
 }
 
 impl<S: Sink> Trace<S> {
     pub(crate) fn new(sink: S) -> Trace<S>
         requires { (S.state sink).has_failed ≡ false }
-        ensures { (c : ℕ) → slice_index_or result.queues c None ≡ None }
+        ensures { (c : ℕ) → slice_index_or result.banks c None ≡ None }
     {
         Trace {
             voice: Voice::new(sink),
-            queues: [None; MOST_CONTROLLERS],
+            banks: array::from_fn(|_| None),
         }
     }
 
@@ -83,31 +68,39 @@ impl<S: Sink> Trace<S> {
         self.voice.is_silent()
     }
 
-    /// Returns the queues of a controller, if they are known.
-    fn queues_of(&self, ctrl: u16) -> Option<AdminQueues>
-        ensures { result ≡ slice_index_or self.now.queues ctrl None }
+    /// Keeps the registers of a controller.
+    #[tactic(auto, using(crate::proofs::FollowedLaws::elements))]
+    fn keep(&mut self, ctrl: u16, bank: RegisterBank)
+        ensures own { ForSome (slice_index_or self.new.banks ctrl None) (λ kept. kept ≡ bank) }
+        ensures others { AreOthers ctrl self.old.banks self.new.banks }
     {
         let ctrl = usize::from(ctrl);
         if ctrl < MOST_CONTROLLERS {
-            self.queues[ctrl]
-        } else {
-            None
+            self.banks[ctrl] = Some(bank);
         }
     }
 
-    /// Sets the queues of a controller.
-    pub(crate) fn follow(&mut self, ctrl: u16, queues: AdminQueues)
-        ensures { self.new.queues ≡ slice_set self.old.queues ctrl (Some queues) }
+    /// Keeps the registers of a controller as they read, unless it takes entries. So what is kept
+    /// follows the controller after any write to both.
+    pub(crate) fn read<B: Bus>(&mut self, bus: &B, ctrl: u16)
+        requires followed { AreFollowed self.old.banks (B.meaning bus.now).banks }
+        requires ctrl { ctrl < length (B.meaning bus.now).banks }
+        ensures followed { AreFollowed self.new.banks (B.meaning bus.now).banks }
+        ensures further { ForSome (slice_index_or self.new.banks ctrl None)
+            (λ p. FollowsWritten p (bank_at (B.meaning bus.now).banks ctrl)) }
     {
-        let ctrl = usize::from(ctrl);
-        if ctrl < MOST_CONTROLLERS {
-            self.queues[ctrl] = Some(queues);
+        if !is_running(bus, ctrl) {
+            self.keep(ctrl, registers_of(bus, ctrl));
         }
     }
 
-    /// Writes the line of a register write.
+    /// Writes the line of a register write, and performs it on the registers that are kept.
+    #[tactic(auto, using(crate::proofs::FollowedLaws::elements))]
     pub(crate) fn wrote(&mut self, ctrl: u16, offset: u32, dword: u32)
-        ensures { self.new.queues ≡ self.old.queues }
+        ensures own { slice_index_or self.new.banks ctrl None
+            ≡ option_map (λ p. with_register_at p offset dword)
+            (slice_index_or self.old.banks ctrl None) }
+        ensures others { AreOthers ctrl self.old.banks self.new.banks }
     {
         let written = Written {
             ctrl,
@@ -115,15 +108,29 @@ impl<S: Sink> Trace<S> {
             dword,
         };
         self.voice.say(&written);
+        let ctrl = usize::from(ctrl);
+        if ctrl < MOST_CONTROLLERS
+            && let Some(bank) = &mut self.banks[ctrl]
+        {
+            bank.write32(offset, dword);
+        }
     }
 
     /// Writes the lines of the entries that a turn took, and of their completions.
+    #[tactic(auto, using(crate::proofs::FollowedLaws::elements))]
     pub(crate) fn turned<M: HostMemory>(&mut self, ctrl: u16, mem: &M, count: u16)
-        ensures { AreFurther ctrl count self.old.queues self.new.queues }
+        requires { ForSome (slice_index_or self.old.banks ctrl None)
+            (λ p. AreTakenBy count (length (M.bytes mem.now)) p.readiness) }
+        ensures own { slice_index_or self.new.banks ctrl None
+            ≡ option_map (turned count) (slice_index_or self.old.banks ctrl None) }
+        ensures others { AreOthers ctrl self.old.banks self.new.banks }
     {
-        if let Some(first) = self.queues_of(ctrl) {
-            let queues = say_all(&mut self.voice, ctrl, first, mem, count);
-            self.follow(ctrl, queues);
+        let at = usize::from(ctrl);
+        if at < MOST_CONTROLLERS
+            && let Some(bank) = &mut self.banks[at]
+            && let Readiness::Ready { rings, .. } = &mut bank.readiness
+        {
+            say_all(&mut self.voice, ctrl, rings, mem, count);
         }
     }
 }

@@ -3,8 +3,7 @@
 ghost use Rattle.std.specs.Prelude.{◌≡◌, false};
 ghost use Rattle.nv_trace.specs.Followed.{AreFollowed};
 
-use crate::admin_queues::AdminQueues;
-use crate::trace::{Trace, is_enabled};
+use crate::trace::Trace;
 use nv_bus::Bus;
 use nv_host::HostMemory;
 use nv_stream::Sink;
@@ -20,8 +19,8 @@ use nv_stream::Sink;
 pub struct Traced<B: Bus, S: Sink> {
     bus: B,
     trace: Trace<S>,
-    // The queues that are followed agree with the rings of the bus.
-    ghost followed: { AreFollowed trace.queues (B.meaning bus).banks },
+    // The registers and rings that are kept are those of the bus.
+    ghost followed: { AreFollowed trace.banks (B.meaning bus).banks },
 }
 
 impl<B: Bus, S: Sink> Traced<B, S> {
@@ -35,13 +34,6 @@ impl<B: Bus, S: Sink> Traced<B, S> {
             bus,
             trace: Trace::new(sink),
         }
-    }
-
-    /// Returns the bus inside.
-    pub fn bus(&self) -> &B
-        ensures { B.meaning result.now ≡ ⟦<Traced<B, S> as Bus>⟧.meaning self.now }
-    {
-        &self.bus
     }
 
     /// Returns whether the sink has failed, after which nothing more is written.
@@ -64,12 +56,9 @@ impl<B: Bus, S: Sink> Bus for Traced<B, S> {
     }
 
     fn write32(&mut self, ctrl: u16, offset: u32, dword: u32) {
-        let was_enabled = is_enabled(&self.bus, ctrl);
+        self.trace.read(&self.bus, ctrl);
         self.bus.write32(ctrl, offset, dword);
         self.trace.wrote(ctrl, offset, dword);
-        if !was_enabled && is_enabled(&self.bus, ctrl) {
-            self.trace.follow(ctrl, AdminQueues::of(&self.bus, ctrl));
-        }
     }
 
     fn turn<M: HostMemory>(&mut self, ctrl: u16, mem: &mut M, most: u16) -> u16 {

@@ -1,5 +1,8 @@
-use Rattle.nv_trace.specs.inner.Followed.{IsFurther}
+use Rattle.std.specs.Prelude.{◌≡◌, ◌-◌, length}
+use Rattle.nv_trace.specs.inner.Followed.{AreTaken, rings_after}
 use Rattle.nv_trace.proofs.trace.say_all.Given as goal
 
 abbrev pub invariant-loop : goal.invariant-loop
-invariant-loop g l = IsFurther l.counter l.fn.first l.queues
+invariant-loop g l =
+    AreTaken (l.fn.count - l.counter) (length (g.M.HostMemory.bytes l.mem)) l.rings
+    × (rings_after (l.fn.count - l.counter) l.rings ≡ rings_after l.fn.count l.initial.rings)
