@@ -6,10 +6,9 @@ import os
 import pathlib
 import re
 import shutil
-import sys
 import unittest
 
-from tests.modelled import ModelCase, installed, mounts, works
+from tests.modelled import ModelCase, installed, mounts, static_program, works
 from tests.support import TOP, Running, end_all, process_folder, run, until
 
 BYTES = b'MACHINE DATA 16\n' * 4096
@@ -75,10 +74,14 @@ TRIES = {
         'mknod "$place/made" b 7 0 && echo node; date -s 12:00 > /dev/null && echo time; kill -0 $caller && echo process; '
         'nsenter -t 1 -n true && echo network; chroot / true && echo root; sysctl -q kernel.panic=1 && echo kernel', b''),
     'open files of other processes': (
-        f'{sys.executable} -c "import ctypes; libc = ctypes.CDLL(None, use_errno=True); '
-        'print(libc.syscall(438, -1, 0, 0), ctypes.get_errno())"', b'-1 1\n'),
+        '"$place/takes"', b'-1 1\n'),
     'a user without rights': ('unshare -Ur true; cat /proc/self/status | grep NoNewPrivs', b'NoNewPrivs:\t1\n'),
     'signals to the launcher': ('for n in KILL STOP SEGV ALRM; do kill -$n 1; done; test -c /dev/nvme0; echo $?', b'0\n')}
+
+# Takes an open file from another process (pidfd_getfd).
+TAKES = ('#include <errno.h>\n#include <stdio.h>\n#include <unistd.h>\n#include <sys/syscall.h>\n'
+         'int main(void) { int taken = (int)syscall(438, -1, 0, 0); return printf("%d %d\\n", taken, errno) < 0; }\n')
+
 
 class Machine:
     """A machine with nodes: `devices`, `files` or `none`."""
@@ -149,6 +152,7 @@ class MachineCase(ModelCase):
         self.folder.chmod(0o1777)
         for script in 'attack.sh', 'caller.sh':
             shutil.copy(TOP / 'tests' / script, self.folder)
+        shutil.copy(static_program(TAKES), self.folder / 'takes')
         (self.folder / 'link').symlink_to('/dev/nvme0n1')
         (self.folder / 'chain').symlink_to('/dev/disk/by-id/nvme-machine')
 
