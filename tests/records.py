@@ -20,8 +20,8 @@ LAYOUTS = {
     'lbaf': ('<HBB', 'ms lbads rp'),
     'id_ns': ('<QQQ7B17x16s64x64s3904x', 'nsze ncap nuse nsfeat nlbaf flbas mc dpc dps nmic nvmcap lbafs'),
     'id_ctrl': ('<HH20s40s8sB3sBBHI172xH2xBBBB2xHH10x16s16s200xBB2xIH2xBB242x256s3072x',
-                'vid ssvid sn mn fr rab ieee cmic mdts cntlid ver oacs frmw lpa elpe npss wctemp cctemp tnvmcap unvmcap '
-                'sqes cqes nn oncs fna vwc subnqn'),
+                'vid ssvid sn mn fr rab ieee cmic mdts cntlid ver oacs frmw lpa elpe npss wctemp cctemp tnvmcap '
+                'unvmcap sqes cqes nn oncs fna vwc subnqn'),
 }
 # The fields of a value that has several: the lowest bit of each, and its number of bits. A status is a number alone.
 # Section "Status Field Definition".

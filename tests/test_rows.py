@@ -5,9 +5,9 @@ such line. Lines that begin with `#` are comments. A file is one session, from i
 stands for N times HH, and a line `> include NAME` for the operations of the file NAME beside it. Rows of rings over
 many commands are computed.
 
-`@sqe(KEY=VALUE ..)` stands for the bytes of an entry with these fields, and others of 0. tests/records.py has the fields
-of each such record, and a failed row names those of the record that was found. `@enable(ctrl=NUMBER aqa=.. asq=..
-acq=.. cc=..)` stands for the register writes that enable a controller, as `saw` answers them.
+`@sqe(KEY=VALUE ..)` stands for the bytes of an entry with these fields, and others of 0. tests/records.py has the
+fields of each such record, and a failed row names those of the record that was found. `@enable(ctrl=NUMBER aqa=..
+asq=.. acq=.. cc=..)` stands for the register writes that enable a controller, as `saw` answers them.
 
 `@NAME` stands for the bytes of a subsystem file of examples/, such as `@demo.toml`, and `@NAME["OLD", "NEW"]` for those
 of the file with NEW in place of OLD. There may be more such pairs. `@"TEXT"` stands for the bytes of a text. In these
@@ -246,10 +246,11 @@ class Records(unittest.TestCase):
     """Each record that a row writes is read back from its bytes."""
 
     def test_are_read_back(self):
-        for kind, fields in sorted({found for path in FILES for found in RECORD.findall(with_repeats(path.read_text()))}):
+        written = (with_repeats(path.read_text("utf-8")) for path in FILES)
+        for kind, fields in sorted({record for text in written for record in RECORD.findall(text)}):
             with self.subTest(kind, fields=short(fields)):
-                written = encoded(kind, fields)
-                self.assertEqual(encoded(kind, decoded(kind, written)), written)
+                record = encoded(kind, fields)
+                self.assertEqual(encoded(kind, decoded(kind, record)), record)
 
 
 class Pipes(unittest.TestCase):
