@@ -1,9 +1,9 @@
 -- How the registers that a trace keeps follow a controller's, through writes and turns.
 use Rattle.std.proofs.Common.{◌≡◌, ◌≢◌, ◌∙◌, ℕ, zero, suc, ◌+◌, ◌*◌, ◌/◌, ◌%◌, ◌^◌, ◌==◌, ◌&&◌, ◌<◌, ◌≤◌}
 use Rattle.std.proofs.Common.{Bool, true, false, List, ap, arith, inl, inr, length, nat_le, refl, subst, sym}
-use Rattle.std.proofs.lemmas.Bool.{cases_eq}
+use Rattle.std.proofs.lemmas.Bool.{cases_eq, cases_lt}
 use Rattle.std.proofs.lemmas.Bool.Decides.{nat_tests}
-use Rattle.std.proofs.lemmas.List.{get_or-set_other, get_or-set_same}
+use Rattle.std.proofs.lemmas.List.{get_or-set_other, get_or-set_same, set_past}
 use Rattle.std.proofs.Math.ListN.{get_or-eq_default}
 use Rattle.std.specs.Prelude.{Option, Some, None, if◌then◌else◌, slice_index_or, slice_set}
 use Rattle.std.specs.Option.{ForSome, option_map, option_map_or}
@@ -28,8 +28,8 @@ use Rattle.nv_bus.specs.Entry.{Scene, scene}
 use Rattle.nv_bus.specs.Turn.{Site, Taken, Takes, Turn, TurnBy, ready_bank, site}
 use Rattle.nv_bus.proofs.TurnLaws.{can_means, length_one}
 use Rattle.nv_trace.specs.Followed.{AreFollowed, Follows, is_running}
-use Rattle.nv_trace.specs.inner.Followed.{AreOthers, AreTaken, AreTakenBy, FollowsWritten, IsTaken, as_read, rings_after}
-use Rattle.nv_trace.specs.inner.Followed.{turned}
+use Rattle.nv_trace.specs.inner.Followed.{AreOthers, AreTaken, AreTakenBy, FollowsWritten, IsTaken, as_read}
+use Rattle.nv_trace.specs.inner.Followed.{rings_after, turned}
 
 -- for the attributes of src/: an element of a list of which one was set
 pub ruleset elements = (get_or-set_same, get_or-set_other, get_or-eq_default)
@@ -200,6 +200,18 @@ turned_by (Ready rings false) page_size c most count m old new was turn at =
 
 -- ---- of all controllers
 
+-- an element that was set, if there is one
+set_is : (kept : List (Option RegisterBank)) (c : ℕ) (p : RegisterBank)
+    → ForSome (slice_index_or (slice_set kept c (Some p)) c None) (λ m. p ≡ m)
+set_is kept c p m there =
+    elim (cases_lt c (length kept)) [
+      | inl few ↦ let set = get_or-set_same kept c (Some p) None few in cc
+      | inr past ↦
+          let none =
+          ap (λ x. slice_index_or x c None) (set_past kept c (Some p) past) ∙ get_or-eq_default kept None past in
+          absurd (cc)
+    ]
+
 mapped : (change : RegisterBank → RegisterBank) (o : Option RegisterBank) (P : RegisterBank → Type 0)
     → ForSome o (λ m. P (change m)) → ForSome (option_map change o) P
 mapped change None P has m' is = absurd (cc)
@@ -238,16 +250,12 @@ pub followed_further : (kept : List (Option RegisterBank)) (banks : List Registe
 followed_further kept banks c on at m there offset x still = ap (λ p. with_register_at p offset x) (at c m there on)
 
 module _ (kept read : List (Option RegisterBank)) (banks : List RegisterBank) (c : ℕ)
-    (as_is : ForSome (slice_index_or read c None) (λ m. m ≡ as_read (bank_at banks c)))
+    (as_is : read ≡ slice_set kept c (Some (as_read (bank_at banks c))))
     (off : is_running (bank_at banks c).readiness ≡ false) where
-  pub read_followed : AreOthers c kept read → AreFollowed kept banks → AreFollowed read banks
-  read_followed others at =
-      one_changed kept read banks banks c (λ d apart. refl) others (λ m there on. absurd (cc)) at
-
   pub read_further : ForSome (slice_index_or read c None) (λ m. FollowsWritten m (bank_at banks c))
   read_further m there offset x on =
-      ap (λ p. with_register_at p offset x) (as_is m there)
-      ∙ written_anew (bank_at banks c) x off (register_at offset) on
+      let same = set_is kept c (as_read (bank_at banks c)) m (sym (ap (λ y. slice_index_or y c None) as_is) ∙ there) in
+      ap (λ p. with_register_at p offset x) (sym same) ∙ written_anew (bank_at banks c) x off (register_at offset) on
 
 pub written : (kept kept' : List (Option RegisterBank)) (banks banks' : List RegisterBank) (c offset x : ℕ)
     → c < length banks → banks' ≡ slice_set banks c (with_register_at (bank_at banks c) offset x)

@@ -1,12 +1,12 @@
 //! The lines of a trace, and what has to be known for them.
 
-ghost use Rattle.std.specs.Prelude.{◌≡◌, ◌<◌, ℕ, None, false, length, slice_index_or};
+ghost use Rattle.std.specs.Prelude.{◌≡◌, ◌<◌, ℕ, None, Some, false, length, slice_index_or, slice_set, true};
 ghost use Rattle.std.specs.Option.{ForSome, option_map};
 ghost use Rattle.nv_register.specs.RegisterBank.{with_register_at};
 ghost use Rattle.nv_bus.specs.Bus.{bank_at};
-ghost use Rattle.nv_trace.specs.Followed.{AreFollowed};
+ghost use Rattle.nv_trace.specs.Followed.{AreFollowed, is_running};
 ghost use Rattle.nv_trace.specs.inner.Followed.{AreOthers, AreTaken, AreTakenBy, FollowsWritten};
-ghost use Rattle.nv_trace.specs.inner.Followed.{rings_after, turned};
+ghost use Rattle.nv_trace.specs.inner.Followed.{as_read, rings_after, turned};
 
 use crate::followed::{Exchange, is_running, next_exchange, registers_of};
 use crate::posted::Posted;
@@ -69,10 +69,8 @@ impl<S: Sink> Trace<S> {
     }
 
     /// Keeps the registers of a controller.
-    #[tactic(auto, using(crate::proofs::FollowedLaws::elements))]
     fn keep(&mut self, ctrl: u16, bank: RegisterBank)
-        ensures own { ForSome (slice_index_or self.new.banks ctrl None) (λ kept. kept ≡ bank) }
-        ensures others { AreOthers ctrl self.old.banks self.new.banks }
+        ensures { self.new.banks ≡ slice_set self.old.banks ctrl (Some bank) }
     {
         let ctrl = usize::from(ctrl);
         if ctrl < MOST_CONTROLLERS {
@@ -85,6 +83,11 @@ impl<S: Sink> Trace<S> {
     pub(crate) fn read<B: Bus>(&mut self, bus: &B, ctrl: u16)
         requires followed { AreFollowed self.old.banks (B.meaning bus.now).banks }
         requires ctrl { ctrl < length (B.meaning bus.now).banks }
+        ensures read { is_running (bank_at (B.meaning bus.now).banks ctrl).readiness ≡ false
+            → self.new.banks ≡ slice_set self.old.banks ctrl
+            (Some (as_read (bank_at (B.meaning bus.now).banks ctrl))) }
+        ensures running { is_running (bank_at (B.meaning bus.now).banks ctrl).readiness ≡ true
+            → self.new.banks ≡ self.old.banks }
         ensures followed { AreFollowed self.new.banks (B.meaning bus.now).banks }
         ensures further { ForSome (slice_index_or self.new.banks ctrl None)
             (λ p. FollowsWritten p (bank_at (B.meaning bus.now).banks ctrl)) }
