@@ -34,7 +34,7 @@ enum { MOST_STRUCT = 512, KEPT = 16 };
 /* The two lowest bits of an opcode give the direction of its data. */
 enum { TO_DEVICE = 1, FROM_DEVICE = 2 };
 
-static uid_t user;     /* of the launcher, and its group */
+static uid_t user; /* of the launcher, and its group */
 static gid_t group;
 static int calls = -1; /* where the filter's calls come from */
 static int may_repeat; /* whether a signal may have a call made again after it was carried out */

@@ -1,5 +1,5 @@
-/* I/O commands by ioctl, over the data of a namespace, with the statuses of a drive. No controller is asked, and no proof
-   speaks about them. */
+/* I/O commands by ioctl, over the data of a namespace, with the statuses of a drive. No controller is asked, and no
+   proof speaks about them. */
 #define _GNU_SOURCE
 #include "calls.h"
 #include <errno.h>
@@ -26,6 +26,9 @@ enum {
 /* What a dataset management command deallocates: up to 256 ranges of 16 bytes. */
 enum { RANGE_BYTES = 16, MOST_RANGES = 256, DEALLOCATES = 4 };
 
+static uint64_t first_of(const unsigned char *range) { return number_at(range + 8, 8); }
+static uint64_t count_of(const unsigned char *range) { return number_at(range + 4, 4); }
+
 static int is_within(const struct node *node, uint64_t first, uint64_t count) {
     return first <= node->blocks && count <= node->blocks - first;
 }
@@ -41,7 +44,7 @@ static int clear(const struct node *node, int file, uint64_t first, uint64_t cou
 
 /* Deallocates ranges of blocks, all or none. */
 static int deallocate(const struct call *call, int file, const struct nvme_passthru_cmd *given) {
-    unsigned char ranges[MOST_RANGES * RANGE_BYTES];
+    unsigned char ranges[MOST_RANGES][RANGE_BYTES];
     uint32_t count = (given->cdw10 & 0xff) + 1;
     int status = DONE;
     if (given->data_len < count * RANGE_BYTES)
@@ -49,16 +52,16 @@ static int deallocate(const struct call *call, int file, const struct nvme_passt
     if (copy_in(call, given->addr, ranges, count * RANGE_BYTES) < 0)
         return -EFAULT;
     for (uint32_t at = 0; at < count; at++)
-        if (!is_within(&call->node, number_at(ranges + RANGE_BYTES * at + 8, 8), number_at(ranges + RANGE_BYTES * at + 4, 4)))
+        if (!is_within(&call->node, first_of(ranges[at]), count_of(ranges[at])))
             return OUT_OF_RANGE;
     for (uint32_t at = 0; at < count && status == DONE && given->cdw11 & DEALLOCATES; at++)
-        status = clear(&call->node, file, number_at(ranges + RANGE_BYTES * at + 8, 8),
-                       number_at(ranges + RANGE_BYTES * at + 4, 4));
+        status = clear(&call->node, file, first_of(ranges[at]), count_of(ranges[at]));
     return status;
 }
 
 /* Reads, writes or compares blocks. */
-static int transfer(const struct call *call, int file, const struct nvme_passthru_cmd *given, uint64_t first, size_t size) {
+static int transfer(const struct call *call, int file, const struct nvme_passthru_cmd *given, uint64_t first,
+                    size_t size) {
     unsigned char *data = malloc(2 * size);
     off_t at = (off_t)(first << call->node.power);
     int status = data ? DONE : -ENOMEM;

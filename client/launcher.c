@@ -1,9 +1,9 @@
 /* Runs a command whose NVMe commands are answered by device programs, one for each subsystem file. The launcher first
    becomes bubblewrap, which makes a sandbox and starts the launcher again inside (sandbox.c), as process 1. There it
    starts the devices behind pipes (relay.c), makes the nodes and the files of /sys (nodes.c, sysfs.c), runs the command
-   with the library preloaded, and answers its ioctls (calls.c). It ends when the command ends, with its status, and with
-   it ends everything in the sandbox. Where no sandbox can be made and the machine has no NVMe device, all this happens
-   outside, with a folder in place of /dev. None of this is proved. */
+   with the library preloaded, and answers its ioctls (calls.c). It ends when the command ends, with its status, and
+   everything in the sandbox ends with it. Where no sandbox can be made and the machine has no NVMe device, all this
+   happens outside, with a folder in place of /dev. None of this is proved. */
 #define _GNU_SOURCE
 #include "launcher.h"
 #include <errno.h>
@@ -134,7 +134,7 @@ static void reap(void) {
     }
 }
 
-/* Returns the signals that were sent to bwrap, which blocks them, and so can't be passed on by it. (Signal 1 is bit 0.) */
+/* Returns the signals that were sent to bwrap, which blocks them and so can't pass them on. (Signal 1 is bit 0.) */
 static unsigned long signals_at_monitor(void) {
     char text[4096], *line;
     ssize_t length = monitor < 0 ? 0 : pread(monitor, text, sizeof text - 1, 0);
@@ -468,7 +468,8 @@ static int run(char **arguments) {
 /* What the launcher outside tells the one inside, as hexadecimal numbers with commas: the signals that were blocked at
    the start, the streams that were closed, the mask of created files, the numbers of the current folder, and the
    descriptors of bwrap's status, of the trace and of the subsystem files. */
-enum { BLOCKED, CLOSED, CREATION, HERE_DEVICE, HERE_INODE, MONITOR, TRACE_TO, FILES, MOST_STATE = FILES + MOST_DEVICES };
+enum { BLOCKED, CLOSED, CREATION, HERE_DEVICE, HERE_INODE, MONITOR, TRACE_TO, FILES };
+enum { MOST_STATE = FILES + MOST_DEVICES };
 
 /* Returns a copy of a descriptor, which bwrap and the launcher inside inherit. */
 static int hand_on(int file) {
@@ -538,7 +539,8 @@ static int begin_outside(char **arguments, char **command_arguments) {
     monitor = open("/proc/self/status", O_RDONLY | O_CLOEXEC);
     const char *reason = monitor < 0 ? "/proc isn't there" : why_no_sandbox(&sandbox), *node = a_real_node();
     if (reason && node)
-        fail("%s is a device of this machine, and no sandbox can be made to keep the command from it: %s", node, reason);
+        fail("%s is a device of this machine, and no sandbox can be made to keep the command from it: %s", node,
+             reason);
     if (!reason) {
         if (!getcwd(here, sizeof here) || here[0] != '/')
             fail("the current folder can't be told: run the command from another one");

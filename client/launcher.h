@@ -55,7 +55,7 @@ int exchange(struct device *device, const struct request_header *header, void *d
 int carry_out(struct request_header *header, void *data, struct answer_header *answer);
 void start_serving(void);
 
-/* calls.c: has the ioctls of the processes that are started from now on answered, by threads that run `answer_calls`. */
+/* calls.c: has the ioctls of processes that are started from now on answered, by threads that run `answer_calls`. */
 enum { ANSWERING = 4 };
 void filter_calls(void);
 void *answer_calls(void *unused);
@@ -100,9 +100,9 @@ struct sandbox {
 #define LAUNCHER MODEL_FOLDER "/launcher"
 #define INSIDE "--inside"
 
-/* sandbox.c: fails if an open file, or a standard stream, leads to a device of the machine; returns an NVMe device of the machine, or NULL if it has none;
-   returns why no sandbox can be made, or NULL if one can; starts the launcher in it, in place of this process; and, in
-   it, fails if a mount of the machine isn't kept from the command. */
+/* sandbox.c: fails if an open file, or a standard stream, leads to a device of the machine; returns an NVMe device of
+   the machine, or NULL if it has none; returns why no sandbox can be made, or NULL if one can; starts the launcher in
+   it, in place of this process; and, in it, fails if a mount of the machine isn't kept from the command. */
 void check_file(int file, const char *name);
 void check_streams(void);
 const char *a_real_node(void);

@@ -7,12 +7,12 @@
 #include <sys/stat.h>
 
 /* The C library's own call. */
-#define NEXT(name) \
-    ({ \
-        static __typeof__(name) *next; \
-        if (!next) \
-            next = (__typeof__(name) *)dlsym(RTLD_NEXT, #name); \
-        next; \
+#define NEXT(name)                                                                                                     \
+    ({                                                                                                                 \
+        static __typeof__(name) *next;                                                                                 \
+        if (!next)                                                                                                     \
+            next = (__typeof__(name) *)dlsym(RTLD_NEXT, #name);                                                        \
+        next;                                                                                                          \
     })
 
 /* The calls that replace those of the C library are visible from outside. SAME gives a call a second name. */
@@ -26,8 +26,8 @@ extern char folder[PATH_MAX], library[PATH_MAX];
 
 int fails_by(int number);
 
-/* node.c: whether a descriptor is a node's; whether a path leads to a node, -1 if it leads nowhere; whether a path leads
-   to the node with a given description; and the path to pass to the C library for a path. */
+/* node.c: whether a descriptor is a node's; whether a path leads to a node, -1 if it leads nowhere; whether a path
+   leads to the node with a given description; and the path to pass to the C library for a path. */
 int is_node(int file, struct node *node);
 int is_block_node(int file, struct stat *about);
 int find_node(int directory, const char *path, int flags, struct stat *about, struct node *node);

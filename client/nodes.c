@@ -69,8 +69,8 @@ static void print_node(const struct stat *about, char kind, uint32_t nsid, const
         cannot(path);
 }
 
-/* Makes a file for a node, and describes it. (root's nodes belong to it, and block devices also to the group disk, as on
-   Linux) */
+/* Makes a file for a node, and describes it. (root's nodes belong to it, and block devices also to the group disk, as
+   on Linux) */
 static int make_file(const char *path, mode_t mode, struct stat *about) {
     struct group *disk = mode & S_IWGRP && geteuid() == 0 ? getgrnam("disk") : NULL;
     int file = make_new(path, 0600);

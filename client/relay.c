@@ -136,7 +136,7 @@ void greet_device(struct device *device, const char *name) {
 }
 
 /* Copies a line of a trace. It begins with a controller, whose number among all devices' controllers replaces its own.
-   */
+ */
 static void copy_line(const struct device *device, const char *line, size_t length) {
     unsigned number;
     int behind = 0;

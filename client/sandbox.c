@@ -1,6 +1,6 @@
 /* The part of the launcher that runs outside of the sandbox. It looks at what the command would inherit, composes the
-   arguments of bubblewrap (bwrap), which makes the sandbox, and becomes it. bwrap starts the launcher again inside, with
-   the rights of the command and no others. None of this is proved. */
+   arguments of bubblewrap (bwrap), which makes the sandbox, and becomes it. bwrap starts the launcher again inside,
+   with the rights of the command and no others. None of this is proved. */
 #define _GNU_SOURCE
 #include "launcher.h"
 #include <dirent.h>
@@ -42,22 +42,24 @@ static const unsigned char added_majors[] = {4, 5, 29, 81, 108, 116, 136, 166, 1
 static const unsigned char added_minors[] = {200, 229, 232, 238, 241};
 
 /* The file systems of the kernel. */
-static const unsigned kernels[] = {SYSFS_MAGIC,   PROC_SUPER_MAGIC,   DEBUGFS_MAGIC,    TRACEFS_MAGIC, SECURITYFS_MAGIC,
-                                   CGROUP_SUPER_MAGIC, CGROUP2_SUPER_MAGIC, EFIVARFS_MAGIC, BPF_FS_MAGIC, 0x62656570};
+static const unsigned kernels[] = {SYSFS_MAGIC,      PROC_SUPER_MAGIC,   DEBUGFS_MAGIC,       TRACEFS_MAGIC,
+                                   SECURITYFS_MAGIC, CGROUP_SUPER_MAGIC, CGROUP2_SUPER_MAGIC, EFIVARFS_MAGIC,
+                                   BPF_FS_MAGIC,     0x62656570};
 
-/* The file systems that hold files, and can be written as outside. All others, such as a second sysfs, are read-only. */
+/* The file systems that hold files, and can be written as outside. All others, such as a second sysfs, are read-only.
+ */
 static const char file_systems[] =
     " 9p afs aufs autofs bcachefs btrfs ceph cifs cramfs ecryptfs erofs exfat ext2 ext3 ext4 f2fs fuse fuseblk gfs2 hfs"
     " hfsplus iso9660 jfs lustre minix msdos nfs nfs4 nilfs2 nsfs ntfs ntfs3 ocfs2 overlay ramfs reiserfs romfs smb3"
     " squashfs tmpfs udf vfat virtiofs xfs zfs ";
 
 /* Parts of the machine's /sys that the command sees, read-only. */
-static const char *const shown[] = {"/sys/devices/system",     "/sys/fs/cgroup",          "/sys/kernel/mm",
+static const char *const shown[] = {"/sys/devices/system",     "/sys/fs/cgroup",           "/sys/kernel/mm",
                                     "/sys/class/net",          "/sys/devices/virtual/net", "/sys/class/dmi",
                                     "/sys/devices/virtual/dmi"};
 /* What root may do in the sandbox: all that files need, and to become another user. */
-static const char *const rights[] = {"CAP_CHOWN",  "CAP_DAC_OVERRIDE", "CAP_FOWNER", "CAP_FSETID",     "CAP_KILL",
-                                     "CAP_SETGID", "CAP_SETUID",       "CAP_AUDIT_WRITE"};
+static const char *const rights[] = {"CAP_CHOWN", "CAP_DAC_OVERRIDE", "CAP_FOWNER", "CAP_FSETID",
+                                     "CAP_KILL",  "CAP_SETGID",       "CAP_SETUID", "CAP_AUDIT_WRITE"};
 
 static int begins(const char *text, const char *beginning) { return strncmp(text, beginning, strlen(beginning)) == 0; }
 
@@ -85,8 +87,7 @@ void check_file(int file, const char *name) {
         return;
     if (!(about.st_mode & S_IFMT) || (S_ISREG(about.st_mode) && is_of_kernel(file)))
         fail("%s leads to the kernel or to a process of this machine", name);
-    int is_device =
-        S_ISBLK(about.st_mode) || (S_ISCHR(about.st_mode) && !is_listed(about.st_rdev) && !isatty(file));
+    int is_device = S_ISBLK(about.st_mode) || (S_ISCHR(about.st_mode) && !is_listed(about.st_rdev) && !isatty(file));
     /* (no message is written to a device) */
     if (is_device && file == STDERR_FILENO)
         exit(FAILED);
@@ -113,9 +114,12 @@ static void keep_streams(void) {
 }
 
 const char *a_real_node(void) {
-    static const char *const patterns[] = {"/dev/nvme*",          "/dev/ng[0-9]*",
-                                           "/sys/class/nvme/*",   "/sys/class/nvme-generic/*",
-                                           "/sys/class/block/nvme*", "/sys/class/nvme-subsystem/*"};
+    static const char *const patterns[] = {"/dev/nvme*",
+                                           "/dev/ng[0-9]*",
+                                           "/sys/class/nvme/*",
+                                           "/sys/class/nvme-generic/*",
+                                           "/sys/class/block/nvme*",
+                                           "/sys/class/nvme-subsystem/*"};
     static glob_t found;
     for (unsigned at = 0; at < sizeof patterns / sizeof *patterns; at++)
         if (glob(patterns[at], at ? GLOB_APPEND : 0, NULL, &found) == GLOB_NOSPACE)
@@ -388,8 +392,8 @@ static void write_map(const char *path, const char *format, unsigned number) {
     close(file);
 }
 
-/* Becomes bwrap, in a place where the machine's later mounts aren't seen. (The mounts that bwrap makes follow those that
-   it finds, and a mount that came later wouldn't be nodev.) */
+/* Becomes bwrap, in a place where the machine's later mounts aren't seen. (The mounts that bwrap makes follow those
+   that it finds, and a mount that came later wouldn't be nodev.) */
 __attribute__((noreturn)) static void become_bwrap(void) {
     unsigned user = geteuid(), group = getegid();
     int is_root = is_full_root();
@@ -467,7 +471,8 @@ static int is_own_proc(const char *path) {
     return readlink(self, number, sizeof number) == 1 && number[0] == '1';
 }
 
-/* Splits a line of the list of mounts, and returns whether the mount is nodev, and either holds files or is read-only. */
+/* Splits a line of the list of mounts, and returns whether the mount is nodev, and either holds files or is read-only.
+ */
 static int is_kept(const char *line, char path[PATH_MAX], dev_t *number) {
     char options[1024], kind[64] = " ", *behind = strstr(line, " - ");
     unsigned numbers[2];
@@ -476,9 +481,9 @@ static int is_kept(const char *line, char path[PATH_MAX], dev_t *number) {
         fail("/proc/self/mountinfo can't be read");
     unescape(path);
     *number = makedev(numbers[0], numbers[1]);
-    int is_own = strcmp(kind, " proc") == 0 && is_own_proc(path);
-    return strstr(options, ",nodev") && (is_own || begins(options, "ro,") || begins(kind, " fuse.") ||
-                                         strstr(file_systems, strcat(kind, " ")));
+    int is_own = strcmp(path, "/") == 0 || (strcmp(kind, " proc") == 0 && is_own_proc(path));
+    return strstr(options, ",nodev") &&
+           (is_own || begins(options, "ro,") || begins(kind, " fuse.") || strstr(file_systems, strcat(kind, " ")));
 }
 
 /* (of several mounts at one path, the last in the list covers the others) */

@@ -13,8 +13,8 @@
 #include <sys/stat.h>
 #include <unistd.h>
 
-/* A file below /sys with its line, or a link, whose text begins with >. The path of a link elsewhere begins with /. Names
-   in braces stand for their values. */
+/* A file below /sys with its line, or a link, whose text begins with >. The path of a link elsewhere begins with /.
+   Names in braces stand for their values. */
 struct row {
     const char *path, *text;
 };
@@ -124,9 +124,9 @@ static const struct row disk_rows[] = {
     {0}};
 
 /* The folders that are there without a controller. */
-static const char *const folders[] = {"block/", "class/block/", "class/nvme/", "class/nvme-generic/",
-                                      "class/nvme-subsystem/", "dev/block/", "dev/char/", "bus/pci/devices/",
-                                      "bus/pci/slots/"};
+static const char *const folders[] = {
+    "block/",     "class/block/", "class/nvme/",      "class/nvme-generic/", "class/nvme-subsystem/",
+    "dev/block/", "dev/char/",    "bus/pci/devices/", "bus/pci/slots/"};
 
 enum { PCI_DOMAIN = 1 };
 
@@ -136,10 +136,11 @@ static struct {
     char text[300];
 } values[24];
 
-/* What is known about each controller: the vendor, and its serial number and model as hexadecimal digits and as names of
-   files. */
+/* What is known about each controller: the vendor, and its serial number and model as hexadecimal digits and as names
+   of files. */
 enum { SERIAL, MODEL };
-static char digits[MOST_CONTROLLERS][2][2 * 40 + 1], file_names[MOST_CONTROLLERS][2][40 + 1], vendors[MOST_CONTROLLERS][8];
+static char digits[MOST_CONTROLLERS][2][2 * 40 + 1], file_names[MOST_CONTROLLERS][2][40 + 1],
+    vendors[MOST_CONTROLLERS][8];
 
 __attribute__((format(printf, 2, 3))) static void set(const char *name, const char *format, ...) {
     unsigned at = 0;

@@ -1,6 +1,6 @@
-/* What the library, the launcher and the device share, and the messages of the device. All numbers are little-endian. A request is a header
-   and, if an entry sends data (the lowest bit of its opcode is 1), that data. An answer is a header and its data. None
-   of this is proved. */
+/* What the library, the launcher and the device share, and the messages of the device. All numbers are little-endian. A
+   request is a header and, if an entry sends data (the lowest bit of its opcode is 1), that data. An answer is a header
+   and its data. None of this is proved. */
 #ifndef WIRE_H
 #define WIRE_H
 #include <assert.h>
@@ -47,8 +47,8 @@ static_assert(sizeof(struct request_header) == 72, "a request's header has 72 by
 static_assert(sizeof(struct answer_header) == 12, "an answer's header has 12 bytes");
 
 /* The folder where the launcher stores what the library needs, which is in the /dev of the sandbox or, without one,
-   elsewhere. It has `library.so` and, for each node, the link `nodes/INODE`, whose text says what the file with this inode
-   number stands for, and for each controller whose device is gone, `lost/NUMBER`. */
+   elsewhere. It has `library.so` and, for each node, the link `nodes/INODE`, whose text says what the file with this
+   inode number stands for, and for each controller whose device is gone, `lost/NUMBER`. */
 #define MODEL_FOLDER "/dev/.model"
 
 /* What a file stands for: a controller ('c'), a generic node of a namespace ('g') or its block device ('b'). */
@@ -58,8 +58,8 @@ struct node {
     unsigned long long blocks;
 };
 
-/* Reads the text of a node's link, and returns whether it is one. Of several controllers, the one is meant by whose name
-   the file was opened, which the kernel gives with links followed. */
+/* Reads the text of a node's link, and returns whether it is one. Of several controllers, the one is meant by whose
+   name the file was opened, which the kernel gives with links followed. */
 static inline int read_node(const char *text, const char *opened, struct node *node) {
     unsigned named, nsid;
     int behind = 0;
