@@ -538,6 +538,9 @@ static int begin_outside(char **arguments, char **command_arguments) {
     char here[PATH_MAX];
     monitor = open("/proc/self/status", O_RDONLY | O_CLOEXEC);
     const char *reason = monitor < 0 ? "/proc isn't there" : why_no_sandbox(&sandbox), *node = a_real_node();
+    if (reason && !node && access("/sys/class/block", F_OK) < 0)
+        fail("without /sys, nothing tells whether this machine has NVMe devices, and no sandbox can be made: %s",
+             reason);
     if (reason && node)
         fail("%s is a device of this machine, and no sandbox can be made to keep the command from it: %s", node,
              reason);

@@ -124,8 +124,6 @@ const char *a_real_node(void) {
     for (unsigned at = 0; at < sizeof patterns / sizeof *patterns; at++)
         if (glob(patterns[at], at ? GLOB_APPEND : 0, NULL, &found) == GLOB_NOSPACE)
             fail("out of memory");
-    if (found.gl_pathc == 0 && access("/sys/class/block", F_OK) < 0)
-        return "what isn't in /sys, which can't be read here,";
     return found.gl_pathc > 0 ? found.gl_pathv[0] : NULL;
 }
 

@@ -373,6 +373,13 @@ class NoSandbox(MachineCase):
                 self.assertRegex(ended.err, b'^' + re.escape(MISSING) + b'.*' + reason + b'.*\n$')
                 machine.is_unchanged()
 
+    def test_refused_where_nothing_tells(self):
+        covered = 'unshare', '-m', 'sh', '-c', 'mount -t tmpfs x /sys && exec "$@"', 'sh'
+        with contextlib.closing(Machine(self, 'none')) as machine:
+            ended = machine.model('echo no', by=(*covered, *list(self.ways())[1]))
+            self.ends(ended, 72, b'')
+            self.assertRegex(ended.err, b'^nvme-model: without /sys, nothing tells .*: .*bubblewrap\\n$')
+
     def test_path_with_a_blank(self):
         place = self.folder / 'a folder: here'
         shutil.copytree(installed().parents[1], place)
