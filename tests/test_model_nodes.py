@@ -427,6 +427,21 @@ class Tools(ModelCase):
                              'nvme get-ns-id /dev/ng0n3', self.folder / 'link'), 0,
                   b'1\nNVME Identify Namespace 3:\nng0n3: namespace-id:3\n', b'')
 
+    def test_commands_of_the_page(self):
+        # each command that a table of PASSTHROUGH says is refused, with its status
+        more = {'device-self-test': '-s 1', 'sanitize': '-a 2', 'fw-commit': '-s 1 -a 1', 'security-recv': '-p 0 -x 64 -t 64',
+                'dir-receive': '-D 0 -O 1', 'virt-mgmt': '-c 1 -a 1', 'get-lba-status': '-s 0 -m 1 -a 16',
+                'write-uncor': '-s 0 -c 0'}
+        table = (TOP / 'docs/PASSTHROUGH.md').read_text().partition('## Commands of nvme-cli\n')[2].partition('\n## ')[0]
+        rows = re.findall(r'(?m)^\| (`.*`) \| .*\((0x\w+)\)', table)
+        self.assertEqual(len(rows), 4)
+        for commands, status in rows:
+            for command in re.findall('`(.*?)`', commands):
+                with self.subTest(command):
+                    node = '/dev/nvme0n1' if status == '0x4001' or command in ('ns-descs', 'get-lba-status') else '/dev/nvme0'
+                    ended = self.model('nvme', command, node, *more.get(command, '').split())
+                    self.assertIn(f'({status})'.encode(), ended.err + ended.out, ended)
+
     def test_smartctl(self):
         whole = self.model('smartctl', '-x', '/dev/nvme0')
         self.ends(whole, 0)
