@@ -59,8 +59,9 @@ class Installed(Case):
     def has_no_warnings(self, page):
         if shutil.which('mandoc'):
             warnings = run('mandoc', '-Tlint', page, err='&1').out.splitlines()
-            # the pages that a manual page refers to need not be installed
-            self.assertEqual([line for line in warnings if b'referenced manual not found: Xr' not in line], [])
+            # the pages that a manual page refers to need not be installed, nor be in the list of pages
+            others = b'referenced manual not found: Xr', b'outdated mandoc.db'
+            self.assertEqual([line for line in warnings if not any(text in line for text in others)], [])
         elif shutil.which('man') and run('man', '--warnings', '-l', page).status == 0:
             self.ends(run('man', '--warnings', '-l', page), 0, err=b'')
         else:
