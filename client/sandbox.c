@@ -13,7 +13,6 @@
 #include <linux/magic.h>
 #include <linux/seccomp.h>
 #include <sched.h>
-#include <signal.h>
 #include <stdarg.h>
 #include <stdio.h>
 #include <stdlib.h>
@@ -21,7 +20,6 @@
 #include <sys/ioctl.h>
 #include <sys/mman.h>
 #include <sys/mount.h>
-#include <sys/prctl.h>
 #include <sys/stat.h>
 #include <sys/statfs.h>
 #include <sys/syscall.h>
@@ -413,7 +411,7 @@ __attribute__((noreturn)) static void become_bwrap(void) {
 }
 
 /* (another process makes a sandbox for --help first, because the status of a bwrap that fails would be taken for the
-   command's) */
+   command's. It ends by itself: a bwrap that is killed as it starts would leave a process that waits for it.) */
 const char *why_no_sandbox(const struct sandbox *sandbox) {
     int ends[2], how, null = open("/dev/null", O_RDWR | O_CLOEXEC);
     if (null < 0 || pipe2(ends, O_CLOEXEC) < 0)
@@ -424,7 +422,6 @@ const char *why_no_sandbox(const struct sandbox *sandbox) {
     if (child < 0)
         fail_by_errno("fork");
     if (child == 0) {
-        prctl(PR_SET_PDEATHSIG, SIGKILL);
         dup2(null, STDIN_FILENO);
         dup2(null, STDOUT_FILENO);
         dup2(ends[1], STDERR_FILENO);
