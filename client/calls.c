@@ -41,7 +41,6 @@ static int may_repeat; /* whether a signal may have a call made again after it w
 static dev_t nodes_device;
 
 void filter_calls(void) {
-    enum { LINUX_CALL = 16, X32_CALL = 514, OLD_CALL = 54, X32_BIT = 0x40000000 };
     struct sock_filter filter[] = {
         BPF_STMT(BPF_LD | BPF_W | BPF_ABS, offsetof(struct seccomp_data, nr)),
         BPF_STMT(BPF_ALU | BPF_AND | BPF_K, ~(unsigned)X32_BIT),

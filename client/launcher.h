@@ -55,6 +55,10 @@ int exchange(struct device *device, const struct request_header *header, void *d
 int carry_out(struct request_header *header, void *data, struct answer_header *answer);
 void start_serving(void);
 
+/* The numbers of ioctl among the system calls of 64 bits, of x32, whose calls have a bit of their own, and of 32 bits.
+ */
+enum { LINUX_CALL = 16, X32_CALL = 514, OLD_CALL = 54, X32_BIT = 0x40000000 };
+
 /* calls.c: has the ioctls of processes that are started from now on answered, by threads that run `answer_calls`. */
 enum { ANSWERING = 4 };
 void filter_calls(void);

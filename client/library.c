@@ -292,8 +292,8 @@ SAME(ftruncate64, ftruncate);
 SAME(truncate64, truncate);
 SAME(fallocate64, fallocate);
 
-/* The launcher answers the ioctls of nodes. If a signal came before it took one, nothing was done, and it is made again,
-   because Linux wouldn't interrupt it. Others would be answered as those of a file. */
+/* The launcher answers the ioctls of nodes. If a signal came before it took one, nothing was done. Linux wouldn't
+   interrupt it, so it is made again. Others would be answered as those of a file. */
 PUBLIC int ioctl(int file, unsigned long request, ...) {
     struct node node;
     va_list rest;

@@ -174,10 +174,10 @@ static void add_below(const char *option, const char *path) {
 }
 
 /* Adds a filter that lets no process type into the caller's terminal (TIOCSTI, and the selection of TIOCLINUX), or take
-   an open file from a process outside, which the peer of a socket can name. An ioctl has a number for each of the three
-   kinds of system calls, and the kernel looks at 32 bits of its request. */
+   an open file from a process outside, which the peer of a socket can name. (Of a request the kernel looks at 32 bits.)
+ */
 static void add_filter(void) {
-    enum { LINUX_CALL = 16, X32_CALL = 514, OLD_CALL = 54, GET_FILE_CALL = 438, X32_BIT = 0x40000000 };
+    enum { GET_FILE_CALL = 438 };
     const struct sock_filter filter[] = {
         BPF_STMT(BPF_LD | BPF_W | BPF_ABS, offsetof(struct seccomp_data, nr)),
         BPF_STMT(BPF_ALU | BPF_AND | BPF_K, ~(unsigned)X32_BIT),
