@@ -6,6 +6,7 @@ use Rattle.nv_arguments.specs.declared.option.ArgumentOption.TheVariants.{Subsys
 use Rattle.nv_arguments.specs.declared.option.ArgumentOption.TheVariants.{PageSize, Offset}
 use Rattle.nv_arguments.specs.declared.option.ArgumentOption.TheVariants.{ListOffset, Window, Pace}
 
+-- the name of each option
 abbrev pub name_of : ArgumentOption → Text
 name_of Subsystem = codes "subsystem"
 name_of Depth = codes "depth"
@@ -15,5 +16,6 @@ name_of ListOffset = codes "list-offset"
 name_of Window = codes "window"
 name_of Pace = codes "pace"
 
+-- all options of the program
 abbrev pub options : List ArgumentOption
 options = Subsystem ∷ Depth ∷ PageSize ∷ Offset ∷ ListOffset ∷ Window ∷ Pace ∷ []

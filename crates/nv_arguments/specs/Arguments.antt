@@ -42,6 +42,7 @@ pub record Told : Type 0 where
   pub subsystem : Option Text
   pub geometry : Geometry
 
+-- what these arguments tell: their path as text, if there is one, and their geometry
 abbrev pub told_by : Arguments → Told
 told_by arguments = record {
   subsystem = option_map (λ path. path.now) arguments.subsystem;

@@ -13,9 +13,11 @@ use Rattle.nv_arguments.specs.declared.option.ArgumentOption.{ArgumentOption}
 abbrev pub option_rule : ArgumentOption → Rule
 option_rule o = record (new_rule (name_of o)) { long = Some (name_of o); action = Some Set }
 
+-- an application with these options added
 abbrev pub with_options : App → List ArgumentOption → App
 with_options app os = fold (λ a o. with_rule a (option_rule o)) app os
 
+-- the application of the program: its options, each of which takes a value
 abbrev pub program : App
 program = with_options (new_app (codes "nvme-script")) options
 
@@ -27,5 +29,6 @@ is_taken words = is_empty (fault_of program words)
 unfoldable pub clap_rows : List Text → List Row
 clap_rows words = matches_of program words
 
+-- what clap finds in the words, or a refusal if it finds a fault
 abbrev pub rows_of_words : List Text → Result (List Row) ArgumentsFault
 rows_of_words words = if is_taken words then Ok (clap_rows words) else Err Refused

@@ -2,6 +2,7 @@
 
 ghost use Rattle.std.specs.Prelude.{◌<◌, IfOk, length};
 ghost use Rattle.nv_bus.specs.Bus.{IsBus};
+ghost use Rattle.nv_controller.specs.Machine.{bus_of};
 
 use anyhow::bail;
 use nv_controller::{Bus, Machine};
@@ -66,8 +67,8 @@ pub(crate) fn identify(rt: &HostRuntime) -> anyhow::Result<()> {
 
 /// Makes controller 0 ready with queues of four entries, at 0h and 1000h.
 pub(crate) fn enable(machine: &mut Machine) -> anyhow::Result<()>
-    requires { IsBus machine.old }
-    ensures bus { IsBus machine.new }
+    requires { IsBus (bus_of machine.old) }
+    ensures bus { IsBus (bus_of machine.new) }
     ensures ready { IfOk result (λ _. 0 < length machine.new.banks) }
 {
     if machine.controllers() == 0 {
@@ -82,7 +83,7 @@ pub(crate) fn enable(machine: &mut Machine) -> anyhow::Result<()>
 
 /// Submits an entry to the controller, and returns the status of its completion.
 fn submit(machine: &mut Machine, mem: &mut FlatMemory, entry: &Sqe) -> anyhow::Result<u16>
-    requires bus { IsBus machine.old }
+    requires bus { IsBus (bus_of machine.old) }
     requires ready { 0 < length machine.old.banks }
 {
     let mut bytes = [0; 64];

@@ -2,6 +2,7 @@
 
 ghost use Rattle.std.specs.Prelude.{◌<◌, length};
 ghost use Rattle.nv_bus.specs.Bus.{IsBus};
+ghost use Rattle.nv_controller.specs.Machine.{bus_of};
 
 use crate::by_hand::enable;
 use anyhow::bail;
@@ -61,7 +62,7 @@ fn submit(
     first: &Sqe,
     second: &Sqe,
 ) -> anyhow::Result<()>
-    requires bus { IsBus machine.old }
+    requires bus { IsBus (bus_of machine.old) }
     requires ready { 0 < length machine.old.banks }
 {
     let mut bytes = [0; 64];

@@ -1,4 +1,6 @@
 //! The benches of docs/BENCHES.md. Each prints what it finds.
+//!
+//! These are examples of benches in Rattle. `nvme_bench` is the program that executes operations from its input.
 #![tactic(auto)]
 
 mod by_hand;

@@ -4,7 +4,7 @@ use anyhow::bail;
 use nv_command::{Command, Reply};
 use nv_controller::{Bus, Machine};
 use nv_driver::{AnswerSlot, Driver, Geometry};
-use nv_host::HostMemory;
+use nv_host::paged::PagedMemory;
 use nv_subsystem::{DEMO, Subsystem};
 
 /// A bus that counts its turns.
@@ -29,7 +29,7 @@ impl<B: Bus> Bus for Counted<B> {
         self.bus.write32(ctrl, offset, dword)
     }
 
-    fn turn<M: HostMemory>(&mut self, ctrl: u16, mem: &mut M, most: u16) -> u16 {
+    fn turn<M: PagedMemory>(&mut self, ctrl: u16, mem: &mut M, most: u16) -> u16 {
         self.turns = self.turns.saturating_add(1);
         self.bus.turn(ctrl, mem, most)
     }

@@ -17,6 +17,7 @@ use Rattle.nv_bits.specs.Words.{bit_of}
 use Rattle.nv_bits.specs.BitSet.{AreBits, members_of}
 use Rattle.nv_bits.proofs.WordLaws.{bit_of-ones, bit_of-past_ones, bit_of-zeros, first_ones, none_of_zero}
 
+-- the value that b gives as a member is there if and only if b is true
 is_member : (b : Bool) → is_some (as_member b) ≡ b
 is_member true = refl
 is_member false = refl
@@ -37,31 +38,34 @@ not_member first count words q clear =
     true≢false (sym (rw e at member) ∙ contains_at first count words (q - first) (omega arith) ∙ clear is.0 is.1) in
     true≢false (sym member ∙ ap is_some (get_outside _ first count q out)))
 
+-- as_member of a choice between two truth values is the choice between their values
 as_member-change : (b c d : Bool) → as_member (cond b c d) ≡ cond b (as_member c) (as_member d)
 as_member-change true c d = refl
 as_member-change false c d = refl
 
 module _ (first count : ℕ) (old new : List ℕ) (k : ℕ) (here : k < count) where
+  -- if new differs from old only in that bit k is set, its set is the set of old with the number of bit k
   pub members-insert : ChangesBit old new k true
       → members_of first count new ≡ insert (members_of first count old) (first + k)
   members-insert change =
       by_place-insert _ _ first count k here tt
       (λ j. ap as_member (change j) ∙ as_member-change (j == k) true (bit_of old j))
 
+  -- if new differs from old only in that bit k is clear, its set is the set of old without the number of bit k
   pub members-remove : ChangesBit old new k false
       → members_of first count new ≡ map.remove (members_of first count old) (first + k)
   members-remove change =
       by_place-remove _ _ first count k here
       (λ j. ap as_member (change j) ∙ as_member-change (j == k) false (bit_of old j))
 
--- no bit is set
+-- words in which no bit of the range is set represent an empty set
 pub members-empty : (first count : ℕ) (words : List ℕ) → ((k : ℕ) → k < count → bit_of words k ≡ false)
     → members_of first count words ≡ map.empty
 members-empty first count words none =
     by_place_is _ first count map.empty (λ k h. get-empty nat_cmp (first + k) ∙ rw (none k h) refl)
     (λ q _. get-empty nat_cmp q)
 
--- all bits are set
+-- words in which all bits of the range are set represent the set of all numbers
 pub members-all : (first count : ℕ) (words : List ℕ) → ((k : ℕ) → k < count → bit_of words k ≡ true)
     → members_of first count words ≡ all_of first count
 members-all first count words all =
@@ -70,14 +74,17 @@ members-all first count words all =
 
 -- ---- the fields of a set
 
+-- len plus the byte of "b is false" is n if b is true, and n + 1 otherwise, where len is n
 are_more : (b : Bool) (len n : ℕ) → len ≡ n → len + bool_byte (not b) ≡ cond b n (n + 1)
 are_more true len n e = omega arith
 are_more false len n e = omega arith
 
 module _ (first count len lowest_word : ℕ) (words : List ℕ) (are : AreBits first count len lowest_word words) where
+  -- the set that the words represent
   abbrev members : NumberSet
   members = members_of first count words
 
+  -- the number of members is at most the number of numbers in the range
   pub len_in_range : len ≤ count
   len_in_range = omega (arith, are.len_is, len_within (λ k. as_member (bit_of words k)) first count)
 
@@ -88,6 +95,7 @@ module _ (first count len lowest_word : ℕ) (words : List ℕ) (are : AreBits f
       (λ from _. none_of_zero words (q - first) (are.none_below ((q - first) / 64) (omega arith)))
 
   module _ (at k : ℕ) (least : IsLeastFrom (bit_of words) at k) where
+    -- the least bit that is set from a place on is one of the range
     pub least_in_range : k < count
     least_in_range =
         elim (cases_lt k count) [
@@ -95,9 +103,11 @@ module _ (first count len lowest_word : ℕ) (words : List ℕ) (are : AreBits f
           | inr h ↦ absurd (true≢false (sym least.passes ∙ are.none_past k h))
         ]
 
+    -- the number of that bit is a member
     least_is_member : map.contains_key members (first + k) ≡ true
     least_is_member = contains_at first count words k least_in_range ∙ least.passes
 
+    -- no number between the place at which the search began and that bit is a member
     none_between : (q : ℕ) → (first ≤ q → at ≤ q - first) → q < first + k → map.contains_key members q ≡ false
     none_between q from to = not_member first count words q (λ f _. least.before (q - first) (from f) (omega arith))
 
@@ -134,7 +144,7 @@ module _ (first count len lowest_word : ℕ) (words : List ℕ) (are : AreBits f
     pub no_next : (n : ℕ) → at ≡ n + 1 - first → (q : ℕ) → n < q → map.contains_key members q ≡ false
     no_next n e q after = not_member first count words q (λ f _. none (q - first) (omega arith))
 
-  -- a bit is set
+  -- if a bit of the range is set, the fields with the new words, length and lowest word are right
   pub are-insert : (k w : ℕ) → k < count → ChangesBit words (set words (k / 64) w) k true
       → AreBits first count (len + bool_byte (not (bit_of words k))) (min lowest_word (k / 64)) (set words (k / 64) w)
   are-insert k w here change = record {
@@ -151,7 +161,7 @@ module _ (first count len lowest_word : ℕ) (words : List ℕ) (are : AreBits f
         get_or-set_other words (k / 64) i w 0 ne ∙ are.none_below i (omega arith);
   }
 
-  -- a bit is cleared
+  -- if a set bit is cleared, the fields with the new words, length and lowest word are right
   pub are-remove : (k w next : ℕ) → k < count → bit_of words k ≡ true → ChangesBit words (set words (k / 64) w) k false
       → lowest_word ≤ next → next ≤ length words
       → ((i : ℕ) → lowest_word ≤ i → i < next → get_or (set words (k / 64) w) i 0 ≡ 0)
@@ -179,6 +189,7 @@ module _ (first count len lowest_word : ℕ) (words : List ℕ) (are : AreBits f
 
 -- ---- new sets
 
+-- words of zeros represent an empty set, with a lowest word past the last word
 pub are-empty : (first count : ℕ) → first + count ≤ 2 ^ 32
     → AreBits first count 0 (length {A = ℕ} (replicate (count / 64 + 1) 0)) (replicate (count / 64 + 1) 0)
 are-empty first count range = record {
@@ -193,6 +204,7 @@ are-empty first count range = record {
       λ i h. get_or-replicate (count / 64 + 1) i 0 0 (omega (arith, length-replicate {A = ℕ} (count / 64 + 1) 0));
 }
 
+-- first_ones represent a set of all numbers of the range, with word 0 as the lowest
 pub are-full : (first count : ℕ) → first + count ≤ 2 ^ 32 → AreBits first count count 0 (first_ones count)
 are-full first count range = record {
   in_range = range;

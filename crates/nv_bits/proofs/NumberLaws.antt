@@ -17,12 +17,13 @@ use Rattle.nv_bits.specs.Numbers.{IsNext, IsOf, NumberMap, all_of, as_member, by
 use Rattle.nv_bits.specs.Above.{above}
 
 module _ {A : Type 0} where
-  -- what is found after a change
+  -- after x is inserted under k, k has x, and every other number has the value that it had
   pub get_of_insert : (m : NumberMap A) (k : ℕ) (x : A) (q : ℕ) → get (map.insert m k x) q
       ≡ cond (q == k) (Some x) (get m q)
   get_of_insert m k x q =
       get-insert nat_cmp_total m k x q ∙ ap (λ b. cond b (Some x) (get m q)) (unsigned_tied q k)
 
+  -- after k is removed, k has no value, and every other number has the value that it had
   pub get_of_remove : (m : NumberMap A) (k q : ℕ) → get (map.remove m k) q
       ≡ cond (q == k) None (get m q)
   get_of_remove m k q =
@@ -32,6 +33,7 @@ module _ {A : Type 0} where
   pub same_numbers : (m n : NumberMap A) → ((q : ℕ) → get m q ≡ get n q) → m ≡ n
   same_numbers m n = same_map nat_cmp_total nat_cmp-IsAntisymmetric m n
 
+  -- if k has no value, with_value gives k the optional value o and changes no other number
   get_of_with_value : (m : NumberMap A) (k q : ℕ) (o : Option A) → get m k ≡ None
       → get (with_value m k o) q ≡ cond (q == k) o (get m q)
   get_of_with_value m k q None none =
@@ -53,7 +55,7 @@ module _ {A : Type 0} where
       ∙ rw (ne_eqb q (first + count) other) (get_outside at first count q
       (λ is. out (is.0, omega arith)))
 
-  -- the value of a map by places at a place
+  -- number first + k of a map by places has the value of place k
   pub get_at : (at : ℕ → Option A) (first count k : ℕ) → k < count
       → get (by_place at first count) (first + k) ≡ at k
   unfolding by_place
@@ -68,7 +70,7 @@ module _ {A : Type 0} where
             rw (ne_eqb (first + k) (first + count) other) (get_at at first count k (omega arith))
       ]
 
-  -- a map that has the same at each place, and nothing elsewhere
+  -- a map that has the values of the places, and no others, is the map by these places
   pub by_place_is : (at : ℕ → Option A) (first count : ℕ) (m : NumberMap A)
       → ((k : ℕ) → k < count → get m (first + k) ≡ at k)
       → ((q : ℕ) → (IsOf first count q → ⊥) → get m q ≡ None) → by_place at first count ≡ m
@@ -94,6 +96,7 @@ module _ {A : Type 0} where
     abbrev Changes : Option A → Type 0
     Changes o = (j : ℕ) → new j ≡ cond (j == k) o (old j)
 
+    -- a choice by whether first + j is first + k is the choice by whether j is k
     here_and_there : (o : Option A) (j : ℕ) → cond (first + j == first + k) o (old j)
         ≡ cond (j == k) o (old j)
     here_and_there o j =
@@ -104,6 +107,7 @@ module _ {A : Type 0} where
               rw (ne_eqb j k ne, ne_eqb (first + j) (first + k) other) refl
         ]
 
+    -- a map that differs from the old one only in that first + k has o is the map by the new places
     changed : (o : Option A) (m : NumberMap A)
         → ((q : ℕ) → get m q ≡ cond (q == first + k) o (get (by_place old first count) q))
         → Changes o → by_place new first count ≡ m
@@ -115,21 +119,24 @@ module _ {A : Type 0} where
         let other : q ≢ first + k = λ e. out (omega arith, omega arith) in
         is q ∙ rw (ne_eqb q (first + k) other) (get_outside old first count q out))
 
+    -- if place k now has the value x, the map by places is the old one with first + k inserted
     pub by_place-insert : (x : A) → Changes (Some x) → by_place new first count
         ≡ map.insert (by_place old first count) (first + k) x
     by_place-insert x = changed (Some x) _ (get_of_insert (by_place old first count) (first + k) x)
 
+    -- if place k now has no value, the map by places is the old one with first + k removed
     pub by_place-remove : Changes None → by_place new first count
         ≡ map.remove (by_place old first count) (first + k)
     by_place-remove = changed None _ (get_of_remove (by_place old first count) (first + k))
 
-  -- which numbers a map has after a change
+  -- after a value is inserted under k, the map has k and the numbers that it had
   pub contains-insert : (m : NumberMap A) (k : ℕ) (x : A) (q : ℕ)
       → map.contains_key (map.insert m k x) q ≡ cond (q == k) true (map.contains_key m q)
   contains-insert m k x q = ap is_some (get_of_insert m k x q)
       ∙ elim (q == k) as (λ b. is_some (cond b (Some x) (get m q))
       ≡ cond b true (is_some (get m q))) [ true ↦ refl | false ↦ refl ]
 
+  -- after k is removed, the map has the numbers that it had, without k
   pub contains-remove : (m : NumberMap A) (k q : ℕ) → map.contains_key (map.remove m k) q
       ≡ cond (q == k) false (map.contains_key m q)
   contains-remove m k q = ap is_some (get_of_remove m k q)
@@ -174,7 +181,7 @@ module _ {A : Type 0} where
       none_of None e = refl
       none_of (Some x) e = absurd (true≢false e)
 
--- how many numbers a range has
+-- a range of `count` numbers has `count` members
 pub len-all_of : (first count : ℕ) → map.len (all_of first count) ≡ count
 unfolding by_place
 len-all_of first zero = len-empty nat_cmp (Unit {0})
@@ -188,6 +195,7 @@ len-all_of first (suc count) =
 
 -- ---- the numbers of a map in ascending order
 
+-- if the order of numbers says that x is less than y, then x < y
 less : (x y : ℕ) → T (is_lt (nat_cmp x y)) → x < y
 less x y h =
     elim (cases_lt x y) [
@@ -199,29 +207,34 @@ less x y h =
     not_less true h = h
     not_less false h = h
 
+-- if a conjunction holds, its first part holds
 left : (a b : Bool) → T (a && b) → T a
 left true b h = tt
 left false b h = absurd h
 
+-- if a conjunction holds, its second part holds
 right : (a b : Bool) → T (a && b) → T b
 right true b h = h
 right false b h = absurd h
 
 module _ {A : Type 0} where
+  -- whether one of the entries is for the number q
   abbrev has : List (ℕ × A) → ℕ → Bool
   has es q = list_any (eq_by_cmp nat_cmp q) (map_list (λ e. e.0) es)
 
+  -- the numbers of the entries, in their order
   abbrev numbers : List (ℕ × A) → List ℕ
   numbers es = map_list (λ e. e.0) es
 
-  -- a number before others
+  -- the number of the first entry is among the numbers of the entries
   has_first : (e : ℕ × A) (es : List (ℕ × A)) → has (e ∷ es) e.0 ≡ true
   has_first e es = rw (unsigned_tied e.0 e.0, eq-eqb e.0 e.0 refl) refl
 
+  -- the first entry makes no difference to whether a number other than its own is there
   has_other : (e : ℕ × A) (es : List (ℕ × A)) (q : ℕ) → q ≢ e.0 → has (e ∷ es) q ≡ has es q
   has_other e es q ne = rw (unsigned_tied q e.0, ne_eqb q e.0 ne) refl
 
-  -- the numbers after a lower number are above it
+  -- in entries that are all above x, each number is above x
   above_first : (x q : ℕ) (es : List (ℕ × A)) → T (below_all nat_cmp x es) → has es q ≡ true → x < q
   above_first x q [] below member = absurd (true≢false (sym member))
   above_first x q (e ∷ es) below member =
@@ -231,6 +244,7 @@ module _ {A : Type 0} where
             (sym (has_other e es q ne) ∙ member)
       ]
 
+  -- if no entry is for a number above n, the numbers above n are none
   none_listed : (n : ℕ) (es : List (ℕ × A)) → ((q : ℕ) → n < q → has es q ≡ false)
       → above n (numbers es) ≡ []
   none_listed n [] none = refl
@@ -242,6 +256,7 @@ module _ {A : Type 0} where
             (none_listed n es (λ q l. (or_parts (eq_by_cmp nat_cmp q e.0) (has es q) (none q l)).1))
       ]
 
+  -- if all entries are for numbers above x, and x is at least n, all their numbers are above n
   all_listed : (n x : ℕ) (es : List (ℕ × A)) → n ≤ x → T (below_all nat_cmp x es)
       → above n (numbers es) ≡ numbers es
   all_listed n x [] h below = refl
@@ -250,6 +265,7 @@ module _ {A : Type 0} where
       rw (lt-ltb n e.0 (omega arith))
       (ap (λ t. e.0 ∷ t) (all_listed n x es h (right (is_lt (nat_cmp x e.0)) _ below)))
 
+  -- if k is the least number above n in sorted entries, the numbers above n are k and then those above k
   next_listed : (n k : ℕ) (es : List (ℕ × A)) → T (is_sorted nat_cmp es) → n < k → has es k ≡ true
       → ((q : ℕ) → n < q → q < k → has es q ≡ false) → above n (numbers es) ≡ k
       ∷ above k (numbers es)
@@ -281,11 +297,13 @@ module _ {A : Type 0} where
             ]
       ]
 
+  -- if no number above n has a value, the map has no numbers above n
   pub above_none : (m : NumberMap A) (n : ℕ) → ((q : ℕ) → n < q → map.contains_key m q ≡ false)
       → above n (map.keys m) ≡ []
   above_none m n none =
       none_listed n (map.entries m) (λ q h. sym (map.contains_key-keys m q) ∙ none q h)
 
+  -- if k is the next number after n, the numbers of the map above n are k and then those above k
   pub above_next : (m : NumberMap A) (n k : ℕ) → IsNext m n k → above n (map.keys m) ≡ k
       ∷ above k (map.keys m)
   above_next m n k next =

@@ -14,16 +14,18 @@ use Rattle.nv_bits.specs.Numbers.{IsLowest, IsNext, IsOf, NumberMap, all_of, as_
 use Rattle.nv_bits.specs.Above.{above}
 use Rattle.nv_bits.specs.Slots.{AreSlots, IsLowestFree, RangeMap, values_of}
 
+-- "not y, but false if b" is the negation of "y, or true if b"
 not_after : (b y : Bool) → cond b false (not y) ≡ not (cond b true y)
 not_after true y = refl
 not_after false y = refl
 
+-- "not y, but true if b" is the negation of "y, but false if b"
 not_before : (b y : Bool) → cond b true (not y) ≡ not (cond b false y)
 not_before true y = refl
 not_before false y = refl
 
 module _ {A : Type 0} where
-  -- a slot that is written
+  -- after slot k is written, it has the new value, and every other slot has its own
   set_slot : (slots : List (Option A)) (k : ℕ) (o : Option A) → k < length slots
       → (j : ℕ) → get_or (set slots k o) j None ≡ cond (j == k) o (get_or slots j None)
   set_slot slots k o h j =
@@ -33,20 +35,23 @@ module _ {A : Type 0} where
       ]
 
   module _ (first count : ℕ) (slots : List (Option A)) (k : ℕ) (here : k < count) (room : length slots ≡ count) where
+    -- writing x to slot k inserts x at the number of slot k into the map
     pub values-insert : (x : A)
         → values_of first count (set slots k (Some x)) ≡ map.insert (values_of first count slots) (first + k) x
     values-insert x = by_place-insert _ _ first count k here x (set_slot slots k (Some x) (omega arith))
 
+    -- emptying slot k removes the number of slot k from the map
     pub values-remove : values_of first count (set slots k None) ≡ map.remove (values_of first count slots) (first + k)
     values-remove = by_place-remove _ _ first count k here (set_slot slots k None (omega arith))
 
-  -- slots with no value
+  -- slots with no value represent an empty map
   pub values-empty : (first count : ℕ) (slots : List (Option A)) → ((k : ℕ) → get_or slots k None ≡ None)
       → values_of first count slots ≡ map.empty
   values-empty first count slots none =
       by_place_is _ first count map.empty
       (λ k _. map.get-empty nat_cmp (first + k) ∙ sym (none k)) (λ q _. map.get-empty nat_cmp q)
 
+  -- with no number occupied and all numbers free, the two sets represent an empty map
   pub slots-empty : (first count : ℕ) → AreSlots (record { first = first; count = count; members = map.empty })
       (record { first = first; count = count; members = all_of first count }) (map.empty {X = A} {R = nat_cmp})
   slots-empty first count = record {
@@ -62,6 +67,7 @@ module _ {A : Type 0} where
   }
 
   module _ (occupied free : RangeSet) (values : NumberMap A) (are : AreSlots occupied free values) (n : ℕ) where
+    -- if n is given a value, n joins the occupied numbers and leaves the free ones
     pub slots-insert : (x : A) → AreSlots (record occupied { members = insert occupied.members n })
         (record free { members = map.remove free.members n }) (map.insert values n x)
     slots-insert x = record {
@@ -80,6 +86,7 @@ module _ {A : Type 0} where
           ∙ not_after (q == n) (map.contains_key values q) ∙ ap not (sym (contains-insert values n x q));
     }
 
+    -- if the value of n is removed, n leaves the occupied numbers and joins the free ones
     pub slots-remove : AreSlots (record occupied { members = map.remove occupied.members n })
         (record free { members = insert free.members n }) (map.remove values n)
     slots-remove = record {
@@ -98,10 +105,11 @@ module _ {A : Type 0} where
           ∙ not_before (q == n) (map.contains_key values q) ∙ ap not (sym (contains-remove values n q));
     }
 
+    -- the map of the range that has these values
     abbrev all : RangeMap A
     all = record { first = occupied.first; count = occupied.count; values = values }
 
-    -- the lowest of the free numbers
+    -- the lowest number of the free set, if it has one, is the lowest number without a value
     pub lowest_free_is : (r : Option ℕ) → MatchOption r (free.members ≡ map.empty) (IsLowest free.members)
         → IfSome r (IsOf free.first free.count)
         → MatchOption r ((q : ℕ) → IsOf occupied.first occupied.count q → map.contains_key values q ≡ true)
@@ -116,7 +124,7 @@ module _ {A : Type 0} where
           least = λ q is h. not-false (map.contains_key values q) (sym (are.free_is q is) ∙ lowest.least q h);
         }
 
-    -- the numbers that have a value, in ascending order
+    -- the next occupied number after n, if there is one, is the next number with a value
     pub next_listed : (r : Option ℕ)
         → MatchOption r ((q : ℕ) → n < q → map.contains_key occupied.members q ≡ false) (IsNext occupied.members n)
         → MatchOption r (above n (map.keys values) ≡ [])

@@ -14,7 +14,7 @@ use Rattle.std.specs.Int.{bit_at, bit_not, trailing_zeros}
 use Rattle.nv_bits.specs.inner.Words.{ChangesBit, IsLeastFrom}
 use Rattle.nv_bits.specs.Words.{bit_of}
 
--- a word is written that differs in one bit
+-- writing a word that differs only in bit k changes only bit k
 changed : (words : List ℕ) (k w b : ℕ) → k / 64 < length words → bit_at w (k % 64) ≡ b
     → ((i : ℕ) → i < 64 → i ≢ k % 64 → bit_at w i ≡ bit_at (get_or words (k / 64) 0) i)
     → ChangesBit words (set words (k / 64) w) k (b == 1)
@@ -35,6 +35,7 @@ changed words k w b h here others j =
           rw (ne_eqb j k other, get_or-set_other words (k / 64) (j / 64) w 0 ne) refl
     ]
 
+-- the word of bit k, with a 1 at its place by "or", sets bit k and changes no other bit
 pub bit_of-or : (words : List ℕ) (k : ℕ) → k / 64 < length words
     → ChangesBit words (set words (k / 64) (bit_or (get_or words (k / 64) 0) (1 * 2 ^ (k % 64) % 2 ^ 64))) k true
 bit_of-or words k h =
@@ -42,6 +43,7 @@ bit_of-or words k h =
     changed words k _ 1 h (bit_at_set_same w64 _ (k % 64) within)
     (λ i _ ne. bit_at_set_other w64 _ (k % 64) within i ne)
 
+-- the word of bit k, with a 0 at its place by "and not", clears bit k and changes no other bit
 pub bit_of-and_not : (words : List ℕ) (k : ℕ) → k / 64 < length words
     → ChangesBit words
     (set words (k / 64) (bit_and (get_or words (k / 64) 0) (bit_not w64 (1 * 2 ^ (k % 64) % 2 ^ 64)))) k false
@@ -50,7 +52,7 @@ bit_of-and_not words k h =
     changed words k _ 0 h (bit_at_clear_same w64 _ (k % 64) within)
     (λ i small ne. bit_at_clear_other w64 _ (k % 64) within i small ne)
 
--- the test of a bit
+-- the "and" of a word with one bit is 0 if and only if that bit isn't set
 pub bit_clear : (words : List ℕ) (k w : ℕ) → w ≡ get_or words (k / 64) w → k / 64 < length words
     → (bit_and w (1 * 2 ^ (k % 64) % 2 ^ 64) == 0) ≡ not (bit_of words k)
 unfolding bit_of
@@ -58,10 +60,11 @@ bit_clear words k w is h =
     rw (is ∙ get_or_default_zero words (k / 64) w h, one_shl (k % 64) 64 (omega arith), and_pow)
     (grind (arith, nat_tests, pow_pos (k % 64), bit_at-lt))
 
+-- bit j of n without its lowest s bits is bit s + j of n
 bit_at-shr : (n s j : ℕ) → bit_at (n / 2 ^ s) j ≡ bit_at n (s + j)
 bit_at-shr n s j = rw (pow-add 2 s j, ← div-div-eq-div-mul n (2 ^ s) (2 ^ j)) refl
 
--- bit j of a word without its lowest s bits
+-- bit s + j of word i is bit j of the word without its lowest s bits
 pub bit_of-shr : (words : List ℕ) (i s j : ℕ) → s + j < 64
     → bit_of words (64 * i + (s + j)) ≡ (bit_at (get_or words i 0 / 2 ^ s) j == 1)
 unfolding bit_of
@@ -70,7 +73,7 @@ bit_of-shr words i s j h =
     let place : (64 * i + (s + j)) % 64 ≡ s + j = omega arith in
     rw (word, place, bit_at-shr (get_or words i 0) s j) refl
 
--- a word that has no bit from s on
+-- in a word that is 0 from bit s on, no bit from s on is set
 pub none_in_word : (words : List ℕ) (i s k : ℕ) → get_or words i 0 / 2 ^ s ≡ 0 → 64 * i + s ≤ k → k < 64 * i + 64
     → bit_of words k ≡ false
 none_in_word words i s k zero from to =
@@ -78,11 +81,12 @@ none_in_word words i s k zero from to =
     let j = k - (64 * i + s) in
     rw is (bit_of-shr words i s j (omega arith) ∙ rw (zero, bit_at-zero j) refl)
 
+-- in a word that is 0, no bit is set
 pub none_of_zero : (words : List ℕ) (k : ℕ) → get_or words (k / 64) 0 ≡ 0 → bit_of words k ≡ false
 unfolding bit_of
 none_of_zero words k zero = rw (zero, bit_at-zero (k % 64)) refl
 
--- the lowest bit of a word from s on
+-- the number of zeros at the end of a word's rest from bit s on gives the least bit that is set from s on
 pub least_in_word : (words : List ℕ) (i s : ℕ) → s < 64 → get_or words i 0 < 2 ^ 64 → 0 < get_or words i 0 / 2 ^ s
     → (s + trailing_zeros w64 (get_or words i 0 / 2 ^ s) < 64)
     × IsLeastFrom (bit_of words) (64 * i + s) (64 * i + (s + trailing_zeros w64 (get_or words i 0 / 2 ^ s)))
@@ -112,7 +116,7 @@ least_in_word words i s small fits some =
       },
     )
 
--- the lowest bit of the word in which the search begins
+-- the lowest bit from `at` on of the word in which the search begins is the least bit from `at` on
 pub first_found : (words : List ℕ) (at : ℕ) → get_or words (at / 64) 0 < 2 ^ 64
     → 0 < get_or words (at / 64) 0 / 2 ^ (at % 64)
     → (trailing_zeros w64 (get_or words (at / 64) 0 / 2 ^ (at % 64)) < 64)
@@ -134,7 +138,7 @@ none_before words at i here between q from to =
       | inr same ↦ none_in_word words (at / 64) (at % 64) q here (omega arith) (omega arith)
     ]
 
--- no bit past the words
+-- past the words, no bit is set
 pub none_past : (words : List ℕ) (k : ℕ) → length words ≤ k / 64 → bit_of words k ≡ false
 none_past words k past = none_of_zero words k (get_or_past words (k / 64) 0 past)
 
@@ -147,7 +151,7 @@ none_found words at i end here between q from =
       | inr past ↦ none_past words q (omega arith)
     ]
 
--- a bit is found in a later word
+-- if all words before word i are 0 from `at` on, the lowest bit of word i is the least bit from `at` on
 pub later_found : (words : List ℕ) (at i : ℕ) → at / 64 < i → get_or words i 0 < 2 ^ 64 → 0 < get_or words i 0
     → get_or words (at / 64) 0 / 2 ^ (at % 64) ≡ 0 → ((k : ℕ) → at / 64 + 1 ≤ k → k < i → get_or words k 0 ≡ 0)
     → (trailing_zeros w64 (get_or words i 0) < 64)
@@ -169,7 +173,7 @@ later_found words at i before fits some here between =
       },
     )
 
--- words of zeros
+-- in words of zeros, no bit is set
 pub bit_of-zeros : (n k : ℕ) → bit_of (replicate n 0) k ≡ false
 bit_of-zeros n k =
     elim (cases_lt (k / 64) n) [
@@ -182,11 +186,13 @@ abbrev pub first_ones : ℕ → List ℕ
 first_ones count = set (replicate (count / 64 + 1) (2 ^ 64 - 1)) (count / 64) (2 ^ (count % 64) - 1)
 
 module _ (count : ℕ) where
+  -- the last word of first_ones has as many ones as `count` has past the last whole word
   last_word : get_or (first_ones count) (count / 64) 0 ≡ 2 ^ (count % 64) - 1
   last_word =
       get_or-set_same (replicate (count / 64 + 1) (2 ^ 64 - 1)) (count / 64) _ 0
       (omega (arith, length-replicate (count / 64 + 1) (2 ^ 64 - 1)))
 
+  -- in first_ones, each bit below `count` is set
   pub bit_of-ones : (k : ℕ) → k < count → bit_of (first_ones count) k ≡ true
   unfolding bit_of
   bit_of-ones k h =
@@ -201,6 +207,7 @@ module _ (count : ℕ) where
             ) refl
       ]
 
+  -- in first_ones, no bit from `count` on is set
   pub bit_of-past_ones : (k : ℕ) → count ≤ k → bit_of (first_ones count) k ≡ false
   unfolding bit_of
   bit_of-past_ones k h =

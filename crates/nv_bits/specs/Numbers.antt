@@ -12,6 +12,7 @@ NumberMap A = map.FinMap nat_cmp A
 abbrev pub NumberSet : Type 0
 NumberSet = NumberMap (Unit {0})
 
+-- the set with a number more
 abbrev pub insert : NumberSet → ℕ → NumberSet
 insert s n = map.insert s n tt
 

@@ -29,6 +29,7 @@ use Rattle.nv_prp.specs.declared.error.PrpError.{PrpError}
 use Rattle.nv_bus.specs.Call.{HasRoom, data_places, length_of, places_of, places_unless}
 use Rattle.nv_bus.specs.Call.{within}
 
+-- if none of the first n qwords has a fault, there is no first qword fault
 no_qword_fault : (t : PrpTransfer) (n : ℕ) → ((k : ℕ) → k < n → qword_fault t k ≡ None)
     → first_qword_fault t n ≡ None
 no_qword_fault t zero h = refl
@@ -36,6 +37,7 @@ no_qword_fault t (suc n) h =
     ap (λ (o : Option PrpError). option_or o (qword_fault t n))
     (no_qword_fault t n (λ k b. h k (omega arith))) ∙ h n (omega arith)
 
+-- a legal transfer has no first fault
 no_fault : (t : PrpTransfer) → IsLegal t → first_fault t ≡ None
 unfolding first_fault
 no_fault t l =
@@ -43,16 +45,19 @@ no_fault t l =
     ∙ ap (λ (o : Option PrpError). option_or o (first_qword_fault t (qwords t))) l.prp2
     ∙ no_qword_fault t (qwords t) l.list
 
+-- a legal transfer has the places of its bytes
 pub legal_places : (t : PrpTransfer) (at : List ℕ) → IsLegal t → at ≡ transfer_places t
     → places_of t ≡ Ok at
 unfolding places_of
 legal_places t at l e =
     ap (λ (o : Option PrpError). places_unless o (transfer_places t)) (no_fault t l) ∙ ap Ok (sym e)
 
+-- an empty list of segments has no places
 pub places-nil : places [] ≡ []
 unfolding places
 places-nil = refl
 
+-- an empty list of places lies in any memory
 pub nothing_lies_in : (size : ℕ) → LieIn size []
 unfolding LieIn
 nothing_lies_in size = λ i d h. absurd (omega arith)
@@ -81,18 +86,22 @@ namespace_in (decoded.Attachment n detach) = n
 abbrev pub IsAsked : ℕ → Decoded → Type 0
 IsAsked n asked = HasSome (transfer_in asked) × (namespace_in asked ≤ n)
 
+-- if an entry with this NSID breaks no rule, what it asks for is one that it may ask for
 abbrev pub AskedIf : ℕ → Result Decoded StatusCode → Type 0
 AskedIf n (Ok asked) = IsAsked n asked
 AskedIf n (Err code) = Unit {0}
 
+-- a command as what an entry asks for when nothing of it is in the host's data
 abbrev whole : Command → Result Decoded StatusCode
 whole k = Ok (decoded.Whole k)
 
+-- of a choice between a command and a result, each may be asked for if both may
 asked_if : (n : ℕ) (b : Bool) (k : Command) (r : Result Command StatusCode) → IsAsked n (decoded.Whole k)
     → AskedIf n (r >>= whole) → AskedIf n ((if b then Ok k else r) >>= whole)
 asked_if n true k r first later = first
 asked_if n false k r first later = later
 
+-- an Identify with this NSID asks for what such an entry may ask for
 asked_identify : (cns n : ℕ) → AskedIf n (identify_by cns n >>= whole)
 asked_identify cns n =
     let own : n ≤ n = omega arith in
@@ -102,6 +111,7 @@ asked_identify cns n =
     (asked_if n (cns == 0x10) (AllocatedList n) _ (lit< tt, own)
     (asked_if n (cns == 0x11) (AllocatedNamespace n) (Err InvalidFieldInCommand) (lit< tt, own) tt))))
 
+-- a choice between two operations by SEL, each of which may be asked for, may be asked for
 asked_select : (n select : ℕ) (x y : Decoded) → IsAsked n x → IsAsked n y
     → AskedIf n (if select == 0x0 then Ok x else (if select == 0x1 then Ok y else Err InvalidFieldInCommand))
 asked_select n select x y first later = by_test (select == 0x0) (select == 0x1)
@@ -111,6 +121,7 @@ asked_select n select x y first later = by_test (select == 0x0) (select == 0x1)
     by_test false true = later
     by_test false false = tt
 
+-- what an entry asks for by its opcode may be asked for with the entry's NSID
 asked_as : (o : Opcode) (e : Sqe) → AskedIf e.nsid (decoded_as o e)
 asked_as Identify e = asked_identify (e.cdw10 % 2 ^ 8) e.nsid
 asked_as NamespaceManagement e =
@@ -122,20 +133,24 @@ asked_as NamespaceAttachment e =
 asked_as GetLogPage e = (omega arith, omega arith)
 asked_as o e = (tt, omega arith)
 
+-- this also holds if the opcode isn't known
 asked_by_opcode : (r : Result Opcode StatusCode) (e : Sqe) → AskedIf e.nsid (r >>= (λ o. decoded_as o e))
 asked_by_opcode (Ok o) e = asked_as o e
 asked_by_opcode (Err code) e = tt
 
+-- what an entry asks for may be asked for with its NSID
 pub asked_of : (e : Sqe) → AskedIf e.nsid (decoded_of e)
 asked_of e = asked_by_opcode (opcode_of e) e
 
 -- ---- a length that a data pointer can have
 
+-- the transfer of what may be asked for has a length if it moves data
 some_of : (n : ℕ) (r : Result Decoded StatusCode) (t : Transfer) → AskedIf n r
     → (r >>= (λ asked. Ok (transfer_in asked))) ≡ Ok t → HasSome t
 some_of n (Ok asked) t h is = let same : transfer_in asked ≡ t = cc in subst HasSome same h.0
 some_of n (Err code) t h is = absurd (cc)
 
+-- a transfer whose data has a length has, within the limit, one that a data pointer can have
 room_within : (limit : ℕ) (t : Transfer) → limit ≤ most_bytes → HasSome t → length_of t ≤ limit
     → HasRoom t
 room_within limit NoData low some few = tt
@@ -163,6 +178,7 @@ within_few limit asked few =
     let no : nat_lt limit (length_of asked) ≡ false = grind (arith, nat_tests) in
     ap (λ b. if b then Err InvalidFieldInCommand else Ok asked) no
 
+-- the transfer of an entry that the rule on its length accepts has a length that a data pointer can have
 pub has_room : (limit : ℕ) (e : Sqe) (asked t : Transfer) → limit ≤ most_bytes → transfer_of e ≡ Ok asked
     → within limit asked ≡ Ok t → HasRoom t
 has_room limit e asked t low h w =

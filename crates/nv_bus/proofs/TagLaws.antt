@@ -7,12 +7,12 @@ use Rattle.nv_command.specs.declared.command.Command.{Command}
 use Rattle.nv_command.specs.declared.reply.Reply.{Reply}
 use Rattle.nv_command.specs.declared.reply.Reply.TheVariants as reply
 
--- they have the dword 0 of the reply without them
+-- a reply without phase tags has the same dword 0
 pub dword0_tagged : (r : Reply) → dword0_of (without_phases r) ≡ dword0_of r
 dword0_tagged (reply.Errors es) = refl
 dword0_tagged r = refl
 
--- they are replies to the same commands
+-- a reply that without its phase tags is one to a command and fits its record also does with them
 pub tagged : (k : Command) (r reply : Reply) → without_phases r ≡ reply → IsReplyTo k reply
     × FitsRecord reply → IsReplyTo k r × FitsRecord r
 tagged k r reply same is =

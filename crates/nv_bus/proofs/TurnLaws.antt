@@ -33,14 +33,14 @@ use Rattle.nv_bus.specs.Turn.{turn_count, waiting}
 
 -- ---- one ring
 
--- one entry fewer is waiting
+-- after an entry was taken, one entry fewer is waiting
 one_taken : (d k n : ℕ) → IsWithinRing d k n → k ≢ n → above d n k ≡ above d n (next d k) + 1
 one_taken d k n is left =
     let less = next_above d n k is.to is.from left in
     let some : above d n k ≢ 0 = λ none. left (above_none d n k is.to is.from none) in
     omega arith
 
--- one slot fewer is free
+-- after a completion was posted, one slot fewer is free
 one_posted : (d k n : ℕ) → IsWithinRing d k n → above d n k ≢ d - 1 → d - 1 - above d n k
     ≡ d - 1 - above d (next d n) k + 1
 one_posted d k n is free =
@@ -49,31 +49,37 @@ one_posted d k n is free =
     let more = above_next d n k is.to is.from (omega arith) in
     omega arith
 
+-- if two numbers of a ring are equal, none lies between them
 none_above : (d k n : ℕ) → IsWithinRing d k n → k ≡ n → above d n k ≡ 0
 none_above d k n is e = grind (arith, above_cases d n k is.to is.from)
 
 -- ---- what the tests mean
 
+-- if the test of a turn is true, both pairs of numbers differ
 pub can_means : (a b c d : ℕ) → (not (a == b) && not (c == d)) ≡ true → (a ≢ b) × (c ≢ d)
 can_means a b c d h = (λ e. grind (arith, nat_tests), λ e. grind (arith, nat_tests))
 
+-- if both pairs of numbers differ, the test of a turn is true
 can_by : (a b c d : ℕ) → a ≢ b → c ≢ d → (not (a == b) && not (c == d)) ≡ true
 can_by a b c d h i = grind (arith, nat_tests)
 
+-- with equal page sizes and both ends within the memory, the test of reaching is true
 reaches_by : (p q a b size : ℕ) → p ≡ q → a ≤ size → b ≤ size
     → ((p == q) && (nat_le a size && nat_le b size)) ≡ true
 reaches_by p q a b size e h i = grind (arith, nat_tests)
 
+-- if the test of reaching is true, the second end lies within the memory
 reaches_last : (p q a b size : ℕ) → ((p == q) && (nat_le a size && nat_le b size)) ≡ true → b ≤ size
 reaches_last p q a b size h = grind (arith, nat_tests)
 
+-- what isn't true is false
 not_true : (b : Bool) → (b ≡ true → ⊥) → b ≡ false
 not_true true h = absurd (h refl)
 not_true false h = refl
 
 -- ---- both rings
 
--- both slots lie in the memory
+-- rings that lie in the memory have both slots in it
 pub lying_rings_reach : (r : Rings) (page_size size : ℕ) → RingsLie r page_size size
     → reaches r page_size size ≡ true
 lying_rings_reach r page_size size is =
@@ -96,6 +102,7 @@ pub record RingsLess (count page_size size : ℕ) (old new : Rings) : Type 0 whe
   pub wait : waiting old ≡ waiting new + count
   pub free : free_slots old ≡ free_slots new + count
 
+-- one entry that can be taken leaves rings that lie in the memory, one waiting entry fewer and one free slot fewer
 pub rings_one_less : (r : Rings) (page_size size : ℕ) → RingsLie r page_size size
     → can_take r ≡ true
     → RingsLess 1 page_size size r (rings_one r)
@@ -128,17 +135,20 @@ none_can r page_size size is cannot =
 
 -- ---- the memory keeps its length
 
+-- writing a reply's data, or nothing, keeps the length of the memory
 pub length_moved : (k : Command) (places : List ℕ) (answer : Result Reply Status) (old new : List ℕ)
     → Moves k places answer old new → length new ≡ length old
 length_moved k places (Ok reply) old new h =
     ap length h.2 ∙ length-written_at old places (data_of k h.0)
 length_moved k places (Err status) old new h = ap length h
 
+-- this also holds if the entry was refused
 length_by : (found : Result Call StatusCode) (answer : Result Reply Status) (old new : List ℕ)
     → MovesBy found answer old new → length new ≡ length old
 length_by (Ok call) answer old new h = length_moved call.command call.places answer old new h
 length_by (Err code) answer old new h = ap length h
 
+-- if the slots are reached, the slot of the next completion lies in the memory
 reached_slot : (r : Rings) (page_size size : ℕ) → reaches r page_size size ≡ true
     → completion_place r.completion.base r.completion.depth r.completion.posted + 16 ≤ size
 reached_slot r page_size size h =
@@ -146,6 +156,7 @@ reached_slot r page_size size h =
     let slot = completion_place r.completion.base r.completion.depth r.completion.posted + 16 in
     reaches_last page_size r.page_size taken slot size h
 
+-- taking an entry keeps the length of the memory
 pub length_one : (page_size c : ℕ) (old new : Scene) → Takes page_size c old new → length new.bytes
     ≡ length old.bytes
 length_one page_size c old new t =
@@ -167,6 +178,7 @@ pub record ScenesLess (count page_size : ℕ) (old new : Scene) : Type 0 where
   pub len : length new.bytes ≡ length old.bytes
   pub rings : RingsLess count page_size (length new.bytes) old.rings new.rings
 
+-- one entry that is taken leaves rings that lie in the memory, one waiting entry fewer and one free slot fewer
 one_less : (page_size c : ℕ) (old new : Scene) → RingsLie old.rings page_size (length old.bytes)
     → Takes page_size c old new → ScenesLess 1 page_size old new
 one_less page_size c old new is t =
@@ -179,6 +191,7 @@ one_less page_size c old new is t =
           (subst (λ n. RingsLess 1 page_size n old.rings (rings_one old.rings)) (sym len) less);
     }
 
+-- the same holds for several entries, with their number in place of one
 pub taken_less : (count page_size c : ℕ) (old new : Scene)
     → RingsLie old.rings page_size (length old.bytes) → Taken count page_size c old new
     → ScenesLess count page_size old new
@@ -202,6 +215,8 @@ taken_less (suc k) page_size c old new is taken =
 
 -- ---- a turn
 
+-- a number up to `most` that leaves v of w and g of f is the least of `most`, w and f, if it is less than `most` only
+-- if v or g is 0
 least : (most w f count v g : ℕ) → count ≤ most → w ≡ v + count → f ≡ g + count
     → (count < most → (v ≡ 0) ⊎ (g ≡ 0)) → count ≡ min most (min w f)
 least most w f count v g few wait free stop =
@@ -237,6 +252,7 @@ unfoldable pub rings_after : ℕ → Rings → Rings
 rings_after zero r = r
 rings_after (suc k) r = rings_after k (rings_one r)
 
+-- the rings after several entries are rings_after of the rings before them
 pub taken_rings : (count page_size c : ℕ) (old new : Scene) → Taken count page_size c old new
     → new.rings ≡ rings_after count old.rings
 unfolding rings_after
@@ -244,6 +260,7 @@ taken_rings zero page_size c old new same = ap (λ (x : Scene). x.rings) same
 taken_rings (suc k) page_size c old new taken =
     taken_rings k page_size c taken.0 new taken.2 ∙ ap (rings_after k) taken.1.one.rings
 
+-- taking entries doesn't change the page size
 pub page_size_after : (k : ℕ) (r : Rings) → (rings_after k r).page_size ≡ r.page_size
 unfolding rings_after
 page_size_after zero r = refl
@@ -290,6 +307,7 @@ pub record BankTakes (page_size most count : ℕ) (r : Rings) (old new : Site) :
   pub less : RingsLess count page_size (length new.bytes) r (rings_after count r)
   pub len : length new.bytes ≡ length old.bytes
 
+-- a turn of a ready controller whose rings lie in the memory takes turn_count entries and leaves it ready
 pub bank_takes : (page_size c most count : ℕ) (r : Rings) (old new : Site)
     → old.bank.readiness ≡ Ready r false
     → RingsLie r page_size (length old.bytes) → BankTurn page_size c most count old new
@@ -313,6 +331,7 @@ bank_takes page_size c most count r old new ready is turn =
       len = bytes ∙ less.len;
     }
 
+-- a turn of one controller takes the number of entries that TakesCount states
 pub bank_turn_count : (page_size c most count : ℕ) (old new : Site)
     → BankTurn page_size c most count old new
     → TakesCount page_size (length old.bytes) most old.bank count new.bank

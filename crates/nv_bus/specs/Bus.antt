@@ -12,6 +12,7 @@ pub record BusValue : Type 0 where
   pub state : State
   pub banks : List RegisterBank
 
+-- the registers of controller c, which are new registers past the last controller
 abbrev pub bank_at : List RegisterBank → ℕ → RegisterBank
 bank_at banks c = slice_index_or banks c new_bank
 

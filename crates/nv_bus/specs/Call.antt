@@ -18,6 +18,7 @@ use Rattle.nv_command.specs.declared.status_code.StatusCode.TheVariants.{PrpOffs
 use Rattle.nv_command.specs.declared.transfer.Transfer.{Transfer}
 use Rattle.nv_command.specs.declared.transfer.Transfer.TheVariants.{NoData, ToHost, FromHost}
 
+-- the status of a fault in a PRP
 abbrev pub prp_status : PrpError → StatusCode
 prp_status Offset = PrpOffsetInvalid
 prp_status Outside = DataTransferError
@@ -27,6 +28,7 @@ abbrev pub places_unless : Option PrpError → List ℕ → Result (List ℕ) St
 places_unless None places = Ok places
 places_unless (Some fault) places = Err (prp_status fault)
 
+-- the places of a PRP transfer, or the status of its first fault
 unfoldable pub places_of : prp.PrpTransfer → Result (List ℕ) StatusCode
 places_of t = places_unless (prp.first_fault t) (prp.transfer_places t)
 
@@ -70,6 +72,7 @@ pub record Call : Type 0 where
   pub command : Command
   pub places : List ℕ
 
+-- the command of a call, or the status of the refusal
 abbrev pub command_in : Result Call StatusCode → Result Command StatusCode
 command_in (Ok call) = Ok call.command
 command_in (Err code) = Err code

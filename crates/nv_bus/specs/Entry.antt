@@ -27,9 +27,11 @@ pub record Scene : Type 0 where
   pub rings : Rings
   pub bytes : List ℕ
 
+-- a scene of these three
 abbrev pub scene : State → Rings → List ℕ → Scene
 scene state rings bytes = record { state = state; rings = rings; bytes = bytes }
 
+-- the entry that the controller takes next
 abbrev pub entry_in : Scene → Sqe
 entry_in x = next_submission x.bytes x.rings.submission
 
@@ -47,9 +49,11 @@ asked_step (Err code) s c nsid cid =
     }
 asked_step (Ok k) s c nsid cid = step s c k cid
 
+-- the step for a call, or for the status of a refusal, to an entry
 abbrev pub step_unless : Result Call StatusCode → State → ℕ → Sqe → Step
 step_unless found s c e = asked_step (command_in found) s c e.nsid e.cid
 
+-- the step for the next entry of controller c
 abbrev pub entry_step : ℕ → Scene → Step
 entry_step c x = step_unless (call_in c x) x.state c (entry_in x)
 
@@ -60,17 +64,21 @@ Moves k places (Ok reply) old new =
     (r : Reply) × (without_phases r ≡ reply) × (new ≡ written_at old places (data_of k r))
 Moves k places (Err status) old new = new ≡ old
 
+-- the memory after an entry with this answer; an entry that was refused before its command changes nothing
 abbrev pub MovesBy : Result Call StatusCode → Result Reply Status → List ℕ → List ℕ → Type 0
 MovesBy (Ok call) answer old new = Moves call.command call.places answer old new
 MovesBy (Err code) answer old new = new ≡ old
 
+-- the status of a command that succeeded
 abbrev pub success : Status
 success = record { sc = 0; sct = 0; crd = 0; more = false; dnr = false }
 
+-- the status of an answer
 abbrev pub status_in : Result Reply Status → Status
 status_in (Ok reply) = success
 status_in (Err status) = status
 
+-- dword 0 of an answer; it is 0 for a status
 abbrev pub dword0_in : Result Reply Status → ℕ
 dword0_in (Ok reply) = dword0_of reply
 dword0_in (Err status) = 0
@@ -90,6 +98,7 @@ completion_of cid sq_head told = record {
   status = told.status;
 }
 
+-- the completion with an answer
 abbrev pub completion_with : ℕ → ℕ → Result Reply Status → Cqe
 completion_with cid sq_head answer = completion_of cid sq_head (told_by answer)
 

@@ -60,6 +60,7 @@ pub record Site : Type 0 where
   pub bank : RegisterBank
   pub bytes : List ℕ
 
+-- a site of these three
 abbrev pub site : State → RegisterBank → List ℕ → Site
 site state bank bytes = record { state = state; bank = bank; bytes = bytes }
 

@@ -1,17 +1,24 @@
 //! The bus that a host talks to.
 
-ghost use Rattle.std.specs.Prelude.{◌≡◌, ◌<◌, length, slice_set};
+ghost use Rattle.std.specs.Prelude.{◌≡◌, ◌<◌, ℕ, length, slice_set};
 ghost use Rattle.nv_register.specs.RegisterBank.{value_at, with_register_at};
 ghost use Rattle.nv_bus.specs.Bus.{BusValue, IsBus, bank_at, state_written};
 ghost use Rattle.nv_bus.specs.Turn.{TakesCount, Turn};
 
-use nv_host::HostMemory;
+use nv_host::paged::PagedMemory;
 
 /// A bus to the controllers of a subsystem: their registers, and their turns over the host's
 /// memory.
 pub trait Bus {
     // The subsystem, and each controller's registers and rings.
     ghost meaning: { Self → BusValue };
+
+    // What a bus says of a write, with the bus before and after it, and of a read. Most buses say
+    // nothing. Code for every bus learns either only by making the call, so a contract that states
+    // such calls one after another says that they were made, in this order.
+    ghost was_written: { Self → ℕ → ℕ → ℕ → Self → Type 0 } = { λ _ _ _ _ _. Unit {0} };
+
+    ghost was_read: { Self → ℕ → ℕ → ℕ → Type 0 } = { λ _ _ _ _. Unit {0} };
 
     /// Returns the number of controllers.
     fn controllers(&self) -> u16
@@ -21,7 +28,8 @@ pub trait Bus {
     /// begins there.
     fn read32(&self, ctrl: u16, offset: u32) -> u32
         requires { ctrl < length (meaning self.now).banks }
-        ensures { result ≡ value_at (bank_at (meaning self.now).banks ctrl) offset };
+        ensures value { result ≡ value_at (bank_at (meaning self.now).banks ctrl) offset }
+        ensures read { was_read self.now ctrl offset result };
 
     /// Writes the dword of a controller's registers at an offset in bytes. A write that clears an
     /// EN that was 1 resets the controller; any other write leaves the subsystem as it was. Section
@@ -32,12 +40,13 @@ pub trait Bus {
             ≡ state_written (meaning self.old) ctrl offset dword }
         ensures banks { (meaning self.new).banks ≡ slice_set (meaning self.old).banks ctrl
             (with_register_at (bank_at (meaning self.old).banks ctrl) offset dword) }
-        ensures bus { IsBus (meaning self.old) → IsBus (meaning self.new) };
+        ensures bus { IsBus (meaning self.old) → IsBus (meaning self.new) }
+        ensures written { was_written self.old ctrl offset dword self.new };
 
     /// Takes at most `most` entries from a controller's submission queue, and returns how many it
     /// took. Each gets one completion. In the memory, only the bytes of its data and the slot of
     /// its completion change. None is taken if the controller isn't ready or has a fatal status.
-    fn turn<M: HostMemory>(&mut self, ctrl: u16, mem: &mut M, most: u16) -> u16
+    fn turn<M: PagedMemory>(&mut self, ctrl: u16, mem: &mut M, most: u16) -> u16
         requires ctrl { ctrl < length (meaning self.old).banks }
         requires bus { IsBus (meaning self.old) }
         ensures turn { Turn (M.page_len mem.old) ctrl most result

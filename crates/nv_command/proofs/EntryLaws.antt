@@ -6,6 +6,7 @@ use Rattle.nv_command.specs.Entry.{entry_of, entry_with, with_pointer}
 use Rattle.nv_command.specs.declared.command.Command.{Command}
 use Rattle.nv_command.specs.declared.transfer.Fields.{Fields}
 
+-- each field fits its bits in an entry
 pub record FieldsFit (f : Fields) : Type 0 where
   pub opcode : f.opcode < 2 ^ 8
   pub cdw10 : f.cdw10 < 2 ^ 32
@@ -13,6 +14,7 @@ pub record FieldsFit (f : Fields) : Type 0 where
   pub cdw12 : f.cdw12 < 2 ^ 32
   pub cdw13 : f.cdw13 < 2 ^ 32
 
+-- an entry with fields, an NSID and a command identifier that fit is one that fits its bits
 pub entry_with_fits : (f : Fields) (nsid cid : ℕ) → FieldsFit f → nsid < 2 ^ 32 → cid < 2 ^ 16
     → SqeFits (entry_with f nsid cid)
 entry_with_fits f nsid cid fits n c = record {

@@ -5,7 +5,7 @@ use Rattle.nv_command.specs.Command.{bytes_to_host, transfer_by}
 use Rattle.nv_command.specs.Form.{form_of}
 use Rattle.nv_command.proofs.LogLaws.{log_size}
 use Rattle.nv_command.specs.Logs.{IsSendable}
-use Rattle.nv_command.specs.Form.{is_error_log}
+use Rattle.nv_command.specs.LogPage.{log_asked}
 use Rattle.nv_command.proofs.ReplySizes.{IsSizeOf}
 use Rattle.nv_command.specs.declared.command.Command.{Command}
 use Rattle.nv_command.specs.declared.command.Command.TheVariants.{GetLog}
@@ -13,9 +13,10 @@ use Rattle.nv_command.specs.declared.transfer.Form.{Form}
 use Rattle.nv_command.specs.declared.transfer.Transfer.{Transfer}
 use Rattle.nv_command.specs.declared.transfer.Transfer.TheVariants.{NoData, ToHost, FromHost}
 
+-- a command whose reply can be read asks for a number of bytes from which a reply of its kind is read
 size_by_form : (k : Command) → IsSendable k
     → IsSizeOf (form_of k).reply (bytes_to_host (transfer_by k))
-size_by_form (GetLog q) sends = log_size (is_error_log q.lid) q.offset q.dwords sends
+size_by_form (GetLog q) sends = log_size (log_asked q.lid) q.offset q.dwords sends
 size_by_form k sends = refl
 
 -- the reply is read from as many bytes as the command says
@@ -31,5 +32,6 @@ at_most_a_page NoData = true
 at_most_a_page (ToHost n) = n == 4096
 at_most_a_page (FromHost n) = n == 4096
 
+-- if the test for a page's length is true, the length is 4,096
 pub a_page : (n : ℕ) → (n == 4096) ≡ true → n ≡ 4096
 a_page n is = grind (arith, nat_tests, is)

@@ -11,6 +11,7 @@ use Rattle.nv_command.specs.Management.{AttachmentFits, attachment_in, create_in
 use Rattle.nv_command.specs.Form.{attachment_fields, management_fields}
 use Rattle.nv_command.specs.declared.command.Command.TheVariants.{Create, Attachment}
 
+-- the fields of the entry of a Namespace Management with a select of four bits fit their bits
 pub management_fits : (select : ℕ) → select < 2 ^ 4 → FieldsFit (management_fields select)
 management_fits select h = record {
   opcode = lit< tt;
@@ -20,6 +21,7 @@ management_fits select h = record {
   cdw13 = lit< tt;
 }
 
+-- the fields of the entry of a Namespace Attachment fit their bits
 pub attachment_fits : (detach : Bool) → FieldsFit (attachment_fields detach)
 attachment_fits true =
     record { opcode = lit< tt; cdw10 = lit< tt; cdw11 = lit< tt; cdw12 = lit< tt; cdw13 = lit< tt }
@@ -28,12 +30,14 @@ attachment_fits false =
 
 -- a page from the host
 
+-- the creation of a namespace whose parameters fit is read back from its page
 pub create_back : (w : NewNamespace) → NewNamespaceFits w
     → create_in (bytes_of_new_namespace w) ≡ Ok (Create w)
 create_back w fits =
     let size = length-bytes_of_new_namespace w in
     rw size (ap (λ x. Ok (Create x)) (new_namespace_back w fits))
 
+-- an attachment or a detachment that fits is read back from its page
 pub attachment_back : (detach : Bool) (n : ℕ) (ids : List ℕ) → AttachmentFits n ids
     → attachment_in detach n (bytes_of_ctrl_list ids) ≡ Ok (Attachment n detach ids)
 attachment_back detach n ids fits =

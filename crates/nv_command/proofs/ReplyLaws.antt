@@ -11,6 +11,7 @@ use Rattle.nv_command.specs.declared.transfer.ReplyKind.TheVariants as kind
 use Rattle.nv_command.specs.declared.reply.Reply.{Reply}
 use Rattle.nv_command.specs.declared.reply.Reply.TheVariants as reply
 
+-- the page of a reply that fits its record is as long as the page of its kind
 pub length_of_page : (r : Reply) → FitsRecord r → length (page_of r) ≡ page_bytes (kind_of r)
 length_of_page (reply.Controller r) fits =
     length-bytes_of_id_ctrl r fits.sn fits.mn fits.fr fits.subnqn
@@ -24,6 +25,7 @@ IsNoLog kind.Errors = ⊥
 IsNoLog kind.Smart = ⊥
 IsNoLog k = Unit {0}
 
+-- a reply that isn't a log is read back from dword 0 and its page
 page_back : (r : Reply) → IsNoLog (kind_of r) → FitsRecord r
     → reply_by (kind_of r) (dword0_of r) (page_of r) ≡ without_phases r
 page_back (reply.Controller r) no_log fits = ap reply.Controller (id_ctrl_back r fits)
@@ -34,6 +36,7 @@ page_back (reply.Errors es) no_log fits = absurd no_log
 page_back (reply.Smart r) no_log fits = absurd no_log
 page_back r no_log fits = refl
 
+-- a reply of a kind that isn't a log is read back by that kind
 pub page_arrives : (k : ReplyKind) (r : Reply) → kind_of r ≡ k → IsNoLog k → FitsRecord r
     → reply_by k (dword0_of r) (page_of r) ≡ without_phases r
 page_arrives k r is no_log fits =

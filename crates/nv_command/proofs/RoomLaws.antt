@@ -11,11 +11,12 @@ use Rattle.nv_layout.specs.declared.error_entry.ErrorEntry.{ErrorEntry}
 use Rattle.nv_command.specs.Logs.{entry_received}
 use Rattle.nv_command.specs.Room.{entries_held}
 
+-- an entry of 64 zeros is received as the entry that holds no error
 zeros_received : entry_received (replicate 64 0) ≡ no_entry
 unfolding error_entry_of_bytes number_at status_of_number
 zeros_received = refl
 
--- zeros before others
+-- if the entries after the first n hold no error and entry n - 1 is all zeros, so do the entries after the first n - 1
 pub blank_before : (chunks : List (List ℕ)) (n : ℕ) → 0 < n → n ≤ length chunks
     → get_or chunks (n - 1) [] ≡ replicate 64 0
     → map entry_received (drop n chunks) ≡ replicate (length chunks - n) no_entry
@@ -28,7 +29,7 @@ blank_before chunks n some within zeros others =
     ∙ (λ i. zeros_received i ∷ others i)
     ∙ ap (λ m. replicate m no_entry) more
 
--- the entries before them were read
+-- if the first n entries are kept and the entries after them hold no error, these are all entries
 pub entries_read : (chunks : List (List ℕ)) (n : ℕ) (kept : List ErrorEntry)
     → take n kept ≡ map entry_received (take n chunks)
     → map entry_received (drop n chunks) ≡ replicate (length chunks - n) no_entry

@@ -4,7 +4,7 @@ use Rattle.nv_command.specs.StatusCode.{name_of_code, name_of_status, status_of_
 use Rattle.nv_command.specs.declared.status_code.StatusCode.{StatusCode}
 use Rattle.nv_command.specs.declared.status_code.StatusCode.TheVariants as code
 
--- each code is in the list that is searched, and is the first with its type and its number
+-- the name of the status of a code is the name of the code
 pub named_by_status : (c : StatusCode) → name_of_status (status_of_code c) ≡ name_of_code c
 named_by_status code.InvalidCommandOpcode = refl
 named_by_status code.InvalidFieldInCommand = refl

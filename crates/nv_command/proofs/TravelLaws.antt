@@ -11,7 +11,8 @@ use Rattle.nv_command.proofs.FormatLaws.{format_back, format_fits}
 use Rattle.nv_command.proofs.IdentifyLaws.{identify_fits}
 use Rattle.nv_command.proofs.LogLaws.{dwords_back, get_log_back, get_log_fits, log_arrives}
 use Rattle.nv_command.specs.Logs.{IsSendable, without_phases}
-use Rattle.nv_command.specs.Form.{is_error_log, log_data}
+use Rattle.nv_command.specs.Form.{log_data}
+use Rattle.nv_command.specs.LogPage.{log_asked}
 use Rattle.nv_command.specs.Received.{received}
 use Rattle.nv_command.proofs.ManagementLaws.{attachment_back, attachment_fits, create_back}
 use Rattle.nv_command.proofs.ManagementLaws.{management_fits}
@@ -28,6 +29,7 @@ use Rattle.nv_command.specs.declared.command.Command.TheVariants.{Attachment, Fo
 use Rattle.nv_command.specs.declared.command.Command.TheVariants.{SetFeature, GetLog}
 use Rattle.nv_command.specs.declared.reply.Reply.{Reply}
 
+-- each command that fits arrives
 pub commands_travel : CommandsTravel
 commands_travel IdentifyController cid fits low = record {
   fits = entry_with_fits _ 0 cid (identify_fits 0x01 (lit< tt)) (lit< tt) low;
@@ -115,12 +117,14 @@ pub replies_fit : RepliesFit
 replies_fit (GetLog q) r is fits = length-part (log_of r) q.offset (4 * q.dwords)
 replies_fit k r is fits = length_of_page r fits ∙ ap page_bytes is
 
+-- the reply to a command whose reply can be read is read back from dword 0 and its data
 replies_arrive : (k : Command) (r : Reply) → IsReplyTo k r → FitsRecord r → IsSendable k
     → reply_in k (dword0_of r) (data_of k r) ≡ received k (without_phases r)
 replies_arrive (GetLog q) r is fits sends =
-    log_arrives (is_error_log q.lid) r q.offset q.dwords is fits sends
+    log_arrives (log_asked q.lid) r q.offset q.dwords is fits sends
 replies_arrive k r is fits sends = page_arrives (form_of k).reply r is tt fits
 
+-- each reply that fits its record, to a command whose reply can be read, arrives
 pub replies_travel : RepliesTravel
 replies_travel k r is fits sends =
     record { bytes = replies_fit k r is fits; reply = replies_arrive k r is fits sends }

@@ -21,6 +21,7 @@ use Rattle.nv_command.specs.declared.status_code.StatusCode.TheVariants.{Invalid
 use Rattle.nv_command.specs.declared.status_code.StatusCode.TheVariants.{InvalidFieldInCommand}
 use Rattle.nv_command.specs.declared.transfer.Transfer.{Transfer}
 
+-- the operation of an opcode, or Invalid Command Opcode if it has none
 abbrev pub opcode_by : ℕ → Result Opcode StatusCode
 opcode_by n =
     if n == 0x06 then Ok Identify
@@ -54,6 +55,7 @@ decoded_as GetFeatures e = Ok (decoded.Whole (get_feature_command e))
 decoded_as SetFeatures e = Ok (decoded.Whole (set_feature_command e))
 decoded_as GetLogPage e = Ok (decoded.Whole (get_log_command e))
 
+-- what an entry asks for, or the status of the first rule that it breaks, before the host's data is read
 abbrev pub decoded_of : Sqe → Result Decoded StatusCode
 decoded_of e = do
   opcode ← opcode_of e

@@ -9,12 +9,14 @@ use Rattle.nv_command.specs.declared.command.Command.TheVariants.{GetFeature, Se
 use Rattle.nv_command.specs.declared.features.FeatureQuery.{FeatureQuery}
 use Rattle.nv_command.specs.declared.features.FeatureSetting.{FeatureSetting}
 
+-- the parameters of a Get Features fit their bits
 pub record GetFeatureFits (q : FeatureQuery) : Type 0 where
   pub fid : q.fid < 2 ^ 8
   pub sel : q.sel < 2 ^ 3
   pub nsid : q.nsid < 2 ^ 32
   pub cdw11 : q.cdw11 < 2 ^ 32
 
+-- the parameters of a Set Features fit their bits
 pub record SetFeatureFits (x : FeatureSetting) : Type 0 where
   pub fid : x.fid < 2 ^ 8
   pub value : x.value < 2 ^ 32
@@ -29,6 +31,7 @@ get_feature_command e = GetFeature (record {
   cdw11 = e.cdw11;
 })
 
+-- every entry is a valid Set; its other bits are ignored
 abbrev pub set_feature_command : Sqe → Command
 set_feature_command e = SetFeature (record {
   fid = bits 0 8 e.cdw10;

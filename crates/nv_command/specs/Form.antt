@@ -1,5 +1,5 @@
 -- How each command travels: the fields of its entry, its data, and the kind of its reply.
-use Rattle.std.specs.Prelude.{◌+◌, ℕ, Bool, true, false, ◌-◌, ◌*◌, ◌/◌, ◌%◌, ◌^◌, ◌==◌}
+use Rattle.std.specs.Prelude.{◌+◌, ℕ, Bool, ◌-◌, ◌*◌, ◌/◌, ◌%◌, ◌^◌}
 use Rattle.nv_layout.specs.Bits.{at_bits, bit, bits}
 use Rattle.nv_command.specs.declared.transfer.Fields.{Fields}
 use Rattle.nv_command.specs.declared.features.FeatureQuery.{FeatureQuery}
@@ -17,6 +17,7 @@ use Rattle.nv_command.specs.declared.format.NewFormat.{NewFormat}
 use Rattle.nv_command.specs.declared.transfer.Transfer.{Transfer}
 use Rattle.nv_command.specs.declared.transfer.Transfer.TheVariants.{NoData, ToHost, FromHost}
 use Rattle.nv_command.specs.declared.logs.LogQuery.{LogQuery}
+use Rattle.nv_command.specs.LogPage.{log_asked, log_kind}
 
 -- a row of the table
 abbrev pub form : Fields → ℕ → Transfer → ReplyKind → Form
@@ -93,14 +94,6 @@ get_log_fields q = record {
 abbrev pub log_data : ℕ → Transfer
 log_data dwords = ToHost (4 * dwords)
 
--- 01h is the log of Error Information; any other log that is read is the SMART / Health Information log
-abbrev pub is_error_log : ℕ → Bool
-is_error_log lid = lid == 0x01
-
-abbrev pub log_kind : Bool → ReplyKind
-log_kind true = kind.Errors
-log_kind false = kind.Smart
-
 -- the opcode and the dwords of the entry, its NSID, its data, and the kind of the reply. The NSID of a
 -- list is the one before its first; it is 0 for the controller and for a namespace to create
 abbrev pub form_of : Command → Form
@@ -116,7 +109,7 @@ form_of (Format f) = form (format_fields f) f.nsid NoData kind.Done
 form_of (GetFeature q) = form (get_feature_fields q) q.nsid NoData kind.Number
 form_of (SetFeature x) = form (set_feature_fields x) x.nsid NoData kind.Done
 form_of (GetLog q) =
-    form (get_log_fields q) q.nsid (log_data q.dwords) (log_kind (is_error_log q.lid))
+    form (get_log_fields q) q.nsid (log_data q.dwords) (log_kind (log_asked q.lid))
 
 -- the NSID of the entry, which the error log entry of a refusal names
 abbrev pub namespace_of : Command → ℕ

@@ -8,6 +8,7 @@ use Rattle.nv_command.specs.declared.command.Command.{Command}
 use Rattle.nv_command.specs.declared.command.Command.TheVariants.{Format}
 use Rattle.nv_command.specs.declared.format.NewFormat.{NewFormat}
 
+-- the parameters of a Format NVM fit their bits
 pub record FormatFits (f : NewFormat) : Type 0 where
   pub nsid : f.nsid < 2 ^ 32
   pub lbaf : f.lbaf < 2 ^ 4

@@ -13,9 +13,11 @@ use Rattle.nv_command.specs.declared.reply.Reply.TheVariants as reply
 use Rattle.nv_command.specs.declared.status_code.StatusCode.{StatusCode}
 use Rattle.nv_command.specs.declared.status_code.StatusCode.TheVariants.{InvalidFieldInCommand}
 
+-- an NSID fits its bits
 abbrev pub IdentifyFits : ℕ → Type 0
 IdentifyFits nsid = nsid < 2 ^ 32
 
+-- the Identify command with a CNS and an NSID, or Invalid Field in Command for any other CNS
 abbrev pub identify_by : ℕ → ℕ → Result Command StatusCode
 identify_by cns n =
     if cns == 0x00 then Ok (IdentifyNamespace n)
@@ -25,6 +27,7 @@ identify_by cns n =
     else (if cns == 0x11 then Ok (AllocatedNamespace n)
     else Err InvalidFieldInCommand))))
 
+-- the Identify command of an entry
 abbrev pub identify_command : Sqe → Result Command StatusCode
 identify_command e = identify_by (e.cdw10 % 2 ^ 8) e.nsid
 

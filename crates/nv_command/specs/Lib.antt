@@ -5,6 +5,7 @@ pub mod Identify
 pub mod Management
 pub mod Format
 pub mod Features
+pub mod LogPage
 pub mod Logs
 pub mod Form
 pub mod Command

@@ -1,7 +1,7 @@
 -- Get Log Page: opcode 02h. CDW10 7:0 is the identifier of the log. The number of dwords, less one,
 -- is in CDW10 31:16, with its upper half in CDW11 15:0; the offset of the first byte is CDW12, with
 -- its upper half in CDW13.
-use Rattle.std.specs.Prelude.{◌≡◌, ℕ, true, false, ◌+◌, ◌*◌, ◌/◌, ◌^◌, ◌<◌, ◌≤◌, Bool, List, length, map}
+use Rattle.std.specs.Prelude.{◌≡◌, ℕ, ◌+◌, ◌*◌, ◌/◌, ◌^◌, ◌<◌, ◌≤◌, List, length, map}
 use Rattle.std.specs.Simd.{first_chunks}
 use Rattle.nv_layout.specs.ErrorEntryBytes.{error_entry_of_bytes, without_phase}
 use Rattle.nv_layout.specs.Bits.{at_bits, bits}
@@ -13,8 +13,11 @@ use Rattle.nv_command.specs.declared.command.Command.TheVariants.{GetLog}
 use Rattle.nv_command.specs.declared.logs.LogQuery.{LogQuery}
 use Rattle.nv_command.specs.declared.reply.Reply.{Reply}
 use Rattle.nv_command.specs.declared.reply.Reply.TheVariants as reply
-use Rattle.nv_command.specs.Form.{is_error_log}
+use Rattle.nv_command.specs.LogPage.{log_asked}
+use Rattle.nv_command.specs.declared.log_page.LogPage.{LogPage}
+use Rattle.nv_command.specs.declared.log_page.LogPage.TheVariants.{ErrorInformation, Health}
 
+-- the parameters of a Get Log Page fit their bits, and it asks for at least one dword
 pub record GetLogFits (q : LogQuery) : Type 0 where
   pub lid : q.lid < 2 ^ 8
   pub nsid : q.nsid < 2 ^ 32
@@ -22,6 +25,7 @@ pub record GetLogFits (q : LogQuery) : Type 0 where
   pub some : 0 < q.dwords
   pub dwords : q.dwords ≤ 2 ^ 32
 
+-- how many dwords an entry asks for; the number in the entry is one less
 abbrev pub dwords_asked : Sqe → ℕ
 dwords_asked e = bits 16 16 e.cdw10 + at_bits 16 16 e.cdw11 + 1
 
@@ -38,6 +42,7 @@ get_log_command e = GetLog (record {
 abbrev pub entry_received : List ℕ → ErrorEntry
 entry_received bytes = without_phase (error_entry_of_bytes bytes)
 
+-- the entries in these bytes, 64 bytes each
 abbrev pub entries_in : List ℕ → List ErrorEntry
 entries_in bytes = map entry_received (first_chunks 64 (length bytes / 64) bytes)
 
@@ -63,11 +68,11 @@ pub record AreEntries (dwords : ℕ) : Type 0 where
   pub few : dwords / 16 ≤ 256
 
 -- a log from its beginning: whole entries, or the entire health log
-abbrev pub IsWhole : Bool → ℕ → ℕ → Type 0
-IsWhole true offset dwords = (offset ≡ 0) × AreEntries dwords
-IsWhole false offset dwords = (offset ≡ 0) × (4 * dwords ≡ 512)
+abbrev pub IsWhole : LogPage → ℕ → ℕ → Type 0
+IsWhole ErrorInformation offset dwords = (offset ≡ 0) × AreEntries dwords
+IsWhole Health offset dwords = (offset ≡ 0) × (4 * dwords ≡ 512)
 
 -- a command whose reply can be read from its data
 abbrev pub IsSendable : Command → Type 0
-IsSendable (GetLog q) = IsWhole (is_error_log q.lid) q.offset q.dwords
+IsSendable (GetLog q) = IsWhole (log_asked q.lid) q.offset q.dwords
 IsSendable k = Unit {0}

@@ -16,12 +16,14 @@ use Rattle.nv_command.specs.declared.status_code.StatusCode.{StatusCode}
 use Rattle.nv_command.specs.declared.status_code.StatusCode.TheVariants.{DataTransferError}
 use Rattle.nv_command.specs.declared.status_code.StatusCode.TheVariants.{InvalidFieldInCommand}
 
+-- the NSID fits its bits, and the controllers fit their list
 pub record AttachmentFits (n : ℕ) (ids : List ℕ) : Type 0 where
   pub nsid : n < 2 ^ 32
   pub list : CtrlListFits ids
 
 -- ---- reading
 
+-- SEL of an entry
 abbrev pub select_of : Sqe → ℕ
 select_of e = e.cdw10 % 2 ^ 4
 
@@ -35,6 +37,7 @@ create_in «data» = do
   page ← page_of «data»
   Ok (Create (new_namespace_of_bytes page))
 
+-- the controllers of a list, or the status of a list that isn't valid
 abbrev pub listed : Result (List ℕ) LayoutError → Result (List ℕ) StatusCode
 listed (Ok ids) = Ok ids
 listed (Err error) = Err (code_of_layout error)
@@ -53,6 +56,7 @@ management_decoded e =
     else (if select_of e == 0x1 then Ok (decoded.Whole (Delete e.nsid))
     else Err InvalidFieldInCommand)
 
+-- SEL 0h attaches, SEL 1h detaches, and any other is an invalid field
 abbrev pub attachment_decoded : Sqe → Result Decoded StatusCode
 attachment_decoded e =
     if select_of e == 0x0 then Ok (decoded.Attachment e.nsid false)

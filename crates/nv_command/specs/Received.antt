@@ -12,6 +12,7 @@ use Rattle.nv_command.specs.declared.reply.Reply.TheVariants as reply
 abbrev pub first_entries : ℕ → List ErrorEntry → List ErrorEntry
 first_entries count es = take count (es ++ replicate count no_entry)
 
+-- the first `count` entries of an error log; any other reply is unchanged
 abbrev pub first_of_log : ℕ → Reply → Reply
 first_of_log count (reply.Errors es) = reply.Errors (first_entries count es)
 first_of_log count r = r
@@ -21,6 +22,7 @@ abbrev pub received : Command → Reply → Reply
 received (GetLog q) r = first_of_log (q.dwords / 16) r
 received k r = r
 
+-- the answer as the host receives it; a status is unchanged
 abbrev pub answer_received : Command → Result Reply Status → Result Reply Status
 answer_received k (Ok r) = Ok (received k r)
 answer_received k (Err status) = Err status

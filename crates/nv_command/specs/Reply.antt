@@ -21,6 +21,7 @@ use Rattle.nv_command.specs.declared.transfer.ReplyKind.TheVariants as kind
 use Rattle.nv_command.specs.declared.reply.Reply.{Reply}
 use Rattle.nv_command.specs.declared.reply.Reply.TheVariants as reply
 
+-- dword 0 of the completion with a reply; it is 0 unless the reply is a number
 abbrev pub dword0_of : Reply → ℕ
 dword0_of (reply.Number n) = n
 dword0_of r = 0
@@ -61,6 +62,7 @@ reply_by kind.Smart dword0 bytes = smart_in bytes
 abbrev pub reply_in : Command → ℕ → List ℕ → Reply
 reply_in k dword0 bytes = reply_by (form_of k).reply dword0 bytes
 
+-- the kind of a reply
 abbrev pub kind_of : Reply → ReplyKind
 kind_of (reply.Controller r) = kind.Controller
 kind_of (reply.Namespace r) = kind.Namespace

@@ -13,9 +13,11 @@ pub record StatusRow : Type 0 where
   pub sc : ℕ
   pub name : List ℕ
 
+-- a row with this status code type, status code and name
 abbrev pub row : ℕ → ℕ → List ℕ → StatusRow
 row sct sc name = record { sct = sct; sc = sc; name = name }
 
+-- the row of each status code
 abbrev pub row_of : StatusCode → StatusRow
 row_of code.InvalidCommandOpcode = row 0 0x01 (codes "Invalid Command Opcode")
 row_of code.InvalidFieldInCommand = row 0 0x02 (codes "Invalid Field in Command")
@@ -71,6 +73,7 @@ status_of_code code = record {
 abbrev pub code_of_layout : LayoutError → StatusCode
 code_of_layout CountTooLarge = code.ControllerListInvalid
 
+-- the name of a status code
 abbrev pub name_of_code : StatusCode → List ℕ
 name_of_code code = (row_of code).name
 

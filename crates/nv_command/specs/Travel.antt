@@ -21,6 +21,7 @@ pub record Arrives (k : Command) (cid : ℕ) : Type 0 where
       → command_of (with_pointer (entry_of k cid) prp1 prp2) (host_data_of k) ≡ Ok k
   pub sent : length (host_data_of k) ≡ bytes_from_host (transfer_by k)
 
+-- each command that fits arrives, with any command identifier of 16 bits
 abbrev pub CommandsTravel : Type 0
 CommandsTravel = (k : Command) (cid : ℕ) → CommandFits k → cid < 2 ^ 16 → Arrives k cid
 
@@ -35,6 +36,7 @@ pub record ArrivesFor (k : Command) (r : Reply) : Type 0 where
   pub bytes : length (data_of k r) ≡ bytes_to_host (transfer_by k)
   pub reply : reply_in k (dword0_of r) (data_of k r) ≡ received k (without_phases r)
 
+-- each reply that fits its record, to a command whose reply can be read, arrives
 abbrev pub RepliesTravel : Type 0
 RepliesTravel = (k : Command) (r : Reply) → IsReplyTo k r → FitsRecord r → IsSendable k
     → ArrivesFor k r

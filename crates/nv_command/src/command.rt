@@ -16,7 +16,7 @@ use crate::logs::LogQuery;
 use crate::transfer::{Form, PAGE_FROM_HOST, ReplyKind, Transfer};
 use nv_layout::{ControllerIds, NewNamespace, Sqe};
 
-/// The NSID that stands for all namespaces. Section "Namespace Identifier".
+/// The NSID that means all namespaces. Section "Namespace Identifier".
 pub const BROADCAST_NSID: u32 = 0xffff_ffff;
 
 /// A command with its fields as numbers. The list of an attachment is borrowed. Section "Admin

@@ -7,7 +7,7 @@
 
 ghost use Rattle.std.specs.Prelude.{◌≡◌};
 ghost use Rattle.nv_command.specs.declared.command.TheConstants.{BROADCAST_NSID};
-ghost use Rattle.nv_command.specs.declared.logs.TheConstants.{ERROR_INFORMATION, HEALTH};
+ghost use Rattle.nv_command.specs.declared.log_page.TheConstants.{ERROR_INFORMATION, HEALTH};
 ghost use Rattle.nv_command.specs.Travel.{CommandsTravel, RepliesFit, RepliesTravel};
 
 mod borrowed;
@@ -17,6 +17,7 @@ mod dword_count;
 mod features;
 mod format;
 mod identify;
+mod log_page;
 mod logs;
 mod refusal;
 mod reply;
@@ -30,7 +31,8 @@ pub use decoded::Decoded;
 pub use dword_count::DwordCount;
 pub use features::{FeatureQuery, FeatureSetting};
 pub use format::NewFormat;
-pub use logs::{ERROR_INFORMATION, HEALTH, LogQuery};
+pub use log_page::{ERROR_INFORMATION, HEALTH, LogPage};
+pub use logs::LogQuery;
 pub use nv_layout::NewNamespace;
 pub use refusal::Refusal;
 pub use reply::Reply;

@@ -5,14 +5,9 @@ ghost use Rattle.nv_command.specs.Logs.{get_log_command};
 
 use crate::command::Command;
 use crate::dword_count::DwordCount;
-use crate::transfer::{Fields, Form, ReplyKind, Transfer};
+use crate::log_page::LogPage;
+use crate::transfer::{Fields, Form, Transfer};
 use nv_layout::{Sqe, bits_of, to_bits};
-
-/// The log page identifier of Error Information.
-pub const ERROR_INFORMATION: u8 = 0x01;
-
-/// The log page identifier of SMART / Health Information.
-pub const HEALTH: u8 = 0x02;
 
 /// The fields of a Get Log Page: `dwords` dwords of a log, from the byte at `offset` on.
 #[derive(Clone, Copy, Debug, PartialEq, Eq)]
@@ -25,13 +20,14 @@ pub struct LogQuery {
 
 impl LogQuery {
     ghost use Rattle.std.specs.Prelude.{◌≡◌};
-    ghost use Rattle.nv_command.specs.Form.{form, get_log_fields, is_error_log, log_data, log_kind};
+    ghost use Rattle.nv_command.specs.Form.{form, get_log_fields, log_data};
+    ghost use Rattle.nv_command.specs.LogPage.{log_asked, log_kind};
     ghost use Rattle.nv_command.specs.Logs.{GetLogFits};
 
     /// Returns the form of a Get Log Page command.
     pub(crate) fn form(self) -> Form
         ensures { result ≡ form (get_log_fields self) self.nsid (log_data self.dwords)
-            (log_kind (is_error_log self.lid)) }
+            (log_kind (log_asked self.lid)) }
     {
         let numd = self.dwords.zeros_based();
         let fields = Fields {
@@ -41,16 +37,11 @@ impl LogQuery {
             cdw12: (self.offset % 0x1_0000_0000) as u32,
             cdw13: (self.offset / 0x1_0000_0000) as u32,
         };
-        let reply = if self.lid == ERROR_INFORMATION {
-            ReplyKind::Errors
-        } else {
-            ReplyKind::Smart
-        };
         Form {
             fields,
             nsid: self.nsid,
             transfer: Transfer::ToHost(self.dwords.bytes()),
-            reply,
+            reply: LogPage::asked(self.lid).kind(),
         }
     }
 

@@ -18,9 +18,9 @@ use crate::transfer::ReplyKind;
 use nv_layout::{ErrorEntries, ErrorEntry, IdCtrl, IdNs, NsList, Smart};
 use std::marker::Model;
 
-/// What is stored. A list and entries are stored beside it.
+/// What is stored. A list and entries are stored separately.
 #[derive(Clone, Copy)]
-enum Held {
+enum StoredReply {
     Controller(IdCtrl),
     Namespace(IdNs),
     List,
@@ -35,7 +35,7 @@ enum Held {
 /// Storage for one reply, which is allocated once and then reused.
 #[derive(Drop)]
 pub struct ReplyRoom {
-    held: Held,
+    held: StoredReply,
     list: NsList,
     entries: [ErrorEntry; 256],
 }
@@ -58,7 +58,7 @@ impl ReplyRoom {
         ensures { result ≡ Done }
     {
         ReplyRoom {
-            held: Held::Done,
+            held: StoredReply::Done,
             list: NsList::new(),
             entries: [ErrorEntry::NONE; 256],
         }
@@ -69,16 +69,16 @@ impl ReplyRoom {
         ensures { result ≡ self.now }
     {
         match &self.held {
-            Held::Controller(controller) => Reply::Controller(Borrowed::new(controller)),
-            Held::Namespace(namespace) => Reply::Namespace(Borrowed::new(namespace)),
-            Held::List => Reply::List(self.list.ids()),
-            Held::Number(number) => Reply::Number(*number),
-            Held::Done => Reply::Done,
-            Held::Errors { count, present } => {
+            StoredReply::Controller(controller) => Reply::Controller(Borrowed::new(controller)),
+            StoredReply::Namespace(namespace) => Reply::Namespace(Borrowed::new(namespace)),
+            StoredReply::List => Reply::List(self.list.ids()),
+            StoredReply::Number(number) => Reply::Number(*number),
+            StoredReply::Done => Reply::Done,
+            StoredReply::Errors { count, present } => {
                 let entries = &self.entries[..*present];
                 Reply::Errors(ErrorEntries::new(entries, &[], *count))
             }
-            Held::Smart(smart) => Reply::Smart(Borrowed::new(smart)),
+            StoredReply::Smart(smart) => Reply::Smart(Borrowed::new(smart)),
         }
     }
 
@@ -87,22 +87,22 @@ impl ReplyRoom {
         ensures { self.new ≡ reply.now }
     {
         match reply {
-            Reply::Controller(controller) => self.held = Held::Controller(*controller.get()),
-            Reply::Namespace(namespace) => self.held = Held::Namespace(*namespace.get()),
+            Reply::Controller(controller) => self.held = StoredReply::Controller(*controller.get()),
+            Reply::Namespace(namespace) => self.held = StoredReply::Namespace(*namespace.get()),
             Reply::List(ids) => {
                 keep_ids(ids.as_slice(), &mut self.list);
-                self.held = Held::List;
+                self.held = StoredReply::List;
             }
-            Reply::Number(number) => self.held = Held::Number(*number),
-            Reply::Done => self.held = Held::Done,
+            Reply::Number(number) => self.held = StoredReply::Number(*number),
+            Reply::Done => self.held = StoredReply::Done,
             Reply::Errors(entries) => {
                 let present = keep_entries(entries, &mut self.entries);
-                self.held = Held::Errors {
+                self.held = StoredReply::Errors {
                     count: entries.len(),
                     present,
                 };
             }
-            Reply::Smart(smart) => self.held = Held::Smart(*smart.get()),
+            Reply::Smart(smart) => self.held = StoredReply::Smart(*smart.get()),
         }
     }
 
@@ -116,23 +116,25 @@ impl ReplyRoom {
         ensures { self.new ≡ reply_in command.now dword0 bytes.now }
     {
         match command.form().reply {
-            ReplyKind::Controller => self.held = Held::Controller(IdCtrl::get(part_of(bytes))),
-            ReplyKind::Namespace => self.held = Held::Namespace(IdNs::get(part_of(bytes))),
+            ReplyKind::Controller => self.held = StoredReply::Controller(IdCtrl::get(part_of(
+                bytes,
+            ))),
+            ReplyKind::Namespace => self.held = StoredReply::Namespace(IdNs::get(part_of(bytes))),
             ReplyKind::List => {
                 self.list.read(part_of(bytes));
-                self.held = Held::List;
+                self.held = StoredReply::List;
             }
-            ReplyKind::Number => self.held = Held::Number(dword0),
-            ReplyKind::Done => self.held = Held::Done,
+            ReplyKind::Number => self.held = StoredReply::Number(dword0),
+            ReplyKind::Done => self.held = StoredReply::Done,
             ReplyKind::Errors => {
                 let (chunks, _) = bytes.as_chunks();
                 let present = read_entries(chunks, &mut self.entries);
-                self.held = Held::Errors {
+                self.held = StoredReply::Errors {
                     count: chunks.len(),
                     present,
                 };
             }
-            ReplyKind::Smart => self.held = Held::Smart(Smart::get(part_of(bytes))),
+            ReplyKind::Smart => self.held = StoredReply::Smart(Smart::get(part_of(bytes))),
         }
     }
 }

@@ -62,7 +62,7 @@ pub struct Form {
     pub nsid: u32,
     /// Its data.
     pub transfer: Transfer,
-    /// What it is answered.
+    /// The kind of its reply.
     pub reply: ReplyKind,
 }
 

@@ -18,23 +18,26 @@ use Rattle.nv_command.specs.declared.transfer.Transfer.TheVariants.{NoData, ToHo
 
 -- ---- pages
 
+-- the command doesn't read a log
 abbrev pub IsNoLog : Command → Type 0
 IsNoLog k = (q : LogQuery) → k ≡ GetLog q → ⊥
 
+-- the data of a reply to a command that reads no log is its page
 pub page_data : (k : Command) (r : Reply) → IsNoLog k → data_of k r ≡ page_of r
 page_data (GetLog q) r other = absurd (other q refl)
 page_data k r other = refl
 
--- data to the host is all the data of its command
+-- if the data is to the host, all of it is sent by the controller
 pub all_sent : (m : Transfer) (n : ℕ) → m ≡ ToHost n → bytes_to_host m ≡ length_of m
 all_sent m n is = ap bytes_to_host is ∙ sym (ap length_of is)
 
+-- if the data isn't to the host, the controller sends no bytes
 pub none_sent : (m : Transfer) → ((n : ℕ) → m ≡ ToHost n → ⊥) → bytes_to_host m ≡ 0
 none_sent NoData other = refl
 none_sent (ToHost n) other = absurd (other n refl)
 none_sent (FromHost n) other = refl
 
--- all bytes of a page, of which each part is asked for from its place on
+-- if a page was made, each part of it that begins within it is a part of its bytes
 pub whole_page : (has : Bool) (page bytes : List ℕ) (at n : ℕ) → MatchBool has (page ≡ bytes) (bytes ≡ [])
     → length page ≡ n → 0 < n → at + n ≤ length bytes → page ≡ take n (drop at bytes)
 whole_page true page bytes at n is long some inside =
@@ -45,6 +48,7 @@ whole_page false page bytes at n is long some inside = absurd (omega (arith, ap 
 
 -- ---- logs
 
+-- a log has at most 16,384 bytes
 pub log_length : (r : Reply) → FitsRecord r → length (log_of r) ≤ 16384
 log_length (reply.Errors es) fits = omega (arith, length-entries es, fits.count)
 log_length (reply.Smart r) fits = omega (arith, length-bytes_of_smart r fits.sensor_count)
@@ -52,6 +56,7 @@ log_length r fits = omega arith
 
 -- ---- nothing
 
+-- writing nothing to places changes nothing
 pub nothing_written : (bytes at : List ℕ) → bytes ≡ written_at bytes at []
 unfolding written_at
 nothing_written bytes [] = refl

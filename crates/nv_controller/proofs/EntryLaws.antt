@@ -23,9 +23,9 @@ use Rattle.nv_model.specs.WellFormed.{IsWellFormed}
 use Rattle.nv_bus.specs.Call.{call_of}
 use Rattle.nv_model.specs.Conditions.{limit_of}
 use Rattle.nv_bus.proofs.TagLaws.{dword0_tagged, tagged}
-use Rattle.nv_bus.specs.Entry.{Moves, MovesBy, One, Scene, call_in, completion_with, entry_in, entry_step, step_unless}
-use Rattle.nv_bus.specs.Entry.{success, told_by}
-use Rattle.nv_controller.specs.inner.Tags.{settled_next, settled_unless}
+use Rattle.nv_bus.specs.Entry.{Moves, MovesBy, One, Scene, call_in, completion_in, completion_with, entry_in}
+use Rattle.nv_bus.specs.Entry.{entry_step, step_unless, success, told_by}
+use Rattle.nv_controller.specs.Tags.{answered_unless, next_scene, settled_unless, untagged_scene}
 use Rattle.nv_subsystem.proofs.TaggedLaws.{refusal_untagged, reply_untagged, untagged_keeps}
 use Rattle.nv_subsystem.specs.Tagged.{untagged, untagged_log}
 
@@ -38,6 +38,7 @@ pub record IsAnswered (s : State) (c : ℕ) (k : Command) (cid : ℕ) : Type 0 w
   pub answer : Ok (without_phases (reply_of s c k)) ≡ (step (untagged s) c k cid).answer
   pub told : told_by (Ok (reply_of s c k)) ≡ told_by (step (untagged s) c k cid).answer
 
+-- a command that isn't refused in a well-formed subsystem is answered as IsAnswered says
 pub answered : (s : State) (c : ℕ) (k : Command) (cid : ℕ) → IsWellFormed s → refusal_of s c k ≡ None
     → IsAnswered s c k cid
 answered s c k cid w none =
@@ -55,25 +56,26 @@ answered s c k cid w none =
           ∙ ap told_by answer;
     }
 
--- the answer to a command that is refused
+-- the answer to a command that is refused is the status of the refusal
 pub refused_by : (s : State) (c : ℕ) (k : Command) (cid : ℕ) (refusal : Refusal) → refusal_of s c k ≡ Some refusal
     → Err refusal.status ≡ (step (untagged s) c k cid).answer
 refused_by s c k cid refusal some =
     ap (λ (o : Option Refusal). (step_by o (untagged s) c k cid).answer) (sym (refusal_untagged s c k ∙ some))
 
--- the data that was written
+-- if a reply's data was written to its places, it moved as `Moves` says
 pub moved_reply : (k : Command) (at old new : List ℕ) (r : Reply) (answer : Result Reply Status)
     → Ok (without_phases r) ≡ answer
     → new ≡ written_at old at (data_of k r) → Moves k at answer old new
 moved_reply k at old new r answer is written =
     subst (λ (a : Result Reply Status). Moves k at a old new) is (r, refl, written)
 
+-- an answer that is a status moves no data
 pub moved_none : (k : Command) (at old new : List ℕ) (status : Status)
     (answer : Result Reply Status) → Err status ≡ answer → new ≡ old
     → Moves k at answer old new
 moved_none k at old new status answer is same = subst (λ (a : Result Reply Status). Moves k at a old new) is same
 
--- ---- tags
+-- ---- controllers
 
 -- what adds or removes no controller without tags adds or removes none with them
 pub same_count : (old new after : State) → untagged new ≡ after
@@ -85,16 +87,9 @@ same_count old new after is same =
     ∙ same
     ∙ length-map old.controllers untagged_log
 
--- the log entry has the phase tag of the next completion
-pub tagged_next : (c : ℕ) (x : Scene) (entry : Sqe) (size : ℕ) (phase : Bool)
-    → entry ≡ entry_in x → size ≡ x.rings.page_size
-    → (let ring = x.rings.completion in phase ≡ phase_of ring.depth ring.posted)
-    → settled_unless (call_of size (limit_of x.state c) x.bytes entry) x.state c entry phase ≡ settled_next c x
-tagged_next c x entry size phase same page due = λ i.
-    settled_unless (call_of (page i) (limit_of x.state c) x.bytes (same i)) x.state c (same i) (due i)
-
 -- ---- what taking one entry did, from its parts
 
+-- if its parts did what the definitions say, one entry was taken
 pub taken_one : (c : ℕ) (old new : Scene) (entry : Sqe) (size head : ℕ) (posted : Cqe)
     → (moved : List ℕ) (limit : ℕ) → let call = call_of size limit old.bytes entry in
     let step = step_unless call old.state c entry in
@@ -128,4 +123,37 @@ taken_one c old new entry size head posted moved limit same page most state move
             (step_unless (call_of size limit old.bytes entry) old.state c entry).answer) same
             ∙ ap₂ (completion_with (entry_in old).cid) slot (ap (λ (s : Step). s.answer) step)),
       );
+    }
+
+-- the same with phase tags
+pub tagged_one : (c : ℕ) (old new : Scene) (entry : Sqe) (size head : ℕ) (phase : Bool) (posted : Cqe) (moved : List ℕ)
+    (limit : ℕ) → let call = call_of size (limit_of old.state c) old.bytes entry in
+    let bare = untagged_scene old in
+    let step = step_unless (call_of size limit old.bytes entry) bare.state c entry in
+    entry ≡ entry_in old → size ≡ old.rings.page_size → limit ≡ limit_of bare.state c
+    → (let ring = old.rings.completion in phase ≡ phase_of ring.depth ring.posted)
+    → new.state ≡ settled_unless call old.state c entry phase
+    → moved ≡ answered_unless call old.state c old.bytes
+    → new.rings ≡ record old.rings {
+      submission = fetched_one old.rings.submission;
+      completion = posted_one old.rings.completion;
+    }
+    → (let ring = old.rings.submission in head ≡ slot_of ring.depth (next ring.depth ring.fetched))
+    → posted ≡ completion_with entry.cid head step.answer
+    → new.bytes ≡ with_completion moved old.rings.completion posted
+    → new ≡ next_scene c old
+unfolding next_scene
+tagged_one c old new entry size head phase posted moved limit same page most due state sent rings slot made bytes =
+    let bare = untagged_scene old in
+    let completion : posted ≡ completion_in c bare =
+    made ∙ (λ i. completion_with (same i).cid (slot i)
+    (step_unless (call_of (page i) (most i) old.bytes (same i)) bare.state c (same i)).answer) in
+    let all : moved ≡ answered_unless (call_in c old) old.state c old.bytes =
+    sent ∙ (λ i. answered_unless (call_of (page i) (limit_of old.state c) old.bytes (same i)) old.state c old.bytes) in
+    let left = state
+    ∙ (λ i. settled_unless (call_of (page i) (limit_of old.state c) old.bytes (same i)) old.state c (same i) (due i)) in
+    λ i. record {
+      state = left i;
+      rings = rings i;
+      bytes = (bytes ∙ (λ j. with_completion (all j) old.rings.completion (completion j))) i;
     }

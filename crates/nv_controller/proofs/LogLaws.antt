@@ -3,7 +3,7 @@ use Rattle.std.proofs.Common.{◌≡◌, ◌∙◌, ℕ, ◌+◌, ◌≤◌, Lis
 use Rattle.nv_layout.proofs.PartLaws.{length-part, part-part, part_past}
 use Rattle.nv_layout.specs.Parts.{part}
 
--- a part of a part
+-- a part from at on within a part from `from` on is the part from from + at on
 pub part_of_part : (bytes : List ℕ) (from len at n : ℕ) → at + n ≤ length (part bytes from len)
     → part bytes (from + at) n ≡ take n (drop at (part bytes from len))
 part_of_part bytes from len at n inside = sym

@@ -4,5 +4,6 @@ use Rattle.nv_model.specs.Step.{reset}
 use Rattle.nv_model.proofs.ResetLaws.{length-reset}
 use Rattle.nv_model.specs.State.{State}
 
+-- a reset adds or removes no controller
 pub controllers_stay : (s : State) (c : ℕ) → length (reset s c).controllers ≡ length s.controllers
 controllers_stay s c = length-reset s c

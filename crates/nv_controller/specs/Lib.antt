@@ -1,2 +1,3 @@
-pub mod BusCode
-pub mod inner
+pub mod Machine
+pub mod MachineCode
+pub mod Tags

@@ -6,6 +6,7 @@ ghost use Rattle.nv_command.specs.Command.{transfer_by};
 ghost use Rattle.nv_command.specs.Reply.{FitsRecord, IsReplyTo, data_of, log_of};
 ghost use Rattle.nv_prp.specs.Place.{LieIn, places, written_at};
 ghost use Rattle.nv_prp.specs.Transfer.{most_bytes};
+ghost use Rattle.nv_command.specs.LogPage.{log_asked};
 ghost use Rattle.nv_model.specs.Logs.{log_reply};
 ghost use Rattle.nv_model.specs.Meaning.{refusal_of, reply_of};
 ghost use Rattle.nv_model.specs.Step.{step};
@@ -16,7 +17,7 @@ ghost use Rattle.nv_bus.specs.Entry.{Moves, MovesBy, One, scene};
 ghost use Rattle.nv_bus.specs.Entry.{step_unless, told_by};
 ghost use Rattle.nv_model.specs.Conditions.{limit_of};
 ghost use Rattle.nv_bus.specs.Turn.{can_take, reaches};
-ghost use Rattle.nv_controller.specs.inner.Tags.{settled_next, settled_unless};
+ghost use Rattle.nv_controller.specs.Tags.{answered_unless, answered_with, next_scene, settled_unless};
 ghost use Rattle.nv_subsystem.specs.Tagged.{settled, untagged};
 
 use crate::log_part::LogPart;
@@ -24,7 +25,7 @@ use crate::reply_page::ReplyPage;
 use crate::scratch::{EntryData, Scratch};
 use nv_bus::Told;
 use nv_command::{Command, Decoded, LogQuery, Refusal, StatusCode, Transfer};
-use nv_host::HostMemory;
+use nv_host::paged::PagedMemory;
 use nv_layout::{Cqe, CtrlList, Sqe, Status};
 use nv_prp::{PrpError, Spans, copy_out, view_in, walk, write_out};
 use nv_register::Rings;
@@ -45,7 +46,7 @@ fn prp_status(fault: PrpError) -> StatusCode
 
 /// Finds where an entry's data lies.
 #[tactic(auto, unfolding(nv_bus::specs::Call::places_of))]
-fn find_data<M: HostMemory>(
+fn find_data<M: PagedMemory>(
     mem: &M,
     entry: &Sqe,
     moves: Transfer,
@@ -74,7 +75,7 @@ fn find_data<M: HostMemory>(
 }
 
 /// Returns the bytes that the host sends, if it sends any: where they lie, or else a copy in `page`.
-fn read_sent<'a, M: HostMemory>(
+fn read_sent<'a, M: PagedMemory>(
     mem: &'a M,
     moves: Transfer,
     spans: &Spans,
@@ -94,7 +95,7 @@ fn read_sent<'a, M: HostMemory>(
 /// Returns the command of an entry, or the status of the first rule that the entry or its data
 /// breaks. The data has at most `limit` bytes. `entry_data` receives where it lies, and what the
 /// host sends if that isn't in one page, and `listed` the controllers that it lists.
-fn read_call<'a, M: HostMemory>(
+fn read_call<'a, M: PagedMemory>(
     mem: &M,
     entry: &Sqe,
     limit: u64,
@@ -124,7 +125,7 @@ fn read_call<'a, M: HostMemory>(
 }
 
 /// Writes the part of a log that is asked for to the spans, span by span.
-fn deliver_log<M: HostMemory>(
+fn deliver_log<M: PagedMemory>(
     subsystem: &Subsystem,
     ctrl: u16,
     mem: &mut M,
@@ -134,10 +135,10 @@ fn deliver_log<M: HostMemory>(
     requires ctrl { ctrl < length subsystem.now.controllers }
     requires inside { LieIn (length (M.bytes mem.old)) spans.now }
     requires len { length (places spans.now) ≡ 4 * asked.dwords }
-    requires short { length (log_of (log_reply subsystem.now ctrl asked.lid)) ≤ 16384 }
+    requires short { length (log_of (log_reply subsystem.now ctrl (log_asked asked.lid))) ≤ 16384 }
     requires few { length (places spans.now) ≤ most_bytes }
     ensures bytes { M.bytes mem.new ≡ written_at (M.bytes mem.old) (places spans.now)
-        (part (log_of (log_reply subsystem.now ctrl asked.lid)) asked.offset (4 * asked.dwords)) }
+        (part (log_of (log_reply subsystem.now ctrl (log_asked asked.lid))) asked.offset (4 * asked.dwords)) }
     ensures len { length (M.bytes mem.new) ≡ length (M.bytes mem.old) }
     ensures page_len { M.page_len mem.new ≡ M.page_len mem.old }
 {
@@ -155,7 +156,7 @@ fn deliver_log<M: HostMemory>(
 
 /// Writes the data of the reply to an accepted command to where the entry's data lies, if it has
 /// any.
-fn deliver<M: HostMemory>(
+fn deliver<M: PagedMemory>(
     subsystem: &Subsystem,
     ctrl: u16,
     mem: &mut M,
@@ -200,7 +201,7 @@ fn deliver<M: HostMemory>(
 }
 
 /// Executes a command: writes the data of its reply, and then makes its changes.
-fn execute<M: HostMemory>(
+fn execute<M: PagedMemory>(
     subsystem: &mut Subsystem,
     ctrl: u16,
     mem: &mut M,
@@ -220,6 +221,8 @@ fn execute<M: HostMemory>(
         ≡ (step (untagged subsystem.old) ctrl command.now origin.cid).state }
     ensures tagged { subsystem.new ≡ settled subsystem.old ctrl command.now origin
         (refusal_of subsystem.old ctrl command.now) }
+    ensures bytes { M.bytes mem.new ≡ answered_with (refusal_of subsystem.old ctrl command.now)
+        subsystem.old ctrl command.now (places entry_data.now.spans) (M.bytes mem.old) }
     ensures moved { Moves command.now (places entry_data.now.spans)
         (step (untagged subsystem.old) ctrl command.now origin.cid).answer
         (M.bytes mem.old) (M.bytes mem.new) }
@@ -247,7 +250,7 @@ fn execute<M: HostMemory>(
 
 /// Executes the command of an entry and writes the data of its reply, or refuses the entry. `phase`
 /// is the phase tag that its completion will have.
-fn answer_entry<M: HostMemory>(
+fn answer_entry<M: PagedMemory>(
     subsystem: &mut Subsystem,
     ctrl: u16,
     mem: &mut M,
@@ -267,6 +270,9 @@ fn answer_entry<M: HostMemory>(
     ensures tagged { let call = call_of (M.page_len mem.old)
         (limit_of subsystem.old ctrl) (M.bytes mem.old) entry.now in
         subsystem.new ≡ settled_unless call subsystem.old ctrl entry.now phase }
+    ensures bytes { let call = call_of (M.page_len mem.old)
+        (limit_of subsystem.old ctrl) (M.bytes mem.old) entry.now in
+        M.bytes mem.new ≡ answered_unless call subsystem.old ctrl (M.bytes mem.old) }
     ensures moved { let call = call_of (M.page_len mem.old)
         (limit_of subsystem.old ctrl) (M.bytes mem.old) entry.now in
         MovesBy call (step_unless call (untagged subsystem.old) ctrl entry.now).answer
@@ -298,7 +304,7 @@ fn answer_entry<M: HostMemory>(
 /// Takes the next entry from a controller's submission queue. It executes the command or refuses
 /// the entry, writes the data of the reply, and then posts the completion. What is recorded has the
 /// phase tag of that completion.
-pub(crate) fn take_one<M: HostMemory>(
+pub(crate) fn take_one<M: PagedMemory>(
     subsystem: &mut Subsystem,
     rings: &mut Rings,
     scratch: &mut Scratch,
@@ -311,8 +317,8 @@ pub(crate) fn take_one<M: HostMemory>(
     requires reached { reaches rings.old (M.page_len mem.old) (length (M.bytes mem.old)) ≡ true }
     ensures one { One ctrl (scene (untagged subsystem.old) rings.old (M.bytes mem.old))
         (scene (untagged subsystem.new) rings.new (M.bytes mem.new)) }
-    ensures tagged { subsystem.new
-        ≡ settled_next ctrl (scene subsystem.old rings.old (M.bytes mem.old)) }
+    ensures tagged { scene subsystem.new rings.new (M.bytes mem.new)
+        ≡ next_scene ctrl (scene subsystem.old rings.old (M.bytes mem.old)) }
     ensures well_formed { IsWellFormed subsystem.new }
     ensures controllers { length subsystem.new.controllers ≡ length subsystem.old.controllers }
     ensures len { length (M.bytes mem.new) ≡ length (M.bytes mem.old) }

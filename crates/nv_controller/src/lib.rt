@@ -1,6 +1,8 @@
 //! The controllers of an NVM subsystem as a host sees them: their registers, and turns over the
 //! host's memory, whatever it holds.
 //!
+//! This crate is the model itself. `nvme_controller` is a library around it for programs in C.
+//!
 //! A driver talks to a [`Bus`], and a [`Machine`] is a bus over a subsystem. Any entry in any
 //! memory is answered: the controller does what its command says, or refuses it by the first rule
 //! that it breaks. So a test bench can send a controller a driver's mistakes:

@@ -2,9 +2,11 @@
 
 ghost use Rattle.std.specs.Prelude.{◌+◌, ◌<◌, ◌^◌, length};
 ghost use Rattle.nv_layout.specs.Parts.{part};
+ghost use Rattle.nv_command.specs.LogPage.{log_asked};
 ghost use Rattle.nv_command.specs.Reply.{log_of};
 ghost use Rattle.nv_model.specs.Logs.{log_reply};
 
+use nv_command::LogPage;
 use nv_host::Payload;
 use nv_subsystem::Subsystem;
 
@@ -21,11 +23,11 @@ pub struct LogPart<'a> {
 }
 
 impl<'a> Payload for LogPart<'a> {
-    ghost bytes = { λ s. part (log_of (log_reply s.subsystem.now s.ctrl s.lid)) s.from s.len };
+    ghost bytes = { λ s. part (log_of (log_reply s.subsystem.now s.ctrl (log_asked s.lid))) s.from s.len };
 
     #[tactic(auto, using(crate::proofs::LogLaws::part_of_part))]
     fn fill(&self, at: usize, out: &mut [u8]) {
         self.subsystem
-            .fill_log(self.ctrl, self.lid, self.from + at, out);
+            .fill_log(self.ctrl, LogPage::asked(self.lid), self.from + at, out);
     }
 }

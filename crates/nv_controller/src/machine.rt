@@ -1,18 +1,21 @@
 //! The controllers of a subsystem.
 
-ghost use Rattle.std.specs.Prelude.{◌≡◌, ◌<◌, IfOk, if◌then◌else◌, length, replicate};
+ghost use Rattle.std.specs.Prelude.{◌≡◌, ◌<◌, IfOk, if◌then◌else◌, length, replicate, slice_set};
 ghost use Rattle.nv_register.specs.RegisterBank.{new_bank, stops_at, with_register_at};
 ghost use Rattle.nv_model.specs.Step.{reset};
 ghost use Rattle.nv_model.specs.WellFormed.{IsWellFormed};
-ghost use Rattle.nv_bus.specs.Bus.{IsBus};
+ghost use Rattle.nv_bus.specs.Bus.{IsBus, bank_at, state_written};
 ghost use Rattle.nv_bus.specs.Entry.{scene};
-ghost use Rattle.nv_bus.specs.Turn.{BankTurn, RingsTurn, TakesCount, site};
+ghost use Rattle.nv_bus.specs.Turn.{BankTurn, RingsTurn, TakesCount, Turn, site};
 ghost use Rattle.nv_subsystem.specs.Tagged.{untagged};
+ghost use Rattle.nv_controller.specs.Machine.{bus_of, machine_written};
+ghost use Rattle.nv_controller.specs.Tags.{TaggedBy, TaggedTurn, scenes_after};
 
 use crate::entry::take_one;
 use crate::scratch::Scratch;
 use nv_bus::Bus;
-use nv_host::{HostMemory, Memory};
+use nv_host::Memory;
+use nv_host::paged::PagedMemory;
 use nv_register::{Readiness, RegisterBank, Rings};
 use nv_subsystem::Subsystem;
 use std::alloc::Global;
@@ -27,18 +30,15 @@ pub struct Machine {
 }
 
 impl Model for Machine {
-    ghost use Rattle.nv_bus.specs.Bus.{BusValue};
+    ghost use Rattle.nv_controller.specs.Machine.{MachineValue};
 
-    ghost Value = { BusValue };
+    ghost Value = { MachineValue };
 
-    ghost use Rattle.nv_controller.specs.BusCode.{bus_code};
+    ghost use Rattle.nv_controller.specs.MachineCode.{machine_code};
 
-    ghost coded = { bus_code };
+    ghost coded = { machine_code };
 
-    ghost use Rattle.nv_subsystem.specs.Tagged.{untagged};
-
-    // A bus doesn't show the phase tags in logs.
-    ghost view = { λ m. record { state = untagged m.subsystem; banks = m.banks.items } };
+    ghost view = { λ m. record { state = m.subsystem; banks = m.banks.items } };
 
     ghost use Rattle.std.specs.Prelude.{◌≡◌, length};
 
@@ -85,7 +85,7 @@ fn write_bank(
 /// Takes at most `most` entries, as long as one is waiting and there is a free slot for its
 /// completion. Returns how many it took, and whether it stopped because the memory has another page
 /// size than that with which the controller was enabled, or doesn't hold a slot that it needs.
-fn take_entries<M: HostMemory>(
+fn take_entries<M: PagedMemory>(
     subsystem: &mut Subsystem,
     rings: &mut Rings,
     scratch: &mut Scratch,
@@ -98,6 +98,8 @@ fn take_entries<M: HostMemory>(
     ensures turn { RingsTurn (M.page_len mem.old) ctrl most result.0
         (scene (untagged subsystem.old) rings.old (M.bytes mem.old))
         (scene (untagged subsystem.new) rings.new (M.bytes mem.new)) result.1 }
+    ensures tagged { scene subsystem.new rings.new (M.bytes mem.new)
+        ≡ scenes_after result.0 ctrl (scene subsystem.old rings.old (M.bytes mem.old)) }
     ensures well_formed { IsWellFormed subsystem.new }
     ensures controllers { length subsystem.new.controllers ≡ length subsystem.old.controllers }
     ensures len { length (M.bytes mem.new) ≡ length (M.bytes mem.old) }
@@ -119,7 +121,7 @@ fn take_entries<M: HostMemory>(
 }
 
 /// Performs a turn of one controller, over its registers and rings.
-fn turn_bank<M: HostMemory>(
+fn turn_bank<M: PagedMemory>(
     subsystem: &mut Subsystem,
     bank: &mut RegisterBank,
     scratch: &mut Scratch,
@@ -132,6 +134,9 @@ fn turn_bank<M: HostMemory>(
     ensures turn { BankTurn (M.page_len mem.old) ctrl most result
         (site (untagged subsystem.old) bank.old (M.bytes mem.old))
         (site (untagged subsystem.new) bank.new (M.bytes mem.new)) }
+    ensures tagged { TaggedBy bank.old.readiness ctrl result
+        (site subsystem.old bank.old (M.bytes mem.old))
+        (site subsystem.new bank.new (M.bytes mem.new)) }
     ensures count { TakesCount (M.page_len mem.old) (length (M.bytes mem.old)) most
         bank.old result bank.new }
     ensures well_formed { IsWellFormed subsystem.new }
@@ -154,10 +159,10 @@ impl Machine {
     /// the subsystem is dropped.
     pub fn new(alloc: Global, subsystem: Subsystem) -> Result<Machine, Memory>
         ensures value { IfOk result (λ m. m ≡ record {
-          state = untagged subsystem;
+          state = subsystem;
           banks = replicate (length subsystem.controllers) new_bank;
         }) }
-        ensures bus { IfOk result (λ m. IsWellFormed subsystem → IsBus m) }
+        ensures bus { IfOk result (λ m. IsWellFormed subsystem → IsBus (bus_of m)) }
     {
         let banks = new_banks(alloc, subsystem.controllers())?;
         Ok(Machine {
@@ -169,14 +174,15 @@ impl Machine {
 
     /// Returns the subsystem as it is now. Its logs have phase tags.
     pub fn subsystem(&self) -> &Subsystem
-        ensures { untagged result.now ≡ self.now.state }
+        ensures { result.now ≡ self.now.state }
     {
         &self.subsystem
     }
 }
 
 impl Bus for Machine {
-    ghost meaning = { λ m. m };
+    // A bus doesn't show the phase tags in logs.
+    ghost meaning = { λ m. bus_of m };
 
     fn controllers(&self) -> u16 {
         self.subsystem.controllers()
@@ -186,12 +192,31 @@ impl Bus for Machine {
         self.banks[ctrl as usize].read32(offset)
     }
 
-    fn write32(&mut self, ctrl: u16, offset: u32, dword: u32) {
+    fn write32(&mut self, ctrl: u16, offset: u32, dword: u32)
+        requires { ctrl < length self.old.banks }
+        ensures state { (bus_of self.new).state ≡ state_written (bus_of self.old) ctrl offset dword }
+        ensures banks { self.new.banks ≡ slice_set self.old.banks ctrl
+            (with_register_at (bank_at self.old.banks ctrl) offset dword) }
+        ensures bus { IsBus (bus_of self.old) → IsBus (bus_of self.new) }
+        ensures tags { self.new.state ≡ machine_written self.old ctrl offset dword }
+    {
         let bank = &mut self.banks[ctrl as usize];
         write_bank(&mut self.subsystem, bank, ctrl, offset, dword);
     }
 
-    fn turn<M: HostMemory>(&mut self, ctrl: u16, mem: &mut M, most: u16) -> u16 {
+    fn turn<M: PagedMemory>(&mut self, ctrl: u16, mem: &mut M, most: u16) -> u16
+        requires ctrl { ctrl < length self.old.banks }
+        requires bus { IsBus (bus_of self.old) }
+        ensures turn { Turn (M.page_len mem.old) ctrl most result
+            (bus_of self.old) (M.bytes mem.old) (bus_of self.new) (M.bytes mem.new) }
+        ensures count { TakesCount (M.page_len mem.old) (length (M.bytes mem.old)) most
+            (bank_at self.old.banks ctrl) result (bank_at self.new.banks ctrl) }
+        ensures bus { IsBus (bus_of self.new) }
+        ensures len { length (M.bytes mem.new) ≡ length (M.bytes mem.old) }
+        ensures page { M.page_len mem.new ≡ M.page_len mem.old }
+        ensures tags { TaggedTurn ctrl result
+            self.old (M.bytes mem.old) self.new (M.bytes mem.new) }
+    {
         let bank = &mut self.banks[ctrl as usize];
         turn_bank(
             &mut self.subsystem,

@@ -16,14 +16,16 @@ use Rattle.nv_driver.specs.Linked.{IsLinked}
 use Rattle.nv_driver.specs.Layout.{pages_of_command, set_pages}
 use Rattle.nv_driver.specs.Registers.{banks_of}
 use Rattle.nv_driver.specs.Settled.{IsSettled}
+use Rattle.nv_driver.specs.inner.Exchange.{Side}
 
 -- ---- before the command
 
--- a page set has room for the pages of each command
-set_room : (g : Geometry) → g.window * pages_of_command g.page_size ≤ set_pages g
+-- a queue pair has the pages of each command of the window
+set_room : (g : Geometry) → set_pages g ≡ g.window * pages_of_command g.page_size
 unfolding set_pages
-set_room g = omega arith
+set_room g = refl
 
+-- the value of queue pair c of a list is element c of the list of values
 pub value_at : (ls : List QueuePairFields) (c : ℕ) (d : QueuePairFields) (e : QueuePair) → c < length ls
     → get_or (map pair_value ls) c e ≡ pair_value (get_or ls c d)
 value_at ls c d e below = get_or-map pair_value ls c d e below
@@ -32,14 +34,17 @@ value_at ls c d e below = get_or-map pair_value ls c d e below
 module _ {g : Geometry} {mem : PagedBytes} {ls : List QueuePairFields} {d : DriverValue} {c : ℕ} {l : QueuePairFields}
     (is : IsDriver g mem ls) (value : driver_value g mem ls ≡ d) (ctrl : c < length d.pairs)
     (here : l ≡ get_or ls c l) where
+  -- controller c has a queue pair among the driver's
   pub below : c < length ls
   below =
       let many = ap (λ (v : DriverValue). length v.pairs) value in
       let same = length-map ls pair_value in omega arith
 
+  -- queue pair c of the driver's value is the value of that queue pair
   pub at : pair_at (map pair_value ls) c ≡ pair_value l
   at = value_at ls c l no_pair below ∙ ap pair_value (sym here)
 
+  -- the driver and the queue pair agree on the command identifier that is due
   pub serial_is : (pair_at d.pairs c).serial ≡ l.serial
   serial_is = ap (λ (v : DriverValue). (pair_at v.pairs c).serial) (sym value) ∙ ap (λ (v : QueuePair). v.serial) at
 
@@ -47,6 +52,16 @@ module _ {g : Geometry} {mem : PagedBytes} {ls : List QueuePairFields} {d : Driv
   pub placed_at : IsPlaced g c (pair_value l)
   placed_at = subst (IsPlaced g c) at (is.placed c no_pair below)
 
+  -- the geometry of the queue pair is the driver's
+  pub shape_at : l.geometry ≡ g
+  shape_at = ap (λ (v : QueuePair). v.geometry) placed_at
+
+  -- what a call leaves by the queue pair's geometry is left by the driver's
+  pub left_at : {end : ℕ} {next : QueuePair} {old new : Side} → IsLeft l.geometry c end next old new
+      → IsLeft g c end next old new
+  left_at {end} {next} {old} {new} left = subst (λ q. IsLeft q c end next old new) shape_at left
+
+  -- the controller of a driver that is linked to the bus is ready, with no command outstanding
   pub ready_at : {b : BusValue} → IsLinked b d → IsReady g b c l mem.page_size mem.bytes
   ready_at {b} linked =
       let many = length-map ls pair_value in
@@ -55,9 +70,10 @@ module _ {g : Geometry} {mem : PagedBytes} {ls : List QueuePairFields} {d : Driv
       let idle = idle_bank (mps_of g.page_size) g.page_size in
       record {
         geometry = is.geometry;
+        shape = shape_at;
         page_size = is.page_size;
         depth = ap (λ (v : QueuePair). v.depth) placed_at;
-        room = rw (ap (λ (v : QueuePair). v.page_count) placed_at) (set_room g);
+        room = ap (λ (v : QueuePair). v.page_count) placed_at ∙ set_room g;
         quiet = subst IsQuiet (sym here) (is.quiet c l below);
         laid = rw (is.page_size, at) at (is.settled.laid c no_pair (omega arith));
         tags = rw at at (is.settled.tags c no_pair (omega arith));
@@ -66,6 +82,10 @@ module _ {g : Geometry} {mem : PagedBytes} {ls : List QueuePairFields} {d : Driv
         bank = ap (λ p. bank_at p c) banks ∙ get_or-map idle (map pair_value ls) c no_pair new_bank (omega arith)
             ∙ ap idle at;
       }
+
+  -- the controller is also ready by the geometry of the queue pair
+  pub ready_by : {b : BusValue} → IsLinked b d → IsReady l.geometry b c l mem.page_size mem.bytes
+  ready_by {b} linked = subst (λ q. IsReady q b c l mem.page_size mem.bytes) (sym shape_at) (ready_at linked)
 
 -- ---- after the command
 
@@ -93,6 +113,7 @@ slots_stay end page_size old new v u keeps ends laid own apart tags s below =
     let low : slot + 16 ≤ end = omega (arith, laid.pages, inside, ends) in
     ap (λ (q : Cqe). q.phase) (ap cqe_of_bytes (keeps slot 16 low aside)) ∙ tags s below
 
+-- queue pairs stay settled if only one of them changes, and the bytes of the others don't
 pub settled_after : (end page_size : ℕ) (old new : List ℕ) (vs : List QueuePair) (c : ℕ) (v u : QueuePair)
     → IsSettled page_size old vs → c < length vs
     → v ≡ get_or vs c v → length new ≡ length old → KeepsBelow end page_size v old new
@@ -139,9 +160,11 @@ module _ {g : Geometry} {mem new : PagedBytes} {ls : List QueuePairFields} {d : 
     (ctrl : c < length d.pairs) (here : l ≡ get_or ls c l)
     (left : IsLeft g c end (record (pair_value l) { number = n; serial = serial })
     (side b l mem.page_size mem.bytes) (side b' l' new.page_size new.bytes)) where
+  -- a queue pair with another number and command identifier is still where it was placed
   stays_placed : (v : QueuePair) → IsPlaced g c v → IsPlaced g c (record v { number = n; serial = serial })
   stays_placed v placed = ap (λ (q : QueuePair). record q { number = n; serial = serial }) placed
 
+  -- after a command of controller c, the driver is still one
   pub driver_after : ((i : ℕ) (e : QueuePair) → i < length ls
       → end_of g.page_size (get_or (map pair_value ls) i e) ≤ end) → IsDriver g new (slice_set ls c l')
   driver_after ends =
@@ -171,7 +194,7 @@ module _ {g : Geometry} {mem new : PagedBytes} {ls : List QueuePairFields} {d : 
             (ap (λ (v : QueuePair). v.page_count) left.pair));
       }
 
-  -- the registers
+  -- after a command of controller c, the registers are linked to the driver
   pub linked_after : IsLinked b d → IsLinked b' (driver_value g new (slice_set ls c l'))
   linked_after linked =
       let idle = idle_bank (mps_of g.page_size) g.page_size in
@@ -189,7 +212,7 @@ module _ {g : Geometry} {mem new : PagedBytes} {ls : List QueuePairFields} {d : 
       rw (left.len, left.page, map-set pair_value ls c l', left.pair ∙ sym by ∙ ap f (sym (at is value ctrl here)))
       (ap (λ (v : DriverValue). record v { pairs = slice_set v.pairs c (f (pair_at v.pairs c)) }) value)
 
--- all queue pairs lie in the memory
+-- each queue pair of a driver ends within the memory
 pub ends_inside : {g : Geometry} {mem : PagedBytes} {ls : List QueuePairFields} → IsDriver g mem ls → (i : ℕ)
     (e : QueuePair) → i < length ls → end_of g.page_size (get_or (map pair_value ls) i e) ≤ length mem.bytes
 ends_inside {ls = ls} is i e h =
@@ -200,6 +223,6 @@ pub after_first : (d : DriverValue) (c : ℕ) → after_commands d c 1 ≡ after
 unfolding kept_number next
 after_first d c = refl
 
--- the number of queue pairs
+-- there are as many values of queue pairs as queue pairs
 pub pair_count : (ls : List QueuePairFields) → length ls ≡ length (map pair_value ls)
 pair_count ls = sym (length-map ls pair_value)

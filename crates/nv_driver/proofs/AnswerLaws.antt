@@ -38,27 +38,32 @@ IsAnswerTo (Ok k) (Ok r) = IsReplyTo k r × FitsRecord r
 IsAnswerTo (Err code) (Ok r) = ⊥
 IsAnswerTo asked (Err status) = StatusFits status × (is_success status ≡ false)
 
+-- a status that isn't type 0 and code 0 is no success
 no_success : (status : Status) → ((status.sct ≡ 0) × (status.sc ≡ 0) → ⊥) → is_success status ≡ false
 no_success status fails = grind (arith, nat_tests, fails)
 
+-- the answer of a step, refused or not, is one to its command
 answer_by : (o : Option Refusal) (s : State) (c : ℕ) (k : Command) (cid : ℕ) → IsWellFormed s
     → ((r : Refusal) → o ≡ Some r → IsRefusal r)
     → IsAnswerTo (Ok k) (step_by o s c k cid).answer
 answer_by None s c k cid w fits = let f = reply_fits s c k w in (f.is_reply, f.fits)
 answer_by (Some r) s c k cid w fits = let f = fits r refl in (f.status, no_success r.status f.fails)
 
+-- the answer to whatever was asked for is one to it
 pub answer_sound : (asked : Asked) (s : State) (c nsid cid : ℕ) → IsWellFormed s
     → IsAnswerTo asked (asked_step asked s c nsid cid).answer
 answer_sound (Ok k) s c nsid cid w = answer_by (refusal_of s c k) s c k cid w (refusal_fits s c k)
 answer_sound (Err code) s c nsid cid w =
     let f = is_refusal-refusal_by code in (f.status, no_success (refusal_by code).status f.fails)
 
+-- whatever was asked for leaves a well-formed subsystem well formed
 pub asked_keeps : (asked : Asked) (moves : Transfer) (s : State) (c nsid cid : ℕ) → GoesBy asked moves → nsid < 2 ^ 32
     → cid < 2 ^ 16 → IsWellFormed s → IsWellFormed (asked_step asked s c nsid cid).state
 asked_keeps (Ok k) moves s c nsid cid goes a b w = step_keeps s c k cid goes.1 b w
 asked_keeps (Err code) moves s c nsid cid goes a b w =
     refused_keeps s c nsid cid (refusal_by code) a b (is_refusal-refusal_by code) w
 
+-- whatever was asked for adds or removes no controller
 pub asked_controllers : (asked : Asked) (s : State) (c nsid cid : ℕ)
     → length (asked_step asked s c nsid cid).state.controllers ≡ length s.controllers
 asked_controllers (Ok k) s c nsid cid = step_controllers s c k cid
@@ -74,6 +79,7 @@ asked_limit (Err code) s c nsid cid d = refused_limit s c nsid cid d (refusal_by
 
 -- ---- completions
 
+-- dword 0 of a reply that fits its record has 32 bits
 dword0_fits : (r : Reply) → FitsRecord r → dword0_of r < 2 ^ 32
 dword0_fits (reply.Controller r) fits = lit< tt
 dword0_fits (reply.Namespace r) fits = lit< tt
@@ -83,10 +89,12 @@ dword0_fits reply.Done fits = lit< tt
 dword0_fits (reply.Errors es) fits = lit< tt
 dword0_fits (reply.Smart r) fits = lit< tt
 
+-- a reply that answers what was asked for fits its record
 record_fits : (asked : Asked) (r : Reply) → IsAnswerTo asked (Ok r) → FitsRecord r
 record_fits (Ok k) r is = is.1
 record_fits (Err code) r is = absurd is
 
+-- the completion with such an answer fits its bits
 pub completion_fits : (asked : Asked) (cid head : ℕ) (a : Answer) → cid < 2 ^ 16 → head < 2 ^ 16
     → IsAnswerTo asked a → CqeFits (completion_with cid head a)
 completion_fits asked cid head (Ok r) low below is = record {
@@ -106,6 +114,7 @@ completion_fits asked cid head (Err status) low below is = record {
 
 -- ---- what its completion and its data say
 
+-- an answer is read back from its completion and its delivered data
 reads_back : (asked : Asked) (bytes : List ℕ) (depth n cid head : ℕ) (a : Answer) → IsReadable asked
     → IsAnswerTo asked a → Delivers asked a bytes
     → answer_to asked (posted_as depth n (completion_with cid head a)) bytes ≡ received_as asked a
@@ -120,6 +129,7 @@ reads_back (Ok k) bytes depth n cid head (Err status) sends is delivered = rw (i
 reads_back (Err code) bytes depth n cid head (Ok reply) sends is delivered = absurd is
 reads_back (Err code) bytes depth n cid head (Err status) sends is delivered = refl
 
+-- the completion and the delivered data of a request hold its answer
 pub answered : (page_size : ℕ) (x : Sent) (mem : List ℕ) (c : Cqe) (depth n cid head : ℕ) (a : Answer)
     → c ≡ posted_as depth n (completion_with cid head a) → IsAnswerTo x.request.asked a
     → Delivers x.request.asked a (bytes_read page_size x mem) → IsAnswered page_size x mem c a
@@ -148,6 +158,7 @@ answered_on page_size x old new c e a same bytes is =
           ∙ ap (answer_to x.request.asked c) came ∙ is.reads can;
     }
 
+-- an answer that is held stays so if its completion, its data and the requests up to it don't change
 pub holds_on : (t : Setting) (s : State) (w v : World) (n : ℕ) (x : Sent)
     → completion_at v.mem t.cq (slot t n) ≡ completion_at w.mem t.cq (slot t n)
     → read_at v.mem (places t.page_size x) ≡ read_at w.mem (places t.page_size x)

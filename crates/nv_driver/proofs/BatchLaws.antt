@@ -10,13 +10,16 @@ use Rattle.nv_driver.specs.Batch.{answers_of, from_serial, numbered_command, sta
 
 -- ---- commands that were sent
 
+-- there are as many answers as numbered requests
 pub length-answers_of_all : (c : ℕ) (s : State) (xs : List Numbered) → length (answers_of_all c s xs) ≡ length xs
 length-answers_of_all c s [] = refl
 length-answers_of_all c s (x ∷ xs) = ap suc (length-answers_of_all c (step_of c s x).state xs)
 
+-- there are as many answers as requests that were sent
 pub length-answers : (c : ℕ) (s : State) (xs : List Sent) → length (answers_to c s xs) ≡ length xs
 length-answers c s xs = length-answers_of_all c s (map numbered xs) ∙ length-map xs numbered
 
+-- the answers to xs ++ ys are the answers to xs and then the answers to ys after xs
 pub answers-append : (c : ℕ) (s : State) (xs ys : List Sent)
     → answers_to c s (xs ++ ys) ≡ answers_to c s xs ++ answers_to c (after c s xs) ys
 answers-append c s [] ys = refl
@@ -24,7 +27,7 @@ answers-append c s (x ∷ xs) ys =
     let one = step_of c s (numbered x) in
     ap (λ rest. received_as x.request.asked one.answer ∷ rest) (answers-append c one.state xs ys)
 
--- the state after one more command
+-- the state after the first n requests and one more is the state after the step of request n
 after-suc : (c : ℕ) (s : State) (xs : List Sent) (n : ℕ) (d : Sent) → n < length xs
     → after c s (take (suc n) xs) ≡ (step_after c s xs n (get_or xs n d)).state
 after-suc c s [] n d h = absurd (omega arith)
@@ -32,11 +35,12 @@ after-suc c s (x ∷ []) zero d h = refl
 after-suc c s (x ∷ (y ∷ xs)) zero d h = refl
 after-suc c s (x ∷ xs) (suc n) d h = after-suc c (step_of c s (numbered x)).state xs n d (omega arith)
 
+-- the state after n + 1 requests is the state after the step of request n
 pub after_more : (c : ℕ) (s : State) (xs : List Sent) (n : ℕ) (d : Sent) → n < length xs
     → after c s (take (n + 1) xs) ≡ (step_after c s xs n (get_or xs n d)).state
 after_more c s xs n d h = ap (λ k. after c s (take k xs)) (add-one n) ∙ after-suc c s xs n d h
 
--- the answer to command n
+-- the answer to request n is that of its step after the requests before it
 pub answer_at : (c : ℕ) (s : State) (xs : List Sent) (n : ℕ) (d : Sent) (e : Answer) → n < length xs
     → get_or (answers_to c s xs) n e ≡ received_as (get_or xs n d).request.asked
     (step_after c s xs n (get_or xs n d)).answer
@@ -46,12 +50,13 @@ answer_at c s (x ∷ xs) (suc n) d e h = answer_at c (step_of c s (numbered x)).
 
 -- ---- serials
 
+-- the command identifier after n more ones is followed by the one after n + 1
 pub serial_next : (serial n : ℕ) → next_serial ((serial + n) % 65535) ≡ (serial + (n + 1)) % 65535
 serial_next serial n = omega arith
 
 -- ---- the commands of a schedule
 
--- command n of a list, with its command identifier
+-- element n of the numbered commands is command n with the command identifier that is n further
 pub command_at : (serial n : ℕ) (ks : List Command) (d : Numbered) (e : Command) → serial < 65535 → n < length ks
     → get_or (from_serial serial ks) n d ≡ numbered_command (get_or ks n e) ((serial + n) % 65535)
 command_at serial n [] d e below inside = absurd (omega arith)
@@ -62,16 +67,19 @@ command_at serial (suc n) (k ∷ ks) d e below inside =
     command_at (next_serial serial) n ks d e (mod_below (serial + 1) 65535 (omega arith)) (omega arith)
     ∙ ap (numbered_command (get_or ks n e)) same
 
+-- there are as many numbered commands as commands
 pub length-from_serial : (serial : ℕ) (ks : List Command) → length (from_serial serial ks) ≡ length ks
 length-from_serial serial [] = refl
 length-from_serial serial (k ∷ ks) = ap suc (length-from_serial (next_serial serial) ks)
 
+-- the first n numbered commands are the first n commands, numbered
 take-from_serial : (n serial : ℕ) (ks : List Command) → take n (from_serial serial ks) ≡ from_serial serial (take n ks)
 take-from_serial zero serial ks = refl
 take-from_serial (suc n) serial [] = refl
 take-from_serial (suc n) serial (k ∷ ks) =
     ap (λ xs. numbered_command k serial ∷ xs) (take-from_serial n (next_serial serial) ks)
 
+-- the first n answers are the answers to the first n requests
 take-answers : (n c : ℕ) (s : State) (xs : List Numbered)
     → take n (answers_of_all c s xs) ≡ answers_of_all c s (take n xs)
 take-answers zero c s xs = refl
@@ -82,13 +90,16 @@ take-answers (suc n) c s (x ∷ xs) =
 -- the requests are the first m of a list
 module _ (serial : ℕ) (ks : List Command) (xs : List Sent) (m : ℕ)
     (are : map numbered xs ≡ take m (from_serial serial ks)) where
+  -- the first n requests are the first n commands of the list
   first_are : (n : ℕ) → n ≤ m → take n (map numbered xs) ≡ take n (from_serial serial ks)
   first_are n few = ap (take n) are ∙ take-take n m (from_serial serial ks) few
 
+  -- the first n requests leave the same state as the first n commands
   pub state_is : (c : ℕ) (s : State) (n : ℕ) → n ≤ m → after c s (take n xs) ≡ state_after c s serial (take n ks)
   state_is c s n few =
       ap (state_after_all c s) (sym (take-map numbered n xs) ∙ first_are n few ∙ take-from_serial n serial ks)
 
+  -- the first n answers to the requests are the first n answers to the commands
   pub answers_are : (c : ℕ) (s : State) (n : ℕ) → n ≤ m → take n (answers_to c s xs) ≡ take n (answers_of c s serial ks)
   answers_are c s n few =
       take-answers n c s (map numbered xs) ∙ ap (answers_of_all c s) (first_are n few)

@@ -8,14 +8,17 @@ use Rattle.nv_queue.specs.Rings.{FetchNumbers, PostNumbers}
 use Rattle.nv_register.specs.RegisterBank.{rung_by, told_by}
 use Rattle.nv_driver.proofs.Words.{Setting, bank_with, device_rings, nat_tests, number, slot, with_register_at}
 
+-- the number of a command is below twice the depth
 pub number_below : (t : Setting) (n : ℕ) → 0 < t.depth → number t n < 2 * t.depth
 number_below t n p = kept_below t.depth (t.start + n) p
 
+-- after the number of a command comes the number of the next command
 pub number_next : (t : Setting) (n : ℕ) → next t.depth (number t n) ≡ number t (n + 1)
 number_next t n =
     let sum : t.start + n + 1 ≡ t.start + (n + 1) = omega arith in
     kept_next t.depth (t.start + n) ∙ ap (kept_number t.depth) sum
 
+-- the slot of a command is below the depth
 pub slot_inside : (t : Setting) (n : ℕ) → 0 < t.depth → slot t n < t.depth
 slot_inside t n p = slot_below t.depth (number t n) (number_below t n p)
 
@@ -25,11 +28,12 @@ slots_differ t n m l h = λ same.
     slots_apart t.depth (t.start + m) (t.start + n) (omega arith) (omega arith)
     (sym (slot_kept t.depth (t.start + m)) ∙ same ∙ slot_kept t.depth (t.start + n))
 
--- how far a number is above another
+-- the number of command m is m - n above the number of command n, if it is less than two depths ahead
 pub number_above : (t : Setting) (n m : ℕ) → 0 < t.depth → n ≤ m → m < n + 2 * t.depth
     → above t.depth (number t m) (number t n) ≡ m - n
 number_above t n m p l h = above_kept t.depth (t.start + m) (t.start + n) (m - n) p (omega arith) (omega arith)
 
+-- commands that are fewer than a depth apart have different numbers
 pub numbers_differ : (t : Setting) (n m : ℕ) → n < m → m < n + t.depth → number t n ≢ number t m
 numbers_differ t n m l h = λ same.
     let far = number_above t n m (omega arith) (omega arith) (omega arith) in
@@ -39,6 +43,7 @@ numbers_differ t n m l h = λ same.
 
 -- ---- doorbells
 
+-- the device takes the tail after m commands, if fewer than a depth of them weren't executed
 rung_is : (t : Setting) (rung done m : ℕ) → done ≤ m → m < done + t.depth
     → rung_by (record { base = t.sq; depth = t.depth; fetched = number t done; rung = number t rung }) (slot t m)
     ≡ record { base = t.sq; depth = t.depth; fetched = number t done; rung = number t m }
@@ -56,6 +61,7 @@ tail_rung t rung done told m l h =
     ap (λ (r : FetchNumbers). bank_with t (record (device_rings t rung done told)
     { submission = r })) (rung_is t rung done m l h)
 
+-- the device takes the head after k answers, if it comes after the head before and up to what was posted
 told_is : (t : Setting) (done told k : ℕ) → told ≤ k → k ≤ done → done < told + t.depth
     → told_by (record { base = t.cq; depth = t.depth; posted = number t done; told = number t told }) (slot t k)
     ≡ record { base = t.cq; depth = t.depth; posted = number t done; told = number t k }

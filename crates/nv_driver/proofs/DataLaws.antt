@@ -6,7 +6,9 @@ use Rattle.nv_prp.specs.Place.{read_at, written_at}
 use Rattle.nv_prp.proofs.PlaceLaws.{read_written}
 use Rattle.nv_command.specs.Command.{CommandFits, host_data_of}
 use Rattle.nv_command.specs.Logs.{IsSendable, IsWhole}
-use Rattle.nv_command.specs.Form.{is_error_log}
+use Rattle.nv_command.specs.LogPage.{log_asked}
+use Rattle.nv_command.specs.declared.log_page.LogPage.{LogPage}
+use Rattle.nv_command.specs.declared.log_page.LogPage.TheVariants.{ErrorInformation, Health}
 use Rattle.nv_command.specs.Reply.{with_data}
 use Rattle.nv_command.proofs.FormLaws.{a_page, at_most_a_page}
 use Rattle.nv_command.proofs.TravelLaws.{commands_travel}
@@ -16,15 +18,18 @@ use Rattle.nv_driver.proofs.Words.{bytes_to_host, length_of, received_from, sent
 
 -- ---- by commands
 
+-- there is no data, a page from the host, or up to 16,384 bytes from the controller
 abbrev pub HasShape : Transfer → Type 0
 HasShape NoData = Unit {0}
 HasShape (ToHost n) = (0 < n) × (n ≤ 16384)
 HasShape (FromHost n) = n ≡ 4096
 
-log_shape : (errors : Bool) (offset dwords : ℕ) → IsWhole errors offset dwords → HasShape (ToHost (4 * dwords))
-log_shape true offset dwords whole = let e = whole.1 in (omega (arith, e.whole, e.some), omega (arith, e.whole, e.few))
-log_shape false offset dwords whole = (omega (arith, whole.1), omega (arith, whole.1))
+-- the data of a log that is read whole has at most 16,384 bytes
+log_shape : (page : LogPage) (offset dwords : ℕ) → IsWhole page offset dwords → HasShape (ToHost (4 * dwords))
+log_shape ErrorInformation offset dwords whole = let e = whole.1 in (omega (arith, e.whole, e.some), omega (arith, e.whole, e.few))
+log_shape Health offset dwords whole = (omega (arith, whole.1), omega (arith, whole.1))
 
+-- data of at most a page has such a shape
 by_page : (m : Transfer) → at_most_a_page m ≡ true → HasShape m
 by_page NoData is = tt
 by_page (ToHost n) is = let page = a_page n is in (omega (arith, page), omega (arith, page))
@@ -32,14 +37,16 @@ by_page (FromHost n) is = a_page n is
 
 -- by its form there is at most a page, except for logs
 pub shape : (k : Command) → IsSendable k → HasShape (transfer_by k)
-shape (GetLog q) sends = log_shape (is_error_log q.lid) q.offset q.dwords sends
+shape (GetLog q) sends = log_shape (log_asked q.lid) q.offset q.dwords sends
 shape k sends = by_page (transfer_by k) refl
 
 -- ---- in general
 
+-- the transfer of a command whose reply can be read has such a shape
 pub shape_as : (k : Command) (m : Transfer) → IsSendable k → m ≡ transfer_by k → HasShape m
 shape_as k m sends e = subst HasShape (sym e) (shape k sends)
 
+-- data of such a shape has at most 16,384 bytes
 pub most : (m : Transfer) → HasShape m → length_of m ≤ 16384
 most NoData is = lit≤ tt
 most (ToHost n) is = is.1
@@ -47,32 +54,38 @@ most (FromHost n) is = omega (arith, is)
 
 -- ---- what the host sends
 
+-- a command whose fields fit has as much data from the host as its transfer says
 pub length-host_data : (k : Command) → CommandFits k
     → length (host_data_of k) ≡ bytes_from_host (transfer_by k)
 length-host_data k fits = (commands_travel k 0 fits (lit< tt)).sent
 
+-- a list of length 0 is empty
 pub nothing : (xs : List ℕ) → length xs ≡ 0 → xs ≡ []
 nothing [] none = refl
 nothing (x ∷ xs) none = absurd (omega (arith, none))
 
+-- writing nothing to places changes nothing
 pub written-nothing : (bytes at : List ℕ) → written_at bytes at [] ≡ bytes
 unfolding written_at
 written-nothing bytes [] = refl
 written-nothing bytes (p ∷ at) = refl
 
+-- writing data of length 0 to places changes nothing
 pub none_written : (bytes at xs : List ℕ) → length xs ≡ 0 → bytes ≡ written_at bytes at xs
 none_written bytes at xs none = sym (ap (written_at bytes at) (nothing xs none) ∙ written-nothing bytes at)
 
--- it is at most a page
+-- data of at most a page has at most 4,096 bytes from the host
 few_from_host : (m : Transfer) → at_most_a_page m ≡ true → bytes_from_host m ≤ 4096
 few_from_host NoData is = lit≤ tt
 few_from_host (ToHost n) is = lit≤ tt
 few_from_host (FromHost n) is = omega (arith, a_page n is)
 
+-- every command has at most a page of data from the host
 few_sent : (k : Command) → bytes_from_host (transfer_by k) ≤ 4096
 few_sent (GetLog q) = lit≤ tt
 few_sent k = few_from_host (transfer_by k) refl
 
+-- the data from the host of a command whose fields fit has at most 4,096 bytes
 pub few_data : (k : Command) → CommandFits k → length (host_data_of k) ≤ 4096
 few_data k fits = omega (arith, length-host_data k fits, few_sent k)
 
@@ -85,6 +98,7 @@ data_part k page at n inside =
     ap (take n) (drop-append-le at xs rest (omega arith))
     ∙ take-append-le n (drop at xs) rest (omega (arith, length-drop at xs))
 
+-- the whole data from the host is a part of a page that begins with it
 pub data_whole : (k : Command) (page : List ℕ) (at n : ℕ) → CommandFits k → length page ≡ n → n ≡ 4096
     → at + n ≤ length (host_data_of k) → with_data (host_data_of k) page ≡ take n (drop at (host_data_of k))
 data_whole k page at n fits size whole inside =
@@ -104,6 +118,7 @@ sent_same NoData old new at same = refl
 sent_same (ToHost n) old new at same = refl
 sent_same (FromHost n) old new at same = same
 
+-- if the bytes that are read don't change, what is received doesn't
 pub received_same : (m : Transfer) (old new at : List ℕ) → read_at new at ≡ read_at old at
     → received_from m new at ≡ received_from m old at
 received_same NoData old new at same = refl
@@ -116,7 +131,7 @@ pub record ArePlaces (m : Transfer) (memory : ℕ) (at : List ℕ) : Type 0 wher
   pub inside : (k : ℕ) → k < length at → get_or at k 0 < memory
   pub distinct : AreDistinct at
 
--- what one side writes there the other one reads
+-- what the host writes to the places of a transfer is what the controller reads there
 pub sent_back : (m : Transfer) (bytes at xs : List ℕ) → ArePlaces m (length bytes) at
     → length xs ≡ bytes_from_host m → sent_from m (written_at bytes at xs) at ≡ xs
 sent_back NoData bytes at xs p len = sym (nothing xs len)
@@ -124,6 +139,7 @@ sent_back (ToHost n) bytes at xs p len = sym (nothing xs len)
 sent_back (FromHost n) bytes at xs p len =
     read_written bytes at xs (p.size ∙ sym len) p.inside p.distinct
 
+-- what the controller writes to the places of a transfer is received there
 pub received_back : (m : Transfer) (bytes at xs : List ℕ) → ArePlaces m (length bytes) at
     → length xs ≡ bytes_to_host m → received_from m (written_at bytes at xs) at ≡ xs
 received_back NoData bytes at xs p len = sym (nothing xs len)

@@ -38,9 +38,11 @@ use Rattle.nv_driver.proofs.BatchLaws.{after_more}
 
 -- ---- which entry is taken
 
+-- the rings of the schedule's controller
 abbrev pub now : Setting → World → Rings
 now t w = device_rings t w.rung w.done w.told
 
+-- if the controller can take an entry, one is waiting and its completion has a free slot
 pub can_go : (t : Setting) (s : State) (w : World) → Keeps t s w → can_take (now t w) ≡ true
     → (w.done < w.rung) × (w.done + 1 < w.told + t.depth)
 can_go t s w k can =
@@ -74,10 +76,12 @@ abbrev pub IsDone : Setting → World → Sent → Scene → Type 0
 IsDone t w x y = IsTaken t w y (entry x) (call_at (places t.page_size x) x.request.asked)
     (step_of t.controller w.state (numbered x))
 
+-- the command of what is asked for is what is asked for
 asked_there : (at : List ℕ) (asked : Asked) → command_in (call_at at asked) ≡ asked
 asked_there at (Ok k) = refl
 asked_there at (Err code) = refl
 
+-- if one entry was taken, the next request of the schedule was executed
 pub is_done : (t : Setting) (s : State) (w : World) (y : Scene) (d : Sent) → Keeps t s w → w.done < length w.sent
     → One t.controller (scene w.state (now t w) w.mem) y → IsDone t w (get_or w.sent w.done d) y
 is_done t s w y d k below one =
@@ -147,44 +151,57 @@ world_after t w y = record w {
 -- command w.done is the one that is taken
 module _ (t : Setting) (s : State) (w : World) (y : Scene) (d : Sent) (k : Keeps t s w)
     (below : w.done < length w.sent) (one : IsDone t w (get_or w.sent w.done d) y) where
+  -- the request that is executed
   abbrev x : Sent
   x = get_or w.sent w.done d
 
+  -- its answer
   abbrev answer : Answer
   answer = (step_of t.controller w.state (numbered x)).answer
 
+  -- its completion
   abbrev posted : Cqe
   posted = completion_with x.cid (slot t (w.done + 1)) answer
 
+  -- its pages belong to it
   own : IsOwn t (length w.mem) x
   own = k.own w.done d k.counts.collected below
 
+  -- a page has a byte
   some : 0 < t.page_size
   some = omega (arith, page_size_bounds t.page_size k.placed.page_size)
 
+  -- a ring has from 1 to 4,096 slots
   some_slots : (0 < t.depth) × (t.depth ≤ 4096)
   some_slots = let deep = k.placed.deep in (omega (arith, deep.0), deep.1)
 
+  -- its answer is one to what it asks for
   sound : IsAnswerTo x.request.asked answer
   sound = answer_sound x.request.asked w.state t.controller x.request.entry.nsid x.cid k.well_formed
 
+  -- its data was written to its places
   put : (xs : List ℕ) × (one.moved ≡ written_at w.mem (places t.page_size x) xs)
   put = moves_there x.request.asked (places t.page_size x) answer w.mem one.moved one.moves
 
+  -- bytes outside its pages don't change when its data is written
   moved_keeps : (from n : ℕ) → AreOutside t.page_size x from n → bytes_at one.moved from n ≡ bytes_at w.mem from n
   moved_keeps from n outside =
       ap (λ m. bytes_at m from n) put.1 ∙ data_keeps t.page_size x w.mem put.0 from n some own.enough outside
 
+  -- writing its data keeps the length of the memory
   size : length one.moved ≡ length w.mem
   size = ap (λ (m : List ℕ). length m) put.1 ∙ length-written_at w.mem (places t.page_size x) put.0
 
+  -- the completion ring lies in the memory
   inside : t.cq + 16 * t.depth ≤ length one.moved
   inside = omega (arith, size, k.placed.completions)
 
+  -- taking the entry keeps the length of the memory
   len : length y.bytes ≡ length w.mem
   len = ap (λ (m : List ℕ). length m) one.bytes
       ∙ length-with_completion one.moved (now t w).completion posted some_slots.0 inside ∙ size
 
+  -- its completion is in its slot, and the other slots don't change
   written : WritesCompletion one.moved y.bytes t.cq t.depth (slot t w.done)
       (posted_as t.depth (number t w.done) posted)
   written =
@@ -200,6 +217,7 @@ module _ (t : Setting) (s : State) (w : World) (y : Scene) (d : Sent) (k : Keeps
   beside from i apart = ap (λ m. bytes_at m from i) one.bytes
       ∙ completion_keeps one.moved (now t w).completion posted from i some_slots.0 inside apart
 
+  -- only its pages and the completion ring change
   only : ChangesOnlyAt t x t.cq (16 * t.depth) w.mem y.bytes
   only from i outside apart =
       beside from i apart ∙ moved_keeps from i outside
@@ -209,6 +227,7 @@ module _ (t : Setting) (s : State) (w : World) (y : Scene) (d : Sent) (k : Keeps
   own_stays = stays_beside t x t.cq (16 * t.depth) one.moved y.bytes some (len
       ∙ sym size) own.enough own.completions beside
 
+  -- its own list doesn't change
   own_list : KeepsList (pointed t.page_size x w.mem) x.first x.second y.bytes
   own_list =
       let moved = subst (KeepsList (pointed t.page_size x w.mem) x.first x.second) (sym put.1)
@@ -220,6 +239,7 @@ module _ (t : Setting) (s : State) (w : World) (y : Scene) (d : Sent) (k : Keeps
         in_second = λ many. rest.in_second many ∙ moved.in_second many;
       }
 
+  -- its pages are none of another outstanding request
   apart_from : (i : ℕ) (e : Sent) → length w.answers ≤ i → i < length w.sent → i ≢ w.done
       → AreApart (get_or w.sent i e) x
   apart_from i e from high differ =
@@ -231,6 +251,7 @@ module _ (t : Setting) (s : State) (w : World) (y : Scene) (d : Sent) (k : Keeps
             (k.apart w.done i e k.counts.collected (omega (arith, differ)) high))
       ]
 
+  -- the lists and the data of other outstanding requests don't change
   other_stays : (i : ℕ) (e : Sent) → length w.answers ≤ i → i < length w.sent → i ≢ w.done
       → Stays t (get_or w.sent i e) w.mem y.bytes
   other_stays i e from high differ =
@@ -238,6 +259,7 @@ module _ (t : Setting) (s : State) (w : World) (y : Scene) (d : Sent) (k : Keeps
       stays_apart t x (get_or w.sent i e) t.cq (16 * t.depth) w.mem y.bytes some len only other.enough
       (apart_from i e from high differ) other.completions
 
+  -- the data pointers of all outstanding requests still name their data
   named_on : (i : ℕ) (e : Sent) → length w.answers ≤ i → i < length w.sent
       → StaysNamed t.page_size (get_or w.sent i e) y.bytes
   named_on i e from high =
@@ -262,9 +284,11 @@ module _ (t : Setting) (s : State) (w : World) (y : Scene) (d : Sent) (k : Keeps
     head = ap (λ (q : Cqe). q.sq_head) written.here;
   }
 
+  -- the completions in their slots don't change when its data is written
   slots_keep : (j : ℕ) → j < t.depth → completion_at one.moved t.cq j ≡ completion_at w.mem t.cq j
   slots_keep j low = completion_same t w.mem one.moved j (moved_keeps t.cq (16 * t.depth) own.completions) low
 
+  -- the answers to outstanding requests that were executed are held, with its own
   held_on : (i : ℕ) (e : Sent) → length w.answers ≤ i → i < w.done + 1
       → Holds t s (world_after t w y) i (get_or w.sent i e)
   held_on i e from high =
@@ -284,6 +308,7 @@ module _ (t : Setting) (s : State) (w : World) (y : Scene) (d : Sent) (k : Keeps
             (subst (λ j. Holds t s (world_after t w y) j x) (sym is) held_now)
       ]
 
+  -- what holds for the schedule holds after this entry too
   one_more : w.done < w.rung → w.done + 1 < w.told + t.depth → Keeps t s (world_after t w y)
   one_more waits free =
       let c = k.counts in
@@ -320,6 +345,7 @@ module _ (t : Setting) (s : State) (w : World) (y : Scene) (d : Sent) (k : Keeps
         answers = k.answers;
       }
 
+-- an entry that is taken keeps what holds for the schedule
 pub entry_keeps : (t : Setting) (s : State) (w : World) (y : Scene) (d : Sent) → Keeps t s w
     → Takes t.page_size t.controller (scene w.state (now t w) w.mem) y → Keeps t s (world_after t w y)
 entry_keeps t s w y d k takes =

@@ -13,11 +13,13 @@ use Rattle.nv_driver.proofs.Words.{awaited_completion, bank_at, collected_one, g
 use Rattle.nv_driver.proofs.Words.{limit_bounds, limit_of, mul-le-mul_right, numbered, padded, pages_of_entry}
 use Rattle.nv_driver.proofs.Words.{pair_value, place_from, received_from, run_of, sent_at, sent_for, setting_of, side}
 use Rattle.nv_driver.proofs.Words.{slice_set, step_of, transfer_for, way, with_register_at}
-use Rattle.nv_driver.specs.inner.Alone.{IsExchanged, came_with}
+use Rattle.nv_driver.specs.inner.Alone.{IsAlone, IsExchanged, came_with, request_in}
 use Rattle.nv_driver.specs.Alone.{Comes, IsReceived, asked_in, entry_step}
 use Rattle.nv_driver.specs.Layout.{data_count}
 use Rattle.nv_driver.specs.Request.{request_for}
-use Rattle.nv_driver.specs.Schedule.{bytes_read}
+use Rattle.nv_driver.specs.Schedule.{Event, World, bytes_read}
+use Rattle.nv_driver.specs.UnderWay.{Course, world_of}
+use Rattle.nv_driver.proofs.Words.{Bell, Collect, Submit, Tell, Turn}
 use Rattle.nv_driver.specs.HostData.{sent_by}
 use Rattle.nv_driver.specs.inner.Submitting.{request_as}
 use Rattle.nv_driver.specs.declared.submitting.Outgoing.{Outgoing}
@@ -32,14 +34,17 @@ use Rattle.nv_driver.proofs.SubmittingLaws.{AreFrom, outside_before, requests_sa
 use Rattle.nv_bus.specs.Turn as T
 use Rattle.nv_driver.proofs.OnWayLaws as W
 
+-- dword 0 and status of a completion
 abbrev told : ℕ → Status → Told
 told dword0 status = record { dword0 = dword0; status = status }
 
+-- completions with equal parts tell the same
 same_told : {a b : ℕ} {s s' : Status} → a ≡ b → s ≡ s' → told a s ≡ told b s'
 same_told e f = cc
 
 -- ---- the data that comes back
 
+-- the data that comes back by a status belongs to the answer with this status
 pub comes_by : (asked : Asked) (a : Answer) (status : Status) (bytes : List ℕ) → status ≡ status_in a
     → IsAnswerTo asked a → Delivers asked a bytes → Comes asked a (came_with status bytes)
 comes_by (Ok k) (Ok reply) status bytes is sound delivered = rw is delivered
@@ -47,75 +52,115 @@ comes_by (Ok k) (Err refused) status bytes is sound delivered = rw (is, sound.1)
 comes_by (Err code) (Ok reply) status bytes is sound delivered = absurd sound
 comes_by (Err code) (Err refused) status bytes is sound delivered = rw (is, sound.1) refl
 
+-- any event may be due
+abbrev pub ever : World → Event → Type 0
+ever w e = Unit {0}
+
 -- an entry was submitted over a queue pair without outstanding commands, with its data at a place after the queue
 -- pair whose first page is the list's
 pub record IsBegun (g : Geometry) (bus : BusValue) (c : ℕ) (l : QueuePairFields) (bytes : List ℕ) (e : Sqe)
     (given : List ℕ) (at : RequestPlace) (now : ℕ) (l' : QueuePairFields) (mem : List ℕ) (now1 tail : ℕ) : Type 0 where
+  -- the controller is ready, with no command outstanding
   pub ready : IsReady g bus c l now bytes
   pub fits : SqeFits e
   pub place : IsPlaceFor bytes now at (length_of (transfer_for e))
   pub first : AreFrom at.first at
   pub last : l.pages.first + l.pages.count ≤ at.first
+  pub is_place : at ≡ place_from g at.first (length_of (transfer_for e))
   pub sub : IsSubmittedAt g.page_size at (request_for (limit_of bus.state c) e given) l l' bytes mem now1 tail
 
 module _ {g : Geometry} {bus : BusValue} {c : ℕ} {l : QueuePairFields} {bytes : List ℕ} {e : Sqe} {given : List ℕ}
     {at : RequestPlace} {now now1 tail : ℕ} {l' : QueuePairFields} {mem : List ℕ}
     (b : IsBegun g bus c l bytes e given at now l' mem now1 tail) where
+  -- the controller is ready, with no command outstanding
   ready : IsReady g bus c l now bytes
   ready = b.ready
 
+  -- the run of this one request
   abbrev pub run : Run
   run = run_of g c bus l bytes []
 
+  -- the schedule of the run's controller
   abbrev t : Setting
   t = setting_of run
 
+  -- the request as it was sent
   abbrev pub sent : Sent
   sent = sent_at at (request_for (limit_of bus.state c) e given) l.serial b.sub.prp1 b.sub.prp2
 
+  -- the entry with the host's bytes is a request
   can : IsRequest (limit_of bus.state c) sent.request
   can = every_entry (limit_of bus.state c) e given (limit_bounds bus.state c ready.bus.state
       (omega (arith, ready.controller, ready.bus.banks))).1 b.fits
+
+  -- the request was submitted, the tail doorbell was rung, and the controller had a turn
+  abbrev pub one_sent : Course
+  one_sent = record { sent = sent ∷ []; answers = []; events = Turn 1 ∷ Bell ∷ Submit sent ∷ [] }
 
   -- the tail doorbell was rung for it, and the controller had a turn, which took it
   pub took : {now2 value count : ℕ} {one two : BusValue} {mem2 : List ℕ} → value ≡ tail → one.state ≡ bus.state
       → one.banks ≡ slice_set bus.banks c (with_register_at (bank_at bus.banks c) 0x1000 value)
       → (IsBus bus → IsBus one) → T.Turn now1 c 1 count one mem two mem2 → IsBus two → length mem2 ≡ length mem
-      → now2 ≡ now1 → IsOnWay (way run (record { sent = sent ∷ []; answers = [] }) 1 1 0) two l' now2 mem2
+      → now2 ≡ now1 → IsOnWay ever (way run one_sent 1 1 0) two l' now2 mem2
   took {now2} {two = two} {mem2 = mem2} put state banks rung turn lawful size page =
-      let begin = begins [] ready in
+      let begin = begins {due = ever} [] ready in
       let on = submits_on begin b.sub can b.place b.first (omega (arith, b.last))
-      (omega (arith, ready.laid.deep.0)) (λ n d from below. absurd (omega arith)) in
-      let next = turned (rings on refl (put ∙ W.tail_after begin b.sub.tail) state banks rung) refl refl turn lawful
-      size page in
+      (omega (arith, ready.laid.deep.0)) (λ n d from below. absurd (omega arith)) tt in
+      let next = turned (rings on refl (put ∙ W.tail_after begin b.sub.tail) state banks rung tt) refl refl turn lawful
+      size page tt in
       let deep = ready.laid.deep in
-      subst (λ n. IsOnWay (way run (record { sent = sent ∷ []; answers = [] }) 1 n 0) two l' now2 mem2)
+      subst (λ n. IsOnWay ever (way run one_sent 1 n 0) two l' now2 mem2)
       (omega (arith, next.1, deep.0)) next.0
 
   -- ---- the end
 
   -- its completion was collected and reported
   module _ {now2 : ℕ} {two bus' : BusValue} {mem2 : List ℕ} {l1 q' : QueuePairFields} {completion : Cqe}
-      (u : IsOnWay (way run (record { sent = sent ∷ []; answers = [] }) 1 1 0) two l' now2 mem2)
+      (u : IsOnWay ever (way run one_sent 1 1 0) two l' now2 mem2)
       (awaited : completion ≡ awaited_completion mem2 l'.completion)
       (first : l1 ≡ record l' {
         submission = known_to l'.submission completion.sq_head;
         completion = collected_one l'.completion;
       })
       (reported : IsTold c l1 two q' bus') where
+    -- one request is more than none
     one : 0 < 1
     one = omega arith
 
-    on_way : IsOnWay (way run (record { sent = sent ∷ []; answers = answer_next u one ∷ [] }) 1 1 1) bus' q' now2 mem2
-    on_way = tells_on (collects_on u one awaited first) refl reported
+    -- the answer was also collected, and the head doorbell was rung
+    abbrev one_collected : Course
+    one_collected =
+        record { sent = sent ∷ []; answers = answer_next u one ∷ []; events = Tell ∷ Collect ∷ one_sent.events }
 
+    -- the request is on its way with its answer collected and reported
+    on_way : IsOnWay ever (way run one_collected 1 1 1) bus' q' now2 mem2
+    on_way = tells_on (collects_on u one awaited first tt) refl reported tt
+
+    -- these events ran from the memory before the request to the one after it, over this controller alone
+    alone : IsAlone g c (request_in g c e given at.first (side bus l now bytes) b.sub.prp1 b.sub.prp2)
+        (side bus l now bytes) (side bus' q' now2 mem2)
+    alone = subst (λ p. IsAlone g c (sent_at p (request_for (limit_of bus.state c) e given) l.serial b.sub.prp1
+        b.sub.prp2) (side bus l now bytes) (side bus' q' now2 mem2)) b.is_place (record {
+          points = record { list = λ m. b.sub.list; none = b.sub.pointer };
+          last = world_of (way run one_collected 1 1 1) bus' mem2;
+          ran = on_way.ran;
+          seen = record { mem = refl; state = refl; bank = refl };
+        })
+
+    -- its completion and its data hold the answer of its step
     answer : IsAnswered g.page_size sent mem2 completion (step_of c bus.state (numbered sent)).answer
     answer = subst (λ p. IsAnswered g.page_size sent mem2 p (step_of c bus.state (numbered sent)).answer)
         (sym (awaited ∙ completion_is u one)) (held u one).answer
 
+    -- its completion tells what the answer of its step says
     told_is : record { dword0 = completion.command_specific; status = completion.status }
         ≡ told_by (step_of c bus.state (numbered sent)).answer
     told_is = same_told answer.dword0 answer.status
+
+    -- the free pages are those from before
+    pages_stay : q'.pages ≡ l.pages
+    pages_stay = ap (λ (o : QueuePairFields). o.pages) reported.pair ∙ ap (λ (o : QueuePairFields). o.pages) first
+        ∙ ap (λ (o : QueuePairFields). o.pages) b.sub.pair
 
     -- what is before the request's pages and outside the queue pair doesn't change
     others_stay : KeepsBelow (at.first * g.page_size) g.page_size (pair_value l) bytes mem2
@@ -124,7 +169,7 @@ module _ {g : Geometry} {bus : BusValue} {c : ℕ} {l : QueuePairFields} {bytes 
         subst (λ j. AreOutside g.page_size (get_or (sent ∷ []) j d) from n) (sym zero)
         (outside_before g.page_size at.first sent from n b.first low))
 
-    -- the data that comes back is received
+    -- the bytes that are read by the status, with zeros after them, are what the host receives
     received_by : (n : ℕ) {size : ℕ} {out : List ℕ} → size ≡ g.page_size
         → out ≡ padded n (came_with completion.status
         (received_from (transfer_for e) mem2
@@ -143,7 +188,7 @@ module _ {g : Geometry} {bus : BusValue} {c : ℕ} {l : QueuePairFields} {bytes 
           filled = is ∙ ap (λ k. padded k came) (sym long);
         }
 
-    -- the complete state after the exchange
+    -- the entry was exchanged, and the bus, the queue pair and the memory are in the state after it
     pub exchanged : (n : ℕ) {out : List ℕ} → out ≡ padded n (came_with completion.status
         (received_from (transfer_for e) mem2
         (buffer_places now2 at.pages at.offset (length_of (transfer_for e)))))
@@ -154,13 +199,16 @@ module _ {g : Geometry} {bus : BusValue} {c : ℕ} {l : QueuePairFields} {bytes 
           answer = told_is;
           received = received_by n on_way.page_size filled;
           state = on_way.keeps.state;
-          left = left_after 1 on_way refl refl refl refl refl ready.page_size others_stay;
+          prp1 = b.sub.prp1;
+          prp2 = b.sub.prp2;
+          alone = alone;
+          left = left_after 1 on_way refl refl refl refl refl pages_stay ready.page_size others_stay;
         }
 
 -- a queue pair without outstanding commands has a free slot
 pub has_slot : {g : Geometry} {bus : BusValue} {c : ℕ} {l : QueuePairFields} {bytes : List ℕ} {now : ℕ}
     → IsReady g bus c l now bytes → HasFreeSlot l bytes
-has_slot ready = W.free_slot (W.begins [] ready) (omega (arith, ready.laid.deep.0))
+has_slot ready = W.free_slot (W.begins {due = ever} [] ready) (omega (arith, ready.laid.deep.0))
 
 -- ---- the place of its data
 
@@ -169,10 +217,12 @@ module _ {g : Geometry} {c first len : ℕ} {e : Sqe} {bus : BusValue} {l : Queu
     (inside : (first + pages_of_entry g.page_size) * g.page_size ≤ length bytes)
     (last : l.pages.first + l.pages.count ≤ first) (entry : q.entry ≡ e) (moves : q.transfer ≡ transfer_for e)
     (few : length_of q.transfer ≤ greatest_limit) (long : len ≡ length_of q.transfer)
-    (place : at ≡ place_from g first len) where
+    {p : Geometry} (shape : p ≡ g) (place : at ≡ place_from p first len) where
+  -- the place is the place of the entry's data
   there : at ≡ place_from g first (length_of (transfer_for e))
-  there = place ∙ ap (place_from g first) (long ∙ ap length_of moves)
+  there = place ∙ ap (λ o. place_from o first len) shape ∙ ap (place_from g first) (long ∙ ap length_of moves)
 
+  -- the data of the entry fits in that place
   fits_there : IsPlaceFor bytes now (place_from g first (length_of (transfer_for e))) (length_of (transfer_for e))
   fits_there =
       let n = length_of (transfer_for e) in
@@ -181,10 +231,11 @@ module _ {g : Geometry} {c first len : ℕ} {e : Sqe} {bus : BusValue} {l : Queu
       place_fits g first n bytes now ready.geometry ready.page_size
       (omega (arith, mul-le-mul_right g.page_size end, inside))
 
+  -- the data of the request fits in its place
   pub its_place : IsPlaceFor bytes now at (length_of q.transfer)
   its_place = rw (there, moves) fits_there
 
-  -- the entry was submitted
+  -- an entry that was submitted at its place has begun
   pub begun_by : {given mem : List ℕ} {now1 tail : ℕ} {l' : QueuePairFields}
       → sent_by q.sends ≡ sent_for (transfer_for e) given
       → ((asked : Asked) → IsSubmittedAt now at (request_as q asked) l l' bytes mem now1 tail)
@@ -196,6 +247,7 @@ module _ {g : Geometry} {c first len : ℕ} {e : Sqe} {bus : BusValue} {l : Queu
     first = λ i d h. let n = length_of (transfer_for e) in
         omega (arith, page_at g first n i d (omega (arith, h, length-pages g first n)));
     last = last;
+    is_place = refl;
     sub = submitted_as ready.page_size there (requests_same entry moves sends)
         (sub (asked_by (limit_of bus.state c) e (sent_for (transfer_for e) given)));
   }

@@ -18,11 +18,13 @@ use Rattle.nv_driver.proofs.BatchLaws.{answer_at}
 
 -- ---- the beginning
 
+-- the rings start at the number of command 0
 pub number_zero : (t : Setting) → t.start < 2 * t.depth → t.start ≡ number t 0
 unfolding kept_number
 number_zero t h = let sum : t.start + 0 ≡ t.start =
     omega arith in sym (ap (λ n. n % (2 * t.depth)) sum ∙ mod-eq_of_lt h)
 
+-- what holds for a schedule holds at an idle controller
 pub idle_keeps : (t : Setting) (w : World) → IsIdle t w → Keeps t w.state w
 idle_keeps t w i =
     let no_sent = ap (λ xs. length xs) i.sent in
@@ -48,6 +50,7 @@ idle_keeps t w i =
 
 -- ---- doorbells change a count and the registers
 
+-- other counts of the doorbells, in order and with the registers that go with them, keep what holds
 told_otherwise : (t : Setting) (s : State) (w : World) (rung told : ℕ) (bank : RegisterBank) → Keeps t s w
     → AreInOrder t.depth (length w.answers) w.done rung (length w.sent) told
     → bank ≡ bank_with t (device_rings t rung w.done told)
@@ -58,6 +61,7 @@ told_otherwise t s w rung told bank k counts is =
     λ n d from below. holds_on t s w v n (get_or w.sent n d) refl refl refl (k.held n d from below) in
     assumption (counts, is, held)
 
+-- ringing the tail doorbell keeps what holds for the schedule
 pub bell_keeps : (t : Setting) (s : State) (w w' : World) → Keeps t s w → Happens t Bell w w' → Keeps t s w'
 bell_keeps t s w w' k happens =
     let c = k.counts in
@@ -67,6 +71,7 @@ bell_keeps t s w w' k happens =
     (omega (arith, c)) (ap (λ p. with_register_at p 0x1000 (slot t m)) k.bank
     ∙ tail_rung t w.rung w.done w.told m (omega (arith, c.done, c.rung)) (omega (arith, c.few, c.collected))))
 
+-- ringing the head doorbell keeps what holds for the schedule
 pub tell_keeps : (t : Setting) (s : State) (w w' : World) → Keeps t s w → Happens t Tell w w' → Keeps t s w'
 tell_keeps t s w w' k happens =
     let c = k.counts in
@@ -106,6 +111,7 @@ awaited_there t s w k more =
     (omega (arith, far, c.done, c.rung, c.few))
     (λ same. numbers_differ t n w.done more (omega (arith, c.done, c.rung, c.few)) (sym same))
 
+-- the awaited completion is found if and only if a command was executed whose answer wasn't collected
 pub is_found : (t : Setting) (s : State) (w : World) → Keeps t s w
     → IsAwaitedThere w.mem (awaited t w) ↔ (length w.answers < w.done)
 is_found t s w k = (
@@ -113,6 +119,7 @@ is_found t s w k = (
   awaited_there t s w k,
 )
 
+-- collecting the answer of a command that was executed keeps what holds for the schedule
 collected_one : (t : Setting) (s : State) (w : World) (d : Sent) → Keeps t s w → length w.answers < w.done
     → Keeps t s (record w { answers = w.answers ++ answer_awaited t w (get_or w.sent (length w.answers) d) ∷ [] })
 collected_one t s w d k below =
@@ -149,6 +156,7 @@ collected_one t s w d k below =
       ];
     }
 
+-- collecting, whether an answer is found or not, keeps what holds for the schedule
 pub collect_keeps : (t : Setting) (s : State) (w w' : World) → Keeps t s w → Happens t Collect w w' → Keeps t s w'
 collect_keeps t s w w' k (inl there) =
     subst (Keeps t s) (sym there.2) (collected_one t s w there.1 k ((is_found t s w k).0 there.0))

@@ -1,5 +1,8 @@
 pub mod Words
 pub mod BatchLaws
+pub mod PageSetLaws
+pub mod WindowPageLaws
+pub mod CommandPageLaws
 pub mod ShareLaws
 pub mod SubmittingLaws
 pub mod QuietLaws
@@ -25,3 +28,4 @@ pub mod ScheduleLaws
 pub mod MemoryLaws
 pub mod RegisterLaws
 pub mod ResetLaws
+pub mod BringingUpLaws

@@ -17,16 +17,17 @@ use Rattle.nv_driver.specs.declared.error.DriverError.{DriverError}
 use Rattle.nv_driver.specs.declared.geometry_field.GeometryField.{GeometryField}
 use Rattle.nv_driver.specs.declared.error.DriverError.TheVariants as error
 
+-- the command identifier that is due at a queue pair
 abbrev serial : QueuePair → ℕ
 serial l = l.serial
 
--- a queue pair for each controller
+-- a driver has a queue pair for each controller
 pub pair_count : (b : BusValue) (d : DriverValue) → IsLinked b d → length d.pairs ≡ length b.state.controllers
 pair_count b d is =
     sym (length-map d.pairs (idle_bank (mps_of d.geometry.page_size) d.geometry.page_size)) ∙ sym (ap length is.left)
     ∙ is.bus.banks
 
--- the serials before the first command
+-- before the first command, every serial is 0
 pub first_serials : (g : Geometry) (n : ℕ) → serials_of (new_driver g n) ≡ replicate n 0
 first_serials g zero = refl
 first_serials g (suc n) =
@@ -48,7 +49,7 @@ all_enabled b d is = ap enabled_in is.left ∙ each d.pairs ∙ ap (λ n. replic
     each [] = refl
     each (l ∷ ls) = ap (λ xs. true ∷ xs) (each ls)
 
--- the command identifier of a controller
+-- the command identifier of a queue pair is the serial of its controller
 pub serial_at : (d : DriverValue) (c : ℕ) → c < length d.pairs
     → (pair_at d.pairs c).serial ≡ get_or (serials_of d) c 0
 serial_at d c below = sym (get_or-map serial d.pairs c no_pair 0 below)
@@ -71,6 +72,7 @@ same_pairs d after c e = ap (λ (x : DriverValue). length x.pairs) e
 
 -- ---- with or without a driver
 
+-- an optional value that isn't any value is None
 none_by : {F : Type 0} (o : Option F) → ((f : F) → o ≢ Some f) → o ≡ None
 none_by None h = refl
 none_by (Some f) h = absurd (h f refl)
@@ -82,7 +84,7 @@ pub without_fault : {D : Type 0} (g : Geometry) (d : D)
     → fault_of g ≡ None
 without_fault g d h = none_by (fault_of g) (λ field k. let never = (h field).1 k in absurd (cc))
 
--- why there is no driver
+-- an error without a driver is the first field of the geometry outside its limits, or else lack of memory
 pub without : {D : Type 0} (g : Geometry) (e : DriverError)
     → ((field : GeometryField)
     → ◌≡◌ {A = Result D DriverError} (Err e) (Err (error.Geometry field)) ↔ (fault_of g ≡ Some field))

@@ -18,10 +18,11 @@ use Rattle.nv_driver.proofs.AdminLaws.{slots_stay}
 
 -- ---- the numbers of pages
 
--- the pages before a queue pair, and the bytes before a page
+-- at most 16 queue pairs of at most 0x180000 pages have at most 0x1800000 pages
 pub pair_times : (i l : ℕ) → i ≤ 16 → l ≤ 0x180000 → i * l ≤ 0x1800000
 pair_times i l h k = mul-le-mul h k
 
+-- at most 2 ^ 25 pages of at most 2 ^ 16 bytes have at most 2 ^ 41 bytes
 pub page_times : (n p : ℕ) → n ≤ 0x2000000 → p ≤ 0x10000 → n * p ≤ 0x20000000000
 page_times n p h k = mul-le-mul h k
 
@@ -29,10 +30,12 @@ pub ruleset lay = (pair_times, page_times)
 
 -- ---- the queue pairs
 
+-- queue pairs without outstanding commands and one more are all without outstanding commands
 pub quiet_more : (xs : List QueuePairFields) (x : QueuePairFields) → All IsQuiet xs → IsQuiet x
     → All IsQuiet (xs ++ x ∷ [])
 quiet_more xs x h q = All-push IsQuiet xs x h q
 
+-- the queue pairs of i controllers and of the next one are the queue pairs of i + 1 controllers
 pub pairs_more : (xs : List QueuePairFields) (x : QueuePairFields) (g : Geometry) (i : ℕ)
     → map pair_value xs ≡ pairs_of g i
     → pair_value x ≡ pair_of g i → map pair_value (xs ++ x ∷ []) ≡ pairs_of g (i + 1)
@@ -47,6 +50,7 @@ rings_fit : (g : Geometry) → 0 < g.page_size
 unfolding submission_pages completion_pages
 rings_fit g h = ((div_ceil_times (64 * g.depth) g.page_size h).0, (div_ceil_times (16 * g.depth) g.page_size h).0)
 
+-- n bytes that begin at page x and fit in s pages end at page x + s or before
 after : (x s p n : ℕ) → n ≤ s * p → x * p + n ≤ (x + s) * p
 after x s p n h = omega arith
 
@@ -56,6 +60,7 @@ pair_ends g i j h =
     let pages : i * pair_pages g + submission_pages g + completion_pages g + set_pages g ≤ j * pair_pages g =
     omega (arith, mul-le-mul_right (pair_pages g) h) in mul-le-mul_right g.page_size pages
 
+-- the queue pair of a controller lies in a memory with the pages of n controllers
 pair_laid : (g : Geometry) (n i size : ℕ) → IsGeometry g → i < n → pages_of g n * g.page_size ≤ size
     → IsLaid g.page_size size (pair_of g i)
 pair_laid g n i size is h e =
@@ -72,10 +77,11 @@ pair_laid g n i size is h e =
       inside = omega (arith, pair_ends g i n h, e);
     }
 
+-- queue pair i of n controllers belongs to controller i
 pair_at : (g : Geometry) (n i : ℕ) (d : QueuePair) → i < n → slice_index_or (pairs_of g n) i d ≡ pair_of g i
 pair_at g n i d h = get_or-map-range_with_len (pair_of g) 0 n i i d h (zero-add i)
 
--- the queue pair of controller i
+-- queue pair i of a new driver has the value of controller i's queue pair
 pub pair_is : (g : Geometry) (n i : ℕ) (ls : List QueuePairFields) (l : QueuePairFields)
     → map pair_value ls ≡ pairs_of g n → i < n → i < length ls
     → l ≡ slice_index_or ls i l → pair_value l ≡ pair_of g i
@@ -83,6 +89,7 @@ pair_is g n i ls l are h below here =
     ap pair_value here ∙ sym (get_or-map pair_value ls i l (pair_value l) below)
     ∙ rw are (pair_at g n i (pair_value l) h)
 
+-- there are as many queue pairs as controllers
 pub pair_count : (g : Geometry) (n : ℕ) (ls : List QueuePairFields) → map pair_value ls ≡ pairs_of g n → length ls ≡ n
 pair_count g n ls are =
     sym (length-map ls pair_value) ∙ ap (λ (vs : List QueuePair). length vs) are
@@ -95,6 +102,7 @@ all_laid g n size is e i d h =
     let many = length-map-range_with_len (pair_of g) 0 n in
     rw (pair_at g n i d (omega arith)) (pair_laid g n i size is (omega arith) e)
 
+-- if all queue pairs lie in a memory, so does the queue pair of controller i
 pub laid_in : (g : Geometry) (n i size : ℕ) → All (IsLaid g.page_size size) (pairs_of g n) → i < n
     → IsLaid g.page_size size (pair_of g i)
 laid_in g n i size laid h =
@@ -118,6 +126,7 @@ tags_more g n c old new {v} laid h is keeps own tags =
     (inl (pair_ends g k c l)) (tags k l))
     (subst (λ (q : QueuePair). HoldsTags new q.cq q.depth 0) is own)
 
+-- queue pairs whose completion rings have the tags before any completion are settled
 pub settled_at_first : (g : Geometry) (n : ℕ) (bytes : List ℕ)
     → All (IsLaid g.page_size (length bytes)) (pairs_of g n)
     → ((k : ℕ) → k < n → HoldsTags bytes (pair_of g k).cq g.depth 0) → IsSettled g.page_size bytes (pairs_of g n)
@@ -140,15 +149,17 @@ pub record IsFirst (g : Geometry) (n more : ℕ) (mem : PagedBytes) (pairs : Lis
 module _ {g : Geometry} {n m pages : ℕ} {made : PagedBytes} (more : ℕ) (is : IsGeometry g) (same : m ≡ n)
     (many : pages ≡ pages_of g m + more)
     (zeros : made ≡ record { page_size = g.page_size; bytes = replicate (pages * g.page_size) 0 }) where
+  -- the memory has as many bytes as its pages
   memory_size : length made.bytes ≡ pages * g.page_size
   memory_size = rw zeros (length-replicate (pages * g.page_size) 0)
 
-  -- each queue pair lies in it
+  -- each queue pair lies in the new memory
   pub has_pairs : All (IsLaid g.page_size (length made.bytes)) (pairs_of g n)
   has_pairs =
       let some : pages_of g n ≤ pages = omega (arith, many, ap (pages_of g) same) in
       all_laid g n (length made.bytes) is (omega (arith, memory_size, mul-le-mul_right g.page_size some))
 
+  -- queue pairs that were laid out in such a memory belong to a new driver
   pub driver_at_first : {mem : PagedBytes} {pairs : List QueuePairFields} → pages < 2 ^ 32
       → mem.page_size ≡ made.page_size → length mem.bytes ≡ length made.bytes → All IsQuiet pairs
       → map pair_value pairs ≡ pairs_of g m → IsSettled g.page_size mem.bytes (pairs_of g n)

@@ -16,42 +16,47 @@ use Rattle.nv_driver.proofs.Words.{device_rings, entry, get_or-set_same, known_t
 use Rattle.nv_driver.proofs.Words.{mul-le-mul_right, nat_tests, new_bank, next_serial, number, pair_value, run_of}
 use Rattle.nv_driver.proofs.Words.{sent_at, setting_of, side, slice_set, slot, submit_ring, way, with_register_at}
 use Rattle.nv_driver.proofs.Words.{with_submission}
-use Rattle.nv_driver.specs.Schedule.{MaySubmit, awaited, collect_ring}
+use Rattle.nv_driver.specs.Schedule.{Event, Follows, MaySubmit, awaited, collect_ring}
 use Rattle.nv_driver.specs.inner.Submitting.{CanCollect}
-use Rattle.nv_driver.specs.UnderWay.{Way, pair_at, serial_at, world_by, world_of}
+use Rattle.nv_host.specs.PageSets.{Pages}
+use Rattle.nv_driver.specs.UnderWay.{Course, Way, beginning, first_world, pair_at, serial_at, world_by, world_of}
 use Rattle.nv_driver.proofs.BatchLaws.{serial_next}
 use Rattle.nv_driver.proofs.CountLaws.{head_told, number_above, number_below, number_next}
 use Rattle.nv_driver.proofs.KeptLaws.{bell_keeps, collect_keeps, idle_keeps, is_found, tell_keeps}
-use Rattle.nv_driver.proofs.QuietLaws.{beginning, collect_ring_is, is_idle, submit_ring_is}
+use Rattle.nv_driver.proofs.QuietLaws.{collect_ring_is, is_idle, submit_ring_is}
 use Rattle.nv_driver.proofs.ScheduleLaws.{bell_others, collect_others, others_now, tell_others, turn_others}
 use Rattle.nv_driver.proofs.SubmitLaws.{submit_keeps, submit_others}
 use Rattle.nv_driver.proofs.SubmittingLaws.{AreFrom, outside_before, pairs_same}
 use Rattle.nv_driver.proofs.TurnLaws.{no_command, turn_keeps, turn_takes}
 use Rattle.nv_bus.specs.Turn as T
 
+-- a schedule with an equal state and equal registers is the same
 same_world : (w : Way) (bytes : List ℕ) {s s' : State} {p p' : RegisterBank} → s ≡ s' → p ≡ p'
     → world_by w s p bytes ≡ world_by w s' p' bytes
 same_world w bytes e f = cc
 
+-- the test that a number differs from itself is false
 none_untold : (n : ℕ) → false ≡ not (n == n)
 none_untold n = grind (arith, nat_tests)
 
--- more was collected than reported
+-- a number up to k isn't k + 1
 above_told : (h k : ℕ) → h ≤ k → true ≡ not (h == k + 1)
 above_told h k low = grind (arith, nat_tests)
 
 -- ---- register banks
 
+-- register bank c after it was set is the one that was set
 pub bank_set : (banks : List RegisterBank) (c : ℕ) (p : RegisterBank) → c < length banks
     → bank_at (slice_set banks c p) c ≡ p
 bank_set banks c p below = get_or-set_same banks c p new_bank below
 
+-- setting one register bank keeps how many there are
 pub banks_long : (banks new : List RegisterBank) (c : ℕ) (p : RegisterBank)
     → c < length banks → new ≡ slice_set banks c p → c < length new
 banks_long banks new c p below is =
     let size = ap (λ (x : List RegisterBank). length x) is ∙ length-set banks c p in omega arith
 
--- one controller's register bank is changed again
+-- setting a register bank twice sets it to the value that it has in the end
 pub set_again : (banks one two : List RegisterBank) (c : ℕ) (p q : RegisterBank) → c < length banks
     → one ≡ slice_set banks c p → two ≡ slice_set one c q
     → two ≡ slice_set banks c (bank_at two c)
@@ -62,13 +67,15 @@ set_again banks one two c p q below first second =
 
 -- ---- the beginning
 
+-- no request of the run was sent yet
 abbrev pub first_way : Run → Way
-first_way r = way r (record { sent = []; answers = [] }) 0 0 0
+first_way r = way r (record { sent = []; answers = []; events = [] }) 0 0 0
 
-pub begins : {g : Geometry} {c : ℕ} {bus : BusValue} {l : QueuePairFields} {now : ℕ} {bytes : List ℕ}
-    (ks : List Command) → IsReady g bus c l now bytes
-    → IsOnWay (first_way (run_of g c bus l bytes ks)) bus l now bytes
-begins {g} {c} {bus} {l} {now} {bytes} ks ready =
+-- at the beginning of a run with a ready controller, its requests are on their way
+pub begins : {due : World → Event → Type 0} {g : Geometry} {c : ℕ} {bus : BusValue} {l : QueuePairFields} {now : ℕ}
+    {bytes : List ℕ} (ks : List Command) → IsReady g bus c l now bytes
+    → IsOnWay due (first_way (run_of g c bus l bytes ks)) bus l now bytes
+begins {g = g} {c = c} {bus = bus} {l = l} {now = now} {bytes = bytes} ks ready =
     let r = run_of g c bus l bytes ks in
     let t = setting_of r in
     let same = same_world (first_way r) bytes {s = bus.state} {s' = bus.state} refl ready.bank in
@@ -83,21 +90,39 @@ begins {g} {c} {bus} {l} {now} {bytes} ks ready =
       banks = sym (set-get_or bus.banks c new_bank);
       pair = pairs_same (submit_ring_is g c (limit_of bus.state c) bytes l ready.quiet ready.laid.number)
           (collect_ring_is g c (limit_of bus.state c) bytes l ready.quiet ready.laid.number) serial;
+      ran = same;
     }
 
-module _ {w : Way} {bus : BusValue} {l : QueuePairFields} {now : ℕ} {bytes : List ℕ}
-    (u : IsOnWay w bus l now bytes) where
+module _ {due : World → Event → Type 0} {w : Way} {bus : BusValue} {l : QueuePairFields} {now : ℕ} {bytes : List ℕ}
+    (u : IsOnWay due w bus l now bytes) where
+  -- the schedule of the run's controller
   abbrev t : Setting
   t = setting_of w.run
 
+  -- the state of the schedule
   abbrev world : World
   world = world_of w bus bytes
 
+  -- the controller has registers
   pub has_bank : w.run.controller < length bus.banks
   has_bank = banks_long w.run.bus.banks bus.banks w.run.controller _ u.begun.controller u.banks
 
+  -- one more event, which was due
+  abbrev pub more_events : Event → Course
+  more_events e = record w.course { events = e ∷ w.course.events }
+
+  -- its geometry doesn't change
+  pub geometry_is : l.geometry ≡ w.run.geometry
+  geometry_is = ap (λ (o : QueuePairFields). o.geometry) u.pair ∙ u.begun.shape
+
+  -- the free pages are those that the queue pair has
+  pages_of_pair : {l' : QueuePairFields} {s : Pages} (m k h : ℕ) → l' ≡ pair_at w.run m k h s
+      → l' ≡ pair_at w.run m k h l'.pages
+  pages_of_pair m k h is = is ∙ ap (pair_at w.run m k h) (sym (ap (λ (o : QueuePairFields). o.pages) is))
+
   -- ---- a submission
 
+  -- if fewer requests than slots are outstanding, the submission ring has a free slot
   pub free_slot : length w.course.sent + 1 < length w.course.answers + t.depth → HasFreeSlot l bytes
   free_slot free =
       let c = u.keeps.counts in
@@ -111,16 +136,20 @@ module _ {w : Way} {bus : BusValue} {l : QueuePairFields} {now : ℕ} {bytes : L
 
   -- with its data in pages from one on that doesn't come before the queue pair's
   pub submits_on : {now' tail first : ℕ} {at : RequestPlace} {q : Request} {l' : QueuePairFields} {mem : List ℕ}
-      (sub : IsSubmittedAt w.run.geometry.page_size at q l l' bytes mem now' tail) → IsRequest t.limit q
+      {s : Pages}
+      (sub : IsSubmittedAt w.run.geometry.page_size at q (record l { pages = s }) l' bytes mem now' tail)
+      → IsRequest t.limit q
       → IsPlaceFor bytes now at (length_of q.transfer) → AreFrom first at → w.run.pair.pages.first ≤ first
       → length w.course.sent + 1 < length w.course.answers + t.depth
       → ((n : ℕ) (d : Sent) → length w.course.answers ≤ n → n < length w.course.sent
-      → AreApart (get_or w.course.sent n d) (sent_at at q l.serial sub.prp1 sub.prp2)) → IsOnWay (record w {
+      → AreApart (get_or w.course.sent n d) (sent_at at q l.serial sub.prp1 sub.prp2))
+      → due world (Submit (sent_at at q l.serial sub.prp1 sub.prp2)) → IsOnWay due (record w {
         course = record w.course {
           sent = w.course.sent ++ sent_at at q l.serial sub.prp1 sub.prp2 ∷ [];
+          events = Submit (sent_at at q l.serial sub.prp1 sub.prp2) ∷ w.course.events;
         };
       }) bus l' now' mem
-  submits_on {first = first} {at} {q} {mem = mem} sub can its_place from behind free apart =
+  submits_on {first = first} {at} {q} {mem = mem} {s} sub can its_place from behind free apart its_time =
       let x = sent_at at q l.serial sub.prp1 sub.prp2 in
       let laid = u.begun.laid in
       let size = w.run.geometry.page_size in
@@ -139,7 +168,8 @@ module _ {w : Way} {bus : BusValue} {l : QueuePairFields} {now : ℕ} {bytes : L
       } in
       let m = length w.course.sent in
       let k = length w.course.answers in
-      let v = record w { course = record w.course { sent = w.course.sent ++ x ∷ [] } } in
+      let v =
+      record w { course = record w.course { sent = w.course.sent ++ x ∷ []; events = Submit x ∷ w.course.events } } in
       let ring : l.submission ≡ submit_ring t m k = ap (λ (o : QueuePairFields). o.submission) u.pair in
       let put = sub.mem ∙ ap (λ r. with_submission sub.ready r (entry x)) ring in
       let more : m + 1 ≡ length (w.course.sent ++ x ∷ []) = sym (length-append w.course.sent (x ∷ [])) in
@@ -148,15 +178,17 @@ module _ {w : Way} {bus : BusValue} {l : QueuePairFields} {now : ℕ} {bytes : L
       let keeps = submit_keeps t w.run.bus.state x world (world_of v bus mem) u.keeps happens in
       let others = submit_others t w.run.bus.state 0 w.run.bytes x world (world_of v bus mem) u.keeps u.others happens
       in
-      let pair = sub.pair ∙ ap (λ (o : QueuePairFields). record o {
+      let pair = pages_of_pair _ _ _ (sub.pair ∙ ap (λ (o : QueuePairFields). record o {
         submission = submitted_one o.submission;
         serial = next_serial o.serial;
+        pages = s;
       }) u.pair
       ∙ pairs_same (ap (λ n. record (submit_ring t m k) { submitted = n }) (number_next t m)
-      ∙ ap (λ n. submit_ring t n k) more) refl (serial_next w.run.pair.serial m ∙ ap (serial_at w.run) more) in
-      assumption (sub.page, sub.len ∙ u.size, keeps, others, pair, u)
+      ∙ ap (λ n. submit_ring t n k) more) refl (serial_next w.run.pair.serial m ∙ ap (serial_at w.run) more)) in
+      let ran : Follows due t (Submit x ∷ w.course.events) (first_world w.run) (world_of v bus mem) =
+      (world, u.ran, its_time, happens) in assumption (sub.page, sub.len ∙ u.size, keeps, others, pair, ran, u)
 
-  -- the tail after one more request
+  -- the tail after one more request is the slot of the next number
   pub tail_after : {tail : ℕ} → tail ≡ slot_of l.submission.depth (next l.submission.depth l.submission.submitted)
       → tail ≡ slot t (length w.course.sent + 1)
   tail_after is =
@@ -165,7 +197,7 @@ module _ {w : Way} {bus : BusValue} {l : QueuePairFields} {now : ℕ} {bytes : L
 
   -- ---- doorbells
 
-  -- a register of the controller was written
+  -- writing a register of the controller changes its register bank, and no other since the beginning
   bank_is : (bus' : BusValue) {c value new : ℕ} (offset : ℕ) → c ≡ w.run.controller → value ≡ new
       → bus'.banks ≡ slice_set bus.banks c (with_register_at (bank_at bus.banks c) offset value)
       → (bank_at bus'.banks w.run.controller
@@ -184,14 +216,16 @@ module _ {w : Way} {bus : BusValue} {l : QueuePairFields} {now : ℕ} {bytes : L
   pub rings : {bus' : BusValue} {c value : ℕ} → c ≡ w.run.controller → value ≡ slot t (length w.course.sent)
       → bus'.state ≡ bus.state
       → bus'.banks ≡ slice_set bus.banks c (with_register_at (bank_at bus.banks c) 0x1000 value)
-      → (IsBus bus → IsBus bus') → IsOnWay (record w { rung = length w.course.sent }) bus' l now bytes
-  rings {bus'} same put state banks lawful =
-      let v = record w { rung = length w.course.sent } in
+      → (IsBus bus → IsBus bus') → due world Bell
+      → IsOnWay due (record w { course = more_events Bell; rung = length w.course.sent }) bus' l now bytes
+  rings {bus'} same put state banks lawful its_time =
+      let v = record w { course = more_events Bell; rung = length w.course.sent } in
       let is = bank_is bus' 0x1000 same put banks in
       let happens : Happens t Bell world (world_of v bus' bytes) = same_world v bytes state is.0 in
       let keeps = bell_keeps t w.run.bus.state world (world_of v bus' bytes) u.keeps happens in
       let others = bell_others t 0 w.run.bytes world (world_of v bus' bytes) u.others happens in
-      assumption (keeps, others, lawful u.lawful, is.1, u)
+      let ran : Follows due t (Bell ∷ w.course.events) (first_world w.run) (world_of v bus' bytes) =
+      (world, u.ran, its_time, happens) in assumption (keeps, others, lawful u.lawful, is.1, ran, u)
 
   -- the head doorbell was rung, which changes nothing if all answers were reported before
   told_bank : {bus' : BusValue} {l' : QueuePairFields} {c : ℕ} → c ≡ w.run.controller → IsTold c l bus l' bus'
@@ -217,33 +251,41 @@ module _ {w : Way} {bus : BusValue} {l : QueuePairFields} {now : ℕ} {bytes : L
             rw (h.silent e) u.banks,
           )
 
+  -- the head doorbell was rung for all collected answers
   pub tells_on : {bus' : BusValue} {l' : QueuePairFields} {c : ℕ} → c ≡ w.run.controller → IsTold c l bus l' bus'
-      → IsOnWay (record w { told = length w.course.answers }) bus' l' now bytes
-  tells_on {bus'} same h =
+      → due world Tell
+      → IsOnWay due (record w { course = more_events Tell; told = length w.course.answers }) bus' l' now bytes
+  tells_on {bus'} same h its_time =
       let n = length w.course.answers in
-      let v = record w { told = n } in
+      let v = record w { course = more_events Tell; told = n } in
       let is = told_bank same h in
       let happens : Happens t Tell world (world_of v bus' bytes) = same_world v bytes h.state is.0 in
       let keeps = tell_keeps t w.run.bus.state world (world_of v bus' bytes) u.keeps happens in
       let others = tell_others t 0 w.run.bytes world (world_of v bus' bytes) u.others happens in
-      let pair = h.pair ∙ ap (λ (o : QueuePairFields). record o { completion = told_all o.completion }) u.pair
-      ∙ pairs_same refl (ap (λ e. record (collect_ring t n n) { untold = e }) (none_untold n)) refl in
-      assumption (keeps, others, h.bus u.lawful, is.1, pair, u)
+      let pair = pages_of_pair _ _ _ (h.pair
+      ∙ ap (λ (o : QueuePairFields). record o { completion = told_all o.completion }) u.pair
+      ∙ pairs_same refl (ap (λ e. record (collect_ring t n n) { untold = e }) (none_untold n)) refl) in
+      let ran : Follows due t (Tell ∷ w.course.events) (first_world w.run) (world_of v bus' bytes) =
+      (world, u.ran, its_time, happens) in assumption (keeps, others, h.bus u.lawful, is.1, pair, ran, u)
 
   -- ---- a turn
 
   -- the controller had a turn, which took as many entries as it could
   pub turned : {bus' : BusValue} {now' asked most count c : ℕ} {mem : List ℕ} → c ≡ w.run.controller → asked ≡ most
       → T.Turn now c asked count bus bytes bus' mem → IsBus bus' → length mem ≡ length bytes → now' ≡ now
-      → IsOnWay (record w { done = w.done + count }) bus' l now' mem
+      → due world (Turn most)
+      → IsOnWay due (record w { course = more_events (Turn most); done = w.done + count }) bus' l now' mem
       × (count ≡ min most (min (w.rung - w.done) (w.run.pair.submission.depth - 1 - (w.done - w.told))))
-  turned {bus'} {now'} {asked} {most} {count} {c} {mem} same pace turn lawful size page =
-      let v = record w { done = w.done + count } in
+  turned {bus'} {now'} {asked} {most} {count} {c} {mem} same pace turn lawful size page its_time =
+      let v = record w { course = more_events (Turn most); done = w.done + count } in
       let own = subst (λ k. T.Turn now w.run.controller k count bus bytes bus' mem) pace
       (subst (λ i. T.Turn now i asked count bus bytes bus' mem) same turn) in
       let happens : Happens t (Turn most) world (world_of v bus' mem) =
-      (count, rw u.page_size at own.own, refl) in (
+      (count, rw u.page_size at own.own, refl) in
+      let ran : Follows due t (Turn most ∷ w.course.events) (first_world w.run) (world_of v bus' mem) =
+      (world, u.ran, its_time, happens) in (
         assumption (
+          ran,
           page ∙ u.page_size,
           size ∙ u.size,
           turn_keeps t w.run.bus.state most world (world_of v bus' mem) u.keeps happens,
@@ -257,6 +299,7 @@ module _ {w : Way} {bus : BusValue} {l : QueuePairFields} {now : ℕ} {bytes : L
   -- ---- a collection
 
   module _ (more : length w.course.answers < w.done) where
+    -- the awaited completion is there
     there : IsAwaitedThere bytes (awaited t world)
     there = (is_found t w.run.bus.state world u.keeps).1 more
 
@@ -264,16 +307,20 @@ module _ {w : Way} {bus : BusValue} {l : QueuePairFields} {now : ℕ} {bytes : L
     abbrev next_one : Sent
     next_one = get_or w.course.sent (length w.course.answers) no_command
 
+    -- the answer to that request is held
     pub held : Holds t w.run.bus.state world (length w.course.answers) next_one
     held = u.keeps.held (length w.course.answers) no_command (omega arith) more
 
+    -- the awaited completion is in its slot
     pub completion_is : awaited_completion bytes l.completion ≡ completion_at bytes t.cq
         (slot t (length w.course.answers))
     completion_is = ap (λ (o : QueuePairFields). awaited_completion bytes o.completion) u.pair
 
+    -- the awaited completion has the head after its request
     head_is : (awaited_completion bytes l.completion).sq_head ≡ slot t (length w.course.answers + 1)
     head_is = ap (λ (c : Cqe). c.sq_head) completion_is ∙ held.head
 
+    -- the awaited completion can be collected
     pub can_collect : CanCollect l bytes
     can_collect =
         let m = length w.course.sent in
@@ -288,17 +335,28 @@ module _ {w : Way} {bus : BusValue} {l : QueuePairFields} {now : ℕ} {bytes : L
           freed = rw (ap (λ (e : Cqe). e.sq_head) (sym completion_is) ∙ head_is) freed;
         })
 
+    -- the answer to that request, as it is read
     abbrev pub answer_next : Answer
     answer_next = answer_awaited t world next_one
 
-    pub collects_on : {l' : QueuePairFields} {q : Cqe} → q ≡ awaited_completion bytes l.completion
-        → l' ≡ record l { submission = known_to l.submission q.sq_head; completion = collected_one l.completion }
-        → IsOnWay (record w { course = record w.course { answers = w.course.answers ++ answer_next ∷ [] } }) bus l'
-        now bytes
-    collects_on {l'} {q} is first =
+    -- the answer was collected
+    pub collects_on : {l' : QueuePairFields} {q : Cqe} {s : Pages} → q ≡ awaited_completion bytes l.completion
+        → l' ≡ record l {
+          submission = known_to l.submission q.sq_head;
+          completion = collected_one l.completion;
+          pages = s;
+        }
+        → due world Collect → IsOnWay due (record w {
+          course =
+              record w.course { answers = w.course.answers ++ answer_next ∷ []; events = Collect ∷ w.course.events };
+        }) bus l' now bytes
+    collects_on {l'} {q} {s} is first its_time =
         let m = length w.course.sent in
         let k = length w.course.answers in
-        let v = record w { course = record w.course { answers = w.course.answers ++ answer_next ∷ [] } } in
+        let v = record w {
+          course =
+              record w.course { answers = w.course.answers ++ answer_next ∷ []; events = Collect ∷ w.course.events };
+        } in
         let c = u.keeps.counts in
         let deep = u.keeps.placed.deep in
         let happens : Happens t Collect world (world_of v bus bytes) = inl (there, no_command, refl) in
@@ -314,30 +372,35 @@ module _ {w : Way} {bus : BusValue} {l : QueuePairFields} {now : ℕ} {bytes : L
         cc (number_next t k, above_told w.told k c.told) in
         let keeps = collect_keeps t w.run.bus.state world (world_of v bus bytes) u.keeps happens in
         let others = collect_others t 0 w.run.bytes world (world_of v bus bytes) u.others happens in
-        let pair = first ∙ ap (λ (o : QueuePairFields). record o {
+        let pair = pages_of_pair _ _ _ (first ∙ ap (λ (o : QueuePairFields). record o {
           submission = known_to o.submission q.sq_head;
           completion = collected_one o.completion;
+          pages = s;
         }) u.pair
         ∙ pairs_same (ring ∙ ap (submit_ring t m) one_more) (collected ∙ ap (λ n. collect_ring t n w.told) one_more)
-        refl in assumption (keeps, others, pair, u)
+        refl) in
+        let ran : Follows due t (Collect ∷ w.course.events) (first_world w.run) (world_of v bus bytes) =
+        (world, u.ran, its_time, happens) in assumption (keeps, others, pair, ran, u)
 
 -- ---- the end
 
 -- all n requests were executed, and their answers collected and reported
-pub left_after : {w : Way} {bus : BusValue} {l : QueuePairFields} {now before end : ℕ} {bytes : List ℕ} (n : ℕ)
-    → IsOnWay w bus l now bytes → length w.course.sent ≡ n → length w.course.answers ≡ n → w.rung ≡ n → w.done ≡ n
-    → w.told ≡ n → before ≡ w.run.geometry.page_size
+pub left_after : {due : World → Event → Type 0} {w : Way} {bus : BusValue} {l : QueuePairFields}
+    {now before end : ℕ} {bytes : List ℕ} (n : ℕ)
+    → IsOnWay due w bus l now bytes → length w.course.sent ≡ n → length w.course.answers ≡ n → w.rung ≡ n → w.done ≡ n
+    → w.told ≡ n → l.pages ≡ w.run.pair.pages → before ≡ w.run.geometry.page_size
     → KeepsBelow end w.run.geometry.page_size (pair_value w.run.pair) w.run.bytes bytes
     → IsLeft w.run.geometry w.run.controller end (after_some n (pair_value w.run.pair))
     (side w.run.bus w.run.pair before w.run.bytes) (side bus l now bytes)
-left_after {w} {bus} {l} {now} {before} {bytes = bytes} n u sent collected rung done told page others =
+left_after {w = w} {bus} {l} {now} {before} {bytes = bytes} n u sent collected rung done told pages page others =
     let r = w.run in
     let t = setting_of r in
     let begun = u.begun in
     let laid = begun.laid in
     let deep = laid.deep in
-    let is : l ≡ pair_at r n n n =
-    u.pair ∙ pairs_same (rw (sent, collected) refl) (rw (collected, told) refl) (ap (serial_at r) sent) in
+    let is : l ≡ pair_at r n n n r.pair.pages =
+    u.pair ∙ pairs_same (rw (sent, collected) refl) (rw (collected, told) refl) (ap (serial_at r) sent)
+    ∙ ap (pair_at r n n n) pages in
     record {
       ready = subst (λ q. IsReady r.geometry bus r.controller q now bytes) (sym is) (assumption (
         sym (none_untold n),

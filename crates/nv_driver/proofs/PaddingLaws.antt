@@ -15,6 +15,7 @@ use Rattle.nv_driver.proofs.Words.{FromHost, NoData, ToHost, Transfer, bytes_at,
 use Rattle.nv_driver.proofs.Words.{if◌then◌else◌, length-replicate, length_of, padded, page_size_bounds, received_from}
 use Rattle.nv_driver.proofs.DataLaws.{data_part, few_data, nothing}
 
+-- padded bytes are as many as were asked for
 pub length-padded : (n : ℕ) (bytes : List ℕ) → length (padded n bytes) ≡ n
 length-padded n bytes =
     let whole = length-append bytes (replicate n 0) in
@@ -25,6 +26,7 @@ length-padded n bytes =
 abbrev pub HasFirst : ℕ → List ℕ → List ℕ → Type 0
 HasFirst n bytes out = (i : ℕ) → i < n → get_or out i 0 ≡ get_or bytes i 0
 
+-- n bytes that are equal to the given ones, and 0 past their end, are the padded bytes
 pub padded_by : (n : ℕ) (out bytes : List ℕ) → length out ≡ n → HasFirst n bytes out → out ≡ padded n bytes
 padded_by n out bytes size first =
     same_number_lists out (padded n bytes) (size ∙ sym (length-padded n bytes))
@@ -76,6 +78,7 @@ read_first mem page_size pages offset k i low =
     get_or-map (λ p. get_or mem p 0) at i 0 0 (omega arith)
     ∙ ap (λ p. get_or mem p 0) (get_or-table k (buffer_place page_size pages offset) i 0 low)
 
+-- as many bytes are read from a buffer as were asked for
 length-read : (mem : List ℕ) (page_size : ℕ) (pages : List ℕ) (offset k : ℕ)
     → length (read_at mem (buffer_places page_size pages offset k)) ≡ k
 unfolding buffer_places

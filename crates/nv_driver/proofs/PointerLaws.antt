@@ -14,7 +14,7 @@ use Rattle.nv_bus.proofs.CallLaws.{legal_places, no_places}
 use Rattle.nv_driver.proofs.Words.{Asked, FromHost, HoldsSent, IsRequest, KeepsList, NoData, Sent, Setting, Sqe}
 use Rattle.nv_driver.proofs.Words.{StatusCode, StaysNamed, ToHost, Transfer, cases_lt, data_length, entry, length_of}
 use Rattle.nv_driver.proofs.Words.{mul-le-mul_right, page_size_bounds, pages_of_entry, places, pointed, sent_from}
-use Rattle.nv_driver.specs.Layout.{pages_for}
+use Rattle.nv_driver.specs.Layout.{pages_for, pages_of_command}
 use Rattle.nv_driver.proofs.DataLaws.{nothing}
 use Rattle.nv_driver.proofs.RegionLaws.{length-places}
 
@@ -37,13 +37,21 @@ enough_of greatest from len size pages is low most same =
           | inr g ↦ absurd (omega (arith, mul-le-mul_right size g))
         ]
 
+-- an entry has at most 259 pages
 pub entry_pages_few : (size : ℕ) → IsPageSize size → pages_of_entry size ≤ 259
 entry_pages_few size is =
     let bounds = page_size_bounds size is in
     let whole = (div_ceil_times 1048576 size (omega (arith, bounds))).1 in grind (arith, bounds, whole)
 
+-- a command has at most 7 pages
+pub command_pages_few : (size : ℕ) → IsPageSize size → pages_of_command size ≤ 7
+command_pages_few size is =
+    let bounds = page_size_bounds size is in
+    let whole = (div_ceil_times 16384 size (omega (arith, bounds))).1 in grind (arith, bounds, whole)
+
 -- ---- the data pointer of a command
 
+-- a transfer whose entries are for a buffer has the places of the buffer, also without data
 named : (t : PrpTransfer) (pages : List ℕ) (from : ℕ) → (0 < t.len → IsFor t pages from)
     → transfer_places t ≡ buffer_places t.page_size pages from t.len
 unfolding buffer_places transfer_places
@@ -57,6 +65,7 @@ Names page_size x mem =
     (0 < data_length x → IsLegal (pointed page_size x mem))
     × (transfer_places (pointed page_size x mem) ≡ places page_size x)
 
+-- the data pointer of a command that stays named names its data
 names_in : (page_size : ℕ) (x : Sent) (mem : List ℕ) → StaysNamed page_size x mem → Names page_size x mem
 names_in page_size x mem stays =
     let is = λ (some : 0 < data_length x).
@@ -81,6 +90,7 @@ abbrev pub call_at : List ℕ → Asked → Result Call StatusCode
 call_at at (Ok k) = Ok (record { command = k; places = at })
 call_at at (Err code) = Err code
 
+-- the places of an entry's data are these, if the transfer has as many places and names them if it has data
 places_by : (m : Transfer) (page_size : ℕ) (mem : List ℕ) (e : Sqe) (at : List ℕ) → HasRoom m
     → length at ≡ length_of m
     → (0 < length_of m → places_of (transfer page_size mem e.prp1 e.prp2 (length_of m)) ≡ Ok at)
@@ -97,17 +107,20 @@ call_with page_size mem e m = do
   command ← command_of e (sent_from m mem places)
   Ok (record { command = command; places = places })
 
+-- the rules that come before the data pointer can be tested first
 in_order : (r : Result Transfer StatusCode) (limit page_size : ℕ) (mem : List ℕ) (e : Sqe)
     → (r >>= (λ asked. within limit asked >>= call_with page_size mem e))
     ≡ ((r >>= within limit) >>= call_with page_size mem e)
 in_order (Ok asked) limit page_size mem e = refl
 in_order (Err code) limit page_size mem e = refl
 
+-- what is asked for, with places, is the call with these places
 call_ends : (found : Asked) (at : List ℕ)
     → (found >>= (λ command. Ok (record { command = command; places = at }))) ≡ call_at at found
 call_ends (Ok k) at = refl
 call_ends (Err code) at = refl
 
+-- the call of an entry is what it asks for with its data at these places
 call_by : (r : Result Transfer StatusCode) (e : Sqe) (at sends : List ℕ) (page_size : ℕ) (mem : List ℕ) (asked : Asked)
     → ((m : Transfer) → r ≡ Ok m
     → (data_places page_size mem e m ≡ Ok at) × (sent_from m mem at ≡ sends))

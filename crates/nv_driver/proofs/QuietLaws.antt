@@ -1,30 +1,19 @@
 -- A queue pair without outstanding commands: the schedule that begins there, and its state after a schedule has ended.
-use Rattle.std.proofs.Common.{[], ◌≡◌, ℕ, ◌+◌, ◌-◌, ◌*◌, ◌<◌, ◌≤◌, All, Bool, List, ap, arith, false, get_or, inr}
+use Rattle.std.proofs.Common.{◌≡◌, ℕ, ◌+◌, ◌-◌, ◌*◌, ◌<◌, ◌≤◌, All, Bool, List, ap, arith, false, get_or, inr}
 use Rattle.std.proofs.Common.{length, refl}
 use Rattle.nv_queue.specs.Rings.{CollectNumbers}
 use Rattle.nv_driver.proofs.Words.{AreOutside, BusValue, Geometry, IsApart, IsOf, IsQuiet, IsReady, KeepsBelow}
-use Rattle.nv_driver.proofs.Words.{QueuePairFields, Sent, Setting, State, World, bank_with, bytes_at, device_rings}
+use Rattle.nv_driver.proofs.Words.{QueuePairFields, Sent, World, bank_with, bytes_at, device_rings}
 use Rattle.nv_driver.proofs.Words.{end_of, limit_of, mul-le-mul_right, own_pages, pair_value, submit_ring}
 use Rattle.nv_driver.specs.Keeping.{OthersStay}
 use Rattle.nv_driver.specs.Schedule.{IsIdle, collect_ring}
-use Rattle.nv_driver.specs.UnderWay.{setting}
-use Rattle.nv_driver.specs.declared.queue_pair.PageRange.{PageRange}
+use Rattle.nv_driver.specs.UnderWay.{beginning, setting}
+use Rattle.nv_host.specs.PageSets.{Pages}
 use Rattle.nv_driver.proofs.KeptLaws.{number_zero}
 
 -- ---- the beginning
 
-abbrev pub beginning : Setting → List ℕ → State → World
-beginning t bytes s = record {
-  mem = bytes;
-  state = s;
-  bank = t.bank;
-  sent = [];
-  rung = 0;
-  done = 0;
-  told = 0;
-  answers = [];
-}
-
+-- a ready controller without outstanding commands is idle
 pub is_idle : (g : Geometry) (b : BusValue) (c : ℕ) (l : QueuePairFields) (now : ℕ) (bytes : List ℕ)
     → IsReady g b c l now bytes
     → let t = setting g c (limit_of b.state c) (pair_value l) in IsIdle t (beginning t bytes b.state)
@@ -46,6 +35,7 @@ submit_ring_is g c limit bytes l quiet below =
     rw (← number_zero (setting g c limit (pair_value l)) below)
     (ap (λ n. record l.submission { known = n }) quiet.known)
 
+-- the host's completion ring is the one with which the schedule begins
 pub collect_ring_is : (g : Geometry) (c limit : ℕ) (bytes : List ℕ) (l : QueuePairFields) → IsQuiet l
     → l.submission.submitted < 2 * l.submission.depth
     → l.completion ≡ collect_ring (setting g c limit (pair_value l)) 0 0
@@ -59,7 +49,7 @@ collect_ring_is g c limit bytes l quiet below =
 -- ---- the end
 
 -- a part outside a queue pair overlaps none of its rings and pages
-outside_pair : (s : PageRange) (x : Sent) (page_size sq from n : ℕ)
+outside_pair : (s : Pages) (x : Sent) (page_size sq from n : ℕ)
     → ((i d : ℕ) → i < length (own_pages x) → IsOf s.first s.count (get_or (own_pages x) i d))
     → sq ≤ s.first * page_size → sq ≤ (s.first + s.count) * page_size
     → IsApart sq ((s.first + s.count) * page_size - sq) from n → AreOutside page_size x from n

@@ -31,6 +31,7 @@ pub record InPage (page_size : ℕ) (pages : List ℕ) (place : ℕ) : Type 0 wh
   pub from : get_or pages index 0 * page_size ≤ place
   pub to : place < get_or pages index 0 * page_size + page_size
 
+-- each place of a buffer is in one of its pages
 pub place_page : (page_size : ℕ) (pages : List ℕ) (offset len k : ℕ) → 0 < page_size
     → offset + len ≤ length pages * page_size → k < len
     → InPage page_size pages (get_or (buffer_places page_size pages offset len) k 0)
@@ -68,20 +69,23 @@ pages_apart page_size p q differ =
       | inr g ↦ let after : q + 1 ≤ p = omega (arith, differ) in inr (omega (arith, mul-le-mul_right page_size after))
     ]
 
+-- a place in one page is outside each other page
 other_page : (page_size p q place : ℕ) → p ≢ q → p * page_size ≤ place
     → place < p * page_size + page_size → IsOutside page_size q place 1
 other_page page_size p q place differ low high = grind (arith, pages_apart page_size p q differ)
 
+-- if x and y have no page in common, y and x have none
 pub apart-sym : (x y : Sent) → AreApart x y → AreApart y x
 apart-sym x y apart i d h j e low same = apart j e low i d h (sym same)
 
 -- ---- what doesn't change
 
+-- a command has as many places as bytes of data
 pub length-places : (page_size : ℕ) (x : Sent) → length (places page_size x) ≡ data_length x
 unfolding buffer_places
 length-places page_size x = length-table (data_length x) (buffer_place page_size x.pages x.offset)
 
--- the places of a command's data, in distinct pages of the memory
+-- the places of a command's data in distinct pages of the memory are distinct places in the memory
 pub buffer_data : (page_size : ℕ) (x : Sent) (mem : List ℕ) → 0 < page_size
     → IsBuffer mem page_size x.pages x.offset (data_length x)
     → AreDistinct x.pages → ArePlaces x.request.transfer (length mem) (places page_size x)
@@ -131,6 +135,7 @@ completion_keeps bytes ring c from n some inside =
     written_keeps bytes (bytes_of_cqe (put_as ring c)) ring.base (16 * ring.depth)
     (completion_place ring.base ring.depth ring.posted) from n (omega arith) (omega arith) (omega arith)
 
+-- bytes outside a submission ring don't change when a command is submitted
 pub submission_keeps : (bytes : List ℕ) (ring : SubmitNumbers) (c : Sqe) (from n : ℕ) → 0 < ring.depth
     → ring.base + 64 * ring.depth ≤ length bytes → IsApart ring.base (64 * ring.depth) from n
     → bytes_at (with_submission bytes ring c) from n ≡ bytes_at bytes from n
@@ -142,6 +147,7 @@ submission_keeps bytes ring c from n some inside =
 
 -- ---- what is read
 
+-- a part of one byte is that byte
 byte_at : (bytes : List ℕ) (from : ℕ) → get_or (bytes_at bytes from 1) 0 0 ≡ get_or bytes from 0
 byte_at bytes from = get_or-bytes_at bytes from 1 0 (omega arith)
     ∙ ap (λ k. get_or bytes k 0) (let e : from + 0 ≡ from = omega arith in e)
@@ -166,7 +172,7 @@ abbrev pub ChangesOnlyAt : Setting → Sent → ℕ → ℕ → List ℕ → Lis
 ChangesOnlyAt t x base n old new =
     (from k : ℕ) → AreOutside t.page_size x from k → IsApart base n from k → bytes_at new from k ≡ bytes_at old from k
 
--- a part of bytes that don't change
+-- a part of bytes that don't change doesn't change
 part_same : (old new : List ℕ) (from n part k : ℕ) → bytes_at new from n ≡ bytes_at old from n → from ≤ part
     → part + k ≤ from + n → bytes_at new part k ≡ bytes_at old part k
 part_same old new from n part k same low high =
@@ -183,6 +189,7 @@ pub submission_same : (t : Setting) (old new : List ℕ) (s : ℕ)
 submission_same t old new s same below =
     ap sqe_of_bytes (part_same old new t.sq (64 * t.depth) (t.sq + 64 * s) 64 same (omega arith) (omega arith))
 
+-- a completion in a slot doesn't change if the bytes of the ring don't
 pub completion_same : (t : Setting) (old new : List ℕ) (s : ℕ)
     → bytes_at new t.cq (16 * t.depth) ≡ bytes_at old t.cq (16 * t.depth) → s < t.depth
     → completion_at new t.cq s ≡ completion_at old t.cq s
@@ -198,7 +205,7 @@ holds_sent_on t x old new same holds =
 
 -- ---- the pages of a command's list
 
--- another page's bytes are outside a page
+-- the bytes of another page are outside a page
 whole_page : (page_size p q : ℕ) → p ≢ q → IsOutside page_size q (p * page_size) page_size
 whole_page page_size p q differ = grind (arith, pages_apart page_size p q differ)
 
@@ -228,11 +235,13 @@ written_list page_size x bytes written some enough distinct = record {
               (λ same. distinct i (suc (suc one.index)) 0 (omega arith) (omega arith) (sym same)) one.from one.to,
         ))
 
+-- a part outside a page is apart from the bytes of the page
 beside : (page_size page base n : ℕ) → IsOutside page_size page base n → IsApart base n (page * page_size) page_size
 beside page_size page base n outside = grind arith
 
 -- ---- a command's list and its data
 
+-- neither a command's list nor its data changes
 pub record Stays (t : Setting) (x : Sent) (old new : List ℕ) : Type 0 where
   pub list : KeepsList (pointed t.page_size x old) x.first x.second new
   pub read : read_at new (places t.page_size x) ≡ read_at old (places t.page_size x)
@@ -250,7 +259,7 @@ same_stays t x old new some len enough same = record {
       (same (suc (suc page.index)) 0 (omega arith)) page.from (omega (arith, page.to)));
 }
 
--- or if only bytes outside them change
+-- both stay if only bytes outside the command's pages change
 pub stays_beside : (t : Setting) (x : Sent) (base n : ℕ) (old new : List ℕ) → 0 < t.page_size
     → length new ≡ length old → x.offset + data_length x ≤ length x.pages * t.page_size
     → AreOutside t.page_size x base n → ChangesOnly base n old new → Stays t x old new
@@ -258,7 +267,7 @@ stays_beside t x base n old new some len enough outside only =
     same_stays t x old new some len enough (λ i d h. let page = get_or (own_pages x) i d in
     only (page * t.page_size) t.page_size (beside t.page_size page base n (outside i d h)))
 
--- even if another command's pages change too
+-- both stay even if another command's pages change too
 pub stays_apart : (t : Setting) (x y : Sent) (base n : ℕ) (old new : List ℕ) → 0 < t.page_size
     → length new ≡ length old → ChangesOnlyAt t x base n old new
     → y.offset + data_length y ≤ length y.pages * t.page_size → AreApart y x → AreOutside t.page_size y base n

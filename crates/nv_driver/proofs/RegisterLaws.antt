@@ -24,7 +24,7 @@ use Rattle.nv_driver.specs.Registers.{idle_banks}
 
 -- ---- writes of one controller, one after another
 
--- a controller's registers change twice
+-- setting a controller's registers twice sets them to the second value
 pub set_twice : (a b e : List RegisterBank) (c : ℕ) (p q : RegisterBank) → b ≡ slice_set a c p → e ≡ slice_set b c q
     → e ≡ slice_set a c q
 set_twice a b e c p q is more = more ∙ ap (λ x. slice_set x c q) is ∙ set-set a c p q
@@ -37,12 +37,14 @@ then_own a b e c p f h is more =
     let at : bank_at b c ≡ p = ap (λ x. bank_at x c) is ∙ get_or-set_same a c p new_bank h in
     set_twice a b e c p (f (bank_at b c)) is more ∙ ap (λ q. slice_set a c (f q)) at
 
+-- controller c is among the enabled ones if its register bank is enabled
 pub enabled_at : (banks : List RegisterBank) (c : ℕ) → c < length banks
     → slice_index_or (enabled_in banks) c false ≡ is_enabled (bank_at banks c).readiness
 enabled_at banks c h = get_or-map (λ (p : RegisterBank). is_enabled p.readiness) banks c new_bank false h
 
 -- ---- the values that are written
 
+-- the dword that is written to CC sets EN, the page size, and the sizes of the entries
 pub cc_written : (m : ℕ) → m ≤ 4
     → cc_of_dword (0x00460001 + m * 128) ≡ record { en = true; sizes = record { mps = m; iosqes = 6; iocqes = 4 } }
 cc_written zero h = refl
@@ -52,18 +54,20 @@ cc_written (suc (suc (suc zero))) h = refl
 cc_written (suc (suc (suc (suc zero)))) h = refl
 cc_written (suc (suc (suc (suc (suc n))))) h = absurd (omega arith)
 
+-- MPS of a page size gives back the page size, and is at most 4
 pub page_size_of_mps : (size : ℕ) → IsPageSize size → (2 ^ (12 + mps_of size) ≡ size) × (mps_of size ≤ 4)
 unfolding IsPageSize
 page_size_of_mps size h = (grind (arith, nat_tests, h), grind (arith, nat_tests, h))
 
 -- ---- the queues are set
 
+-- the dword that is written to AQA sets the sizes of both queues
 queues_read : (m : ℕ) → m ≤ 4095 → aqa_of_dword (m * 65536 + m) ≡ record { asqs = m; acqs = m }
 queues_read m h =
     let first : bits 0 12 (m * 65536 + m) ≡ m = omega arith in
     let second : bits 16 12 (m * 65536 + m) ≡ m = omega arith in cc
 
--- an address by its two dwords
+-- setting both dwords of an address sets the address
 address_read : (old address : ℕ) → with_high (with_low old (address % 2 ^ 32)) (address / 2 ^ 32) ≡ address
 address_read old address = omega arith
 
@@ -75,12 +79,13 @@ queues_by : (p : RegisterBank) (l : QueuePair) → p.readiness ≡ Off → l.dep
 queues_by p l off deep =
     rw (off, queues_read (l.depth - 1) (omega arith), address_read p.asq l.sq, address_read p.acq l.cq) refl
 
--- one more write
+-- after one more write, the controller has the registers after both writes
 wrote : (a : List RegisterBank) {b e : List RegisterBank} {c : ℕ} (o v : ℕ) (p : RegisterBank) → c < length a
     → b ≡ slice_set a c p → e ≡ slice_set b c (with_register_at (bank_at b c) o v)
     → e ≡ slice_set a c (with_register_at p o v)
 wrote a {b} {e} {c} o v p h = then_own a b e c p (λ q. with_register_at q o v) h
 
+-- five writes set the queues of a controller that is off
 pub queues_written : (a : List RegisterBank) {b d e f k : List RegisterBank} {c : ℕ} (x s1 s2 q1 q2 : ℕ) (l : QueuePair)
     → c < length a
     → (bank_at a c).readiness ≡ Off → l.depth ≤ 4096 → x ≡ (l.depth - 1) * 65536 + (l.depth - 1)
@@ -97,6 +102,7 @@ queues_written a {c = c} x s1 s2 q1 q2 l h off deep is low high behind above fir
 
 -- ---- EN is set
 
+-- the address of a page is a multiple of the page size in CC
 in_pages : (n p m : ℕ) → 2 ^ (12 + m) ≡ p → (n * p) % 2 ^ (12 + m) ≡ 0
 in_pages n p m e = rw e (mul-mod_left n p)
 
@@ -110,6 +116,7 @@ off_bank sizes l = record {
   acq = l.cq;
 }
 
+-- setting EN of a controller that is off, with the queues of a queue pair, makes it ready with new rings
 started_bank : (sizes : Sizes) (g : Geometry) (i x : ℕ) → IsGeometry g → x ≡ 0x00460001 + mps_of g.page_size * 128
     → with_register_at (off_bank sizes (pair_of g i)) 0x14 x
     ≡ idle_bank (mps_of g.page_size) g.page_size (pair_of g i)
@@ -128,6 +135,7 @@ started_bank sizes g i x is e =
 
 -- ---- EN is cleared, the queues are set, and EN is set
 
+-- clearing EN turns the controller off
 pub off_after : (p : RegisterBank) → (with_register_at p 0x14 0).readiness ≡ Off
 off_after p = grind arith
 
@@ -136,6 +144,7 @@ pub stopped : (b : BusValue) (c : ℕ) → c < length b.banks
     → state_written b c 0x14 0 ≡ reset_if (enabled_in b.banks) b.state c
 stopped b c below = rw (enabled_at b.banks c below) (grind arith)
 
+-- a write of CC to a controller that is off resets nothing
 pub not_stopped : (b : BusValue) (c x : ℕ) → (bank_at b.banks c).readiness ≡ Off → state_written b c 0x14 x ≡ b.state
 not_stopped b c x off = rw off refl
 
@@ -152,13 +161,16 @@ kept_queues a b c m p n s l below off is =
 module _ (a b d : List RegisterBank) (c : ℕ) (l : QueuePair) (below : c < length a)
     (off : b ≡ slice_set a c (with_register_at (bank_at a c) 0x14 0))
     (queues : d ≡ slice_set b c (with_queues (bank_at b c) l)) where
+  -- after EN was cleared, controller c is off
   pub is_off : (bank_at b c).readiness ≡ Off
   is_off = ap (λ x. (bank_at x c).readiness) off
       ∙ ap (λ (p : RegisterBank). p.readiness) (get_or-set_same a c _ new_bank below) ∙ off_after (bank_at a c)
 
+  -- the queues were set after EN was cleared
   set : d ≡ slice_set a c (with_queues (with_register_at (bank_at a c) 0x14 0) l)
   set = then_own a b d c (with_register_at (bank_at a c) 0x14 0) (λ p. with_queues p l) below off queues
 
+  -- controller c is off with the queues of its queue pair
   pub has_queues : bank_at d c ≡ off_bank (bank_at d c).sizes l
   has_queues =
       let p = with_register_at (bank_at a c) 0x14 0 in
@@ -169,18 +181,20 @@ module _ (a b d : List RegisterBank) (c : ℕ) (l : QueuePair) (below : c < leng
 
   module _ (g : Geometry) (x : ℕ) (is : IsGeometry g) (its : l ≡ pair_of g c)
       (value : x ≡ 0x00460001 + mps_of g.page_size * 128) where
+    -- setting EN makes controller c ready with new rings
     pub started : with_register_at (bank_at d c) 0x14 x ≡ idle_bank (mps_of g.page_size) g.page_size (pair_of g c)
     started = ap (λ q. with_register_at q 0x14 x) has_queues
         ∙ ap (λ v. with_register_at (off_bank (bank_at d c).sizes v) 0x14 x) its
         ∙ started_bank (bank_at d c).sizes g c x is value
 
+    -- the three steps leave controller c ready with new rings, and the other controllers as they were
     pub enabled_banks : (e : List RegisterBank) → e ≡ slice_set d c (with_register_at (bank_at d c) 0x14 x)
         → e ≡ slice_set a c (idle_bank (mps_of g.page_size) g.page_size (pair_of g c))
     enabled_banks e last = set_twice a d e c _ _ set (last ∙ ap (slice_set d c) started)
 
 -- ---- all controllers
 
--- one more controller has its registers
+-- if the registers of the controllers below c are set, and those of c are set now, all up to c are
 pub below_set : (a b : List RegisterBank) (c : ℕ) (f : ℕ → RegisterBank) → c < length a → b ≡ slice_set a c (f c)
     → ((k : ℕ) → k < c → bank_at a k ≡ f k) → (k : ℕ) → k < c + 1 → bank_at b k ≡ f k
 below_set a b c f h is below =
@@ -194,6 +208,7 @@ pub above_set : (a b o : List RegisterBank) (c : ℕ) (p : RegisterBank) → b �
 above_set a b o c p is above k h =
     ap (λ x. bank_at x k) is ∙ get_or-set_other a c k p new_bank (omega arith) ∙ above k (omega arith)
 
+-- if each controller is ready with new rings, all are
 pub all_enabled : (banks : List RegisterBank) (n : ℕ) (g : Geometry) → length banks ≡ n
     → ((k : ℕ) → k < n → bank_at banks k ≡ idle_bank (mps_of g.page_size) g.page_size (pair_of g k))
     → banks ≡ idle_banks g.page_size (pairs_of g n)

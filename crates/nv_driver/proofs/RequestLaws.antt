@@ -25,11 +25,13 @@ use Rattle.nv_driver.proofs.DataLaws.{HasShape, most, shape}
 
 -- ---- commands
 
+-- data of a command's shape has a length that a data pointer can have
 shape_room : (m : Transfer) → HasShape m → HasRoom m
 shape_room NoData is = tt
 shape_room (ToHost n) is = (is.0, omega (arith, is.1))
 shape_room (FromHost n) is = (omega (arith, is), omega (arith, is))
 
+-- a result has a single value
 moves_same : (r : Result Transfer StatusCode) (m n : Transfer) → r ≡ Ok m → r ≡ Ok n → m ≡ n
 moves_same r m n is other = cc
 
@@ -54,15 +56,18 @@ is_request limit k enough can =
       command = (refl, zero_id.fits.nsid);
     }
 
+-- every command that `admin` takes is a request
 pub every_command : EveryCommandIsRequest
 every_command s c k well below fits sends =
     is_request (limit_of s c) k (limit_bounds s c well below).0 (record { fits = fits; sends = sends })
 
 -- ---- what is asked for doesn't depend on the command identifier and the data pointer
 
+-- an entry with another command identifier and another data pointer
 abbrev elsewhere : Sqe → (cid prp1 prp2 : ℕ) → Sqe
 elsewhere e cid prp1 prp2 = record e { cid = cid; prp1 = prp1; prp2 = prp2 }
 
+-- what an entry asks for doesn't depend on its command identifier and its data pointer
 same_decoding : (r : Result Opcode StatusCode) (e : Sqe) (cid p q : ℕ)
     → (r >>= (λ o. decoded_as o (elsewhere e cid p q))) ≡ (r >>= (λ o. decoded_as o e))
 same_decoding (Ok Identify) e cid p q = refl
@@ -74,12 +79,15 @@ same_decoding (Ok SetFeatures) e cid p q = refl
 same_decoding (Ok GetLogPage) e cid p q = refl
 same_decoding (Err code) e cid p q = refl
 
+-- the data transfer of what an entry asks for, within a limit
 abbrev moves_as : ℕ → Result Decoded StatusCode → Result Transfer StatusCode
 moves_as limit r = (r >>= (λ asked. Ok (transfer_in asked))) >>= within limit
 
+-- the data transfer of an entry doesn't depend on its command identifier and its data pointer
 same_moves : (limit : ℕ) (e : Sqe) (cid p q : ℕ) → moves_of limit (elsewhere e cid p q) ≡ moves_of limit e
 same_moves limit e cid p q = ap (moves_as limit) (same_decoding (opcode_of e) e cid p q)
 
+-- what an entry and its data ask for doesn't depend on its command identifier and its data pointer
 same_asked : (limit : ℕ) (e : Sqe) (cid p q : ℕ) (bytes : List ℕ)
     → asked_by limit (elsewhere e cid p q) bytes ≡ asked_by limit e bytes
 same_asked limit e cid p q bytes =
@@ -88,16 +96,19 @@ same_asked limit e cid p q bytes =
 
 -- ---- the data of a command is transferred as that of its entry
 
+-- a command that is made from a page is transferred as a page from the host
 page_then : (r : Result (List ℕ) StatusCode) (f : List ℕ → Asked) → ((page : List ℕ) → GoesBy (f page) page_from_host)
     → GoesBy (r >>= f) page_from_host
 page_then (Ok page) f each = each page
 page_then (Err code) f each = tt
 
+-- an attachment or a detachment is transferred as a page from the host
 list_goes : (detach : Bool) (n : ℕ) → n < 2 ^ 32 → (page : List ℕ) (r : Result (List ℕ) StatusCode)
     → GoesBy (r >>= (λ ids. Ok (Attachment n detach ids))) page_from_host
 list_goes detach n low page (Ok ids) = (refl, low)
 list_goes detach n low page (Err code) = tt
 
+-- a command with its data is transferred as what the entry asks for
 goes_with : (asked : Decoded) (bytes : List ℕ) → namespace_in asked < 2 ^ 32
     → GoesBy (command_with asked bytes) (transfer_in asked)
 goes_with (decoded.Whole k) bytes low = (refl, low)
@@ -105,6 +116,7 @@ goes_with decoded.Create bytes low = page_then (page_of bytes) _ (λ page. (refl
 goes_with (decoded.Attachment n detach) bytes low =
     page_then (page_of bytes) _ (λ page. list_goes detach n low page (listed (ctrl_list_of_bytes page)))
 
+-- a command with its data is transferred as its entry, if nothing refuses the entry
 goes_of : (n : ℕ) (r : Result Decoded StatusCode) (bytes : List ℕ) (m : Transfer) → n < 2 ^ 32 → AskedIf n r
     → (r >>= (λ asked. Ok (transfer_in asked))) ≡ Ok m → GoesBy (r >>= (λ asked. command_with asked bytes)) m
 goes_of n (Ok asked) bytes m low h is =
@@ -114,12 +126,13 @@ goes_of n (Err code) bytes m low h is = tt
 
 -- ---- within a limit
 
--- what the rules before those for the data pointer accept
+-- what is accepted within a limit is a transfer that is no longer than the limit
 is_let : (r : Result Transfer StatusCode) (limit : ℕ) (m : Transfer) → (r >>= within limit) ≡ Ok m
     → (r ≡ Ok m) × (length_of m ≤ limit)
 is_let (Ok asked) limit m is = let h = within_limit limit asked m is in (ap Ok (sym h.0), h.1)
 is_let (Err code) limit m is = absurd (cc)
 
+-- a transfer that one limit accepts is accepted by the greatest one
 let_through : (limit : ℕ) (e : Sqe) (m : Transfer) → limit ≤ greatest_limit → moves_of limit e ≡ Ok m
     → moves_of greatest_limit e ≡ Ok m
 let_through limit e m low is =
@@ -127,12 +140,14 @@ let_through limit e m low is =
     ap (λ (r : Result Transfer StatusCode). r >>= within greatest_limit) h.0
     ∙ within_few greatest_limit m (omega (arith, h.1))
 
+-- the transfer of any entry has a length that a data pointer can have
 room_of : (r : Result Transfer StatusCode) (e : Sqe) → moves_of greatest_limit e ≡ r → HasRoom (moved_by r)
 room_of (Ok m) e is =
     let h = is_let (transfer_of e) greatest_limit m is in
     has_room greatest_limit e m m (lit≤ tt) h.0 (within_few greatest_limit m h.1)
 room_of (Err code) e is = tt
 
+-- a command within a limit is transferred as the data of its entry
 goes_by : (r : Result Transfer StatusCode) (limit : ℕ) (e : Sqe) (bytes : List ℕ) → limit ≤ greatest_limit → SqeFits e
     → moves_of limit e ≡ r → GoesBy (r >>= (λ m. command_of e bytes)) (transfer_for e)
 goes_by (Ok m) limit e bytes low fits is =
@@ -141,6 +156,7 @@ goes_by (Ok m) limit e bytes low fits is =
     (goes_of e.nsid (decoded_of e) bytes m fits.nsid (asked_of e) h.0)
 goes_by (Err code) limit e bytes low fits is = tt
 
+-- any entry with any bytes of the host is a request
 pub every_entry : EveryEntryIsRequest
 every_entry limit e bytes low fits =
     let sends = sent_for (transfer_for e) bytes in

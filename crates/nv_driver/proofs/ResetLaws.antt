@@ -28,11 +28,13 @@ record RingLies (page_size size : ℕ) (l : QueuePairFields) : Type 0 where
   pub high : l.completion.base + length (zeros l) ≤ (l.pages.first + l.pages.count) * page_size
   pub inside : l.completion.base + length (zeros l) ≤ size
 
+-- the completion ring of a queue pair lies between its submission ring and its pages
 ring_lies : {page_size size : ℕ} {l : QueuePairFields} → IsQuiet l → IsLaid page_size size (pair_value l)
     → RingLies page_size size l
 ring_lies {l = l} quiet laid =
     let many = length-replicate {A = ℕ} (16 * l.completion.depth) 0 in omega (arith, laid, quiet.depth)
 
+-- zeroing a completion ring keeps the length of the memory
 pub zeroed_length : {page_size : ℕ} {l : QueuePairFields} (old new : List ℕ) → IsQuiet l
     → IsLaid page_size (length old) (pair_value l)
     → new ≡ with_bytes old l.completion.base (zeros l) → length new ≡ length old
@@ -40,6 +42,7 @@ zeroed_length {l = l} old new quiet laid zeroed =
     ap (λ (bs : List ℕ). length bs) zeroed ∙ length-with_bytes old l.completion.base (zeros l)
     (ring_lies quiet laid).inside
 
+-- zeroing a completion ring doesn't change bytes outside the queue pair
 pub zeroed_others : {page_size : ℕ} {l : QueuePairFields} (old new : List ℕ) → IsQuiet l
     → IsLaid page_size (length old) (pair_value l)
     → new ≡ with_bytes old l.completion.base (zeros l) → (end : ℕ)
@@ -52,7 +55,7 @@ zeroed_others {l = l} old new quiet laid zeroed end from n low apart =
 
 -- ---- each enabled one
 
--- one more controller
+-- after the resets of the enabled ones of c controllers, one more reset gives those of c + 1 controllers
 pub states_more : (a o : List RegisterBank) (s mid new : State) (c : ℕ) → c < length a → c < length o
     → bank_at a c ≡ bank_at o c
     → mid ≡ reset_first (enabled_in o) c s → new ≡ reset_if (enabled_in a) mid c
@@ -62,6 +65,7 @@ states_more a o s mid new c h k same before is =
     is ∙ ap (λ (on : Bool). if on then reset mid c else mid) enabled ∙ ap (λ t. reset_if (enabled_in o) t c) before
     ∙ sym (reset_first_more (enabled_in o) c s)
 
+-- resets of the enabled ones of all controllers, one after another, are the resets of all enabled ones
 pub states_all : (o : List RegisterBank) (s new : State) (c : ℕ) → c ≡ length o
     → new ≡ reset_first (enabled_in o) c s → new ≡ reset_where (enabled_in o) s
 states_all o s new c all is =
@@ -76,6 +80,7 @@ pub resets : {g : Geometry} {b : BusValue} {c : ℕ} {l : QueuePairFields} {now 
 resets {b = b} {c = c} r =
     rw (enabled_at b.banks c r.controller ∙ ap (λ (p : RegisterBank). is_enabled p.readiness) r.bank) refl
 
+-- a controller that is reset keeps the queues of its queue pair
 pub kept_again : {g : Geometry} {b : BusValue} {c : ℕ} {l : QueuePairFields} {now : ℕ} {bytes : List ℕ}
     → IsReady g b c l now bytes → IsPlaced g c (pair_value l) → (banks : List RegisterBank)
     → banks ≡ slice_set b.banks c (with_register_at (bank_at b.banks c) 0x14 0)
@@ -102,9 +107,10 @@ left_again {g} {b} {b'} {c} {l = l} {mem = mem} r placed same quiet is size tags
     record {
       ready = record {
         geometry = r.geometry;
+        shape = ap (λ (v : QueuePair). v.geometry) is ∙ r.shape;
         page_size = same ∙ r.page_size;
         depth = ap (λ (v : QueuePair). v.depth) is ∙ r.depth;
-        room = omega (arith, r.room, ap (λ (v : QueuePair). v.page_count) is);
+        room = ap (λ (v : QueuePair). v.page_count) is ∙ r.room;
         quiet = quiet;
         laid = rw is (omega (arith, laid, size));
         tags = subst (λ (v : QueuePair). HoldsTags mem v.cq v.depth v.number) (sym is) tags;

@@ -4,21 +4,35 @@ use Rattle.std.proofs.Common.{min, ◌≡◌, ◌∙◌, ℕ, ◌+◌, ◌-◌, 
 use Rattle.std.proofs.Common.{[], ◌∷◌, ◌++◌, Ok, get_or, length-append, All, refl}
 use Rattle.nv_driver.proofs.Words.{Answer, Asked, Batch, BusValue, CanBeSent, Command, Cqe, Geometry, HasAnswers, Holds}
 use Rattle.nv_driver.proofs.Words.{IsBus, IsLeft, IsOnWay, IsReadable, IsReady, IsTold, IsUnderWay, QueuePairFields}
-use Rattle.nv_driver.proofs.Words.{Request, Run, Sent, Share, after_some, answers_to, awaited_completion, bank_at}
-use Rattle.nv_driver.proofs.Words.{cases_eq, collected_one, completion_at, first_page, known_to, length_of, pair_value}
-use Rattle.nv_driver.proofs.Words.{places, received_from, request_of, run_of, setting_of, side, slice_set, slot}
+use Rattle.nv_driver.proofs.Words.{Request, Run, Sent, after_some, answers_to, awaited_completion, bank_at}
+use Rattle.nv_driver.proofs.Words.{cases_eq, collected_one, completion_at, known_to, length_of, own_pages, pair_value}
+use Rattle.nv_driver.specs.Schedule.{places as places_of}
+use Rattle.nv_driver.proofs.Words.{received_from, request_of, run_of, setting_of, side, slice_set, slot}
 use Rattle.nv_driver.proofs.Words.{transfer_by, way, with_register_at}
 use Rattle.nv_driver.specs.Batch.{state_after, answers_of, from_serial}
-use Rattle.nv_driver.specs.Schedule.{Numbered, answer_from, answer_read, answer_to}
-use Rattle.nv_driver.specs.UnderWay.{IsKept, share}
+use Rattle.nv_driver.specs.Schedule.{Event, Numbered, answer_from, answer_read, answer_to}
+use Rattle.nv_driver.proofs.Words.{Bell, Collect, Tell, Turn}
+use Rattle.nv_driver.specs.UnderWay.{IsDue, IsHeld, IsKept, IsToReport, free_pages, held_pages, pages_of_all}
+use Rattle.nv_driver.specs.CommandPages.{AreTaken, all_pages, without}
+use Rattle.nv_driver.specs.inner.CommandPages.{with_pages}
+use Rattle.nv_driver.specs.Layout.{data_count}
+use Rattle.nv_driver.specs.Submitting.{RequestPlace, place_in}
+use Rattle.nv_driver.specs.declared.command_pages.CommandPages.{CommandPages}
+use Rattle.nv_host.specs.PageSets.{IsOf, Pages}
+use Rattle.nv_prp.specs.Buffer.{IsBuffer, buffer_places}
+use Rattle.std.specs.FinSet as set
+use Rattle.std.proofs.Common.{◌≢◌, ◌%◌, AllPairs, add-one, drop, false}
+use Rattle.std.proofs.Math.Seq.{drop-cons, drop-length}
+use Rattle.nv_driver.proofs.CommandPageLaws.{own_is, place_of_set}
+use Rattle.nv_driver.proofs.WindowPageLaws.{given_back, gone, taken_first, taken_none, taken_rest}
+use Rattle.nv_driver.specs.inner.Pace.{IsPaced, IsToldInTime}
 use Rattle.nv_driver.specs.inner.UnderWay.{left_of}
 use Rattle.nv_driver.proofs.BatchLaws.{state_is, answer_at, answers_are, length-answers, length-answers_of_all}
 use Rattle.nv_driver.proofs.BatchLaws.{length-from_serial}
-use Rattle.nv_driver.proofs.UnderWayLaws.{counts, command_of, world, own_all}
+use Rattle.nv_driver.proofs.UnderWayLaws.{counts, command_of, has_collected, held, is_full, world}
 use Rattle.std.proofs.Math.ListN.{length-set}
 use Rattle.std.proofs.lemmas.List.{take_more, take_more_set}
 use Rattle.nv_command.specs.Logs.{IsSendable}
-use Rattle.nv_driver.specs.inner.Submitting.{places_from}
 use Rattle.nv_driver.proofs.TurnLaws.{no_command}
 use Rattle.std.proofs.Math.Seq.{take-length}
 use Rattle.nv_driver.proofs.OnWayLaws.{begins, left_after}
@@ -29,42 +43,65 @@ use Rattle.nv_driver.proofs.OnWayLaws as W
 -- ---- doorbells and turns
 
 module _ {r : Run} {bells turns : ℕ} {b : Batch} {bus : BusValue} {l : QueuePairFields} {now : ℕ} {bytes : List ℕ}
-    (u : IsUnderWay r bells turns b bus l now bytes) where
+    {places : List CommandPages} (u : IsUnderWay r bells turns b bus l now bytes places) where
   -- the commands stay, while other things change
-  goes_on : {bells' turns' told' now' : ℕ} {bus' : BusValue} {l' : QueuePairFields} {mem : List ℕ}
-      → IsOnWay (way r u.course bells' turns' told') bus' l' now' mem
-      → IsUnderWay r bells' turns' (record b { told = told' }) bus' l' now' mem
-  goes_on next = record {
-    course = u.course;
+  goes_on : {bells' turns' told' now' : ℕ} {bus' : BusValue} {l' : QueuePairFields} {mem : List ℕ} (e : Event)
+      → l'.pages ≡ l.pages → IsOnWay (IsDue r) (way r (W.more_events u.on_way e) bells' turns' told') bus' l' now' mem
+      → IsUnderWay r bells' turns' (record b { told = told' }) bus' l' now' mem places
+  goes_on e same next = record {
+    course = W.more_events u.on_way e;
     on_way = next;
     can = u.can;
-    geometry = u.geometry;
     controller = u.controller;
     has = u.has;
     collected = u.collected;
+    left = same ∙ u.left;
+    room = u.room;
+    slots = u.slots;
   }
 
+  -- the tail doorbell was rung for all commands that were sent
   pub rings : {bus' : BusValue} {value tail : ℕ} → value ≡ tail → tail ≡ slot (setting_of r) b.sent
       → bus'.state ≡ bus.state
       → bus'.banks ≡ slice_set bus.banks b.ctrl (with_register_at (bank_at bus.banks b.ctrl) 0x1000 value)
-      → (IsBus bus → IsBus bus') → IsUnderWay r b.sent turns b bus' l now bytes
-  rings {bus'} sent at state banks lawful =
-      goes_on (subst (λ n. IsOnWay (way r u.course n turns b.told) bus' l now bytes) u.sent
-      (W.rings u.on_way u.controller (sent ∙ at ∙ ap (slot (setting_of r)) (sym u.sent)) state banks lawful))
+      → (IsBus bus → IsBus bus') → turns ≡ b.collected → IsToldInTime r b
+      → b.sent ≡ min (b.collected + r.geometry.window) (length r.commands) → bells < b.sent
+      → IsUnderWay r b.sent turns b bus' l now bytes places
+  rings {bus'} sent at state banks lawful all near full more =
+      let its_time : IsDue r (world u) Bell = (has_collected u all near, is_full u full, omega (arith, more, u.sent)) in
+      goes_on Bell refl
+      (subst (λ n. IsOnWay (IsDue r) (way r (W.more_events u.on_way Bell) n turns b.told) bus' l now bytes)
+      u.sent (W.rings u.on_way u.controller (sent ∙ at ∙ ap (slot (setting_of r)) (sym u.sent)) state banks lawful
+      its_time))
 
-  pub tells_on : {bus' : BusValue} {l' : QueuePairFields} → IsTold b.ctrl l bus l' bus'
-      → IsUnderWay r bells turns (record b { told = b.collected }) bus' l' now bytes
-  tells_on {bus'} {l'} t =
-      goes_on (subst (λ n. IsOnWay (way r u.course bells turns n) bus' l' now bytes) u.collected
-      (W.tells_on u.on_way u.controller t))
+  -- the head doorbell was rung for all collected answers
+  pub tells_on : {bus' : BusValue} {l' : QueuePairFields} → IsTold b.ctrl l bus l' bus' → IsToReport r (world u)
+      → IsUnderWay r bells turns (record b { told = b.collected }) bus' l' now bytes places
+  tells_on {bus'} {l'} t its_time =
+      goes_on Tell (ap (λ (o : QueuePairFields). o.pages) t.pair)
+      (subst (λ n. IsOnWay (IsDue r) (way r (W.more_events u.on_way Tell) bells turns n) bus' l' now bytes)
+      u.collected (W.tells_on u.on_way u.controller t its_time))
 
+  -- the controller had a turn, which took as many commands as the counts allow
   pub turns_on : {bus' : BusValue} {now' asked most count : ℕ} {mem : List ℕ}
       → T.Turn now b.ctrl asked count bus bytes bus' mem → asked ≡ most → IsBus bus' → length mem ≡ length bytes
-      → now' ≡ now → IsUnderWay r bells (turns + count) b bus' l now' mem
+      → now' ≡ now → turns ≡ b.collected → IsToldInTime r b
+      → b.sent ≡ min (b.collected + r.geometry.window) (length r.commands) → bells ≡ b.sent
+      → b.collected < length r.commands → most ≡ r.geometry.pace
+      → IsUnderWay r bells (turns + count) b bus' l now' mem places
       × (count ≡ min most (min (bells - turns) (r.pair.submission.depth - 1 - (turns - b.told))))
-  turns_on turn pace lawful size page =
-      let next = W.turned u.on_way u.controller pace turn lawful size page in (goes_on next.0, next.1)
+  turns_on {most = most} turn pace lawful size page all near full rung some its_pace =
+      let its_time : IsDue r (world u) (Turn most) = (
+        has_collected u all near,
+        is_full u full,
+        rung ∙ sym u.sent,
+        omega (arith, some, u.collected),
+        its_pace,
+      ) in
+      let next = W.turned u.on_way u.controller pace turn lawful size page its_time in
+      (goes_on (Turn most) refl next.0, next.1)
 
+  -- the state is the one after the commands that turns took
   pub state_on : bus.state ≡ state_after r.controller r.bus.state r.pair.serial (take turns r.commands)
   state_on =
       let k = counts u in
@@ -73,10 +110,10 @@ module _ {r : Run} {bells turns : ℕ} {b : Batch} {bus : BusValue} {l : QueuePa
 
 -- a turn that takes none while a command is waiting finds no free slot
 pub none_free : (most waiting depth done told count : ℕ) → count ≡ min most (min waiting (depth - 1 - (done - told)))
-    → count ≡ 0 → 1 ≤ most → 1 ≤ waiting → 2 ≤ depth → told < done
+    → count ≡ 0 → 1 ≤ most → 1 ≤ waiting → 2 ≤ depth → (told < done) × (told + depth ≤ done + 1)
 none_free most waiting depth done told count is none some waits deep =
     let full : depth - 1 - (done - told) ≡ 0 = no_slot (depth - 1 - (done - told)) (sym none ∙ is) in
-    omega (arith, full, deep)
+    (omega (arith, full, deep), omega (arith, full, deep))
   where
     no_slot : (free : ℕ) → 0 ≡ min most (min waiting free) → free ≡ 0
     no_slot free e = omega arith
@@ -92,12 +129,20 @@ comes_further n b b' some more none =
 
 -- ---- answers
 
+-- the pages of a command can be returned to a set
+pub record CanGive (s : Pages) (o : CommandPages) : Type 0 where
+  pub few : o.count ≤ 7
+  pub own : All (λ p. IsOf s.first s.count p) (all_pages o)
+  pub none : All (λ p. set.contains s.members p ≡ false) (all_pages o)
+  pub distinct : AllPairs (λ p q. p ≢ q) (all_pages o)
+
 -- what was asked for is a single command
 one_command : (asked : Asked) (k e : Command) → asked ≡ Ok k → asked ≡ Ok e → k ≡ e
 one_command asked k e is other = cc
 
 module _ {r : Run} {bells turns : ℕ} {b : Batch} {bus : BusValue} {l : QueuePairFields} {now : ℕ} {bytes : List ℕ}
-    (u : IsUnderWay r bells turns b bus l now bytes) where
+    {places : List CommandPages} (u : IsUnderWay r bells turns b bus l now bytes places) where
+  -- no more answers were collected, and no more commands executed, than commands were sent
   pub no_more : (b.collected ≤ b.sent) × (turns ≤ b.sent)
   no_more = let c = counts u in (omega (arith, c.collected, c.done, c.rung), omega (arith, c.done, c.rung))
 
@@ -106,81 +151,167 @@ module _ {r : Run} {bells turns : ℕ} {b : Batch} {bus : BusValue} {l : QueuePa
   next_one = get_or u.course.sent b.collected no_command
 
   module _ (more : b.collected < turns) where
+    -- fewer answers were collected than commands were executed
     pub awaits : length u.course.answers < turns
     awaits = omega (arith, more, u.collected)
 
+    -- the awaited answer belongs to a command of the list
     pub number_inside : b.collected < length r.commands
     number_inside = omega (arith, more, no_more, u.some)
 
+    -- the awaited answer is held
     held_here : Holds (setting_of r) r.bus.state (world u) b.collected next_one
     held_here = u.keeps.held b.collected no_command (omega (arith, u.collected)) more
 
-    kept_here : IsKept r b.collected next_one
+    -- the command whose answer is awaited was sent with its data in its pages
+    kept_here : IsKept r next_one
     kept_here = u.kept b.collected no_command (omega (arith, no_more, more))
 
+    -- its pages are in its slot
+    pub held_at : (p : CommandPages) → IsHeld (get_or places (b.collected % 16) p) next_one
+    held_at p = u.slots b.collected p no_command (omega arith) (omega (arith, no_more, more))
+
+    -- the pages of the outstanding commands are its own and then those of the others
+    held_is : held u ≡ own_pages next_one ++ held_pages (b.collected + 1) u.course.sent
+    held_is = ap pages_of_all (drop-cons u.course.sent b.collected no_command (omega (arith, no_more, more, u.sent)))
+        ∙ ap (λ n. own_pages next_one ++ held_pages n u.course.sent) (sym (add-one b.collected))
+
+    module _ {o : CommandPages} (here : o ≡ get_or places (b.collected % 16) o) where
+      -- what was put into its slot are its pages
+      pub held_one : IsHeld o next_one
+      held_one = subst (λ p. IsHeld p next_one) (sym here) (held_at o)
+
+      all_is : held u ≡ all_pages o ++ held_pages (b.collected + 1) u.course.sent
+      all_is = held_is ∙ ap (λ ps. ps ++ held_pages (b.collected + 1) u.course.sent) (sym held_one.pages)
+
+      taken_all : AreTaken r.pair.pages (all_pages o ++ held_pages (b.collected + 1) u.course.sent)
+      taken_all = subst (AreTaken r.pair.pages) all_is u.taken
+
+      -- they can be given back
+      pub can_give : {s : Pages} → s ≡ l.pages → CanGive s o
+      can_give same =
+          let first = taken_first r.pair.pages (all_pages o) _ taken_all in
+          subst (λ s. CanGive s o) (sym (same ∙ u.left ∙ ap (without r.pair.pages) all_is)) (record {
+            few = held_one.few;
+            own = first.own;
+            none = λ i d h. gone r.pair.pages (all_pages o) (held_pages (b.collected + 1) u.course.sent) i d h;
+            distinct = first.distinct;
+          })
+
+      -- once they are given back, the free pages are those that no later command has
+      pages_back : with_pages l.pages (all_pages o) ≡ free_pages r (b.collected + 1) u.course.sent
+      pages_back = ap (λ s. with_pages s (all_pages o)) (u.left ∙ ap (without r.pair.pages) all_is)
+          ∙ given_back r.pair.pages (all_pages o) (held_pages (b.collected + 1) u.course.sent) taken_all
+
     module _ {q : Cqe} (is : q ≡ awaited_completion bytes l.completion) where
+      -- the awaited completion is in its slot
       completion_is : q ≡ completion_at bytes (setting_of r).cq (slot (setting_of r) b.collected)
       completion_is = is ∙ W.completion_is u.on_way awaits
           ∙ ap (λ n. completion_at bytes (setting_of r).cq (slot (setting_of r) n)) u.collected
 
-      pub collects : {l' : QueuePairFields} → l' ≡ record l {
-        submission = known_to l.submission q.sq_head;
-        completion = collected_one l.completion;
-      } → IsUnderWay r bells turns (record b { collected = b.collected + 1 }) bus l' now bytes
-      collects first = let window : b.sent ≤ b.collected + 1 + r.geometry.window = omega (arith, u.window) in record {
-        course = record u.course { answers = u.course.answers ++ W.answer_next u.on_way awaits ∷ [] };
-        on_way = W.collects_on u.on_way awaits is first;
-        can = u.can;
-        geometry = u.geometry;
-        controller = u.controller;
-        has = assumption (window, u.has);
-        collected = length-append u.course.answers (W.answer_next u.on_way awaits ∷ []) ∙ ap (λ n. n + 1) u.collected;
-      }
+      -- the awaited completion was collected, and the pages were given back
+      pub collects : {o : CommandPages} {l1 l' : QueuePairFields} → o ≡ get_or places (b.collected % 16) o
+          → l1 ≡ record l { submission = known_to l.submission q.sq_head; completion = collected_one l.completion }
+          → l' ≡ record l1 { pages = with_pages l1.pages (all_pages o) } → IsToldInTime r b
+          → IsUnderWay r bells turns (record b { collected = b.collected + 1 }) bus l' now bytes places
+      collects {o} here first back near =
+          let window : b.sent ≤ b.collected + 1 + r.geometry.window = omega (arith, u.window) in
+          let all = back ∙ ap (λ (x : QueuePairFields). record x { pages = with_pages x.pages (all_pages o) }) first in
+          record {
+            course = record u.course {
+              answers = u.course.answers ++ W.answer_next u.on_way awaits ∷ [];
+              events = Collect ∷ u.course.events;
+            };
+            on_way = W.collects_on u.on_way awaits is all (awaits, omega (arith, near, u.collected));
+            can = u.can;
+            controller = u.controller;
+            has = record {
+              window = window;
+              some = u.some;
+              sent = u.sent;
+              commands = u.commands;
+              kept = u.kept;
+              own = u.own;
+              taken = taken_rest r.pair.pages (all_pages o) _ (taken_all here);
+            };
+            collected = length-append u.course.answers (W.answer_next u.on_way awaits ∷ [])
+                ∙ ap (λ n. n + 1) u.collected;
+            left = ap (λ (x : QueuePairFields). x.pages) all ∙ pages_back here;
+            room = u.room;
+            slots = λ n p d from h. u.slots n p d (omega arith) h;
+          }
 
       -- ---- the answer
 
       module _ {k : Command} {ks : List Command} (of_run : ks ≡ r.commands) (here : k ≡ get_or ks b.collected k) where
+        -- command k is the one whose answer is awaited
         at_next : k ≡ get_or r.commands b.collected k
         at_next = here ∙ ap (λ xs. get_or xs b.collected k) of_run
 
-        -- it is the command that was sent
+        -- the command that was kept is command k
         command_is : kept_here.command ≡ k
         command_is =
             let asked = ap (λ (x : Numbered). x.asked) (command_of u b.collected k (omega (arith, no_more, more))) in
             one_command next_one.request.asked kept_here.command k
             (ap (λ (x : Sent). x.request.asked) kept_here.sent) (asked ∙ ap Ok (sym at_next))
 
+        -- the request that was sent belongs to command k
         same : next_one.request ≡ request_of k
         same = ap (λ (x : Sent). x.request) kept_here.sent ∙ ap request_of command_is
 
+        -- the reply to command k can be read
         pub answer_sends : IsSendable k
         answer_sends = subst IsSendable (sym at_next) (u.can b.collected k number_inside).sends
 
-        module _ {s : Share} (its : s ≡ share r b.collected) where
-          places_are : places_from s.geometry (first_page s) (length_of (transfer_by k))
-              ≡ places r.geometry.page_size next_one
-          places_are =
-              ap (λ (o : Share). places_from o.geometry (first_page o) (length_of (transfer_by k))) its
-              ∙ sym (ap (places r.geometry.page_size) kept_here.sent
-              ∙ ap (λ e. places_from r.geometry (first_page (share r b.collected)) (length_of (transfer_by e)))
-              command_is)
+        module _ {at : RequestPlace} {size : ℕ} {o : CommandPages} (mine : o ≡ get_or places (b.collected % 16) o)
+            (its : at ≡ place_in r.geometry (all_pages o)) (page : size ≡ r.geometry.page_size) where
+          pages_same : all_pages o ≡ kept_here.pages
+          pages_same = (held_one mine).pages ∙ own_is kept_here
 
-          answer_is : (d : Answer) → answer_from k q
-              (received_from (transfer_by k) bytes (places_from s.geometry (first_page s) (length_of (transfer_by k))))
+          at_is : at ≡ place_in r.geometry kept_here.pages
+          at_is = its ∙ ap (place_in r.geometry) pages_same
+
+          -- the data of command k in these pages has the places of the request
+          places_are : buffer_places size at.pages at.offset (length_of (transfer_by k))
+              ≡ places_of r.geometry.page_size next_one
+          places_are =
+              ap (λ n. buffer_places n at.pages at.offset (length_of (transfer_by k))) page
+              ∙ ap (λ (p : RequestPlace). buffer_places r.geometry.page_size p.pages p.offset (length_of
+              (transfer_by k))) at_is
+              ∙ sym (ap (places_of r.geometry.page_size) kept_here.sent
+              ∙ ap (λ e. buffer_places r.geometry.page_size (place_in r.geometry kept_here.pages).pages
+              (place_in r.geometry kept_here.pages).offset (length_of (transfer_by e))) command_is)
+
+          -- its data lies in its place
+          pub answer_buffer : now ≡ size → IsBuffer bytes size at.pages at.offset (length_of (transfer_by k))
+          answer_buffer same_page =
+              let place = place_of_set r.geometry r.pair.pages (all_pages o) bytes size (length_of (transfer_by k))
+              u.begun.geometry page (let laid = u.begun.laid in omega (arith, laid.inside, u.size))
+              (subst (All (λ p. IsOf r.pair.pages.first r.pair.pages.count p)) (sym (held_one mine).pages)
+              (u.own b.collected no_command (omega (arith, no_more, more))))
+              (taken_first r.pair.pages (all_pages o) _ (taken_all mine)).distinct
+              (ap (λ (ps : List ℕ). length ps) pages_same ∙ kept_here.many
+              ∙ ap (λ e. data_count r.geometry (length_of (transfer_by e)) + 2) command_is) in
+              rw its place.buffer
+
+          -- the answer that is read is the one that the requests get one at a time
+          answer_is : (d : Answer) → answer_from k q (received_from (transfer_by k) bytes
+              (buffer_places size at.pages at.offset (length_of (transfer_by k))))
               ≡ get_or (answers_to r.controller r.bus.state u.course.sent) b.collected d
           answer_is d =
-              let size = r.geometry.page_size in
-              ap (λ at. answer_from k q (received_from (transfer_by k) bytes at)) places_are
+              let page_size = r.geometry.page_size in
+              ap (λ ps. answer_from k q (received_from (transfer_by k) bytes ps)) places_are
               ∙ ap (λ (p : Request). answer_to p.asked q
-              (received_from p.transfer bytes (places size next_one))) (sym same)
-              ∙ ap (answer_read size next_one bytes) completion_is
+              (received_from p.transfer bytes (places_of page_size next_one))) (sym same)
+              ∙ ap (answer_read page_size next_one bytes) completion_is
               ∙ held_here.answer.reads (subst (λ (p : Request). IsReadable p.asked) (sym same) answer_sends)
               ∙ sym (answer_at r.controller r.bus.state u.course.sent b.collected no_command d
               (omega (arith, no_more, more, u.sent)))
 
+          -- the answer that is read is the next one of the list
           pub answers_more : {answers : List Answer} {a : Answer} → HasAnswers r b.collected answers
-              → a ≡ answer_from k q
-              (received_from (transfer_by k) bytes (places_from s.geometry (first_page s) (length_of (transfer_by k))))
+              → a ≡ answer_from k q (received_from (transfer_by k) bytes
+              (buffer_places size at.pages at.offset (length_of (transfer_by k))))
               → HasAnswers r (b.collected + 1) (set answers b.collected a)
           answers_more {answers} {a} has value =
               let c = r.controller in
@@ -200,20 +331,21 @@ module _ {r : Run} {bells turns : ℕ} {b : Batch} {bus : BusValue} {l : QueuePa
 
 -- ---- the beginning
 
--- nothing was sent of a list
+-- before anything of a list was sent, the list is under way, with no answers
 pub begins_all : {g : Geometry} {c : ℕ} {bus : BusValue} {l : QueuePairFields} {now : ℕ} {bytes : List ℕ}
-    {commands : List Command} {answers : List Answer} {r : Run} → r ≡ run_of g c bus l bytes commands
+    {commands : List Command} {answers : List Answer} {places : List CommandPages} {r : Run}
+    → r ≡ run_of g c bus l bytes commands → length places ≡ 16
     → IsReady g bus c l now bytes → All CanBeSent commands → length answers ≡ length commands
-    → IsUnderWay r 0 0 (record { ctrl = c; geometry = g; sent = 0; collected = 0; told = 0 }) bus l now bytes
+    → IsUnderWay r 0 0 (record { ctrl = c; sent = 0; collected = 0; told = 0 }) bus l now bytes places
     × HasAnswers r 0 answers
-begins_all {g} {c} {bus} {l} {now} {bytes} {commands} {answers} is ready can size =
-    let b : Batch = record { ctrl = c; geometry = g; sent = 0; collected = 0; told = 0 } in
-    subst (λ x. IsUnderWay x 0 0 b bus l now bytes × HasAnswers x 0 answers) (sym is) (
+begins_all {g} {c} {bus} {l} {now} {bytes} {commands} {answers} {places} is room ready can size =
+    let b : Batch = record { ctrl = c; sent = 0; collected = 0; told = 0 } in
+    let none = taken_none l.pages in
+    subst (λ x. IsUnderWay x 0 0 b bus l now bytes places × HasAnswers x 0 answers) (sym is) (
       record {
-        course = record { sent = []; answers = [] };
+        course = record { sent = []; answers = []; events = [] };
         on_way = begins commands ready;
         can = can;
-        geometry = refl;
         controller = refl;
         has = record {
           window = omega arith;
@@ -221,18 +353,23 @@ begins_all {g} {c} {bus} {l} {now} {bytes} {commands} {answers} is ready can siz
           sent = refl;
           commands = refl;
           kept = λ n d h. absurd (omega arith);
+          own = λ n d h. absurd (omega arith);
+          taken = none.0;
         };
         collected = refl;
+        left = sym none.1;
+        room = room;
+        slots = λ n p d from h. absurd (omega arith);
       },
       record { len = size; first = refl },
     )
 
 -- ---- the end
 
--- all answers were collected
+-- if as many answers were collected as there are commands, all commands were sent and all answers collected
 pub all_collected : {g : Geometry} {c : ℕ} {old bus : BusValue} {l l' : QueuePairFields} {now : ℕ}
-    {bytes mem : List ℕ} {commands : List Command} {r : Run} {b : Batch}
-    → r ≡ run_of g c old l bytes commands → (u : IsUnderWay r b.sent b.collected b bus l' now mem)
+    {bytes mem : List ℕ} {commands : List Command} {places : List CommandPages} {r : Run} {b : Batch}
+    → r ≡ run_of g c old l bytes commands → (u : IsUnderWay r b.sent b.collected b bus l' now mem places)
     → length commands ≤ b.collected
     → (b.sent ≡ b.collected) × (b.collected ≡ length commands)
 all_collected is u enough =
@@ -244,33 +381,52 @@ all_collected is u enough =
 pub record HasEnded (r : Run) (before : ℕ) (bus : BusValue) (l' : QueuePairFields) (now : ℕ) (mem : List ℕ)
     : Type 0 where
   pub state : bus.state ≡ state_after r.controller r.bus.state r.pair.serial r.commands
+  pub paced : IsPaced r bus mem
   pub left : IsLeft r.geometry r.controller (length r.bytes) (after_some (length r.commands) (pair_value r.pair))
       (side r.bus r.pair before r.bytes) (side bus l' now mem)
 
+-- when all answers were collected and reported, everything holds that HasEnded says
 at_end : {r : Run} {n before : ℕ} {b : Batch} {bus : BusValue} {l : QueuePairFields} {now : ℕ} {mem : List ℕ}
-    → (u : IsUnderWay r n n b bus l now mem) → n ≡ length r.commands → b.sent ≡ n → b.collected ≡ n → b.told ≡ n
+    {places : List CommandPages} → (u : IsUnderWay r n n b bus l now mem places) → n ≡ length r.commands
+    → b.sent ≡ n → b.collected ≡ n → b.told ≡ n
     → before ≡ r.geometry.page_size → HasEnded r before bus l now mem
 at_end {r} {n} {b = b} u all sent collected told page =
+    let none : drop b.collected u.course.sent ≡ [] =
+    ap (λ i. drop i u.course.sent) (collected ∙ sym (u.sent ∙ sent)) ∙ drop-length u.course.sent in
+    let pages = u.left ∙ ap (λ xs. without r.pair.pages (pages_of_all xs)) none ∙ (taken_none r.pair.pages).1 in
     record {
       state = state_on u ∙ ap (state_after r.controller r.bus.state r.pair.serial)
           (ap (λ i. take i r.commands) all ∙ take-length r.commands);
-      left = rw all at (left_after n u.on_way (u.sent ∙ sent) (u.collected ∙ collected) refl refl told page
-          (all_others_kept u.begun u.others (λ i d h. own_all u (u.kept i d (omega (arith, u.sent))))
-          (length r.bytes)));
+      paced = record {
+        events = u.course.events;
+        last = world u;
+        ran = u.ran;
+        collected = u.collected ∙ collected ∙ all;
+        told = told ∙ all;
+        seen = record { mem = refl; state = refl; bank = refl };
+      };
+      left = rw all at (left_after n u.on_way (u.sent ∙ sent) (u.collected ∙ collected) refl refl told pages page
+          (all_others_kept u.begun u.others (λ i d h. u.own i d (omega (arith, u.sent))) (length r.bytes)));
     }
 
+-- the last doorbell ends the list
 pub ends_all : {g : Geometry} {c before : ℕ} {old bus bus' : BusValue} {l l4 l' : QueuePairFields} {now : ℕ}
-    {bytes mem : List ℕ} {commands : List Command} {r : Run} {b : Batch}
-    → r ≡ run_of g c old l bytes commands → IsUnderWay r b.sent b.collected b bus l4 now mem
+    {bytes mem : List ℕ} {commands : List Command} {places : List CommandPages} {r : Run} {b : Batch}
+    → r ≡ run_of g c old l bytes commands → IsUnderWay r b.sent b.collected b bus l4 now mem places
     → length commands ≤ b.collected → IsTold b.ctrl l4 bus l' bus' → before ≡ g.page_size
     → HasEnded (run_of g c old l bytes commands) before bus' l' now mem
-ends_all {before = before} {bus' = bus'} {l' = l'} {now = now} {mem = mem} {r = r} {b = b} is u enough t page =
+ends_all {before = before} {bus' = bus'} {l' = l'} {now = now} {mem = mem} {places = places} {r = r} {b = b} is u
+    enough t page =
     let all = all_collected is u enough in
-    let next : IsUnderWay r b.sent b.collected (record b { told = b.collected }) bus' l' now mem = tells_on u t in
+    let many = all.1 ∙ ap (λ (x : Run). length x.commands) (sym is) in
+    let its_time : IsToReport r (world u) = inr (u.collected, inr (u.collected ∙ many)) in
+    let next : IsUnderWay r b.sent b.collected (record b { told = b.collected }) bus' l' now mem places =
+    tells_on u t its_time in
     subst (λ x. HasEnded x before bus' l' now mem) is
-    (at_end (rw all.0 at next) (all.1 ∙ ap (λ (x : Run). length x.commands) (sym is)) refl refl refl
+    (at_end (rw all.0 at next) many refl refl refl
     (page ∙ ap (λ (x : Run). x.geometry.page_size) (sym is)))
 
+-- the answers of a list that has ended are the ones that its commands get one at a time
 pub answers_all : {g : Geometry} {c : ℕ} {old : BusValue} {l : QueuePairFields} {bytes : List ℕ}
     {commands : List Command} {r : Run} {n : ℕ} {answers : List Answer}
     → r ≡ run_of g c old l bytes commands → HasAnswers r n answers → n ≡ length commands

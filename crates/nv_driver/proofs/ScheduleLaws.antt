@@ -15,6 +15,7 @@ use Rattle.nv_driver.proofs.KeptLaws.{bell_keeps, collect_keeps, idle_keeps, is_
 
 -- ---- bytes that don't change as long as the host doesn't write elsewhere
 
+-- at any moment, no byte has changed since that moment
 pub others_now : (t : Setting) (w : World) → OthersStay t (length w.answers) w.mem w
 others_now t w = record { since = omega arith; same = λ from n apart. refl }
 
@@ -27,16 +28,19 @@ later_others t first later sent from n order apart = record {
   pages = λ i d low high. apart.pages i d (omega (arith, order, low)) high;
 }
 
+-- ringing the tail doorbell changes no other bytes
 pub bell_others : (t : Setting) (first : ℕ) (old : List ℕ) (w w' : World) → OthersStay t first old w
     → Happens t Bell w w' → OthersStay t first old w'
 bell_others t first old w w' stay happens =
     subst (OthersStay t first old) (sym happens) (record { since = stay.since; same = stay.same })
 
+-- ringing the head doorbell changes no other bytes
 pub tell_others : (t : Setting) (first : ℕ) (old : List ℕ) (w w' : World) → OthersStay t first old w
     → Happens t Tell w w' → OthersStay t first old w'
 tell_others t first old w w' stay happens =
     subst (OthersStay t first old) (sym happens) (record { since = stay.since; same = stay.same })
 
+-- collecting changes no other bytes
 pub collect_others : (t : Setting) (first : ℕ) (old : List ℕ) (w w' : World) → OthersStay t first old w
     → Happens t Collect w w' → OthersStay t first old w'
 collect_others t first old w w' stay (inl there) =
@@ -45,6 +49,7 @@ collect_others t first old w w' stay (inl there) =
     subst (OthersStay t first old) (sym there.2) (record { since = omega (arith, stay.since, more); same = stay.same })
 collect_others t first old w w' stay (inr none) = subst (OthersStay t first old) (sym none.1) stay
 
+-- a turn changes no other bytes
 pub turn_others : (t : Setting) (s : State) (first : ℕ) (old : List ℕ) (most : ℕ) (w w' : World) → Keeps t s w
     → OthersStay t first old w → Happens t (Turn most) w w' → OthersStay t first old w'
 turn_others t s first old most w w' keeps stay happens =
@@ -58,6 +63,7 @@ turn_others t s first old most w w' keeps stay happens =
 
 -- ---- the host writes elsewhere
 
+-- a memory in which the host wrote elsewhere keeps what holds for the schedule
 written : (t : Setting) (s : State) (w : World) (new : List ℕ) → Keeps t s w → LeavesOutstanding t w new
     → Keeps t s (record w { mem = new })
 written t s w new k leaves =
@@ -96,11 +102,13 @@ written t s w new k leaves =
       answers = k.answers;
     }
 
+-- a write elsewhere keeps what holds for the schedule
 pub elsewhere_keeps : (t : Setting) (s : State) (w w' : World) → Keeps t s w → Happens t Elsewhere w w' → Keeps t s w'
 elsewhere_keeps t s w w' k happens = subst (Keeps t s) (sym happens.1) (written t s w w'.mem k happens.0)
 
 -- ---- every schedule
 
+-- each event keeps what holds for the schedule, and none but a write elsewhere changes other bytes
 event_stays : (t : Setting) (s : State) (e : Event) (w w' : World) → Keeps t s w → Happens t e w w' → Keeps t s w'
     × ((first : ℕ) (old : List ℕ) → e ≢ Elsewhere → OthersStay t first old w → OthersStay t first old w')
 event_stays t s (Submit x) w w' k happens =
@@ -116,6 +124,7 @@ event_stays t s Tell w w' k happens =
 event_stays t s Elsewhere w w' k happens =
     (elsewhere_keeps t s w w' k happens, λ first old other stay. absurd (other refl))
 
+-- events, one after another, keep what holds, and none but writes elsewhere change other bytes
 runs_stay : (t : Setting) (s : State) (events : List Event) (w w' : World) → Keeps t s w → Runs t events w w'
     → Keeps t s w' × ((first : ℕ) (old : List ℕ) → All (λ e. e ≢ Elsewhere) events → OthersStay t first old w
     → OthersStay t first old w')
@@ -129,6 +138,7 @@ runs_stay t s (e ∷ events) w w' k runs =
           (one.1 first old (other 0 e (omega arith)) stay),
     )
 
+-- what holds for a schedule says that it is serial
 serial : (t : Setting) (s : State) (w : World) → Keeps t s w → IsSerial t s w
 serial t s w keeps = record {
   answers = keeps.answers;
@@ -142,6 +152,7 @@ serial t s w keeps = record {
       ((runs_stay t s events w next keeps runs).1 (length w.answers) w.mem other (others_now t w)).same from n apart;
 }
 
+-- every schedule from an idle controller is serial
 pub every_schedule : EveryScheduleIsSerial
 every_schedule t events old new idle runs = serial t old.state new
     (runs_stay t old.state events old new (idle_keeps t old idle) runs).0

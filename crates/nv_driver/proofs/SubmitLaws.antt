@@ -26,6 +26,7 @@ mem_after t w x ready = with_submission ready (submit_ring t (length w.sent) (le
 
 -- ---- the schedule goes on
 
+-- what holds for each request from a number on, and for one more, holds for each with that one
 pub each_more : (P : ℕ → Sent → Type 0) (low : ℕ) (xs : List Sent) (x : Sent)
     → ((n : ℕ) (d : Sent) → low ≤ n → n < length xs → P n (get_or xs n d))
     → P (length xs) x → (n : ℕ) (d : Sent) → low ≤ n → n < length (xs ++ x ∷ []) → P n (get_or (xs ++ x ∷ []) n d)
@@ -38,6 +39,7 @@ each_more P low xs x each last n d from below =
           subst (P n) (sym (get_or_push xs x d n (sym is))) (subst (λ i. P i x) (sym is) last)
     ]
 
+-- requests of which no two have a page in common, and one more that has none in common with them, have none in common
 apart_more : (t : Setting) (low : ℕ) (xs : List Sent) (x : Sent)
     → ((n m : ℕ) (d : Sent) → low ≤ n → n < m → m < length xs → AreApart (get_or xs n d) (get_or xs m d))
     → ((n : ℕ) (d : Sent) → low ≤ n → n < length xs → AreApart (get_or xs n d) x)
@@ -58,33 +60,43 @@ apart_more t low xs x each last n m d from later below =
 
 module _ (t : Setting) (s : State) (x : Sent) (w : World) (ready : List ℕ) (k : Keeps t s w) (may : MaySubmit t w x)
     (prepared : IsPrepared t.page_size x w.mem ready) where
+  -- the schedule after the submission
   abbrev next : World
   next = record w { mem = mem_after t w x ready; sent = w.sent ++ x ∷ [] }
 
+  -- a page has a byte
   some : 0 < t.page_size
   some = omega (arith, page_size_bounds t.page_size k.placed.page_size)
 
+  -- a ring has a slot
   some_slots : 0 < t.depth
   some_slots = let deep = k.placed.deep in omega (arith, deep.0)
 
+  -- the submission ring lies in the memory
   inside : t.sq + 64 * t.depth ≤ length ready
   inside = omega (arith, k.placed.submissions, prepared.len)
 
+  -- the host's submission ring before the submission
   abbrev ring : SubmitNumbers
   ring = submit_ring t (length w.sent) (length w.answers)
 
+  -- writing the entry keeps the length of the memory
   same_size : length next.mem ≡ length ready
   same_size = length-with_submission ready ring (entry x) some_slots inside
 
+  -- the submission keeps the length of the memory
   len : length next.mem ≡ length w.mem
   len = same_size ∙ prepared.len
 
+  -- writing the entry changes only the submission ring
   only_ring : ChangesOnly t.sq (64 * t.depth) ready next.mem
   only_ring from n apart = submission_keeps ready ring (entry x) from n some_slots inside apart
 
+  -- the submission changes only the request's pages and the submission ring
   only : ChangesOnlyAt t x t.sq (64 * t.depth) w.mem next.mem
   only from n outside apart = only_ring from n apart ∙ prepared.others from n outside
 
+  -- the request's pages belong to it
   own : IsOwn t (length w.mem) x
   own =
       let at = buffer_data t.page_size x w.mem some may.buffer
@@ -92,6 +104,7 @@ module _ (t : Setting) (s : State) (x : Sent) (w : World) (ready : List ℕ) (k 
       let within : (i : ℕ) → i < data_length x → get_or (places t.page_size x) i 0 < length w.mem =
       λ i below. at.inside i (omega (arith, at.size)) in assumption (within, at.distinct, may)
 
+  -- the completion ring doesn't change
   completions_stay : bytes_at next.mem t.cq (16 * t.depth) ≡ bytes_at w.mem t.cq (16 * t.depth)
   completions_stay = only t.cq (16 * t.depth) may.completions k.placed.rings
 
@@ -100,6 +113,7 @@ module _ (t : Setting) (s : State) (x : Sent) (w : World) (ready : List ℕ) (k 
   own_stays = stays_beside t x t.sq (64 * t.depth) ready next.mem some same_size may.buffer.enough may.submissions
       only_ring
 
+  -- the lists and the data of other outstanding requests don't change
   other_stays : (n : ℕ) (d : Sent) → length w.answers ≤ n → n < length w.sent
       → Stays t (get_or w.sent n d) w.mem next.mem
   other_stays n d from below =
@@ -107,6 +121,7 @@ module _ (t : Setting) (s : State) (x : Sent) (w : World) (ready : List ℕ) (k 
       stays_apart t x (get_or w.sent n d) t.sq (64 * t.depth) w.mem next.mem some len only other.enough
       (may.apart n d from below) other.submissions
 
+  -- the entries that wait to be executed are in their slots, with the new one
   waiting_more : (n : ℕ) (d : Sent) → w.done ≤ n → n < length next.sent
       → submission_at next.mem t.sq (slot t n) ≡ entry (get_or next.sent n d)
   waiting_more =
@@ -122,6 +137,7 @@ module _ (t : Setting) (s : State) (x : Sent) (w : World) (ready : List ℕ) (k 
       ∙ k.waiting n d from below)
       written.here
 
+  -- the answers that were held are held after the submission too
   held_still : (n : ℕ) (d : Sent) → length w.answers ≤ n → n < w.done → Holds t s next n (get_or next.sent n d)
   held_still n d from below =
       let c = k.counts in
@@ -134,6 +150,7 @@ module _ (t : Setting) (s : State) (x : Sent) (w : World) (ready : List ℕ) (k 
       (take-append-le n w.sent (x ∷ []) (omega arith))
       (k.held n d from below))
 
+  -- what holds for the schedule holds after the submission too
   submitted : Keeps t s next
   submitted =
       let c = k.counts in
@@ -171,7 +188,7 @@ module _ (t : Setting) (s : State) (x : Sent) (w : World) (ready : List ℕ) (k 
             ∙ get_or_append_left all _ e n (omega (arith, length-answers t.controller s w.sent)));
       }
 
-  -- other bytes don't change
+  -- the submission changes no other bytes
   others_stay : (first : ℕ) (old : List ℕ) → OthersStay t first old w → OthersStay t first old next
   others_stay first old stay =
       let c = k.counts in
@@ -192,11 +209,13 @@ module _ (t : Setting) (s : State) (x : Sent) (w : World) (ready : List ℕ) (k 
             });
       }
 
+-- a submission keeps what holds for the schedule
 pub submit_keeps : (t : Setting) (s : State) (x : Sent) (w w' : World) → Keeps t s w
     → Happens t (Submit x) w w' → Keeps t s w'
 submit_keeps t s x w w' k happens = subst (Keeps t s) (sym happens.3)
     (submitted t s x w happens.1 k happens.0 happens.2)
 
+-- a submission changes no other bytes
 pub submit_others : (t : Setting) (s : State) (first : ℕ) (old : List ℕ) (x : Sent) (w w' : World) → Keeps t s w
     → OthersStay t first old w → Happens t (Submit x) w w' → OthersStay t first old w'
 submit_others t s first old x w w' k stay happens = subst (OthersStay t first old) (sym happens.3)

@@ -1,17 +1,17 @@
 -- The pages of a command, as `build` requires them.
 use Rattle.std.proofs.Common.{◌≡◌, ◌∙◌, ℕ, ◌^◌, ◌<◌, List, OnOk, Ok, Result, ap, ◌+◌, ◌*◌, ◌≤◌, arith, get_or, inl}
 use Rattle.std.proofs.Common.{length, subst, sym}
+use Rattle.nv_host.specs.PageSets.{Pages}
 use Rattle.nv_host.specs.Pages.{IsPageSize}
 use Rattle.nv_queue.specs.Rings.{CollectNumbers, SubmitNumbers}
 use Rattle.nv_prp.specs.Buffer.{IsBuffer, KeepsOutside}
 use Rattle.nv_prp.proofs.BufferLaws.{rest_distinct}
 use Rattle.nv_prp.specs.Place.{written_at}
-use Rattle.nv_driver.proofs.Words.{AreDistinct, AreOutside, Asked, IsPrepared, IsSubmittedAt, KeepsList}
+use Rattle.nv_driver.proofs.Words.{AreDistinct, AreOutside, Asked, Geometry, IsPrepared, IsSubmittedAt, KeepsList}
 use Rattle.nv_driver.proofs.Words.{QueuePairFields, Request, RequestPlace, Sent, Sqe, StaysNamed, Transfer, bytes_at}
 use Rattle.nv_driver.proofs.Words.{bytes_from_host, data_length, length-written_at, mul-le-mul_right, own_pages}
 use Rattle.nv_driver.proofs.Words.{page_size_bounds, places, pointed, sent_from}
 use Rattle.nv_driver.specs.inner.Submitting.{pages_at}
-use Rattle.nv_driver.specs.declared.queue_pair.PageRange.{PageRange}
 use Rattle.nv_driver.proofs.DataLaws.{ArePlaces, sent_back}
 use Rattle.nv_driver.proofs.RegionLaws.{written_list, buffer_data, data_keeps}
 use Rattle.nv_driver.proofs.PointerLaws.{stays_in}
@@ -63,6 +63,7 @@ prepared_by page_size x old built new is sends buffer distinct first second stay
 abbrev pub AreFrom : ℕ → RequestPlace → Type 0
 AreFrom first at = (i d : ℕ) → i < length (pages_at at) → first ≤ get_or (pages_at at) i d
 
+-- bytes before the first page of a request are outside its pages
 pub outside_before : (page_size first : ℕ) (x : Sent) (from n : ℕ)
     → ((i d : ℕ) → i < length (own_pages x) → first ≤ get_or (own_pages x) i d) → from + n ≤ first * page_size
     → AreOutside page_size x from n
@@ -71,25 +72,29 @@ outside_before page_size first x from n behind low i d h =
 
 -- ---- the same parts
 
+-- a request of these parts
 abbrev request : Sqe → Transfer → List ℕ → Asked → Request
 request e m xs asked = record { entry = e; transfer = m; sends = xs; asked = asked }
 
 -- queue pairs of the same parts
-abbrev pub pair_by : SubmitNumbers → CollectNumbers → ℕ → PageRange → QueuePairFields
-pair_by a c n p = record { submission = a; completion = c; serial = n; pages = p }
+abbrev pub pair_by : SubmitNumbers → CollectNumbers → ℕ → Geometry → Pages → QueuePairFields
+pair_by a c n g p = record { submission = a; completion = c; serial = n; geometry = g; pages = p }
 
-pub pairs_same : {a a' : SubmitNumbers} {c c' : CollectNumbers} {n n' : ℕ} {p : PageRange} → a ≡ a' → c ≡ c' → n ≡ n'
-    → pair_by a c n p ≡ pair_by a' c' n' p
+-- queue pairs of equal parts are equal
+pub pairs_same : {a a' : SubmitNumbers} {c c' : CollectNumbers} {n n' : ℕ} {g : Geometry} {p : Pages} → a ≡ a'
+    → c ≡ c' → n ≡ n' → pair_by a c n g p ≡ pair_by a' c' n' g p
 pairs_same e f g = cc
 
+-- what holds if a result is Ok holds for one that is
 pub on_ok : {X E : Type 0} {P : Type 0} (r : Result X E) (x : X) → r ≡ Ok x → OnOk r P → P
 on_ok {P = P} r x is all = subst (λ q. OnOk q P) is all
 
--- requests of the same parts, and a submission under other names
+-- requests of equal parts are equal
 pub requests_same : {e e' : Sqe} {m m' : Transfer} {xs xs' : List ℕ} {asked : Asked} → e ≡ e' → m ≡ m' → xs ≡ xs'
     → request e m xs asked ≡ request e' m' xs' asked
 requests_same e f g = cc
 
+-- a submission is one under equal names too
 pub submitted_as : {size size' : ℕ} {at at' : RequestPlace} {q q' : Request} {old new : QueuePairFields}
     {before after : List ℕ} {now end : ℕ} → size ≡ size' → at ≡ at' → q ≡ q'
     → IsSubmittedAt size at q old new before after now end → IsSubmittedAt size' at' q' old new before after now end

@@ -33,6 +33,7 @@ world_done t w n y = record w {
   done = n;
 }
 
+-- the schedule after this number of entries
 abbrev pub world_with : Setting → World → ℕ → Scene → World
 world_with t w count y = world_done t w (w.done + count) y
 
@@ -43,6 +44,7 @@ pub record Reaches (t : Setting) (s : State) (w : World) (count : ℕ) (y : Scen
   pub others : (from n : ℕ) → AreOthers t (length w.answers) w.sent from n
       → bytes_at y.bytes from n ≡ bytes_at w.mem from n
 
+-- before the first entry, the scene has the values of the schedule
 none_taken : (t : Setting) (s : State) (w : World) → Keeps t s w → Reaches t s w 0 (scene w.state (now t w) w.mem)
 none_taken t s w k =
     let zero_more : w.done ≡ w.done + 0 = omega arith in
@@ -53,6 +55,7 @@ none_taken t s w k =
       others = λ from n apart. refl;
     }
 
+-- one entry and then others are one entry more
 one_further : (t : Setting) (s : State) (w : World) (mid y : Scene) (count : ℕ) → Keeps t s w
     → Takes t.page_size t.controller (scene w.state (now t w) w.mem) mid
     → Reaches t s (world_after t w mid) count y → Reaches t s w (suc count) y
@@ -64,6 +67,7 @@ one_further t s w mid y count k takes r =
       others = λ from n apart. r.others from n apart ∙ entry_others t s w mid no_command k takes from n apart;
     }
 
+-- entries, one after another, keep what holds for the schedule
 pub taken_keep : (t : Setting) (s : State) (count : ℕ) (w : World) (y : Scene) → Keeps t s w
     → Taken count t.page_size t.controller (scene w.state (now t w) w.mem) y → Reaches t s w count y
 taken_keep t s zero w y k taken = subst (Reaches t s w 0) (sym taken) (none_taken t s w k)
@@ -76,7 +80,7 @@ taken_keep t s (suc count) w y k taken =
     (entry_keeps t s w mid no_command k taken.1)
     (subst (λ r. Taken count t.page_size t.controller (scene mid.state r mid.bytes) y) first.rings taken.2))
 
--- the rings lie in the memory
+-- the rings of a schedule lie in the memory
 rings_lie : (t : Setting) (s : State) (w : World) → Keeps t s w → RingsLie (now t w) t.page_size (length w.mem)
 rings_lie t s w k =
     let p = k.placed in
@@ -94,6 +98,7 @@ pub record IsTurn (t : Setting) (s : State) (w : World) (most count : ℕ) (z : 
   pub left : z ≡ site last.state (bank_with t last.rings) last.bytes
   pub number : count ≡ turn_count most (now t w)
 
+-- a turn of the schedule's controller is a turn of the schedule
 pub is_turn : (t : Setting) (s : State) (w : World) (most count : ℕ) (z : Site) → Keeps t s w
     → BankTurn t.page_size t.controller most count (site w.state w.bank w.mem) z → IsTurn t s w most count z
 is_turn t s w most count z k by_bank =
@@ -108,6 +113,7 @@ is_turn t s w most count z k by_bank =
       number = counted.0;
     }
 
+-- a turn keeps what holds for the schedule
 pub turn_keeps : (t : Setting) (s : State) (most : ℕ) (w w' : World) → Keeps t s w
     → Happens t (Turn most) w w' → Keeps t s w'
 turn_keeps t s most w w' k happens =
@@ -119,7 +125,7 @@ turn_keeps t s most w w' k happens =
     ∙ ap (λ rings. record (world_with t w count last) { bank = bank_with t rings }) r.reached.rings))
     r.reached.keeps
 
--- other bytes don't change
+-- a turn doesn't change bytes in no ring and in no page of an outstanding command
 pub turn_leaves : (t : Setting) (s : State) (most : ℕ) (w w' : World) → Keeps t s w → Happens t (Turn most) w w'
     → (from n : ℕ) → AreOthers t (length w.answers) w.sent from n → bytes_at w'.mem from n ≡ bytes_at w.mem from n
 turn_leaves t s most w w' k happens from n apart =

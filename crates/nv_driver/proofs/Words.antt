@@ -23,19 +23,19 @@ pub use Rattle.nv_driver.specs.Schedule.{Turn, World, answer_awaited, answers_to
 pub use Rattle.nv_driver.specs.Schedule.{entry, number, numbered, own_pages, places, pointed, received_from, slot}
 pub use Rattle.nv_driver.specs.Schedule.{step_of, submit_ring}
 pub use Rattle.nv_driver.specs.Settled.{DriverValue, end_of}
-pub use Rattle.nv_driver.specs.Share.{IsOf, first_page}
-pub use Rattle.nv_driver.specs.Submitting.{RequestPlace, place_from, sent_at}
+pub use Rattle.nv_driver.specs.Submitting.{RequestPlace, sent_at}
+pub use Rattle.nv_driver.specs.inner.Submitting.{place_from}
 pub use Rattle.nv_driver.specs.UnderWay.{IsOnWay, IsUnderWay, Run, run_of, setting_of, way}
 pub use Rattle.nv_driver.specs.declared.batch.Batch.{Batch}
 pub use Rattle.nv_driver.specs.declared.geometry.Geometry.{Geometry}
 pub use Rattle.nv_driver.specs.declared.queue_pair.QueuePair.{QueuePair as QueuePairFields}
-pub use Rattle.nv_driver.specs.declared.queue_pair.Share.{Share}
 pub use Rattle.nv_driver.specs.inner.Exchange.{IsLeft, KeepsBelow, side}
 pub use Rattle.nv_driver.specs.inner.Pace.{IsTold}
 pub use Rattle.nv_driver.specs.inner.Submitting.{HasFreeSlot, IsPlaceFor, IsSubmittedAt}
 pub use Rattle.nv_driver.specs.inner.UnderWay.{HasAnswers}
 pub use Rattle.nv_host.proofs.PageLaws.{page_size_bounds}
 pub use Rattle.nv_host.specs.Bytes.{bytes_at}
+pub use Rattle.nv_host.specs.PageSets.{IsOf}
 pub use Rattle.nv_host.specs.Pages.{PagedBytes}
 pub use Rattle.nv_layout.specs.Sqe.{SqeFits}
 pub use Rattle.nv_layout.specs.declared.cqe.Cqe.{Cqe}

@@ -16,6 +16,7 @@ use Rattle.nv_driver.specs.Request.{Asked, padded, request_for}
 abbrev pub asked_in : State → ℕ → Sqe → List ℕ → Asked
 asked_in s c e bytes = (request_for (limit_of s c) e bytes).asked
 
+-- the step of an entry with the host's bytes on controller c, or its refusal
 abbrev pub entry_step : State → ℕ → Sqe → List ℕ → ℕ → Step
 entry_step s c e bytes cid = asked_step (asked_in s c e bytes) s c e.nsid cid
 

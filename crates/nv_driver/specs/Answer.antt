@@ -7,7 +7,7 @@ use Rattle.nv_command.specs.declared.reply.Reply.{Reply}
 abbrev pub Answer : Type 0
 Answer = Result Reply Status
 
--- a refusal, or else the reply that is stored beside it
+-- a refusal, or else the reply that is stored separately
 abbrev pub answer_kept : Reply → Option Status → Answer
 answer_kept reply None = Ok reply
 answer_kept reply (Some status) = Err status

@@ -2,6 +2,7 @@
 use Rattle.nv_driver.specs.declared.checked_geometry.CheckedGeometry.TheInside.{Inside}
 use Rattle.nv_driver.specs.declared.geometry.Geometry.{Geometry}
 
+-- the geometry with the fields of a checked one
 abbrev pub geometry_of : Inside → Geometry
 geometry_of g = record {
   depth = g.depth;

@@ -15,6 +15,7 @@ use Rattle.nv_driver.specs.declared.queue_pair.QueuePair.{QueuePair as QueuePair
 abbrev pub page_count : PagedBytes → ℕ
 page_count mem = length mem.bytes / mem.page_size
 
+-- the value of a driver of these parts
 abbrev pub driver_value : Geometry → PagedBytes → List QueuePairFields → DriverValue
 driver_value g mem pairs =
     record { geometry = g; pages = page_count mem; pairs = map pair_value pairs }
@@ -41,6 +42,7 @@ HasEntryPages d =
 abbrev pub IsPlaced : Geometry → ℕ → QueuePair → Type 0
 IsPlaced g i l = l ≡ record (pair_of g i) { number = l.number; serial = l.serial }
 
+-- the queue pairs are where they were placed, without outstanding commands, in a memory of whole pages
 pub record IsDriver (g : Geometry) (mem : PagedBytes) (pairs : List QueuePairFields) : Type 0 where
   pub geometry : IsGeometry g
   pub page_size : mem.page_size ≡ g.page_size
@@ -53,11 +55,25 @@ pub record IsDriver (g : Geometry) (mem : PagedBytes) (pairs : List QueuePairFie
 
 -- ---- a command
 
+-- a geometry whose fields are all 0
+abbrev pub no_geometry : Geometry
+no_geometry =
+    record { depth = 0; page_size = 0; offset = 0; list_offset = 0; window = 0; pace = 0 }
+
 -- the queue pair of a controller that a driver doesn't have
 abbrev pub no_pair : QueuePair
-no_pair =
-    record { sq = 0; cq = 0; depth = 0; number = 0; serial = 0; first_page = 0; page_count = 0 }
+no_pair = record {
+  sq = 0;
+  cq = 0;
+  depth = 0;
+  number = 0;
+  serial = 0;
+  geometry = no_geometry;
+  first_page = 0;
+  page_count = 0;
+}
 
+-- the queue pair of controller c
 abbrev pub pair_at : List QueuePair → ℕ → QueuePair
 pair_at pairs c = slice_index_or pairs c no_pair
 

@@ -9,6 +9,7 @@ use Rattle.nv_driver.specs.declared.geometry_field.GeometryField.TheVariants.{De
 use Rattle.nv_driver.specs.declared.geometry_field.GeometryField.TheVariants.{Offset, ListOffset}
 use Rattle.nv_driver.specs.declared.geometry_field.GeometryField.TheVariants.{Window, Pace}
 
+-- whether a number is from `low` to `high`
 unfoldable pub is_between : ℕ → ℕ → ℕ → Bool
 is_between low high x = nat_le low x && nat_le x high
 
@@ -25,6 +26,7 @@ pub record GeometryRow : Type 0 where
   pub field : GeometryField
   pub keeps : Bool
 
+-- a row of this field and this test
 abbrev pub row : GeometryField → Bool → GeometryRow
 row field keeps = record { field = field; keeps = keeps }
 
@@ -39,6 +41,7 @@ rows_of g =
     ∷ row Pace (is_between 1 4096 g.pace)
     ∷ []
 
+-- the first field of the rows that is outside its limits
 abbrev pub first_fault : List GeometryRow → Option GeometryField
 first_fault [] = None
 first_fault (r ∷ rows) = if r.keeps then first_fault rows else Some r.field

@@ -12,6 +12,7 @@ use Rattle.nv_driver.specs.declared.geometry.Geometry.{Geometry}
 unfoldable pub submission_pages : Geometry → ℕ
 submission_pages g = div_ceil (64 * g.depth) g.page_size
 
+-- how many pages a completion ring takes
 unfoldable pub completion_pages : Geometry → ℕ
 completion_pages g = div_ceil (16 * g.depth) g.page_size
 
@@ -40,6 +41,7 @@ pages_of_entry = pages_for greatest_limit
 unfoldable pub set_pages : Geometry → ℕ
 set_pages g = g.window * pages_of_command g.page_size
 
+-- how many pages a queue pair takes
 abbrev pub pair_pages : Geometry → ℕ
 pair_pages g = submission_pages g + completion_pages g + set_pages g
 
@@ -55,9 +57,11 @@ pair_of g i = record {
   depth = g.depth;
   number = 0;
   serial = 0;
+  geometry = g;
   first_page = i * pair_pages g + submission_pages g + completion_pages g;
   page_count = set_pages g;
 }
 
+-- the queue pairs of all controllers before their first commands
 abbrev pub pairs_of : Geometry → ℕ → List QueuePair
 pairs_of g controllers = map (pair_of g) (range_with_len 0 controllers)

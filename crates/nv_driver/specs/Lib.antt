@@ -6,12 +6,13 @@ pub mod Layout
 pub mod Quiet
 pub mod Settled
 pub mod Registers
-pub mod Share
 pub mod Schedule
+pub mod Pointer
 pub mod Keeping
 pub mod Answer
 pub mod Request
 pub mod HostData
+pub mod CommandPages
 pub mod Submitting
 pub mod Exchange
 pub mod Batch
@@ -19,4 +20,5 @@ pub mod UnderWay
 pub mod Alone
 pub mod Driver
 pub mod Linked
+pub mod BringingUp
 pub mod inner

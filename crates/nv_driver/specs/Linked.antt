@@ -15,8 +15,8 @@ pub record IsLinked (b : BusValue) (d : DriverValue) : Type 0 where
   pub bus : IsBus b
   pub left : b.banks ≡ banks_of d
 
--- the driver is this one, linked to the bus, whose enabled controllers were reset; or there is none, for
--- the first field of the geometry out of its limits or for want of memory, and the bus is as it was
+-- the driver is this one, linked to the bus, whose enabled controllers were reset; or there is none, because
+-- a field of the geometry is outside its limits or memory ran out, and the bus is unchanged
 pub record IsBroughtUp (g : Geometry) (made : DriverValue) (before after : BusValue)
     (result : Result DriverValue DriverError) : Type 0 where
   pub driver : IfOk result (λ d. d ≡ made)

@@ -7,6 +7,7 @@ use Rattle.nv_driver.specs.declared.geometry_field.GeometryField.TheVariants.{De
 use Rattle.nv_driver.specs.declared.geometry_field.GeometryField.TheVariants.{Offset, ListOffset}
 use Rattle.nv_driver.specs.declared.geometry_field.GeometryField.TheVariants.{Window, Pace}
 
+-- the name of each field
 unfoldable pub field_name : GeometryField → List ℕ
 field_name Depth = codes "depth"
 field_name PageSize = codes "page_size"
@@ -15,6 +16,7 @@ field_name ListOffset = codes "list_offset"
 field_name Window = codes "window"
 field_name Pace = codes "pace"
 
+-- the text of each error
 abbrev pub error_text : DriverError → List ℕ
 error_text (Geometry field) = codes "geometry: " ++ field_name field
 error_text Memory = codes "out of memory"

@@ -5,15 +5,17 @@ use Rattle.nv_register.specs.declared.register_bank.RegisterBank.{RegisterBank}
 use Rattle.nv_register.specs.declared.readiness.Readiness.TheVariants.{Ready}
 use Rattle.nv_register.specs.declared.rings.Rings.{Rings}
 use Rattle.nv_model.specs.Ranges.{serial_count}
+use Rattle.nv_driver.specs.declared.geometry.Geometry.{Geometry}
 
--- the addresses of its rings, its pages, and the number of its next command, as the rings keep it,
--- with its command identifier
+-- the addresses of its rings, the number of its next command, as the rings keep it, with its command
+-- identifier, its geometry, and its pages
 pub record QueuePair : Type 0 where
   pub sq : ℕ
   pub cq : ℕ
   pub depth : ℕ
   pub number : ℕ
   pub serial : ℕ
+  pub geometry : Geometry
   pub first_page : ℕ
   pub page_count : ℕ
 

@@ -10,6 +10,7 @@ mps_of page_size =
     if page_size == 4096 then 0 else if page_size == 8192 then 1
     else if page_size == 16384 then 2 else if page_size == 32768 then 3 else 4
 
+-- the registers of controllers with these queue pairs when no command is outstanding
 abbrev pub idle_banks : ℕ → List QueuePair → List RegisterBank
 idle_banks page_size pairs = map (idle_bank (mps_of page_size) page_size) pairs
 

@@ -67,6 +67,7 @@ pub record CanBeSent (k : Command) : Type 0 where
   pub fits : CommandFits k
   pub sends : IsSendable k
 
+-- the request of a command: its entry, its transfer, and its data from the host
 abbrev pub request_of : Command → Request
 request_of k = record {
   entry = entry_of k 0;
@@ -89,6 +90,7 @@ abbrev pub moved_by : Result Transfer StatusCode → Transfer
 moved_by (Ok moves) = moves
 moved_by (Err code) = NoData
 
+-- the data transfer of an entry, or none if it is refused before its data pointer is read
 abbrev pub transfer_for : Sqe → Transfer
 transfer_for e = moved_by (moves_of greatest_limit e)
 

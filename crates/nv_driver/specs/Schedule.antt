@@ -76,9 +76,11 @@ abbrev pub numbered : Sent → Numbered
 numbered x =
     record { asked = x.request.asked; nsid = x.request.entry.nsid; cid = x.cid }
 
+-- the state after requests that were sent to controller c
 abbrev pub after : ℕ → State → List Sent → State
 after c s xs = state_after_all c s (map numbered xs)
 
+-- the answers to requests that were sent to controller c
 abbrev pub answers_to : ℕ → State → List Sent → List Answer
 answers_to c s xs = answers_of_all c s (map numbered xs)
 
@@ -118,6 +120,7 @@ pub record World : Type 0 where
 abbrev pub number : Setting → ℕ → ℕ
 number t n = kept_number t.depth (t.start + n)
 
+-- the slot of command n
 abbrev pub slot : Setting → ℕ → ℕ
 slot t n = slot_of t.depth (number t n)
 
@@ -126,6 +129,7 @@ abbrev pub submit_ring : Setting → ℕ → ℕ → SubmitNumbers
 submit_ring t sent collected =
     record { base = t.sq; depth = t.depth; submitted = number t sent; known = number t collected }
 
+-- the host's side of the completion ring
 abbrev pub collect_ring : Setting → ℕ → ℕ → CollectNumbers
 collect_ring t collected told = record {
   base = t.cq;
@@ -145,17 +149,21 @@ device_rings t rung done told = record {
       record { base = t.cq; depth = t.depth; posted = number t done; told = number t told };
 }
 
+-- the registers of the schedule's controller with these rings
 abbrev pub bank_with : Setting → Rings → RegisterBank
 bank_with t rings = ready_bank t.bank rings false
 
 -- ---- submitting
 
+-- the entry of a request that was sent
 abbrev pub entry : Sent → Sqe
 entry x = entry_as x.request x.cid x.prp1 x.prp2
 
+-- the length of a request's data in bytes
 abbrev pub data_length : Sent → ℕ
 data_length x = length_of x.request.transfer
 
+-- the pages of a request: two for a list, and then the pages of its data
 abbrev pub own_pages : Sent → List ℕ
 own_pages x = x.first ∷ x.second ∷ x.pages
 
@@ -218,6 +226,7 @@ pub record IsPrepared (page_size : ℕ) (x : Sent) (old new : List ℕ) : Type 0
 
 -- ---- collecting
 
+-- whether a status is a success
 abbrev pub is_success : Status → Bool
 is_success status = status.sct == 0 && status.sc == 0
 
@@ -243,6 +252,7 @@ answer_to (Err code) completion bytes = Err completion.status
 abbrev pub bytes_read : ℕ → Sent → List ℕ → List ℕ
 bytes_read page_size x mem = received_from x.request.transfer mem (places page_size x)
 
+-- the answer to a request, read from its completion and its pages
 abbrev pub answer_read : ℕ → Sent → List ℕ → Cqe → Answer
 answer_read page_size x mem completion =
     answer_to x.request.asked completion (bytes_read page_size x mem)
@@ -262,14 +272,17 @@ pub record IsAnswered (page_size : ℕ) (x : Sent) (mem : List ℕ) (completion 
   pub reads : IsReadable x.request.asked → answer_read page_size x mem completion
       ≡ received_as x.request.asked answer
 
+-- the host's completion ring, by which the next completion is awaited
 abbrev pub awaited : Setting → World → CollectNumbers
 awaited t w = collect_ring t (length w.answers) w.told
 
+-- the answer to a request, read from the awaited completion and its pages
 abbrev pub answer_awaited : Setting → World → Sent → Answer
 answer_awaited t w x = answer_read t.page_size x w.mem (awaited_completion w.mem (awaited t w))
 
 -- ---- events
 
+-- a request is submitted, a doorbell is rung, the controller has a turn, or the host collects or writes elsewhere
 pub data Event : Type 0 where
   Submit : Sent → Event
   Bell : Event
@@ -320,9 +333,16 @@ Happens t Tell w w' =
 Happens t Elsewhere w w' =
     LeavesOutstanding t w w'.mem × (w' ≡ record w { mem = w'.mem })
 
+-- these events happen one after another, from the first state to the second
 abbrev pub Runs : Setting → List Event → World → World → Type 0
 Runs t [] w w' = w' ≡ w
 Runs t (e ∷ es) w w' = (mid : World) × Happens t e w mid × Runs t es mid w'
+
+-- events, the last one first, each of which was due, lead from one world to another
+abbrev pub Follows : (due : World → Event → Type 0) → Setting → List Event → World → World → Type 0
+Follows due t [] w w' = w' ≡ w
+Follows due t (e ∷ before) w w' =
+    (mid : World) × Follows due t before w mid × due mid e × Happens t e mid w'
 
 -- ---- the law
 
@@ -372,8 +392,8 @@ IsCollected t s w n =
     (x : Sent) (d : Answer) → IsReadable (slice_index_or w.sent n x).request.asked
     → slice_index_or w.answers n d ≡ slice_index_or (answers_to t.controller s w.sent) n d
 
--- The collected answers are the first of those that the requests get one at a time, and the
--- subsystem is that after the requests that were executed. An answer is held from its command's
+-- The collected answers are the first ones that the requests get one at a time, and the subsystem is
+-- the one after the requests that were executed. An answer is held from its command's
 -- turn until it is collected. The awaited completion is found if and only if a command was executed
 -- whose answer wasn't collected. A turn takes as many entries as it can. As long as the host
 -- doesn't write elsewhere, bytes don't change that are in no ring, and in no page of a command that
@@ -392,6 +412,7 @@ pub record IsSerial (t : Setting) (s : State) (w : World) : Type 0 where
       → Runs t events w next → AreOthers t (length w.answers) next.sent from n
       → bytes_at next.mem from n ≡ bytes_at w.mem from n
 
+-- every schedule from an idle controller is serial
 abbrev pub EveryScheduleIsSerial : Type 0
 EveryScheduleIsSerial = (t : Setting) (events : List Event) (old new : World) → IsIdle t old
     → Runs t events old new → IsSerial t old.state new

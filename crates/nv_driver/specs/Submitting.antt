@@ -1,7 +1,5 @@
 -- A request that a driver submitted, and where its data lies.
-use Rattle.std.specs.Prelude.{ℕ, ◌+◌, List}
-use Rattle.std.specs.List.{range_with_len}
-use Rattle.nv_driver.specs.Layout.{data_count}
+use Rattle.std.specs.Prelude.{ℕ, List, drop, slice_index}
 use Rattle.nv_driver.specs.Request.{Request}
 use Rattle.nv_driver.specs.Schedule.{Sent}
 use Rattle.nv_driver.specs.declared.geometry.Geometry.{Geometry}
@@ -14,13 +12,13 @@ pub record RequestPlace : Type 0 where
   pub second : ℕ
   pub list_offset : ℕ
 
--- `len` bytes in consecutive pages from this one on: two for a list, and then those of the data
-abbrev pub place_from : Geometry → (first len : ℕ) → RequestPlace
-place_from g first len = record {
-  pages = range_with_len (first + 2) (data_count g len);
+-- data in pages, of which the first two are for a list
+abbrev pub place_in : Geometry → List ℕ → RequestPlace
+place_in g pages = record {
+  pages = drop 2 pages;
   offset = g.offset;
-  first = first;
-  second = first + 1;
+  first = slice_index pages 0;
+  second = slice_index pages 1;
   list_offset = g.list_offset;
 }
 

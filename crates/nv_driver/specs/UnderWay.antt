@@ -1,6 +1,7 @@
 -- Requests of one controller on their way, of which several are outstanding.
-use Rattle.std.specs.Prelude.{◌≡◌, ℕ, ◌+◌, ◌%◌, ◌<◌, ◌≤◌, All, List, length, map, slice_index_or}
-use Rattle.std.specs.Prelude.{slice_set, take}
+use Rattle.std.specs.Prelude.{◌≡◌, ◌⊎◌, ℕ, ◌+◌, ◌%◌, ◌<◌, ◌≤◌, All, List, [], length, map, min}
+use Rattle.std.specs.Prelude.{◌++◌, ◌∷◌, drop, slice_index_or, slice_set, take}
+use Rattle.nv_host.specs.PageSets.{IsOf, Pages}
 use Rattle.nv_command.specs.Command.{transfer_by}
 use Rattle.nv_command.specs.declared.command.Command.{Command}
 use Rattle.nv_register.specs.declared.register_bank.RegisterBank.{RegisterBank}
@@ -11,20 +12,23 @@ use Rattle.nv_bus.specs.Bus.{BusValue, IsBus, bank_at}
 use Rattle.nv_bus.specs.Call.{length_of}
 use Rattle.nv_driver.specs.Batch.{from_serial}
 use Rattle.nv_driver.specs.Exchange.{IsReady}
+use Rattle.nv_driver.specs.Layout.{data_count, pages_of_command}
 use Rattle.nv_driver.specs.Keeping.{Keeps, OthersStay}
 use Rattle.nv_driver.specs.QueuePair.{QueuePair, idle_bank}
 use Rattle.nv_driver.specs.Quiet.{pair_value}
 use Rattle.nv_driver.specs.Registers.{mps_of}
 use Rattle.nv_driver.specs.Answer.{Answer}
 use Rattle.nv_driver.specs.Request.{CanBeSent, request_of}
-use Rattle.nv_driver.specs.Schedule.{Numbered, Sent, Setting, World, collect_ring, numbered, own_pages}
-use Rattle.nv_driver.specs.Schedule.{submit_ring}
-use Rattle.nv_driver.specs.Share.{IsOf, first_page, share_count}
-use Rattle.nv_driver.specs.Submitting.{place_from, sent_at}
+use Rattle.nv_driver.specs.Schedule.{Event, Follows, Numbered, Sent, Setting, World, collect_ring}
+use Rattle.nv_driver.specs.Schedule.{numbered, own_pages, submit_ring}
+use Rattle.nv_driver.specs.Schedule.{Bell, Collect, Elsewhere, Submit, Tell, Turn}
+use Rattle.nv_driver.specs.CommandPages.{AreLowest, AreTaken, all_pages, without}
+use Rattle.nv_driver.specs.Submitting.{place_in, sent_at}
+use Rattle.nv_driver.specs.Pointer.{IsPointedFrom}
 use Rattle.nv_driver.specs.declared.batch.Batch.{Batch}
 use Rattle.nv_driver.specs.declared.geometry.Geometry.{Geometry}
 use Rattle.nv_driver.specs.declared.queue_pair.QueuePair.{QueuePair as QueuePairFields}
-use Rattle.nv_driver.specs.declared.queue_pair.Share.{Share}
+use Rattle.nv_driver.specs.declared.command_pages.CommandPages.{CommandPages}
 
 -- the schedule of a queue pair's controller, from its next command on
 abbrev pub setting : Geometry → (c limit : ℕ) → QueuePair → Setting
@@ -48,10 +52,12 @@ pub record Run : Type 0 where
   pub bytes : List ℕ
   pub commands : List Command
 
+-- the run with these values
 abbrev pub run_of : Geometry → ℕ → BusValue → QueuePairFields → List ℕ → List Command → Run
 run_of g c b l bytes commands =
     record { geometry = g; controller = c; bus = b; pair = l; bytes = bytes; commands = commands }
 
+-- the schedule of a run's controller
 abbrev pub setting_of : Run → Setting
 setting_of r =
     setting r.geometry r.controller (limit_of r.bus.state r.controller) (pair_value r.pair)
@@ -60,15 +66,17 @@ setting_of r =
 abbrev pub numbered_of : Run → List Numbered
 numbered_of r = from_serial r.pair.serial r.commands
 
+-- the command identifier of the run's command n
 abbrev pub serial_at : Run → ℕ → ℕ
 serial_at r n = (r.pair.serial + n) % serial_count
 
 -- ---- requests on their way
 
--- the requests that were sent, and the answers that were collected
+-- the requests that were sent, the answers that were collected, and the events, the last one first
 pub record Course : Type 0 where
   pub sent : List Sent
   pub answers : List Answer
+  pub events : List Event
 
 -- For `rung` of a run's requests the tail doorbell was rung, `done` were executed by turns, and for `told` the
 -- head doorbell was rung.
@@ -79,6 +87,7 @@ pub record Way : Type 0 where
   pub done : ℕ
   pub told : ℕ
 
+-- the way with these values
 abbrev pub way : Run → Course → (rung done told : ℕ) → Way
 way r x rung done told = record { run = r; course = x; rung = rung; done = done; told = told }
 
@@ -95,21 +104,40 @@ world_by w s p bytes = record {
   answers = w.course.answers;
 }
 
+-- the schedule over a bus and a memory
 abbrev pub world_of : Way → BusValue → List ℕ → World
 world_of w bus bytes = world_by w bus.state (bank_at bus.banks w.run.controller) bytes
 
--- the queue pair by how many requests were sent, collected and reported
-abbrev pub pair_at : Run → (sent collected told : ℕ) → QueuePairFields
-pair_at r sent collected told = record {
+-- the queue pair by how many requests were sent, collected and reported, and which pages are free
+abbrev pub pair_at : Run → (sent collected told : ℕ) → Pages → QueuePairFields
+pair_at r sent collected told pages = record {
   submission = submit_ring (setting_of r) sent collected;
   completion = collect_ring (setting_of r) collected told;
   serial = serial_at r sent;
-  pages = r.pair.pages;
+  geometry = r.pair.geometry;
+  pages = pages;
 }
 
--- they are on their way over a bus, a queue pair and a memory
-pub record IsOnWay (w : Way) (bus : BusValue) (l : QueuePairFields) (now : ℕ) (bytes : List ℕ)
-    : Type 0 where
+-- nothing was done yet
+abbrev pub beginning : Setting → List ℕ → State → World
+beginning t bytes s = record {
+  mem = bytes;
+  state = s;
+  bank = t.bank;
+  sent = [];
+  rung = 0;
+  done = 0;
+  told = 0;
+  answers = [];
+}
+
+-- the state of a run's schedule before its first command
+abbrev pub first_world : Run → World
+first_world r = beginning (setting_of r) r.bytes r.bus.state
+
+-- they are on their way over a bus, a queue pair and a memory, by events that were due
+pub record IsOnWay (due : World → Event → Type 0) (w : Way) (bus : BusValue) (l : QueuePairFields)
+    (now : ℕ) (bytes : List ℕ) : Type 0 where
   pub begun : IsReady w.run.geometry w.run.bus w.run.controller w.run.pair w.run.geometry.page_size
       w.run.bytes
   pub page_size : now ≡ w.run.geometry.page_size
@@ -119,20 +147,71 @@ pub record IsOnWay (w : Way) (bus : BusValue) (l : QueuePairFields) (now : ℕ) 
   pub lawful : IsBus bus
   pub banks : bus.banks
       ≡ slice_set w.run.bus.banks w.run.controller (bank_at bus.banks w.run.controller)
-  pub pair : l ≡ pair_at w.run (length w.course.sent) (length w.course.answers) w.told
+  pub pair : l ≡ pair_at w.run (length w.course.sent) (length w.course.answers) w.told l.pages
+  pub ran : Follows due (setting_of w.run) w.course.events (first_world w.run)
+      (world_of w bus bytes)
 
 -- ---- a list of commands
 
--- the share of command n
-abbrev pub share : Run → ℕ → Share
-share r n = record { geometry = r.geometry; pages = r.pair.pages; number = n }
+-- the pages of commands, one after another
+abbrev pub pages_of_all : List Sent → List ℕ
+pages_of_all [] = []
+pages_of_all (x ∷ xs) = own_pages x ++ pages_of_all xs
 
--- command n was sent with its data in its share of the pages
-pub record IsKept (r : Run) (n : ℕ) (x : Sent) : Type 0 where
+-- a command was sent with its data and a list at their places in these pages
+pub record IsKept (r : Run) (x : Sent) : Type 0 where
   pub command : Command
-  pub sent : x ≡ sent_at (place_from r.geometry (first_page (share r n)) (length_of (transfer_by command)))
-      (request_of command) x.cid x.prp1 x.prp2
-  pub own : All (λ p. IsOf (first_page (share r n)) (share_count (share r n)) p) (own_pages x)
+  pub pages : List ℕ
+  pub sent : x ≡ sent_at (place_in r.geometry pages) (request_of command) x.cid x.prp1 x.prp2
+  pub many : length pages ≡ data_count r.geometry (length_of (transfer_by command)) + 2
+  pub few : length pages ≤ pages_of_command r.geometry.page_size
+  pub points : IsPointedFrom r.geometry.page_size x
+
+-- the pages of the outstanding commands, of which k were collected, and those that are free
+abbrev pub held_pages : (k : ℕ) → List Sent → List ℕ
+held_pages k xs = pages_of_all (drop k xs)
+
+abbrev pub free_pages : Run → (k : ℕ) → List Sent → Pages
+free_pages r k xs = without r.pair.pages (held_pages k xs)
+
+-- ---- what is done next
+
+-- how many commands may have been sent
+abbrev pub sent_in_window : Run → World → ℕ
+sent_in_window r w = min (length w.answers + r.geometry.window) (length r.commands)
+
+-- everything that was executed was collected, and no pace of it is to be reported
+pub record HasCollected (r : Run) (w : World) : Type 0 where
+  pub all : length w.answers ≡ w.done
+  pub near : w.done < w.told + r.geometry.pace
+
+-- the next command of the run, in the lowest pages that no outstanding command has
+pub record IsNext (r : Run) (w : World) (x : Sent) : Type 0 where
+  pub kept : IsKept r x
+  pub lowest : AreLowest (free_pages r (length w.answers) w.sent) (own_pages x)
+  pub numbered : numbered x ≡ slice_index_or (numbered_of r) (length w.sent) (numbered x)
+
+-- as many answers as the pace are to be reported, or there is no slot for another completion, or all
+-- were collected
+abbrev pub IsToReport : Run → World → Type 0
+IsToReport r w =
+    (length w.answers ≡ w.told + r.geometry.pace)
+    ⊎ ((length w.answers ≡ w.done)
+    × ((w.told + r.pair.submission.depth ≤ w.done + 1) ⊎ (length w.answers ≡ length r.commands)))
+
+-- What the driver does next: it collects the answers of a turn, and reports them at its pace. Then
+-- it submits commands as long as the window has room, rings the tail doorbell once for all of them,
+-- and asks for a turn of at most the pace.
+abbrev pub IsDue : Run → World → Event → Type 0
+IsDue r w (Submit x) = HasCollected r w × (length w.sent < sent_in_window r w) × IsNext r w x
+IsDue r w Bell =
+    HasCollected r w × (length w.sent ≡ sent_in_window r w) × (w.rung < length w.sent)
+IsDue r w (Turn most) =
+    HasCollected r w × (length w.sent ≡ sent_in_window r w) × (w.rung ≡ length w.sent)
+    × (length w.answers < length r.commands) × (most ≡ r.geometry.pace)
+IsDue r w Collect = (length w.answers < w.done) × (length w.answers < w.told + r.geometry.pace)
+IsDue r w Tell = IsToReport r w
+IsDue r w Elsewhere = ⊥
 
 -- the run's first m commands were sent, of which those from k on are outstanding
 pub record HasSent (r : Run) (m k : ℕ) (xs : List Sent) : Type 0 where
@@ -140,17 +219,29 @@ pub record HasSent (r : Run) (m k : ℕ) (xs : List Sent) : Type 0 where
   pub some : m ≤ length r.commands
   pub sent : length xs ≡ m
   pub commands : map numbered xs ≡ take m (numbered_of r)
-  pub kept : (n : ℕ) (d : Sent) → n < m → IsKept r n (slice_index_or xs n d)
+  pub kept : (n : ℕ) (d : Sent) → n < m → IsKept r (slice_index_or xs n d)
+  pub own : (n : ℕ) (d : Sent) → n < m
+      → All (λ p. IsOf r.pair.pages.first r.pair.pages.count p) (own_pages (slice_index_or xs n d))
+  pub taken : AreTaken r.pair.pages (held_pages k xs)
+
+-- a command's pages in its slot of the window
+pub record IsHeld (p : CommandPages) (x : Sent) : Type 0 where
+  pub few : p.count ≤ 7
+  pub seven : length p.numbers ≡ 7
+  pub pages : all_pages p ≡ own_pages x
 
 -- a list of commands of which some were sent, and some answers were collected
 pub record IsUnderWay (r : Run) (bells turns : ℕ) (b : Batch) (bus : BusValue) (l : QueuePairFields)
-    (now : ℕ) (bytes : List ℕ) : Type 0 where
+    (now : ℕ) (bytes : List ℕ) (places : List CommandPages) : Type 0 where
   pub course : Course
-  pub on_way : IsOnWay (way r course bells turns b.told) bus l now bytes
+  pub on_way : IsOnWay (IsDue r) (way r course bells turns b.told) bus l now bytes
   pub open on_way use *
   pub can : All CanBeSent r.commands
-  pub geometry : b.geometry ≡ r.geometry
   pub controller : b.ctrl ≡ r.controller
   pub has : HasSent r b.sent b.collected course.sent
   pub open has use *
   pub collected : length course.answers ≡ b.collected
+  pub left : l.pages ≡ free_pages r b.collected course.sent
+  pub room : length places ≡ 16
+  pub slots : (n : ℕ) (p : CommandPages) (d : Sent) → b.collected ≤ n → n < b.sent
+      → IsHeld (slice_index_or places (n % 16) p) (slice_index_or course.sent n d)

@@ -5,7 +5,7 @@ pub mod Exchange
 pub mod Linked
 pub mod Pace
 pub mod Registers
-pub mod Schedule
-pub mod Share
 pub mod Submitting
 pub mod UnderWay
+pub mod BringingUp
+pub mod CommandPages

@@ -8,13 +8,9 @@ ghost use Rattle.nv_bus.specs.Call.{length_of};
 ghost use Rattle.nv_prp.specs.Buffer.{IsBuffer, buffer_places};
 ghost use Rattle.nv_prp.specs.Place.{read_at};
 ghost use Rattle.nv_driver.specs.Layout.{most_bytes};
-ghost use Rattle.nv_driver.specs.Share.{first_page};
-ghost use Rattle.nv_driver.specs.inner.Share.{HasShares};
-ghost use Rattle.nv_driver.specs.inner.Submitting.{places_from};
 ghost use Rattle.nv_driver.specs.Schedule.{answer_from, received_from};
 
 use crate::host_side::HostSide;
-use crate::queue_pair::Share;
 use crate::submitting::DataPlace;
 use nv_command::{Command, Reply, ReplyRoom, Transfer};
 use nv_host::HostMemory;
@@ -64,20 +60,24 @@ impl AnswerSlot {
     }
 
     /// Replaces the answer by that to a command, from its completion and the data that the controller
-    /// sent to its pages. Section "Completion Queue Entry".
+    /// sent to its place. Section "Completion Queue Entry".
     pub(crate) fn receive<M: HostMemory>(
         &mut self,
         host: &mut HostSide<M>,
-        share: &Share,
+        place: &DataPlace,
         command: &Command,
         completion: &Cqe,
     )
         requires sends { IsSendable command.now }
-        requires share { HasShares share.now (M.page_len host.old.mem) (M.bytes host.old.mem) }
+        requires buffer { IsBuffer (M.bytes host.old.mem) (M.page_len host.old.mem)
+            place.now.buffer.pages.now place.now.buffer.offset
+            (length_of (transfer_by command.now)) }
         ensures answer { self.new ≡ answer_from command.now completion.now (received_from
-            (transfer_by command.now) (M.bytes host.old.mem) (places_from share.now.geometry
-            (first_page share.now) (length_of (transfer_by command.now)))) }
+            (transfer_by command.now) (M.bytes host.old.mem) (buffer_places
+            (M.page_len host.old.mem) place.now.buffer.pages.now place.now.buffer.offset
+            (length_of (transfer_by command.now)))) }
         ensures mem { host.new.mem ≡ host.old.mem }
+        ensures taken { host.new.taken ≡ host.old.taken }
     {
         if !completion.status.is_success() {
             self.refusal = Some(completion.status);
@@ -88,8 +88,6 @@ impl AnswerSlot {
         match command.transfer() {
             Transfer::ToHost(len) => {
                 let len = len as u32;
-                let first = share.first_page();
-                let place = DataPlace::new(share.geometry, first, len, &mut host.pages);
                 let (spans, data) = (&mut host.spans, &mut host.data);
                 let sent = read_sent(&host.mem, &place.buffer, len, spans, data);
                 self.room.read(command, dword0, sent);

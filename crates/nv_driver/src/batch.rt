@@ -10,14 +10,13 @@ ghost use Rattle.nv_driver.specs.Quiet.{pair_value};
 ghost use Rattle.nv_driver.specs.Request.{CanBeSent};
 ghost use Rattle.nv_driver.specs.inner.UnderWay.{HasAnswers};
 ghost use Rattle.nv_driver.specs.UnderWay.{IsUnderWay, Run, run_of};
-ghost use Rattle.nv_driver.specs.inner.Pace.{IsToldByPace, IsToldInTime, taken_by_turn};
+ghost use Rattle.nv_driver.specs.inner.Pace.{IsPaced, IsToldByPace, IsToldInTime, taken_by_turn};
 
 use crate::answer_slot::AnswerSlot;
-use crate::checked_geometry::CheckedGeometry;
-use crate::host_side::HostSide;
-use crate::queue_pair::{QueuePair, Share};
-use crate::submitting::{DataPlace, HostData, Outgoing, submit};
-use crate::target::Target;
+use crate::command_pages::CommandPages;
+use crate::host_side::{HostSide, MOST_OUTSTANDING};
+use crate::queue_pair::QueuePair;
+use crate::submitting::{HostData, Outgoing, submit};
 use nv_bus::Bus;
 use nv_command::Command;
 use nv_host::HostMemory;
@@ -28,7 +27,6 @@ use nv_register::offset;
 #[derive(Drop)]
 pub struct Batch {
     ctrl: u16,
-    geometry: CheckedGeometry,
     sent: usize,
     collected: usize,
     told: usize,
@@ -47,23 +45,20 @@ impl Batch {
         ghost run: { Run }
         requires commands { commands.now ≡ run.commands }
         requires under_way { IsUnderWay run self.old.sent self.old.collected self.old
-            (B.meaning bus.old) pair.old (M.page_len host.old.mem) (M.bytes host.old.mem) }
+            (B.meaning bus.old) pair.old (M.page_len host.old.mem) (M.bytes host.old.mem) host.old.taken }
+        requires near { IsToldInTime run self.old }
         ensures under_way { IsUnderWay run self.new.sent self.new.collected self.new
-            (B.meaning bus.new) pair.new (M.page_len host.new.mem) (M.bytes host.new.mem) }
+            (B.meaning bus.new) pair.new (M.page_len host.new.mem) (M.bytes host.new.mem)
+            host.new.taken }
         ensures batch { self.new ≡ record self.old {
-          sent = min (self.old.collected + self.old.geometry.window) (length commands.now);
+          sent = min (self.old.collected + run.geometry.window) (length commands.now);
         } }
     {
-        let geometry = self.geometry;
+        let geometry = pair.geometry();
         let room = usize::from(geometry.window) - (self.sent - self.collected);
         let end = self.sent + room.min(commands.len() - self.sent);
         let mut tail = None;
         for number in self.sent..end {
-            let share = Share {
-                geometry,
-                pages: pair.pages,
-                number,
-            };
             let command = &commands[number];
             let request = Outgoing {
                 entry: command.entry(0),
@@ -71,8 +66,11 @@ impl Batch {
                 sends: HostData::Command(command),
             };
             let len = request.transfer.bytes() as u32;
-            let place = DataPlace::new(geometry, share.first_page(), len, &mut host.pages);
+            let count = geometry.data_count(len) as usize + 2;
+            let pages = CommandPages::take(&mut pair.pages, count);
+            let place = pages.place(geometry);
             let next = submit(&mut host.mem, pair, &place, &request, &mut host.spans);
+            host.taken[number % MOST_OUTSTANDING] = pages;
             self.sent += 1;
             tail = Some(next);
         }
@@ -95,21 +93,25 @@ impl Batch {
         ghost run: { Run }
         requires commands { commands.now ≡ run.commands }
         requires under_way { IsUnderWay run self.old.sent self.old.collected self.old
-            (B.meaning bus.old) pair.old (M.page_len host.old.mem) (M.bytes host.old.mem) }
+            (B.meaning bus.old) pair.old (M.page_len host.old.mem) (M.bytes host.old.mem)
+            host.old.taken }
         requires answers { HasAnswers run self.old.collected answers.old }
-        requires some { self.old.collected < self.old.sent }
-        requires near { IsToldInTime self.old }
+        requires some { self.old.collected < length run.commands }
+        requires full { self.old.sent
+            ≡ min (self.old.collected + run.geometry.window) (length run.commands) }
+        requires near { IsToldInTime run self.old }
         ensures under_way { IsUnderWay run self.new.sent self.new.collected self.new
-            (B.meaning bus.new) pair.new (M.page_len host.new.mem) (M.bytes host.new.mem) }
+            (B.meaning bus.new) pair.new (M.page_len host.new.mem) (M.bytes host.new.mem)
+            host.new.taken }
         ensures answers { HasAnswers run self.new.collected answers.new }
-        ensures near { IsToldInTime self.new }
+        ensures near { IsToldInTime run self.new }
         ensures count { self.new.collected ≡ self.old.collected + taken_by_turn run self.old }
         ensures paced { self.old.collected < self.new.collected
-            → IsToldByPace self.old.geometry.pace self.old.told self.new.told }
+            → IsToldByPace run.geometry.pace self.old.told self.new.told }
         ensures none { self.new.collected ≡ self.old.collected
             → (self.old.told < self.old.collected) × (self.new.told ≡ self.old.collected) }
     {
-        let geometry = self.geometry;
+        let geometry = pair.geometry();
         let posted = bus.turn(self.ctrl, &mut host.mem, geometry.pace);
         if posted == 0 {
             pair.tell(bus, self.ctrl);
@@ -120,12 +122,10 @@ impl Batch {
         for _ in 0..posted {
             let completion = pair.next_completion(&host.mem);
             let number = self.collected;
-            let share = Share {
-                geometry: self.geometry,
-                pages: pair.pages,
-                number,
-            };
-            answers[number].receive(host, &share, &commands[number], &completion);
+            let pages = host.taken[number % MOST_OUTSTANDING];
+            pages.give(&mut pair.pages);
+            let place = pages.place(geometry);
+            answers[number].receive(host, &place, &commands[number], &completion);
             self.collected += 1;
             if self.collected - self.told == pace {
                 pair.tell(bus, self.ctrl);
@@ -139,7 +139,7 @@ impl Batch {
 /// its queue pair is outstanding before or after.
 pub(crate) fn exchange_all<B: Bus, M: HostMemory>(
     bus: &mut B,
-    target: Target,
+    ctrl: u16,
     host: &mut HostSide<M>,
     pair: &mut QueuePair,
     commands: &[Command],
@@ -147,24 +147,24 @@ pub(crate) fn exchange_all<B: Bus, M: HostMemory>(
 )
     ghost run: { Run }
     requires run { run
-        ≡ run_of target.geometry target.ctrl (B.meaning bus.old) pair.old
+        ≡ run_of pair.old.geometry ctrl (B.meaning bus.old) pair.old
         (M.bytes host.old.mem) commands.now }
-    requires ready { IsReady target.geometry (B.meaning bus.old) target.ctrl
+    requires ready { IsReady pair.old.geometry (B.meaning bus.old) ctrl
         pair.old (M.page_len host.old.mem) (M.bytes host.old.mem) }
     requires can { All CanBeSent commands.now }
     requires len { length answers.old ≡ length commands.now }
     ensures answers { answers.new
-        ≡ answers_of target.ctrl (B.meaning bus.old).state pair.old.serial commands.now }
+        ≡ answers_of ctrl (B.meaning bus.old).state pair.old.serial commands.now }
     ensures state { (B.meaning bus.new).state
-        ≡ state_after target.ctrl (B.meaning bus.old).state pair.old.serial commands.now }
-    ensures left { IsLeft target.geometry target.ctrl (length (M.bytes host.old.mem))
+        ≡ state_after ctrl (B.meaning bus.old).state pair.old.serial commands.now }
+    ensures paced { IsPaced run (B.meaning bus.new) (M.bytes host.new.mem) }
+    ensures left { IsLeft pair.old.geometry ctrl (length (M.bytes host.old.mem))
         (after_some (length commands.now) (pair_value pair.old))
         (side (B.meaning bus.old) pair.old (M.page_len host.old.mem) (M.bytes host.old.mem))
         (side (B.meaning bus.new) pair.new (M.page_len host.new.mem) (M.bytes host.new.mem)) }
 {
     let mut batch = Batch {
-        ctrl: target.ctrl,
-        geometry: target.geometry,
+        ctrl,
         sent: 0,
         collected: 0,
         told: 0,

@@ -1,6 +1,6 @@
 //! The driver of the controllers of a bus.
 
-ghost use Rattle.std.specs.Prelude.{◌≡◌, ◌<◌, All, IfOk, IsOk, if◌then◌else◌, length};
+ghost use Rattle.std.specs.Prelude.{◌≡◌, ◌<◌, All, IfOk, IsOk, MatchResult, if◌then◌else◌, length};
 ghost use Rattle.nv_bus.specs.Bus.{IsBus};
 ghost use Rattle.nv_command.specs.Command.{CommandFits};
 ghost use Rattle.nv_command.specs.Logs.{IsSendable};
@@ -10,6 +10,7 @@ ghost use Rattle.nv_bus.specs.Entry.{told_by};
 ghost use Rattle.nv_layout.specs.Sqe.{SqeFits};
 ghost use Rattle.nv_driver.specs.Alone.{IsReceived, asked_in, entry_step};
 ghost use Rattle.nv_driver.specs.Batch.{answers_of, state_after};
+ghost use Rattle.nv_driver.specs.BringingUp.{EnablesFirst, Restarts};
 ghost use Rattle.nv_driver.specs.Driver.{after_command, after_commands, after_reset, pair_at};
 ghost use Rattle.nv_driver.specs.Driver.{HasEntryPages, driver_with, new_driver};
 ghost use Rattle.nv_driver.specs.Layout.{pages_of_entry};
@@ -18,14 +19,14 @@ ghost use Rattle.nv_driver.specs.Linked.{IsBroughtUp, IsLinked};
 use crate::answer_slot::{Answer, AnswerSlot};
 use crate::batch::exchange_all;
 use crate::checked_geometry::CheckedGeometry;
+use crate::command_pages::CommandPages;
 use crate::enabling::{enable_all, reset};
 use crate::error::DriverError;
 use crate::geometry::Geometry;
-use crate::host_side::HostSide;
+use crate::host_side::{HostSide, MOST_OUTSTANDING};
 use crate::passthrough::{Passed, exchange_entry};
 use crate::queue_pair::{QueuePair, new_pairs};
 use crate::submitting::MOST_PAGES;
-use crate::target::Target;
 use nv_bus::{Bus, Told};
 use nv_command::Command;
 use nv_host::{FlatMemory, HostMemory};
@@ -70,6 +71,10 @@ impl Driver {
         ensures brought { IsBroughtUp geometry
             (new_driver geometry (length (B.meaning bus.old).banks))
             (B.meaning bus.old) (B.meaning bus.new) result }
+        ensures steps { MatchResult result
+            (λ _. EnablesFirst B.was_written B.was_read geometry
+            (length (B.meaning bus.old).banks) bus.old bus.new)
+            (λ _. bus.new ≡ bus.old) }
     {
         Driver::lay_out(alloc, bus, geometry, false)
     }
@@ -86,6 +91,10 @@ impl Driver {
         ensures brought { IsBroughtUp geometry
             (driver_with geometry (length (B.meaning bus.old).banks)
             (pages_of_entry geometry.page_size)) (B.meaning bus.old) (B.meaning bus.new) result }
+        ensures steps { MatchResult result
+            (λ _. EnablesFirst B.was_written B.was_read geometry
+            (length (B.meaning bus.old).banks) bus.old bus.new)
+            (λ _. bus.new ≡ bus.old) }
         ensures entries { IfOk result HasEntryPages }
     {
         Driver::lay_out(alloc, bus, geometry, true)
@@ -103,6 +112,10 @@ impl Driver {
             (driver_with geometry (length (B.meaning bus.old).banks)
             (if with_entries then pages_of_entry geometry.page_size else 0))
             (B.meaning bus.old) (B.meaning bus.new) result }
+        ensures steps { MatchResult result
+            (λ _. EnablesFirst B.was_written B.was_read geometry
+            (length (B.meaning bus.old).banks) bus.old bus.new)
+            (λ _. bus.new ≡ bus.old) }
     {
         let geometry = CheckedGeometry::new(geometry).map_err(DriverError::Geometry)?;
         let controllers = bus.controllers();
@@ -115,6 +128,7 @@ impl Driver {
             spans: Spans::new(),
             pages: [0; MOST_PAGES],
             data: [0; 16384],
+            taken: [CommandPages::NONE; MOST_OUTSTANDING],
         };
         Ok(Driver {
             host,
@@ -135,6 +149,7 @@ impl Driver {
         ensures driver { self.new ≡ after_reset self.old ctrl }
         ensures entries { HasEntryPages self.old → HasEntryPages self.new }
         ensures linked { IsLinked (B.meaning bus.new) self.new }
+        ensures steps { Restarts B.was_written B.was_read self.old.geometry ctrl bus.old bus.new }
     {
         let pair = &mut self.pairs[ctrl as usize];
         reset(bus, ctrl, &mut self.host.mem, pair, self.geometry)
@@ -191,12 +206,8 @@ impl Driver {
         ensures driver { self.new ≡ after_commands self.old ctrl (length commands.now) }
         ensures linked { IsLinked (B.meaning bus.new) self.new }
     {
-        let target = Target {
-            ctrl,
-            geometry: self.geometry,
-        };
         let pair = &mut self.pairs[ctrl as usize];
-        exchange_all(bus, target, &mut self.host, pair, commands, answers);
+        exchange_all(bus, ctrl, &mut self.host, pair, commands, answers);
     }
 
     /// Sends an entry to a controller, unchanged except for its command identifier and data
@@ -230,17 +241,13 @@ impl Driver {
         ensures entries { HasEntryPages self.new }
         ensures linked { IsLinked (B.meaning bus.new) self.new }
     {
-        let target = Target {
-            ctrl,
-            geometry: self.geometry,
-        };
         let passed = Passed {
             entry,
             bytes,
             first_page: self.geometry.pages(self.controllers() as u16),
         };
         let pair = &mut self.pairs[ctrl as usize];
-        exchange_entry(bus, target, &mut self.host, pair, &passed, out)
+        exchange_entry(bus, ctrl, &mut self.host, pair, &passed, out)
     }
 
     /// Returns how many controllers the driver has.

@@ -1,12 +1,15 @@
 //! Enables and resets controllers.
 
-ghost use Rattle.std.specs.Prelude.{◌≡◌, ◌<◌, ◌≤◌, All, IsOk, length, map, slice_set};
+ghost use Rattle.std.specs.Prelude.{◌≡◌, ◌+◌, ◌*◌, ◌<◌, ◌≤◌, ℕ, All, IsOk, List, length, map, replicate, slice_set};
 ghost use Rattle.nv_queue.specs.Slots.{HoldsTags};
 ghost use Rattle.nv_register.specs.Readiness.{is_ready};
 ghost use Rattle.nv_register.specs.RegisterBank.{with_register_at};
 ghost use Rattle.nv_register.specs.declared.readiness.Readiness.TheVariants.{Off};
 ghost use Rattle.nv_model.specs.Step.{reset, reset_if, reset_where};
-ghost use Rattle.nv_bus.specs.Bus.{IsBus, bank_at, enabled_in, state_written};
+ghost use Rattle.nv_bus.specs.Bus.{BusValue, IsBus, bank_at, enabled_in, state_written};
+ghost use Rattle.nv_driver.specs.BringingUp.{Configures, EnablesFirst, Restarts, SetsQueues};
+ghost use Rattle.nv_driver.specs.inner.BringingUp.{Renews};
+ghost use Rattle.nv_host.specs.Bytes.{with_bytes};
 ghost use Rattle.nv_driver.specs.Driver.{IsPlaced};
 ghost use Rattle.nv_driver.specs.Exchange.{IsReady};
 ghost use Rattle.nv_driver.specs.inner.Exchange.{IsLeft, KeepsBelow, side};
@@ -57,6 +60,7 @@ fn configure<B: Bus>(bus: &mut B, ctrl: u16, cc: u32, ready: bool) -> Result<(),
     ensures banks { (B.meaning bus.new).banks ≡ slice_set (B.meaning bus.old).banks ctrl
         (with_register_at (bank_at (B.meaning bus.old).banks ctrl) 0x14 cc) }
     ensures bus { IsBus (B.meaning bus.old) → IsBus (B.meaning bus.new) }
+    ensures steps { Configures B.was_written B.was_read ctrl cc ready bus.old bus.new }
 {
     bus.write32(ctrl, offset::CC, cc);
     for _ in 0..READS {
@@ -78,6 +82,7 @@ fn set_queues<B: Bus>(bus: &mut B, ctrl: u16, geometry: CheckedGeometry)
     ensures banks { (B.meaning bus.new).banks ≡ slice_set (B.meaning bus.old).banks ctrl
         (with_queues (bank_at (B.meaning bus.old).banks ctrl) (pair_of geometry ctrl)) }
     ensures bus { IsBus (B.meaning bus.old) → IsBus (B.meaning bus.new) }
+    ensures steps { SetsQueues B.was_written ctrl (pair_of geometry ctrl) bus.old bus.new }
 {
     let less_one = u32::from(geometry.depth) - 1;
     let Place { sq, cq, .. } = geometry.place(ctrl);
@@ -88,14 +93,44 @@ fn set_queues<B: Bus>(bus: &mut B, ctrl: u16, geometry: CheckedGeometry)
     bus.write32(ctrl, offset::ACQ_HIGH, (cq >> 32) as u32);
 }
 
+/// A way to zero completion rings.
+pub(crate) trait Zeroing {
+    // What is said of a call: the bus that it saw, and the memory before and after it. As with a
+    // bus, code for every way learns this only by the call.
+    ghost was_zeroed: { Self → BusValue → List ℕ → List ℕ → Type 0 } = { λ _ _ _ _. Unit {0} };
+
+    /// Zeroes the ring of a queue pair, which must lie in the memory.
+    fn zero<B: Bus, M: HostMemory>(&self, bus: &B, pair: &QueuePair, mem: &mut M)
+        requires { pair.now.completion.base + 16 * pair.now.completion.depth
+            ≤ length (M.bytes mem.old) }
+        ensures bytes { M.bytes mem.new ≡ with_bytes (M.bytes mem.old) pair.now.completion.base
+            (replicate (16 * pair.now.completion.depth) 0) }
+        ensures tags { HoldsTags (M.bytes mem.new) pair.now.completion.base
+            pair.now.completion.depth 0 }
+        ensures page { M.page_len mem.new ≡ M.page_len mem.old }
+        ensures zeroed { was_zeroed self.now (B.meaning bus.now)
+            (M.bytes mem.old) (M.bytes mem.new) };
+}
+
+/// Zeroes each slot of a ring.
+#[derive(Drop)]
+struct Slots;
+
+impl Zeroing for Slots {
+    fn zero<B: Bus, M: HostMemory>(&self, _bus: &B, pair: &QueuePair, mem: &mut M) {
+        pair.completion.zero(mem);
+    }
+}
+
 /// Makes a controller ready with new rings at their places, and resets it if it was enabled. The
 /// completion ring is zeroed. Section "Controller Initialization and Shutdown Processing".
-fn enable<B: Bus, M: HostMemory>(
+fn enable<B: Bus, M: HostMemory, Z: Zeroing>(
     bus: &mut B,
     ctrl: u16,
     mem: &mut M,
     pair: &QueuePair,
     geometry: CheckedGeometry,
+    zeroing: &Z,
 ) -> Result<(), DriverError>
     requires ctrl { ctrl < length (B.meaning bus.old).banks }
     requires few { ctrl < 16 }
@@ -113,9 +148,12 @@ fn enable<B: Bus, M: HostMemory>(
         (pair_value pair.now) (M.bytes mem.old) (M.bytes mem.new) }
     ensures len { length (M.bytes mem.new) ≡ length (M.bytes mem.old) }
     ensures page { M.page_len mem.new ≡ M.page_len mem.old }
+    ensures steps { Renews B.was_written B.was_read
+        (λ b. Z.was_zeroed zeroing.now (B.meaning b) (M.bytes mem.old) (M.bytes mem.new))
+        geometry ctrl bus.old bus.new }
 {
     configure(bus, ctrl, 0, false)?;
-    pair.completion.zero(mem);
+    zeroing.zero(bus, pair, mem);
     set_queues(bus, ctrl, geometry);
     configure(bus, ctrl, ENABLE + (mps(geometry.page_size) << 7), true)
 }
@@ -143,9 +181,11 @@ pub(crate) fn enable_all<B: Bus, M: HostMemory>(
         (pairs_of geometry (length (B.meaning bus.old).banks)) }
     ensures len { length (M.bytes mem.new) ≡ length (M.bytes mem.old) }
     ensures page { M.page_len mem.new ≡ M.page_len mem.old }
+    ensures steps { EnablesFirst B.was_written B.was_read geometry
+        (length (B.meaning bus.old).banks) bus.old bus.new }
 {
     for ctrl in 0..bus.controllers() {
-        enable(bus, ctrl, mem, &pairs[ctrl as usize], geometry)?;
+        enable(bus, ctrl, mem, &pairs[ctrl as usize], geometry, &Slots)?;
     }
     Ok(())
 }
@@ -168,6 +208,7 @@ pub(crate) fn reset<B: Bus, M: HostMemory>(
         (renewed_pair (pair_value pair.old))
         (side (B.meaning bus.old) pair.old (M.page_len mem.old) (M.bytes mem.old))
         (side (B.meaning bus.new) pair.new (M.page_len mem.new) (M.bytes mem.new)) }
+    ensures steps { Restarts B.was_written B.was_read geometry ctrl bus.old bus.new }
 {
     configure(bus, ctrl, 0, false)?;
     pair.renew(mem);

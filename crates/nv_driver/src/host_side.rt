@@ -1,8 +1,12 @@
 //! The host's side of an exchange with a controller.
 
+use crate::command_pages::CommandPages;
 use crate::submitting::MOST_PAGES;
 use nv_host::PageNo;
 use nv_prp::Spans;
+
+/// The greatest number of commands that are outstanding at a time.
+pub(crate) const MOST_OUTSTANDING: usize = 16;
 
 /// The host's memory, and buffers for the data of one request at a time, allocated once. What these
 /// hold before doesn't matter.
@@ -15,4 +19,6 @@ pub struct HostSide<M> {
     pub pages: [PageNo; MOST_PAGES],
     /// What the controller sent.
     pub data: [u8; 16384],
+    /// The pages of the outstanding commands, at their numbers modulo 16.
+    pub taken: [CommandPages; MOST_OUTSTANDING],
 }

@@ -2,10 +2,10 @@
 
 ghost use Rattle.std.specs.Prelude.{◌≡◌, ◌+◌, ◌*◌, ◌^◌, ◌<◌, ◌≤◌, if◌then◌else◌};
 ghost use Rattle.nv_driver.specs.Layout.{completion_pages, pages_of_entry, pair_of, pair_pages, pages_of};
-ghost use Rattle.nv_driver.specs.Layout.{set_pages, submission_pages};
+ghost use Rattle.nv_driver.specs.Layout.{data_count, most_bytes, pages_of_command, set_pages, submission_pages};
 
 use crate::checked_geometry::CheckedGeometry;
-use crate::queue_pair::PageRange;
+use nv_host::PageNo;
 
 /// The greatest length of a command's data, in bytes.
 const MOST_BYTES: u32 = 16_384;
@@ -25,8 +25,10 @@ pub struct Place {
     pub sq: u64,
     /// The address of the completion ring.
     pub cq: u64,
-    /// The pages of its commands.
-    pub pages: PageRange,
+    /// The first of its commands' pages.
+    pub first_page: PageNo,
+    /// How many they are.
+    pub page_count: u32,
 }
 
 impl CheckedGeometry {
@@ -55,6 +57,16 @@ impl CheckedGeometry {
         ensures few { result ≤ 0x80000 }
     {
         u32::from(self.window) * (MOST_BYTES.div_ceil(self.page_size) + MORE_PAGES)
+    }
+
+    /// Returns how many pages `len` bytes of a command's data lie in.
+    pub(crate) fn data_count(self, len: u32) -> u32
+        requires { len ≤ most_bytes }
+        ensures pages { result ≡ data_count self len }
+        ensures few { result + 2 ≤ pages_of_command self.page_size }
+        ensures seven { result + 2 ≤ 7 }
+    {
+        (self.offset + len).div_ceil(self.page_size)
     }
 
     /// Returns how many pages one controller takes.
@@ -90,26 +102,23 @@ impl CheckedGeometry {
         }
     }
 
-    /// Returns where the rings and pages of a controller lie. The numbers of the next pages also
-    /// fit 32 bits.
+    /// Returns where the rings and pages of a controller lie. The numbers of its pages fit 32 bits.
     #[tactic(auto, using(crate::proofs::MemoryLaws::lay))]
     pub(crate) fn place(self, ctrl: u16) -> Place
         requires ctrl { ctrl < 16 }
         ensures sq { result.sq ≡ (pair_of self ctrl).sq }
         ensures cq { result.cq ≡ (pair_of self ctrl).cq }
-        ensures first_page { result.pages.first ≡ (pair_of self ctrl).first_page }
-        ensures page_count { result.pages.count ≡ (pair_of self ctrl).page_count }
-        ensures numbered { result.pages.first + result.pages.count + 7 ≤ 2 ^ 32 }
+        ensures first_page { result.first_page ≡ (pair_of self ctrl).first_page }
+        ensures page_count { result.page_count ≡ (pair_of self ctrl).page_count }
+        ensures numbered { result.first_page + result.page_count < 2 ^ 32 }
     {
         let first = u32::from(ctrl) * self.pair_pages();
         let second = first + self.submission_pages();
         Place {
             sq: u64::from(first) * u64::from(self.page_size),
             cq: u64::from(second) * u64::from(self.page_size),
-            pages: PageRange {
-                first: second + self.completion_pages(),
-                count: self.set_pages(),
-            },
+            first_page: second + self.completion_pages(),
+            page_count: self.set_pages(),
         }
     }
 }

@@ -49,6 +49,7 @@
 mod answer_slot;
 mod batch;
 mod checked_geometry;
+mod command_pages;
 mod driver;
 mod enabling;
 mod entry_data;
@@ -61,7 +62,6 @@ mod layout;
 mod passthrough;
 mod queue_pair;
 mod submitting;
-mod target;
 
 pub use answer_slot::{Answer, AnswerSlot};
 pub use driver::Driver;

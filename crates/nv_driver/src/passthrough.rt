@@ -11,7 +11,6 @@ use crate::entry_data::receive;
 use crate::host_side::HostSide;
 use crate::queue_pair::QueuePair;
 use crate::submitting::{DataPlace, Outgoing, submit};
-use crate::target::Target;
 use nv_bus::{Bus, Told};
 use nv_host::{HostMemory, PageNo};
 use nv_layout::Sqe;
@@ -31,26 +30,27 @@ pub struct Passed<'a> {
 /// queue pair. No command of the queue pair is outstanding before or after.
 pub(crate) fn exchange_entry<B: Bus, M: HostMemory>(
     bus: &mut B,
-    target: Target,
+    ctrl: u16,
     host: &mut HostSide<M>,
     pair: &mut QueuePair,
     passed: &Passed,
     out: &mut [u8],
 ) -> Told
-    requires ready { IsReady target.geometry (B.meaning bus.old) target.ctrl
+    requires ready { IsReady pair.old.geometry (B.meaning bus.old) ctrl
         pair.old (M.page_len host.old.mem) (M.bytes host.old.mem) }
     requires fits { SqeFits passed.now.entry.now }
     requires behind { pair.old.pages.first + pair.old.pages.count ≤ passed.now.first_page }
-    requires inside { (passed.now.first_page + pages_of_entry target.geometry.page_size)
-        * target.geometry.page_size ≤ length (M.bytes host.old.mem) }
-    requires numbered { passed.now.first_page + pages_of_entry target.geometry.page_size < 2 ^ 32 }
-    ensures { IsExchanged target.geometry target.ctrl
+    requires inside { (passed.now.first_page + pages_of_entry pair.old.geometry.page_size)
+        * pair.old.geometry.page_size ≤ length (M.bytes host.old.mem) }
+    requires numbered { passed.now.first_page + pages_of_entry pair.old.geometry.page_size
+        < 2 ^ 32 }
+    ensures { IsExchanged pair.old.geometry ctrl
         passed.now.entry.now passed.now.bytes.now passed.now.first_page
         (side (B.meaning bus.old) pair.old (M.page_len host.old.mem) (M.bytes host.old.mem))
         (side (B.meaning bus.new) pair.new (M.page_len host.new.mem) (M.bytes host.new.mem))
         result out.new }
 {
-    let geometry = target.geometry;
+    let geometry = pair.geometry();
     let HostSide {
         mem,
         spans,
@@ -61,10 +61,10 @@ pub(crate) fn exchange_entry<B: Bus, M: HostMemory>(
     let len = request.transfer.bytes() as u32;
     let place = DataPlace::new(geometry, passed.first_page, len, pages);
     let tail = submit(mem, pair, &place, &request, spans);
-    bus.write32(target.ctrl, offset::TAIL_DOORBELL, u32::from(tail));
-    bus.turn(target.ctrl, mem, 1);
+    bus.write32(ctrl, offset::TAIL_DOORBELL, u32::from(tail));
+    bus.turn(ctrl, mem, 1);
     let completion = pair.next_completion(mem);
-    pair.tell(bus, target.ctrl);
+    pair.tell(bus, ctrl);
     let status = completion.status;
     receive(mem, &place.buffer, request.transfer, status, spans, out);
     Told {

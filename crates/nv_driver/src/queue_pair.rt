@@ -1,4 +1,4 @@
-//! The host's side of one controller: its rings, and its pages in shares.
+//! The host's side of one controller: its rings and its free pages.
 
 ghost use Rattle.std.specs.Prelude.{◌≡◌, ◌+◌, ◌*◌, ◌<◌, ◌≤◌, ◌^◌, All, IfOk, length, map, replicate};
 ghost use Rattle.nv_host.specs.Bytes.{with_bytes};
@@ -7,72 +7,56 @@ ghost use Rattle.nv_queue.specs.Slots.{HoldsTags, awaited_completion};
 ghost use Rattle.nv_driver.specs.QueuePair.{renewed_pair};
 ghost use Rattle.nv_driver.specs.Layout.{pair_of, pairs_of};
 ghost use Rattle.nv_driver.specs.Quiet.{IsQuiet, pair_value};
-ghost use Rattle.nv_driver.specs.Share.{first_page};
 ghost use Rattle.nv_driver.specs.inner.Pace.{IsTold};
 ghost use Rattle.nv_driver.specs.inner.Submitting.{CanCollect};
 
 use crate::checked_geometry::CheckedGeometry;
 use nv_bus::Bus;
-use nv_host::{HostMemory, Memory, PageNo};
+use nv_host::{HostMemory, Memory, PageSet};
 use nv_layout::Cqe;
 use nv_queue::{CompletionRing, SubmitRing};
 use nv_register::offset;
 use std::alloc::Global;
 
-/// Consecutive pages of the host's memory.
-#[derive(Clone, Copy)]
-pub struct PageRange {
-    pub first: PageNo,
-    pub count: u32,
-}
-
-/// The share of a command, by its number: each slot of the window has an equal part of the pages.
-/// Commands that are outstanding together have consecutive numbers, at most as many as there are
-/// slots, so their shares are apart.
-#[derive(Clone, Copy)]
-pub struct Share {
-    pub geometry: CheckedGeometry,
-    pub pages: PageRange,
-    pub number: usize,
-}
-
-impl Share {
-    /// Returns the number of its first page.
-    pub(crate) fn first_page(&self) -> PageNo
-        requires { self.now.pages.first + self.now.pages.count < 2 ^ 32 }
-        ensures { result ≡ first_page self.now }
-    {
-        let window = self.geometry.window;
-        let slot = (self.number % usize::from(window)) as u32;
-        self.pages.first + slot * (self.pages.count / u32::from(window))
-    }
-}
-
-/// The rings and the pages of one controller.
+/// The rings and the pages of one controller, and their geometry.
 #[derive(Drop)]
 pub struct QueuePair {
     pub submission: SubmitRing,
     pub completion: CompletionRing,
     /// The command identifier of the next command.
     pub serial: u16,
-    /// The pages of the outstanding commands.
-    pub pages: PageRange,
+    geometry: CheckedGeometry,
+    /// The pages that no outstanding command has.
+    pub pages: PageSet,
 }
 
 impl QueuePair {
     /// Creates the queue pair of a controller before its first command.
-    pub(crate) fn new(geometry: CheckedGeometry, ctrl: u16) -> QueuePair
+    pub(crate) fn new(
+        alloc: Global,
+        geometry: CheckedGeometry,
+        ctrl: u16,
+    ) -> Result<QueuePair, Memory>
         requires ctrl { ctrl < 16 }
-        ensures quiet { IsQuiet result }
-        ensures pair { pair_value result ≡ pair_of geometry ctrl }
+        ensures quiet { IfOk result IsQuiet }
+        ensures pair { IfOk result (λ pair. pair_value pair ≡ pair_of geometry ctrl) }
     {
         let place = geometry.place(ctrl);
-        QueuePair {
+        let pages = PageSet::new(alloc, place.first_page, place.page_count)?;
+        Ok(QueuePair {
             submission: SubmitRing::new(place.sq, geometry.depth),
             completion: CompletionRing::new(place.cq, geometry.depth),
             serial: 0,
-            pages: place.pages,
-        }
+            geometry,
+            pages,
+        })
+    }
+
+    /// Returns the geometry, which never changes.
+    pub(crate) fn geometry(&self) -> CheckedGeometry
+        ensures { result ≡ self.now.geometry }
+    {
+        self.geometry
     }
 
     /// Makes the rings begin anew, after it zeroes the completion ring. No command must be
@@ -135,7 +119,8 @@ pub(crate) fn new_pairs(
 {
     let mut pairs = Vec::new(alloc);
     for ctrl in 0..controllers {
-        if pairs.push(QueuePair::new(geometry, ctrl)).is_err() {
+        let pair = QueuePair::new(alloc, geometry, ctrl)?;
+        if pairs.push(pair).is_err() {
             return Err(Memory);
         }
     }

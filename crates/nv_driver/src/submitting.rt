@@ -10,10 +10,10 @@ ghost use Rattle.nv_bus.specs.Call.{HasRoom, length_of};
 ghost use Rattle.nv_model.specs.Conditions.{greatest_limit};
 ghost use Rattle.nv_driver.specs.Layout.{data_count};
 ghost use Rattle.nv_driver.specs.Request.{Asked, sent_for, transfer_for};
-ghost use Rattle.nv_driver.specs.Submitting.{place_from};
+ghost use Rattle.nv_driver.specs.Submitting.{place_in};
 ghost use Rattle.nv_driver.specs.inner.Submitting.{HasFreeSlot, IsPlaceFor, IsSubmittedAt};
 ghost use Rattle.nv_driver.specs.HostData.{sent_by};
-ghost use Rattle.nv_driver.specs.inner.Submitting.{place_of, request_as};
+ghost use Rattle.nv_driver.specs.inner.Submitting.{place_from, place_of, request_as};
 
 use crate::checked_geometry::CheckedGeometry;
 use crate::layout::MOST_ENTRY_BYTES;
@@ -121,6 +121,25 @@ pub struct DataPlace<'a> {
 }
 
 impl<'a> DataPlace<'a> {
+    /// Returns the place of data in pages, of which the first two are for a list.
+    pub(crate) fn within(geometry: CheckedGeometry, pages: &'a [PageNo]) -> DataPlace<'a>
+        requires { 2 ≤ length pages.now }
+        ensures { place_of result ≡ place_in geometry pages.now }
+    {
+        let (in_page, in_list_page) = (geometry.offset, geometry.list_offset);
+        DataPlace {
+            buffer: Buffer {
+                pages: &pages[2..],
+                offset: in_page,
+            },
+            list: ListPlace {
+                first: pages[0],
+                second: pages[1],
+                offset: in_list_page,
+            },
+        }
+    }
+
     /// Returns the place of `len` bytes in consecutive pages from the first one on: two for a list,
     /// and then those of the data, whose numbers are put into `pages`.
     pub(crate) fn new(

@@ -2,6 +2,7 @@
 
 ghost use Rattle.std.specs.Prelude.{IfSome};
 ghost use Rattle.nv_bus.specs.Bus.{IsBus};
+ghost use Rattle.nv_controller.specs.Machine.{bus_of};
 
 use crate::kept::Kept;
 use nv_controller::Machine;
@@ -11,7 +12,7 @@ use std::alloc::{AllocError, Global};
 
 /// What a line writes to one of the two streams, and the state of the first controller after it.
 #[derive(Drop)]
-pub struct Line {
+pub struct TriedLine {
     pub out: String,
     pub message: String,
     pub kept: Kept,
@@ -26,7 +27,7 @@ pub enum Stream {
 
 impl Stream {
     /// Returns what a line writes to this stream.
-    pub(crate) fn of(self, line: &Line) -> &str {
+    pub(crate) fn of(self, line: &TriedLine) -> &str {
         match self {
             Stream::Output => line.out.as_str(),
             Stream::Messages => line.message.as_str(),
@@ -52,7 +53,7 @@ pub struct Case {
     /// The greatest number of bytes of the script that one read returns, in runs where memory is
     /// refused.
     pub most: usize,
-    pub lines: Vec<Line>,
+    pub lines: Vec<TriedLine>,
 }
 
 impl Case {
@@ -80,7 +81,7 @@ impl Case {
         kept: Kept,
     ) -> Result<(), AllocError> {
         write!(self.script, "{line}\n")?;
-        self.lines.push(Line { out, message, kept })?;
+        self.lines.push(TriedLine { out, message, kept })?;
         Ok(())
     }
 
@@ -154,7 +155,7 @@ impl Case {
 
     /// Returns the controllers of the subsystem after power on, or `None` if memory was refused.
     pub(crate) fn machine(&self, alloc: Global) -> Option<Machine>
-        ensures { IfSome result IsBus }
+        ensures { IfSome result (λ machine. IsBus (bus_of machine)) }
     {
         let subsystem = Subsystem::from_toml(alloc, self.file.as_bytes()).ok()?;
         Machine::new(alloc, subsystem).ok()

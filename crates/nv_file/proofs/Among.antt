@@ -9,6 +9,7 @@ use Rattle.nv_model.proofs.MappedLaws.{list_any-map}
 use Rattle.nv_file.specs.KeyChecks.{is_among}
 use denote.Param.Members.{Mut}
 
+-- whether `any` finds the number in a slice is whether it is among the numbers of the elements
 pub any_is_among : {S A F : Type 0} {steps : S → Option (Bor A) → S → Type 0} {g : Mut F (Bor A × Unit {0}) Bool}
     {s : S} (number_of : A → ℕ) (n : ℕ) (xs : List A) (u : S) (f : F) (r : Bool)
     → ChecksAny steps g s f r u → YieldsList steps (λ x. x.now) s xs

@@ -8,43 +8,48 @@ use Rattle.nv_file.specs.Check.{Check, check, checked, first_fault}
 use Rattle.nv_layout.specs.UnlessMemory.{IsUnlessMemory}
 use Rattle.nv_file.specs.inner.Reading.{IsCheckedUnlessMemory}
 
--- the first of two, or else the second
+-- the first of two faults, or else the second
 abbrev pub or_else : Option SubsystemError → Option SubsystemError → Option SubsystemError
 or_else None second = second
 or_else (Some e) second = Some e
 
+-- the first fault of a check and of more checks, and then of others, doesn't depend on how they are grouped
 by_first : (b : Bool) (e : SubsystemError) (r s : Option SubsystemError)
     → (if b then or_else r s else Some e) ≡ or_else (if b then r else Some e) s
 by_first true e r s = refl
 by_first false e r s = refl
 
+-- the first fault of two lists of checks is the one of the first list, or else the one of the second
 pub faults_append : (cs ds : List Check) → first_fault (cs ++ ds) ≡ or_else (first_fault cs) (first_fault ds)
 unfolding first_fault
 faults_append [] ds = refl
 faults_append (c ∷ cs) ds = rw (faults_append cs ds) (by_first c.holds c.fault (first_fault cs) (first_fault ds))
 
+-- an empty list of checks has no fault
 pub faults_none : first_fault [] ≡ None
 unfolding first_fault
 faults_none = refl
 
+-- a single check has its fault if it doesn't hold, and none if it does
 pub fault_of : (b : Bool) (e : SubsystemError) → first_fault (check b e) ≡ (if b then None else Some e)
 unfolding first_fault check
 fault_of b e = refl
 
--- what the second of two lists says, where the first passes
+-- the fault of the second of two lists, if the first one passes
 pub past : (cs ds : List Check) (o : Option SubsystemError) → first_fault cs ≡ None → first_fault ds ≡ o
     → first_fault (cs ++ ds) ≡ o
 past cs ds o passes h = faults_append cs ds ∙ ap (λ f. or_else f (first_fault ds)) passes ∙ h
 
--- the fault of the first of two
+-- if the first of two lists of checks has a fault, both together have it
 pub fails_first : (cs ds : List Check) (e : SubsystemError) → first_fault cs ≡ Some e
     → first_fault (cs ++ ds) ≡ Some e
 fails_first cs ds e fails = faults_append cs ds ∙ ap (λ f. or_else f (first_fault ds)) fails
 
 pub ruleset faults = (faults_append, faults_none, fault_of)
 
--- ---- the same as an answer
+-- ---- the same as a result
 
+-- a result that is checked, unless memory ran out, is the value or the first fault, unless memory ran out
 pub answers : {X Y : Type 0} (view : X → Y) (checks : List Check) (value : Y) (r : Result X SubsystemError)
     → IsCheckedUnlessMemory view checks value r → IsUnlessMemory Memory view r (checked checks value)
 answers view checks value (Ok x) h =

@@ -1,4 +1,4 @@
--- What the checks of a table say of one without members.
+-- The checks of a table without members.
 use Rattle.std.proofs.Common.{◌≡◌, ℕ, Some, None, refl}
 use Rattle.toml.specs.Data.{no_members}
 use Rattle.nv_model.specs.Logs.{zero_smart}
@@ -10,17 +10,18 @@ use Rattle.nv_file.specs.KeyChecks.{integer, integers_at, number_at, of_kind, op
 use Rattle.nv_file.specs.TableChecks.{counters_checks, counters_value, smart_checks, smart_value}
 use Rattle.nv_file.proofs.CheckLaws.{faults}
 
--- an integer that must be there is missing
+-- in a table without members, an integer that must be there is missing
 pub nothing_there : (t : TableName) (k : Key) (low high : ℕ)
     → first_fault (integer t k low high no_members) ≡ Some (Missing t k)
 unfolding integer first_fault check
 nothing_there t k low high = refl
 
--- a health log is all zeros
+-- a table without members is a health log without a fault
 pub no_smart_fault : first_fault (smart_checks no_members) ≡ None
 unfolding smart_checks counters_checks optional_integer optional_list of_kind integers_at first_fault check
 no_smart_fault = refl
 
+-- the health log of a table without members is all zeros
 pub no_smart_value : smart_value no_members ≡ zero_smart
 unfolding smart_value counters_value number_at integers_at
 no_smart_value = refl

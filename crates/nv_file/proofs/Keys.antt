@@ -1,4 +1,4 @@
--- The keys of a map, and those of the members that it represents.
+-- The keys of a map, and the keys of the members that it represents.
 use Rattle.std.proofs.Common.{◌≡◌, List, [], ◌∷◌, String, BTreeMap, Global, map, string_bytes, refl}
 use Rattle.std.specs.List.{list_all, list_any}
 use Rattle.std.specs.Str.{bytes_eq}
@@ -9,12 +9,14 @@ use Rattle.nv_file.specs.declared.key.Key.{Key}
 use Rattle.nv_file.specs.Names.{key_text}
 use Rattle.nv_file.specs.KeyChecks.{has_only}
 
+-- whether each key of some entries is known is whether their members have only known keys
 known_entries : (known : List Key) (es : List (String Global × Value))
     → list_all (λ k. list_any (λ x. bytes_eq (key_text x) (string_bytes k)) known) (map (λ e. e.0) es)
     ≡ has_only known (members_view es)
 known_entries known [] = refl
 known_entries known (e ∷ es) = rw (known_entries known es)
 
+-- whether each key of a map is known is whether the members that it represents have only known keys
 pub known_keys : (known : List Key) (m : BTreeMap (String Global) Value)
     → list_all (λ k. list_any (λ x. bytes_eq (key_text x) (string_bytes k)) known) (keys m) ≡ has_only
     known (table_view m)

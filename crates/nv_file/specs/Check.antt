@@ -8,6 +8,7 @@ pub record Check : Type 0 where
   pub holds : Bool
   pub fault : SubsystemError
 
+-- a list with this one check
 unfoldable pub check : Bool → SubsystemError → List Check
 check holds fault = record { holds = holds; fault = fault } ∷ []
 
@@ -16,6 +17,6 @@ unfoldable pub first_fault : List Check → Option SubsystemError
 first_fault [] = None
 first_fault (c ∷ checks) = if c.holds then first_fault checks else Some c.fault
 
--- that fault, or the value where none does
+-- the first fault, or the value if no check fails
 abbrev pub checked : {A : Type 0} → List Check → A → Result A SubsystemError
 checked checks value = option_map_or (λ fault. Err fault) (first_fault checks) (Ok value)

@@ -1,6 +1,7 @@
 -- The subsystem file that is used if none is given.
 use Rattle.std.specs.Prelude.{ℕ, List, ◌++◌, codes}
 
+-- the text of the built-in subsystem file
 unfoldable pub demo_text : List ℕ
 demo_text =
     codes "version = 1\nnn = 4\ntnvmcap = 10485760\nmc = 1\nsubnqn = \"nqn.2014-08.org.example:demo\"\n\n"

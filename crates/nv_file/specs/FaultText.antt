@@ -10,6 +10,7 @@ use Rattle.nv_file.specs.declared.table_name.TableName.{TableName}
 abbrev pub place_text : TableName → Key → List ℕ
 place_text table key = table_text table ++ codes "." ++ key_text key
 
+-- the text of each fault
 abbrev pub fault_text : SubsystemError → List ℕ
 fault_text fault.NotToml = codes "not TOML"
 fault_text (fault.Missing table key) = codes "missing " ++ place_text table key

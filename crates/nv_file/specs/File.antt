@@ -1,5 +1,5 @@
--- A whole file: the checks of its tables, in the order of the file, and those between them; and
--- what it holds where none of them fails. `m` are the members of the top table.
+-- A whole file: the checks of its tables, in the order of the file, and the checks between them; and
+-- what it holds if none of them fails. `m` are the members of the top table.
 use Rattle.std.specs.Prelude.{◌≡◌, ℕ, ℤ, pos, Bool, true, not, ◌&&◌, ◌||◌, List, [], ◌∷◌, ◌++◌, length}
 use Rattle.std.specs.Prelude.{map, Result, Err, nat_le, sum_by, if◌then◌else◌}
 use Rattle.std.specs.List.{list_all, list_any}
@@ -27,6 +27,7 @@ use Rattle.nv_layout.specs.Limits.{most_nsids}
 
 -- ---- the top table
 
+-- the greatest NSID of the subsystem
 abbrev pub nn_of : Members → ℕ
 nn_of m = number_at key.Nn 0 m
 
@@ -39,6 +40,7 @@ first_top_checks m =
     ++ optional_integer table.Top key.Mc 0 3 m
     ++ text table.Top key.Subnqn 223 m
 
+-- the checks of the top table
 unfoldable pub top_checks : Members → List Check
 top_checks m =
     first_top_checks m
@@ -48,12 +50,15 @@ top_checks m =
     ++ in_limits table.Top key.Namespace (nat_le (length (tables_at key.Namespace m)) (nn_of m))
     ++ no_other table.Top (keys_of table.Top) m
 
+-- the formats of the file
 abbrev pub formats_of : Members → List Format
 formats_of m = map format_value (tables_at key.Format m)
 
+-- the controllers of the file
 abbrev pub controllers_of : Members → List ControllerValue
 controllers_of m = map controller_value (tables_at key.Controller m)
 
+-- the namespaces of the file
 abbrev pub namespaces_of : Members → List NamespaceValue
 namespaces_of m = map namespace_value (tables_at key.Namespace m)
 
@@ -67,22 +72,24 @@ fits tnvmcap namespaces = nat_le (sum_by (λ n. n.namespace.capacity) namespaces
 abbrev pub is_cntlid : List ControllerValue → ℤ → Bool
 is_cntlid controllers z = list_any (λ c. int_eq (pos c.identity.cntlid) z) controllers
 
--- no number stands twice
+-- no number occurs twice
 abbrev pub differ : List ℤ → Bool
 differ [] = true
 differ (z ∷ zs) = not (list_any (λ y. int_eq y z) zs) && differ zs
 
--- the list names controllers, each once, and one at most where the namespace is not shared
+-- the list names controllers, each once, and at most one if the namespace isn't shared
 abbrev pub may_attach : List ControllerValue → NamespaceValue → Bool
 may_attach controllers n =
     list_all (is_cntlid controllers) n.controllers
     && (differ n.controllers && (n.namespace.shared || nat_le (length n.controllers) 1))
 
+-- each namespace may be attached as its list says
 unfoldable pub attaches : List ControllerValue → List NamespaceValue → Bool
 attaches controllers namespaces = list_all (may_attach controllers) namespaces
 
 -- ---- the whole
 
+-- the checks of a whole file
 unfoldable pub file_checks : Members → List Check
 file_checks m =
     top_checks m
@@ -93,6 +100,7 @@ file_checks m =
     ++ check (fits (number_at key.Tnvmcap 0 m) (namespaces_of m)) Capacity
     ++ check (attaches (controllers_of m) (namespaces_of m)) Attachment
 
+-- what a whole file holds
 unfoldable pub file_value : Members → FileValue
 file_value m = record {
   nn = nn_of m;

@@ -16,17 +16,17 @@ use Rattle.nv_file.specs.declared.key.Key.{Key}
 use Rattle.nv_file.specs.Names.{key_text}
 use Rattle.nv_file.specs.Check.{Check, check}
 
--- ---- what stands at a key
+-- ---- the value of a key
 
--- anything does
+-- whether the key has a value
 abbrev pub has_key : Key → Members → Bool
 has_key k m = is_some (get_member (key_text k) m)
 
--- what does, if it is of a kind
+-- the value of the key, if it is of a kind
 abbrev pub at : {A : Type 0} → (Data → Option A) → Key → Members → Option A
 at kind k m = option_and_then kind (get_member (key_text k) m)
 
--- the items, each as `kind` has it, behind those before, if all are of the kind
+-- the items, each converted by `kind`, after the ones in `before`, if all are of the kind
 abbrev pub items_as : {A : Type 0} → (Data → Option A) → List A → Items → Option (List A)
 items_as kind before no_items = Some before
 items_as kind before (item d ds) =
@@ -36,6 +36,7 @@ items_as kind before (item d ds) =
 abbrev pub as_tables : Data → Option (List Members)
 as_tables d = option_and_then (items_as as_table []) (as_array d)
 
+-- the integers of a list whose items are all integers
 abbrev pub as_integers : Data → Option (List ℤ)
 as_integers d = option_and_then (items_as as_integer []) (as_array d)
 
@@ -44,19 +45,23 @@ abbrev pub number : ℤ → ℕ
 number (pos n) = n
 number (negsuc n) = 0
 
--- what does, or else what stands for it
+-- the number at a key, or the default
 unfoldable pub number_at : Key → ℕ → Members → ℕ
 number_at k default m = option_map_or number (at as_integer k m) default
 
+-- the truth value at a key, or the default
 unfoldable pub flag_at : Key → Bool → Members → Bool
 flag_at k default m = unwrap_or (at as_bool k m) default
 
+-- the text at a key, or an empty one
 unfoldable pub text_at : Key → Members → List ℕ
 text_at k m = unwrap_or (at as_str k m) []
 
+-- the integers at a key, or none
 unfoldable pub integers_at : Key → Members → List ℤ
 integers_at k m = unwrap_or (at as_integers k m) []
 
+-- the tables at a key, or none
 unfoldable pub tables_at : Key → Members → List Members
 tables_at k m = unwrap_or (at as_tables k m) []
 
@@ -64,27 +69,32 @@ tables_at k m = unwrap_or (at as_tables k m) []
 unfoldable pub table_at : Key → Members → Members
 table_at k m = unwrap_or (at as_table k m) no_members
 
--- ---- checks, of which those of kind and limits hold where nothing stands at the key
+-- ---- checks; a check of a kind or of limits holds if the key has no value
 
+-- the key must have a value
 abbrev pub needed : TableName → Key → Members → List Check
 needed t k m = check (has_key k m) (Missing t k)
 
+-- the value of the key must be of the kind
 unfoldable pub of_kind : {A : Type 0} → TableName → Key → (Data → Option A) → Members → List Check
 of_kind t k kind m = check (not (has_key k m) || is_some (at kind k m)) (Kind t k)
 
+-- a condition whose fault is that the key is out of range
 abbrev pub in_limits : TableName → Key → Bool → List Check
 in_limits t k holds = check holds (Range t k)
 
--- of a kind, and such as is allowed
+-- a value of a kind that is allowed
 abbrev pub limited : {A : Type 0} → TableName → Key → (Data → Option A) → (A → Bool) → Members
     → List Check
 limited t k kind allowed m =
     of_kind t k kind m ++ in_limits t k (option_map_or allowed (at kind k m) true)
 
+-- whether an integer is from `low` to `high`
 abbrev pub is_within : ℕ → ℕ → ℤ → Bool
 is_within low high (pos n) = nat_le low n && nat_le n high
 is_within low high (negsuc n) = false
 
+-- an integer from `low` to `high`, if there is one
 unfoldable pub optional_integer : TableName → Key → ℕ → ℕ → Members → List Check
 optional_integer t k low high m = limited t k as_integer (is_within low high) m
 
@@ -94,6 +104,7 @@ optional_integers t [] low high m = []
 optional_integers t (k ∷ ks) low high m =
     optional_integer t k low high m ++ optional_integers t ks low high m
 
+-- a truth value, if there is one
 abbrev pub flag : TableName → Key → Members → List Check
 flag t k m = of_kind t k as_bool m
 
@@ -108,16 +119,17 @@ optional_list t k most high m =
 unfoldable pub integer : TableName → Key → ℕ → ℕ → Members → List Check
 integer t k low high m = needed t k m ++ optional_integer t k low high m
 
--- so must a text
+-- a text that must be there
 unfoldable pub text : TableName → Key → ℕ → Members → List Check
 text t k most m = needed t k m ++ limited t k as_str (is_text most) m
 
--- and one to most tables
+-- a list of one to `most` tables that must be there
 unfoldable pub tables : TableName → Key → ℕ → Members → List Check
 tables t k most m =
     needed t k m
     ++ limited t k as_tables (λ found. nat_le 1 (length found) && nat_le (length found) most) m
 
+-- whether a number is among others
 unfoldable pub is_among : List ℕ → ℕ → Bool
 is_among numbers n = list_any (λ other. other == n) numbers
 
@@ -129,6 +141,7 @@ not_repeated t k before n = check (not (is_among before n)) (Repeated t k)
 abbrev pub is_known : List Key → List ℕ → Bool
 is_known known k = list_any (λ x. bytes_eq (key_text x) k) known
 
+-- each key of some members is a known one
 abbrev pub has_only : List Key → Members → Bool
 has_only known no_members = true
 has_only known (member k d ms) = is_known known k && has_only known ms
@@ -137,7 +150,7 @@ has_only known (member k d ms) = is_known known k && has_only known ms
 abbrev pub no_other : TableName → List Key → Members → List Check
 no_other t known m = check (has_only known m) (Unknown t)
 
--- each table of a list, with the numbers of those before it at hand
+-- the checks of each table of a list, which depend on the numbers of the tables before it
 abbrev pub each : (Members → ℕ) → (List ℕ → Members → List Check) → List ℕ → List Members
     → List Check
 each number_of checks before [] = []

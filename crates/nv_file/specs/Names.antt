@@ -5,6 +5,7 @@ use Rattle.nv_file.specs.declared.table_name.TableName.TheVariants as table
 use Rattle.nv_file.specs.declared.key.Key.{Key}
 use Rattle.nv_file.specs.declared.key.Key.TheVariants as key
 
+-- the name of each table
 unfoldable pub table_text : TableName → List ℕ
 table_text table.Top = codes "top"
 table_text table.Format = codes "format"
@@ -13,6 +14,7 @@ table_text table.Feature = codes "feature"
 table_text table.Smart = codes "smart"
 table_text table.Namespace = codes "namespace"
 
+-- the name of each key
 unfoldable pub key_text : Key → List ℕ
 key_text key.Version = codes "version"
 key_text key.Nn = codes "nn"
@@ -89,7 +91,7 @@ keys_of table.Smart =
 keys_of table.Namespace =
     key.Nsid ∷ key.Bytes ∷ key.Format ∷ key.Extended ∷ key.Shared ∷ key.Controllers ∷ []
 
--- those that a feature may have in a version of the file
+-- the keys that a feature may have in a version of the file
 unfoldable pub feature_keys : ℕ → List Key
 feature_keys version =
     if version == 1

@@ -1,4 +1,4 @@
--- The tables of a file: for each the checks of its keys in their order, and what it holds where
+-- The tables of a file: for each the checks of its keys in their order, and what it holds if
 -- none of them fails. `m` are the members of the table.
 use Rattle.std.specs.Prelude.{ℕ, ◌^◌, Bool, true, false, not, ◌&&◌, ◌||◌, List, [], ◌∷◌, ◌++◌, map}
 use Rattle.std.specs.Prelude.{Option, is_some, ◌==◌, slice_get, slice_index, length}
@@ -32,6 +32,7 @@ use Rattle.nv_file.specs.Names.{keys_of, feature_keys}
 
 -- ---- a format
 
+-- the checks of a format
 unfoldable pub format_checks : Members → List Check
 format_checks m =
     integer table.Format key.Lbads 9 16 m
@@ -39,6 +40,7 @@ format_checks m =
     ++ optional_integer table.Format key.Rp 0 3 m
     ++ no_other table.Format (keys_of table.Format) m
 
+-- the format that a table holds
 unfoldable pub format_value : Members → Format
 format_value m = record {
   lbads = number_at key.Lbads 0 m;
@@ -48,20 +50,22 @@ format_value m = record {
 
 -- ---- a feature
 
+-- the identifier of a feature
 abbrev pub fid_of : Members → ℕ
 fid_of m = number_at key.Fid 0 m
 
+-- whether a value of the feature can be saved
 abbrev pub is_saveable : Members → Bool
 is_saveable m = flag_at key.Saveable false m
 
--- at `default`: a value of the feature. Temperature Threshold has none
+-- `default` is a value of the feature; Temperature Threshold has none
 abbrev pub is_default : Members → Bool
 is_default m =
     let value = number_at key.Default 0 m in
     option_map_or (λ f. feature.is_value f value) (feature.feature_of (fid_of m)) false
     && not ((fid_of m == 0x04) && has_key key.Default m)
 
--- at `over` and `under`: nine thresholds. Temperature Threshold alone may have them
+-- `over` and `under` are nine thresholds; only Temperature Threshold may have them
 unfoldable pub thresholds : Key → Members → List Check
 thresholds k m =
     let zs = integers_at k m in
@@ -69,11 +73,12 @@ thresholds k m =
     ++ in_limits table.Feature k (not (has_key k m) || ((fid_of m == 0x04) && (length zs == 9)))
     ++ in_limits table.Feature k (list_all (is_within 0 65535) zs)
 
--- by the version of the file. Version 1 has no thresholds
+-- the checks of the defaults by the version of the file; version 1 has no thresholds
 unfoldable pub defaults_checks : ℕ → Members → List Check
 defaults_checks version m =
     if version == 1 then [] else thresholds key.Over m ++ thresholds key.Under m
 
+-- the checks of a feature, with the identifiers of the features before it
 unfoldable pub feature_checks : ℕ → List ℕ → Members → List Check
 feature_checks version before m =
     integer table.Feature key.Fid 0 255 m
@@ -88,19 +93,21 @@ feature_checks version before m =
     ++ defaults_checks version m
     ++ no_other table.Feature (feature_keys version) m
 
--- nine numbers; those that the list does not reach are 0
+-- nine numbers, which are 0 past the end of the list
 abbrev pub nine : List ℕ → List ℕ
 nine numbers = map (slice_index numbers) (0 ∷ 1 ∷ 2 ∷ 3 ∷ 4 ∷ 5 ∷ 6 ∷ 7 ∷ 8 ∷ [])
 
+-- the thresholds over temperatures if the file has none: wctemp for the first one, and 65,535 for the others
 abbrev pub default_over : ℕ → List ℕ
 default_over wctemp =
     wctemp ∷ 65535 ∷ 65535 ∷ 65535 ∷ 65535 ∷ 65535 ∷ 65535 ∷ 65535 ∷ 65535 ∷ []
 
+-- the thresholds at a key, or the default
 unfoldable pub thresholds_at : Key → List ℕ → Members → List ℕ
 thresholds_at k default m =
     if has_key k m then nine (map number (integers_at k m)) else default
 
--- by the wctemp of the controller
+-- the defaults of a feature by the wctemp of the controller
 unfoldable pub defaults_value : ℕ → Members → Defaults
 defaults_value wctemp m =
     if fid_of m == 0x04
@@ -108,6 +115,7 @@ defaults_value wctemp m =
     (thresholds_at key.Under (nine []) m)
     else One (number_at key.Default 0 m)
 
+-- the rule of a feature that a table holds
 unfoldable pub feature_value : ℕ → Members → FeatureRule
 feature_value wctemp m = record {
   fid = fid_of m;
@@ -118,18 +126,22 @@ feature_value wctemp m = record {
 
 -- ---- a health log
 
+-- the keys of the bytes of a health log
 abbrev pub byte_keys : List Key
 byte_keys = key.CriticalWarning ∷ key.AvailSpare ∷ key.SpareThresh ∷ key.PercentUsed ∷ []
 
+-- the keys of the counters of a health log
 abbrev pub counter_keys : List Key
 counter_keys =
     key.DataUnitsRead ∷ key.DataUnitsWritten ∷ key.HostReadCommands ∷ key.HostWriteCommands ∷
     key.ControllerBusyTime ∷ key.PowerCycles ∷ key.PowerOnHours ∷ key.UnsafeShutdowns ∷
     key.MediaErrors ∷ []
 
+-- the checks of the counters of a health log
 unfoldable pub counters_checks : Members → List Check
 counters_checks m = optional_integers table.Smart counter_keys 0 greatest_integer m
 
+-- the checks of a health log
 unfoldable pub smart_checks : Members → List Check
 smart_checks m =
     optional_integers table.Smart byte_keys 0 255 m
@@ -139,10 +151,11 @@ smart_checks m =
     ++ optional_list table.Smart key.Sensors 8 65535 m
     ++ no_other table.Smart (keys_of table.Smart) m
 
--- the eight sensors; those that the list does not reach are 0
+-- the eight sensors, which are 0 past the end of the list
 abbrev pub eight : List ℕ → List ℕ
 eight numbers = map (slice_index numbers) (0 ∷ 1 ∷ 2 ∷ 3 ∷ 4 ∷ 5 ∷ 6 ∷ 7 ∷ [])
 
+-- the counters that a table holds
 unfoldable pub counters_value : Members → Counters
 counters_value m = record {
   data_units_read = number_at key.DataUnitsRead 0 m;
@@ -156,6 +169,7 @@ counters_value m = record {
   media_errors = number_at key.MediaErrors 0 m;
 }
 
+-- the health log that a table holds
 unfoldable pub smart_value : Members → SmartBase
 smart_value m = record {
   critical_warning = number_at key.CriticalWarning 0 m;
@@ -171,9 +185,11 @@ smart_value m = record {
 
 -- ---- a controller: its own table, then its features, then its health log
 
+-- the identifier of a controller
 abbrev pub cntlid_of : Members → ℕ
 cntlid_of m = number_at key.Cntlid 0 m
 
+-- the checks of the numbers of a controller's identity
 unfoldable pub numbers_checks : Members → List Check
 numbers_checks m =
     optional_integers table.Controller (key.Vid ∷ key.Ssvid ∷ []) 0 65535 m
@@ -184,6 +200,7 @@ numbers_checks m =
     ++ optional_integers table.Controller (key.Wctemp ∷ key.Cctemp ∷ []) 0 65535 m
     ++ optional_integer table.Controller key.Vwc 0 7 m
 
+-- the checks of a controller's identity, with the identifiers of the controllers before it
 unfoldable pub identity_checks : List ℕ → Members → List Check
 identity_checks before m =
     integer table.Controller key.Cntlid 0 65519 m
@@ -194,6 +211,7 @@ identity_checks before m =
     ++ numbers_checks m
     ++ flag table.Controller key.CryptoErase m
 
+-- the numbers of a controller's identity that a table holds
 unfoldable pub numbers_value : Members → IdentityNumbers
 numbers_value m = record {
   vid = number_at key.Vid 0 m;
@@ -207,6 +225,7 @@ numbers_value m = record {
   vwc = number_at key.Vwc 0 m;
 }
 
+-- the identity of a controller that a table holds
 unfoldable pub identity_value : Members → Identity
 identity_value m = record {
   cntlid = cntlid_of m;
@@ -217,6 +236,7 @@ identity_value m = record {
   crypto_erase = flag_at key.CryptoErase false m;
 }
 
+-- the checks of a controller: its own table, its features, and its health log
 unfoldable pub controller_checks : ℕ → List ℕ → Members → List Check
 controller_checks version before m =
     identity_checks before m
@@ -226,6 +246,7 @@ controller_checks version before m =
     ++ each fid_of (feature_checks version) [] (tables_at key.Feature m)
     ++ smart_checks (table_at key.Smart m)
 
+-- the controller that a table holds
 unfoldable pub controller_value : Members → ControllerValue
 controller_value m = record {
   identity = identity_value m;
@@ -235,6 +256,7 @@ controller_value m = record {
 
 -- ---- a namespace, in a subsystem with nn, mc and the formats
 
+-- the NSID of a namespace
 abbrev pub nsid_of : Members → ℕ
 nsid_of m = number_at key.Nsid 0 m
 
@@ -242,13 +264,15 @@ nsid_of m = number_at key.Nsid 0 m
 abbrev pub format_of : List Format → Members → Option Format
 format_of formats m = slice_get formats (number_at key.Format 0 m)
 
+-- the size of a logical block in the format in use
 abbrev pub block_size : List Format → Members → ℕ
 block_size formats m = option_map_or (λ f. 2 ^ f.lbads) (format_of formats m) 0
 
+-- whether metadata is at the end of each logical block
 abbrev pub is_extended : Members → Bool
 is_extended m = flag_at key.Extended false m
 
--- extended only where the format in use and mc allow it
+-- extended only if the format in use and mc allow it
 abbrev pub can_extend : ℕ → List Format → Members → Bool
 can_extend mc formats m =
     option_map_or (λ f. may_extend mc f (is_extended m)) (format_of formats m) false
@@ -265,12 +289,14 @@ first_namespace_checks nn mc formats before m =
     ++ in_limits table.Namespace key.Extended (can_extend mc formats m)
     ++ flag table.Namespace key.Shared m
 
+-- the checks of a namespace, with the NSIDs of the namespaces before it
 unfoldable pub namespace_checks : ℕ → ℕ → List Format → List ℕ → Members → List Check
 namespace_checks nn mc formats before m =
     first_namespace_checks nn mc formats before m
     ++ of_kind table.Namespace key.Controllers as_integers m
     ++ no_other table.Namespace (keys_of table.Namespace) m
 
+-- the namespace that a table holds
 unfoldable pub namespace_value : Members → NamespaceValue
 namespace_value m = record {
   nsid = nsid_of m;

@@ -1,4 +1,4 @@
--- What only contracts inside of the crate say.
+-- Definitions that only contracts of private functions use.
 pub mod IsFile
 pub mod Reading
 pub mod SectionView

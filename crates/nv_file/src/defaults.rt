@@ -34,7 +34,7 @@ fn nine(numbers: &[u16]) -> [u16; 9]
     ]
 }
 
-/// What a key of Temperature Threshold holds, or what stands for it where it is missing.
+/// Returns the value of a key of Temperature Threshold, or its default if the key is missing.
 #[tactic(auto, using(crate::proofs::CheckLaws::faults), unfolding(crate::proofs::Opens::over_and_under))]
 fn thresholds_or(
     alloc: Global,
@@ -70,7 +70,7 @@ fn default_over(wctemp: u16) -> [u16; 9]
     ]
 }
 
-/// The defaults of a feature, of which `value` is what stands at `default`.
+/// Returns the defaults of a feature, where `value` is the value of its key `default`.
 #[tactic(auto, using(crate::proofs::CheckLaws::faults), unfolding(crate::proofs::Opens::defaults))]
 pub(crate) fn defaults_of(
     alloc: Global,

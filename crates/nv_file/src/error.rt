@@ -70,7 +70,7 @@ impl<T: Drop> From<AllocFailed<T>> for SubsystemError {
     }
 }
 
-/// The fault, unless the rule holds.
+/// Returns the fault, unless the rule holds.
 #[tactic(auto, using(crate::proofs::CheckLaws::faults))]
 pub(crate) fn ensure(holds: bool, fault: SubsystemError) -> Result<(), SubsystemError>
     ensures exact { IsPassed (check holds fault) result }

@@ -24,7 +24,7 @@ fn has_fid(rules: &[FeatureRule], fid: u8) -> bool
     rules.iter().any(|rule| rule.fid == fid)
 }
 
-/// The feature with an identifier.
+/// Returns the feature with an identifier.
 #[tactic(auto, using(crate::proofs::CheckLaws::faults))]
 fn known_feature(section: &Section, fid: u8) -> Result<Feature, SubsystemError>
     ensures { IsChecked (λ f. Some f)
@@ -36,7 +36,7 @@ fn known_feature(section: &Section, fid: u8) -> Result<Feature, SubsystemError>
     }
 }
 
-/// Whether a version of the file knows a feature, which may have thresholds.
+/// Returns whether a version of the file knows a feature, which may have thresholds.
 fn is_in_version(version: u8, has_thresholds: bool) -> bool
     ensures { result ≡ not ((version == 1) && has_thresholds) }
 {
@@ -52,8 +52,8 @@ fn may_default(section: &Section, feature: Feature, has_thresholds: bool, defaul
     feature.is_value(default) && !(has_thresholds && section.has(Key::Default))
 }
 
-/// Returns whether a feature may have this value of `saveable`. That of Error Recovery must be
-/// false.
+/// Returns whether a feature may have this value of `saveable`, which must be false for Error
+/// Recovery.
 fn may_save(fid: u8, saveable: bool) -> bool
     ensures { result ≡ not (saveable && (fid == 0x05)) }
 {

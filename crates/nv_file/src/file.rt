@@ -42,7 +42,7 @@ pub struct File {
     pub namespaces: Vec<NamespaceEntry>,
 }
 
-/// The table that a text is.
+/// Returns the top table of a text.
 fn parsed(alloc: Global, text: &str) -> Result<Table, SubsystemError>
     ensures exact { IsUnlessMemory SubsystemError.Memory table_view result
         (ok_or (parse_document text.now) SubsystemError.NotToml) }
@@ -60,7 +60,8 @@ fn parsed(alloc: Global, text: &str) -> Result<Table, SubsystemError>
     }
 }
 
-/// The top table of a document; bytes that are no text are refused before anything is allocated.
+/// Returns the top table of a document. Bytes that aren't UTF-8 are refused before anything is
+/// allocated.
 fn document(alloc: Global, bytes: &[u8]) -> Result<Table, SubsystemError>
     ensures exact { IsUnlessMemory SubsystemError.Memory table_view result (document bytes.now) }
     ensures text { is_utf8 bytes.now ≡ false → result ≡ Err SubsystemError.NotToml }
@@ -72,7 +73,7 @@ fn document(alloc: Global, bytes: &[u8]) -> Result<Table, SubsystemError>
     }
 }
 
-/// Whether the capacities add up to no more than there is.
+/// Returns whether the capacities add up to no more than there is.
 fn fits(tnvmcap: u64, namespaces: &[NamespaceEntry]) -> bool
     ensures { result ≡ nat_le (sum_by (λ n. n.namespace.capacity) namespaces.now) tnvmcap }
 {
@@ -117,9 +118,9 @@ fn file_of(alloc: Global, table: &Table) -> Result<File, SubsystemError>
 }
 
 impl File {
-    /// What the bytes of a file hold, or its first fault, unless memory runs out. What is found before
-    /// anything is allocated is answered whatever memory there is: bytes that are no UTF-8, and a
-    /// text of white space and comments alone.
+    /// Returns what the bytes of a file hold, or its first fault, unless memory runs out. Faults that are
+    /// found before anything is allocated are returned regardless of memory: bytes that aren't UTF-8,
+    /// and a text of white space and comments alone.
     #[tactic(auto, unfolding(crate::specs::File::file))]
     pub fn from_toml(alloc: Global, bytes: &[u8]) -> Result<File, SubsystemError>
         ensures exact { IsUnlessMemory SubsystemError.Memory file_view result (file bytes.now) }

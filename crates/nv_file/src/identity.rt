@@ -56,7 +56,7 @@ fn has_cntlid(controllers: &[ControllerEntry], cntlid: u16) -> bool
         .any(|controller| controller.identity.cntlid == cntlid)
 }
 
-/// What a controller says of itself, with the controllers before it at hand.
+/// Reads what a controller says about itself. `before` has the controllers before it.
 #[tactic(auto, using(crate::proofs::CheckLaws::faults), unfolding(crate::proofs::Opens::identity))]
 pub(crate) fn identity_of(
     alloc: Global,

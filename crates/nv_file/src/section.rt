@@ -66,7 +66,7 @@ impl<'a> Section<'a> {
         }
     }
 
-    /// That a value is such as its key allows.
+    /// Checks that a value is one that its key allows.
     #[tactic(auto, using(crate::proofs::CheckLaws::faults))]
     pub(crate) fn in_limits(&self, key: Key, holds: bool) -> Result<(), SubsystemError>
         ensures exact { IsPassed (row.in_limits self.now.name key holds) result }
@@ -89,7 +89,7 @@ impl<'a> Section<'a> {
         }
     }
 
-    /// An integer from `low` to `high`, which a value is.
+    /// Returns a value as an integer from `low` to `high`.
     #[tactic(auto, using(crate::proofs::CheckLaws::faults))]
     fn integer_in_range(
         &self,
@@ -110,7 +110,7 @@ impl<'a> Section<'a> {
         Ok(integer as u64)
     }
 
-    /// A required integer from `low` to `high`.
+    /// Returns a required integer from `low` to `high`.
     #[tactic(auto, using(crate::proofs::CheckLaws::faults), unfolding(crate::proofs::Opens::keys))]
     pub(crate) fn integer(&self, key: Key, low: u64, high: u64) -> Result<u64, SubsystemError>
         ensures exact { IsChecked (λ n. n)
@@ -123,7 +123,7 @@ impl<'a> Section<'a> {
         Ok(number)
     }
 
-    /// An optional integer from `low` to `high`.
+    /// Returns an optional integer from `low` to `high`.
     #[tactic(auto, using(crate::proofs::CheckLaws::faults), unfolding(crate::proofs::Opens::keys))]
     pub(crate) fn integer_or(
         &self,
@@ -153,7 +153,7 @@ impl<'a> Section<'a> {
         self.find(key).is_some()
     }
 
-    /// An optional true or false.
+    /// Returns an optional truth value.
     #[tactic(auto, using(crate::proofs::CheckLaws::faults), unfolding(crate::proofs::Opens::keys))]
     pub(crate) fn flag_or(&self, key: Key, default: bool) -> Result<bool, SubsystemError>
         ensures { IsChecked (λ b. b)
@@ -167,7 +167,7 @@ impl<'a> Section<'a> {
         Ok(flag)
     }
 
-    /// A required text of 1 to `most` bytes.
+    /// Returns a required text of 1 to `most` bytes.
     #[tactic(auto, using(crate::proofs::CheckLaws::faults), unfolding(crate::proofs::Opens::keys))]
     pub(crate) fn text(
         &self,
@@ -191,7 +191,7 @@ impl<'a> Section<'a> {
         }
     }
 
-    /// The tables of a list.
+    /// Returns the tables of a list.
     #[tactic(auto, using(crate::proofs::CheckLaws::faults))]
     fn tables_in(
         &self,
@@ -211,7 +211,7 @@ impl<'a> Section<'a> {
         Ok(tables)
     }
 
-    /// A required list of 1 to `most` tables.
+    /// Returns a required list of 1 to `most` tables.
     #[tactic(auto, using(crate::proofs::CheckLaws::faults), unfolding(crate::proofs::Opens::keys))]
     pub(crate) fn tables(
         &self,
@@ -233,7 +233,7 @@ impl<'a> Section<'a> {
         }
     }
 
-    /// An optional list of tables, of any length.
+    /// Returns an optional list of tables, of any length.
     #[tactic(auto, using(crate::proofs::CheckLaws::faults), unfolding(crate::proofs::Opens::keys))]
     pub(crate) fn tables_or_none(
         &self,
@@ -251,7 +251,7 @@ impl<'a> Section<'a> {
         Ok(tables)
     }
 
-    /// An optional table.
+    /// Returns an optional table.
     #[tactic(auto, using(crate::proofs::CheckLaws::faults), unfolding(crate::specs::KeyChecks::of_kind))]
     pub(crate) fn table_or_none(&self, key: Key) -> Result<Option<&'a Table>, SubsystemError>
         ensures { IsChecked (λ o. option_map (λ t. table_view t.now) o)
@@ -267,7 +267,7 @@ impl<'a> Section<'a> {
         }
     }
 
-    /// The integers of a list.
+    /// Returns the integers of a list.
     #[tactic(auto, using(crate::proofs::CheckLaws::faults))]
     fn integers_in(
         &self,
@@ -290,7 +290,7 @@ impl<'a> Section<'a> {
         Ok(integers)
     }
 
-    /// An optional list of integers, of any size.
+    /// Returns an optional list of integers, of any size.
     #[tactic(auto, using(crate::proofs::CheckLaws::faults), unfolding(crate::proofs::Opens::keys))]
     pub(crate) fn integers_or_none(
         &self,
@@ -310,7 +310,7 @@ impl<'a> Section<'a> {
         Ok(integers)
     }
 
-    /// An integer of a list, from 0 to `high`.
+    /// Returns an integer of a list, which is from 0 to `high`.
     #[tactic(auto, using(crate::proofs::CheckLaws::faults))]
     fn element(&self, key: Key, high: u16, integer: i64) -> Result<u16, SubsystemError>
         ensures { IsChecked (λ n. n)
@@ -320,7 +320,7 @@ impl<'a> Section<'a> {
         Ok(integer as u64 as u16)
     }
 
-    /// The integers of a list, each from 0 to `high`.
+    /// Returns the integers of a list, each of which is from 0 to `high`.
     pub(crate) fn each_in_range(
         &self,
         alloc: Global,
@@ -340,7 +340,7 @@ impl<'a> Section<'a> {
         Ok(numbers)
     }
 
-    /// An optional list of at most `most` integers from 0 to `high`.
+    /// Returns an optional list of at most `most` integers from 0 to `high`.
     #[tactic(auto, using(crate::proofs::CheckLaws::faults), unfolding(crate::specs::KeyChecks::optional_list))]
     pub(crate) fn integers_in_range_or_none(
         &self,
@@ -368,7 +368,7 @@ impl<'a> Section<'a> {
         ensure(has_only(known, self.table), unknown)
     }
 
-    /// Checks that the table has no keys other than those that its name allows.
+    /// Checks that the table has no keys other than the ones that its name allows.
     pub(crate) fn only_known(&self) -> Result<(), SubsystemError>
         ensures { IsPassed
             (row.no_other self.now.name (keys_of self.now.name) (table_view self.now.table.now))
@@ -379,14 +379,14 @@ impl<'a> Section<'a> {
     }
 }
 
-/// Whether an integer is a number from `low` to `high`.
+/// Returns whether an integer is a number from `low` to `high`.
 fn is_within(low: u64, high: u64, integer: i64) -> bool
     ensures { result ≡ is_within low high integer }
 {
     integer >= 0 && low <= integer as u64 && integer as u64 <= high
 }
 
-/// Whether a number of tables is at least 1, and no more than `most`.
+/// Returns whether a number of tables is at least 1 and at most `most`.
 fn is_count(most: usize, count: usize) -> bool
     ensures { result ≡ (nat_le 1 count && nat_le count most) }
 {

@@ -130,7 +130,7 @@ fn zero_smart() -> SmartBase
     }
 }
 
-/// The health log that a table gives, or all zeros where there is none.
+/// Returns the health log of a table, or all zeros if there is none.
 #[tactic(auto, using(crate::proofs::EmptyTables::empty_tables))]
 pub(crate) fn smart_or_zero(
     alloc: Global,

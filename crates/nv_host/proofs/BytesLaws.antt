@@ -1,14 +1,16 @@
 use Rattle.std.proofs.Common.{◌≡◌, ℕ, ◌+◌, ◌<◌, ◌≤◌, List, ◌++◌, take, drop, length, sym}
-use Rattle.std.proofs.Common.{◌∙◌, ap, arith, length-append, length-take, length-drop}
+use Rattle.std.proofs.Common.{◌∙◌, ap, arith, length-append, length-take, length-drop, subst}
 use Rattle.std.proofs.lemmas.List.{take_at, drop_at, length-take-le, same_lists, places}
 use Rattle.std.proofs.lemmas.List.{get_or-take, get_or-drop, get_or_append_left}
 use Rattle.nv_host.specs.Bytes.{bytes_at, with_bytes}
 
+-- writing bytes within a memory keeps its length
 pub length-with_bytes : (m : List ℕ) (a : ℕ) (d : List ℕ) → a + length d ≤ length m
     → length (with_bytes m a d) ≡ length m
 unfolding with_bytes
 length-with_bytes m a d h = simp (length-append, length-take, length-drop) (omega arith)
 
+-- n bytes that lie within a memory are n bytes
 pub length-bytes_at : (m : List ℕ) (a n : ℕ) → a + n ≤ length m → length (bytes_at m a n) ≡ n
 unfolding bytes_at
 length-bytes_at m a n h = simp (length-take, length-drop) (omega arith)
@@ -44,7 +46,7 @@ bytes_at-with_after m a d b n h i =
     (simp (length-append, length-take, length-drop) (omega arith))
     (λ k x l. grind (arith, places)))
 
--- a part of a part
+-- k bytes from i on of a range of bytes are the k bytes of the memory at the same place
 pub bytes_at-bytes_at : (m : List ℕ) (a n i k : ℕ) → i + k ≤ n → bytes_at (bytes_at m a n) i k
     ≡ bytes_at m (a + i) k
 unfolding bytes_at
@@ -53,7 +55,18 @@ bytes_at-bytes_at m a n i k h =
     (simp (length-take, length-drop) (omega arith))
     (λ j x l. grind (arith, places))
 
--- the length doesn't change; a name that an attribute can use
+-- a page of which a part is written is written in that part alone
+pub with_part : (m : List ℕ) (q p s k : ℕ) (page part : List ℕ) → q + p ≤ length m → s + k ≤ p → length part ≡ k
+    → page ≡ bytes_at m q p
+    → with_bytes m q (take s page ++ (part ++ drop k (drop s page))) ≡ with_bytes m (q + s) part
+unfolding with_bytes bytes_at
+with_part m q p s k page part inside within size is =
+    subst (λ x. with_bytes m q (take s x ++ (part ++ drop k (drop s x))) ≡ with_bytes m (q + s) part) (sym is)
+    (same_lists _ _
+    (simp (length-append, length-take, length-drop) (omega arith))
+    (λ j x l. grind (arith, places)))
+
+-- writing bytes within a memory keeps its length, under a name that an attribute can use
 pub length_with_bytes : (m : List ℕ) (a : ℕ) (d : List ℕ) → a + length d ≤ length m
     → length (with_bytes m a d) ≡ length m
 length_with_bytes m a d h = length-with_bytes m a d h

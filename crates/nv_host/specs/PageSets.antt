@@ -25,6 +25,7 @@ pages_code =
 abbrev pub as_set : NumberSet → set.FinSet nat_cmp
 as_set s = set.from_list (map.keys s)
 
+-- the set of pages that a set of numbers represents
 abbrev pub pages_of : RangeSet → Pages
 pages_of s = record { first = s.first; count = s.count; members = as_set s.members }
 

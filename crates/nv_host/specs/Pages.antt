@@ -6,6 +6,7 @@ use Rattle.std.specs.List.{list_any}
 abbrev pub is_page_size : ℕ → Bool
 is_page_size size = list_any (λ one. one == size) (4096 ∷ 8192 ∷ 16384 ∷ 32768 ∷ 65536 ∷ [])
 
+-- a page size is one of the five
 unfoldable pub IsPageSize : ℕ → Type 0
 IsPageSize size = IsTrue (is_page_size size)
 

@@ -5,7 +5,8 @@ ghost use Rattle.std.specs.Borrow.{GName};
 ghost use Rattle.nv_host.specs.Pages.{are_pages, is_page_size};
 
 use crate::memory::end_of_range;
-use crate::{HostMemory, OutOfMemoryRange, Payload};
+use crate::paged::PagedMemory;
+use crate::{OutOfMemoryRange, Payload};
 use std::marker::{Brand, PhantomData};
 
 /// By which reference bytes are lent. A function that makes a [`LentMemory`] has a parameter with
@@ -68,7 +69,7 @@ impl<'a, L: Loan> LentMemory<'a, L> {
 }
 
 #[tactic(auto, unfolding(crate::specs::Bytes::bytes_at, crate::specs::Bytes::with_bytes))]
-impl<'a, L: Loan> HostMemory for LentMemory<'a, L> {
+impl<'a, L: Loan> PagedMemory for LentMemory<'a, L> {
     ghost bytes = { λ m. m.bytes.now };
 
     ghost page_len = { λ m. m.page_size };
@@ -94,13 +95,13 @@ impl<'a, L: Loan> HostMemory for LentMemory<'a, L> {
         Ok(())
     }
 
-    fn fill<P: Payload>(&mut self, addr: u64, payload: &P, from: usize, len: usize) {
-        let start = addr as usize;
-        payload.fill(from, &mut self.bytes[start..start + len]);
-    }
-
     fn page(&self, n: u32) -> &[u8] {
         let start = n as usize * self.page_size as usize;
         &self.bytes[start..start + self.page_size as usize]
+    }
+
+    fn fill<P: Payload>(&mut self, n: u32, start: usize, payload: &P, from: usize, len: usize) {
+        let place = n as usize * self.page_size as usize + start;
+        payload.fill(from, &mut self.bytes[place..place + len]);
     }
 }

@@ -16,16 +16,19 @@
 #![tactic(auto)]
 
 ghost use Rattle.nv_host.specs.Bytes.{LengthStays, OthersStay, WrittenIsRead};
+ghost use Rattle.nv_host.specs.PageWrites.{PageIsWritten, PagesStay};
 
 mod error;
 mod lent;
 mod memory;
 mod page_set;
+pub mod paged;
 
 pub use error::{Memory, OutOfMemoryRange};
 pub use lent::{LentBytes, LentMemory, Loan};
-pub use memory::{FlatMemory, HostMemory, Payload, are_pages, is_page_size, size_of_memory};
+pub use memory::{FlatMemory, HostMemory, are_pages, is_page_size, size_of_memory};
 pub use page_set::{PageNo, PageSet};
+pub use paged::Payload;
 
 /// States the laws of loads and stores: a load returns what was stored, and other bytes don't
 /// change. The call does nothing.
@@ -33,4 +36,11 @@ pub fn store_then_load()
     ensures written { WrittenIsRead }
     ensures others { OthersStay }
     ensures length { LengthStays }
+{}
+
+/// States the laws of a page that is lent to be changed: its bytes are then those that were written
+/// there, and no other page changes. The call does nothing.
+pub fn page_mut_then_page()
+    ensures page { PageIsWritten }
+    ensures others { PagesStay }
 {}

@@ -1,21 +1,30 @@
 //! What the memory of a host does, and one in a vector.
 
 ghost use Rattle.std.specs.Prelude.{◌≡◌, ◌+◌, ◌*◌, ◌≤◌, ◌↔◌, ℕ, IfOk, IsOk, IsTrue, List, OnErr, OnOk};
-ghost use Rattle.std.specs.Prelude.{drop, length, replicate, take};
+ghost use Rattle.std.specs.Prelude.{length, refl, replicate};
+ghost use Rattle.std.specs.Borrow.{sem, Array, Lends, u8 as byte};
 ghost use Rattle.nv_host.specs.Bytes.{bytes_at, with_bytes};
+ghost use Rattle.nv_host.specs.FlatMemory.{only_page, with_page};
 ghost use Rattle.nv_host.specs.Pages.{HasPage, IsPageSize, are_pages, is_page_size};
 
+use crate::paged::PagedMemory;
 use crate::{Memory, OutOfMemoryRange};
 use std::alloc::Global;
 use std::marker::Model;
 
 /// The memory of a host, as its bytes in pages. Page n begins at address n times the page size.
 /// Section "Physical Region Page Entry and List".
+///
+/// Each `HostMemory` is also a [`PagedMemory`](crate::paged::PagedMemory), over which controllers, PRP
+/// lists and rings work.
 pub trait HostMemory {
     /// All bytes, from address 0 on.
     ghost bytes: { Self → List ℕ };
 
     ghost page_len: { Self → ℕ };
+
+    /// The memory after the bytes of a page have become these.
+    ghost with_page: { Self → ℕ → List ℕ → Self };
 
     /// How many bytes a page has: 4096, 8192, 16384, 32768 or 65536.
     fn page_size(&self) -> u32
@@ -39,40 +48,29 @@ pub trait HostMemory {
         ensures err { OnErr result (bytes self.new ≡ bytes self.old) }
         ensures page { page_len self.new ≡ page_len self.old };
 
-    /// Writes `len` bytes of a payload, from its byte `from` on, to the range that begins at an
-    /// address. The payload has these bytes, and the range lies in the memory.
-    fn fill<P: Payload>(&mut self, addr: u64, payload: &P, from: usize, len: usize)
-        requires inside { addr + len ≤ length (bytes self.old) }
-        requires has { from + len ≤ length (P.bytes payload.now) }
-        ensures value { bytes self.new
-            ≡ with_bytes (bytes self.old) addr (take len (drop from (P.bytes payload.now))) }
-        ensures page { page_len self.new ≡ page_len self.old };
-
     /// The bytes of a page, whose number is less than `pages`.
     fn page(&self, n: u32) -> &[u8]
         requires { HasPage (bytes self.now) (page_len self.now) n }
         ensures value { result.now ≡ bytes_at (bytes self.now) (n * page_len self.now)
             (page_len self.now) }
         ensures len { length result.now ≡ page_len self.now };
-}
 
-/// Bytes that are made part by part, so that they need not be stored as a whole.
-pub trait Payload {
-    /// All of them, in order.
-    ghost bytes: { Self → List ℕ };
+    /// Lends the bytes of a page, whose number is less than `pages`, to be changed. What is written
+    /// there changes this page alone.
+    fn page_mut(&mut self, n: u32) -> &mut [u8]
+        requires { HasPage (bytes self.old) (page_len self.old) n }
+        ensures* writes_back { sem 𝓛 (Lends Self.row (Array byte 0) self.entry result
+            (with_page self.old n)) }
+        ensures value { result.now ≡ bytes_at (bytes self.old) (n * page_len self.old)
+            (page_len self.old) }
+        ensures len { length result.now ≡ page_len self.old };
 
-    /// Fills `out` with the bytes from `at` on.
-    fn fill(&self, at: usize, out: &mut [u8])
-        requires { at + length out.old ≤ length (bytes self.now) }
-        ensures { out.new ≡ take (length out.old) (drop at (bytes self.now)) };
-}
+    ghost only_page: { (m : Self) (n : ℕ) (page : List ℕ) → HasPage (bytes m) (page_len m) n
+        → length page ≡ page_len m
+        → bytes (with_page m n page) ≡ with_bytes (bytes m) (n * page_len m) page };
 
-impl Payload for &[u8] {
-    ghost bytes = { λ s. s.now };
-
-    fn fill(&self, at: usize, out: &mut [u8]) {
-        out.copy_from_slice(&self[at..at + out.len()]);
-    }
+    ghost same_page_len: { (m : Self) (n : ℕ) (page : List ℕ) → page_len (with_page m n page)
+        ≡ page_len m };
 }
 
 /// Whether a page can have this many bytes.
@@ -98,7 +96,7 @@ pub fn are_pages(page_size: u32, size: usize) -> bool
 }
 
 /// How many bytes the memory has. They fill whole pages.
-pub fn size_of_memory<M: HostMemory>(mem: &M) -> u64
+pub fn size_of_memory<M: PagedMemory>(mem: &M) -> u64
     ensures value { result ≡ length (M.bytes mem.now) }
     ensures whole { (pages : ℕ) × (pages * M.page_len mem.now ≡ length (M.bytes mem.now)) }
     ensures page { IsPageSize (M.page_len mem.now) }
@@ -166,6 +164,12 @@ impl HostMemory for FlatMemory {
 
     ghost page_len = { λ m. m.page_size };
 
+    ghost with_page = { with_page };
+
+    ghost only_page = { only_page };
+
+    ghost same_page_len = { λ m n page. refl };
+
     fn page_size(&self) -> u32 {
         self.page_size
     }
@@ -186,13 +190,13 @@ impl HostMemory for FlatMemory {
         Ok(())
     }
 
-    fn fill<P: Payload>(&mut self, addr: u64, payload: &P, from: usize, len: usize) {
-        let start = addr as usize;
-        payload.fill(from, &mut self.bytes[start..start + len]);
-    }
-
     fn page(&self, n: u32) -> &[u8] {
         let start = n as usize * self.page_size as usize;
         &self.bytes[start..start + self.page_size as usize]
+    }
+
+    fn page_mut(&mut self, n: u32) -> &mut [u8] {
+        let start = n as usize * self.page_size as usize;
+        self.bytes.slice_mut(start..start + self.page_size as usize)
     }
 }

@@ -13,6 +13,7 @@ use Rattle.nv_layout.specs.Feature.{stored}
 use Rattle.nv_layout.specs.declared.feature.Feature.{Feature}
 use Rattle.nv_layout.specs.declared.feature.Feature.TheVariants as feature
 
+-- looking up the identifier in a feature's row finds that feature
 pub feature_at : (f : Feature) → feature_of (row_of f).fid ≡ Some f
 feature_at feature.Arbitration = refl
 feature_at feature.PowerManagement = refl
@@ -42,6 +43,7 @@ feature_with fid f e = found features e
     found (g ∷ fs) e = one g ((row_of g).fid == fid) (find (λ g. (row_of g).fid == fid) fs) refl
         (found fs) e
 
+-- every feature identifier is below 12
 pub fid_below : (f : Feature) → (row_of f).fid < 12
 fid_below feature.Arbitration = lit< tt
 fid_below feature.PowerManagement = lit< tt
@@ -54,7 +56,7 @@ fid_below feature.AsynchronousEventConfiguration = lit< tt
 
 -- ---- namespaces
 
--- the feature of which each namespace has a value of its own
+-- only Error Recovery has a value for each namespace
 pub of_namespaces : (f : Feature) → (row_of f).per_namespace ≡ true → f ≡ feature.ErrorRecovery
 of_namespaces feature.Arbitration e = absurd (cc e)
 of_namespaces feature.PowerManagement e = absurd (cc e)
@@ -79,12 +81,15 @@ other_identifier feature.AsynchronousEventConfiguration e = refl
 
 -- ---- selectors
 
+-- if the test of equality is true, the numbers are equal
 is_same : (a b : ℕ) → (a == b) ≡ true → a ≡ b
 is_same a b e = grind (arith, nat_tests)
 
+-- if the numbers are equal, the test of equality is true
 same_is : (a b : ℕ) → a ≡ b → (a == b) ≡ true
 same_is a b e = grind (arith, nat_tests)
 
+-- every selector of a feature is below 32
 all_below : (f : Feature) → list_all (λ s. nat_lt s 32) (row_of f).selectors ≡ true
 all_below feature.Arbitration = refl
 all_below feature.PowerManagement = refl
@@ -95,6 +100,7 @@ all_below feature.InterruptCoalescing = refl
 all_below feature.WriteAtomicityNormal = refl
 all_below feature.AsynchronousEventConfiguration = refl
 
+-- if all numbers of a list are below 32, so is each number that the list has
 one_below : (xs : List ℕ) (s : ℕ) → list_all (λ x. nat_lt x 32) xs ≡ true
     → list_any (λ x. x == s) xs ≡ true → s < 32
 one_below [] s all any = absurd (cc any)
@@ -107,11 +113,13 @@ one_below (x ∷ xs) s all any =
     at_test true e any here later = let same : x ≡ s = grind (arith, nat_tests) in omega arith
     at_test false e any here later = later any
 
+-- a selector of a feature is below 32
 pub selector_below : (f : Feature) (s : ℕ) → is_selector f s ≡ true → s < 32
 selector_below f s e = one_below (row_of f).selectors s (all_below f) e
 
 -- ---- values
 
+-- 0 may be a stored value of every feature
 pub default_is_value : (f : Feature) → is_value f 0 ≡ true
 default_is_value feature.Arbitration = refl
 default_is_value feature.PowerManagement = refl
@@ -122,6 +130,7 @@ default_is_value feature.InterruptCoalescing = refl
 default_is_value feature.WriteAtomicityNormal = refl
 default_is_value feature.AsynchronousEventConfiguration = refl
 
+-- the bits of a feature that are stored are a number of 32 bits
 kept_fits : (f : Feature) → (row_of f).kept < 2 ^ 32
 kept_fits feature.Arbitration = lit< tt
 kept_fits feature.PowerManagement = lit< tt
@@ -132,13 +141,14 @@ kept_fits feature.InterruptCoalescing = lit< tt
 kept_fits feature.WriteAtomicityNormal = lit< tt
 kept_fits feature.AsynchronousEventConfiguration = lit< tt
 
+-- each number that may be a stored value is a number of 32 bits
 pub value_fits : (f : Feature) (v : ℕ) → is_value f v ≡ true → v < 2 ^ 32
 value_fits f v e =
     let within = is_same (bit_and v (row_of f).kept) v
     (and_parts (bit_and v (row_of f).kept == v) (bit_and v (row_of f).clear == 0) e).0 in
     omega (arith, within, and_le_r v (row_of f).kept, kept_fits f)
 
--- the part of an accepted dword that is stored
+-- the part of an accepted dword that is stored may be a stored value
 pub stored_is_value : (f : Feature) (d : ℕ) → is_accepted f d ≡ true → is_value f (stored f d)
     ≡ true
 stored_is_value f d e =
@@ -156,13 +166,14 @@ stored_is_value f d e =
     (λ i. same_is (bit_and (bit_and d kept) kept) (bit_and d kept) within i
     && same_is (bit_and (bit_and d kept) clear) 0 cleared i)
 
--- a Set is for some selector
+-- if one more element comes first, the list has one that passes if and only if the filtered list isn't empty
 kept_by : (p : ℕ → Bool) (x : ℕ) (xs : List ℕ) (b : Bool) → p x ≡ b
     → list_any p xs ≡ nat_lt 0 (length (filter p xs))
     → list_any p (x ∷ xs) ≡ nat_lt 0 (length (filter p (x ∷ xs)))
 kept_by p x xs true h rest = rw h (sym (lt-ltb 0 (length (x ∷ filter p xs)) (omega arith)))
 kept_by p x xs false h rest = rw h rest
 
+-- a list has an element that passes a test if and only if the filtered list isn't empty
 pub some_kept : (p : ℕ → Bool) (xs : List ℕ) → list_any p xs ≡ nat_lt 0 (length (filter p xs))
 some_kept p [] = refl
 some_kept p (x ∷ xs) = kept_by p x xs (p x) refl (some_kept p xs)

@@ -20,10 +20,12 @@ use Rattle.nv_layout.specs.declared.smart.Smart.{Smart}
 
 -- ---- health
 
+-- a health log with eight sensors has 512 bytes
 pub length-bytes_of_smart : (r : Smart) → length r.sensors ≡ 8 → length (bytes_of_smart r) ≡ 512
 unfolding bytes_of_smart
 length-bytes_of_smart r sensors = length-laid_out 512 (smart_parts r) refl assumption
 
+-- a health log whose fields fit is read back from its bytes
 pub smart_back : SmartReadsBack
 unfolding bytes_of_smart smart_of_bytes
 smart_back r fits =
@@ -51,6 +53,7 @@ smart_back r fits =
 
 -- ---- entries of the error log
 
+-- the fields of the entry that holds no error fit
 pub no_entry_fits : ErrorEntryFits no_entry
 no_entry_fits = record {
   count = lit< tt;
@@ -64,7 +67,7 @@ no_entry_fits = record {
   specific = lit< tt;
 }
 
--- this holds whatever the phase tag is
+-- an entry that fits its record also fits with any phase tag
 pub fits_with_phase : (e : ErrorEntry) (phase : Bool) → ErrorEntryFits e → ErrorEntryFits (record e { phase = phase })
 fits_with_phase e phase fits = record {
   count = fits.count;
@@ -78,14 +81,17 @@ fits_with_phase e phase fits = record {
   specific = fits.specific;
 }
 
+-- an entry of the error log has 64 bytes
 pub length-bytes_of_error_entry : (r : ErrorEntry) → length (bytes_of_error_entry r) ≡ 64
 unfolding bytes_of_error_entry
 length-bytes_of_error_entry r = length-laid_out 64 (error_entry_parts r) refl assumption
 
+-- a number made of a phase tag and a status of 15 bits has two bytes, and its bits are these two
 word_bits : (p s : ℕ) → p < 2 → s < 2 ^ 15
     → let n = at_bits 0 1 p + at_bits 1 15 s in (n < 256 ^ 2) × (bits 0 1 n ≡ p) × (bits 1 15 n ≡ s)
 word_bits p s hp hs = (omega arith, omega arith, omega arith)
 
+-- an entry of the error log whose fields fit is read back from its bytes
 pub error_entry_back : ErrorEntryReadsBack
 unfolding bytes_of_error_entry error_entry_of_bytes
 error_entry_back r fits =
@@ -108,6 +114,7 @@ error_entry_back r fits =
       specific = field 8 i;
     }
 
+-- the bytes of several entries are 64 for each entry
 pub length-entries : (es : List ErrorEntry) → length (bytes_of_entries es) ≡ 64 * length es
 length-entries [] = refl
 length-entries (e ∷ es) =
@@ -115,14 +122,17 @@ length-entries (e ∷ es) =
     let rest = length-entries es in
     length-append (bytes_of_error_entry e) (bytes_of_entries es) ∙ omega (arith, this, rest)
 
+-- the bytes of the entry that holds no error are 64 zeros
 bytes_of_no_entry : bytes_of_error_entry no_entry ≡ zeros 64
 unfolding bytes_of_error_entry number_of_status zeros placed
 bytes_of_no_entry = refl
 
+-- each of 64 zeros is 0
 no_byte : (k : ℕ) → k < 64 → get_or (zeros 64) k 0 ≡ 0
 unfolding zeros
 no_byte k h = get_or-replicate 64 k 0 0 h
 
+-- byte 64 * index + k of all entries is byte k of entry number `index`, or of no_entry past the last entry
 byte_of_entry : (es : List ErrorEntry) (index k : ℕ) → k < 64
     → get_or (bytes_of_entries es) (64 * index + k) 0
     ≡ get_or (bytes_of_error_entry (get_or es index no_entry)) k 0
@@ -138,7 +148,7 @@ byte_of_entry (e ∷ es) (suc index) k h =
     ∙ ap (λ i. get_or (bytes_of_entries es) i 0) (omega arith)
     ∙ byte_of_entry es index k h
 
--- a part of one entry
+-- a part of the entries that lies in one entry is that part of the entry
 pub part_of_entry : (es : List ErrorEntry) (index skip n : ℕ) → skip + n ≤ 64
     → part (bytes_of_entries es) (64 * index + skip) n
     ≡ part (bytes_of_error_entry (get_or es index no_entry)) skip n
@@ -150,12 +160,13 @@ part_of_entry es index skip n h =
 
 -- ---- entries without an error after those that a log has
 
+-- byte i of all entries is byte i % 64 of entry number i / 64, or of no_entry past the last entry
 byte_at : (es : List ErrorEntry) (i : ℕ) → get_or (bytes_of_entries es) i 0
     ≡ get_or (bytes_of_error_entry (get_or es (i / 64) no_entry)) (i % 64) 0
 byte_at es i =
     ap (λ j. get_or (bytes_of_entries es) j 0) (omega arith) ∙ byte_of_entry es (i / 64) (i % 64) (omega arith)
 
--- their bytes are the zeros past the end
+-- entries without an error after the others change no part of the bytes
 pub part_past_blanks : (es : List ErrorEntry) (m from n : ℕ)
     → part (bytes_of_entries (es ++ replicate m no_entry)) from n ≡ part (bytes_of_entries es) from n
 part_past_blanks es m from n =
@@ -164,6 +175,7 @@ part_past_blanks es m from n =
     ∙ ap (λ e. get_or (bytes_of_error_entry e) ((from + k) % 64) 0) (get_or-past es no_entry m ((from + k) / 64))
     ∙ sym (byte_at es (from + k)))
 
+-- the newest and the older entries come first, and each entry after them is one without an error
 pub present_first : (newest older : List ErrorEntry) (m : ℕ)
     → let n = length newest + length older in
     let es = newest ++ older ++ replicate m no_entry in

@@ -14,9 +14,11 @@ use Rattle.nv_layout.proofs.PartLaws.{get_or-numbers_at, length-numbers_at, leng
 
 -- ---- the numbers before the first zero
 
+-- if a number passes the test for zero, it is 0
 zero_from_test : (x : ℕ) → is_zero x ≡ true → x ≡ 0
 zero_from_test x t = grind (arith, t)
 
+-- a first number that isn't zero is the first of the numbers before the first zero
 before_first-cons : (x : ℕ) (xs : List ℕ) → is_zero x ≡ false
     → x ∷ before_first is_zero xs ≡ before_first is_zero (x ∷ xs)
 before_first-cons x xs h =
@@ -24,7 +26,7 @@ before_first-cons x xs h =
     let one : suc n ≡ 1 + n = omega arith in
     rw h (ap (λ m. take m (x ∷ xs)) one)
 
--- the first numbers of xs, if none is zero and the next one is
+-- ys are the numbers of xs before the first zero, if they are the first of xs, none is zero and the next one is
 is_before_zero : (xs ys : List ℕ) → length ys ≤ length xs
     → ((k : ℕ) → k < length ys → get_or ys k 0 ≡ get_or xs k 0)
     → ((k : ℕ) → k < length ys → get_or ys k 0 ≢ 0)
@@ -44,7 +46,7 @@ is_before_zero (x ∷ xs) (y ∷ ys) size same full end =
     (λ more. let at : get_or xs (length ys) 0 ≡ 0 = end (omega arith) in at) in
     (λ i. first i ∷ rest i) ∙ before_first-cons x xs test
 
--- a list that was read number by number, up to the first zero or the end
+-- a list that was read up to the first zero or the end is the numbers before the first zero
 pub list_read : (n : ℕ) (bytes list : List ℕ) (i : ℕ) → i ≤ n → length list ≡ i
     → ((k : ℕ) → k < i → get_or list k 0 ≡ number_at (4 * k) 4 bytes)
     → ((k : ℕ) → k < i → get_or list k 0 ≢ 0)
@@ -63,9 +65,11 @@ list_read n bytes list i h size read full end =
 
 -- ---- a list and the zeros after it
 
+-- each number is an identifier: it isn't 0, and it has 32 bits
 abbrev pub AreIdentifiers : List ℕ → Type 0
 AreIdentifiers = AllByRecursion (λ x. (x ≢ 0) × (x < 2 ^ 32))
 
+-- the numbers before the first zero of xs ++ ys are xs, if xs are identifiers and ys begins with a zero or is empty
 before_first-append : (xs ys : List ℕ) → AreIdentifiers xs → before_first is_zero ys ≡ []
     → xs ≡ before_first is_zero (xs ++ ys)
 before_first-append [] ys f e = sym e
@@ -74,30 +78,36 @@ before_first-append (x ∷ xs) ys f e =
     false_from_ne_true (is_zero x) (λ t. f.0.0 (zero_from_test x t)) in
     ap (λ t. x ∷ t) (before_first-append xs ys f.1 e) ∙ before_first-cons x (xs ++ ys) test
 
+-- before the first of n zeros there is no number
 before_first-zeros : (n : ℕ) → before_first is_zero (zeros n) ≡ []
 unfolding zeros
 before_first-zeros zero = refl
 before_first-zeros (suc n) = refl
 
+-- the numbers before the first zero of padded identifiers are the identifiers
 pub before_first-padded : (n : ℕ) (xs : List ℕ) → AreIdentifiers xs
     → before_first is_zero (padded n xs) ≡ xs
 before_first-padded n xs f =
     sym (before_first-append xs (zeros (n - length xs)) f (before_first-zeros (n - length xs)))
 
+-- n zeros are numbers of 32 bits
 zeros_fit : (n : ℕ) → AllByRecursion (λ x. x < 2 ^ 32) (zeros n)
 unfolding zeros
 zeros_fit zero = tt
 zeros_fit (suc n) = (omega arith, zeros_fit n)
 
+-- identifiers and n zeros after them are numbers of 32 bits
 append_fits : (xs : List ℕ) (n : ℕ) → AreIdentifiers xs → AllByRecursion (λ x. x < 2 ^ 32) (xs
     ++ zeros n)
 append_fits [] n f = zeros_fit n
 append_fits (x ∷ xs) n f = (f.0.1, append_fits xs n f.1)
 
+-- padded identifiers are numbers of 32 bits
 pub padded_fits : (n : ℕ) (xs : List ℕ) → AreIdentifiers xs → AllByRecursion (λ x. x < 2 ^ 32)
     (padded n xs)
 padded_fits n xs f = append_fits xs (n - length xs) f
 
+-- a list of at most n numbers has n numbers when it is padded
 pub length-padded : (n : ℕ) (xs : List ℕ) → length xs ≤ n → length (padded n xs) ≡ n
 length-padded n xs h =
     length-append xs (zeros (n - length xs))
@@ -105,6 +115,7 @@ length-padded n xs h =
 
 -- ---- the bytes of the list
 
+-- the bytes of n zeros of four bytes each are 4 * n zeros
 each_zero : (n : ℕ) → flat_map (little_bytes 4) (zeros n) ≡ zeros (4 * n)
 unfolding zeros
 each_zero zero = refl
@@ -112,6 +123,7 @@ each_zero (suc n) =
     ap (λ (rest : List ℕ). 0 ∷ 0 ∷ 0 ∷ 0 ∷ rest) (each_zero n)
     ∙ (let size : suc (suc (suc (suc (4 * n)))) ≡ 4 * suc n = omega arith in ap (λ m. zeros m) size)
 
+-- without the first 4 * n of their bytes, `count` zeros are the bytes of count - n zeros
 zeros_left : (n count : ℕ) → n ≤ count → drop (4 * n) (zeros (4 * count))
     ≡ flat_map (little_bytes 4) (zeros (count - n))
 unfolding zeros
@@ -119,10 +131,11 @@ zeros_left n count h =
     let left : 4 * count - 4 * n ≡ 4 * (count - n) = omega arith in
     drop-replicate (4 * n) (4 * count) 0 ∙ ap (λ m. zeros m) left ∙ sym (each_zero (count - n))
 
+-- without its first n elements, a list of n zeros is empty
 none_left : (n : ℕ) → drop n (zeros n) ≡ []
 none_left n = drop_all n (zeros n) (omega (arith, length_zeros n))
 
--- a list's numbers over zeros, with or without the zeros after them
+-- writing a list over zeros gives the same bytes with and without the zeros after the list
 pub placed-padded : (count : ℕ) (ids : List ℕ) → length ids ≤ count
     → placed (zeros (4 * count)) (numbers 0 4 (length ids) ids)
     ≡ placed (zeros (4 * count)) (numbers 0 4 count (padded count ids))
@@ -133,7 +146,7 @@ placed-padded count ids h =
     ∙ sym (append-nil (flat_map (little_bytes 4) (padded count ids)))
     ∙ ap (λ t. flat_map (little_bytes 4) (padded count ids) ++ t) (sym (none_left (4 * count)))
 
--- the bytes of a list, with one more number written after its own
+-- one more number that is written after a list's own gives the bytes of the longer list
 pub placed-one_more : (count : ℕ) (ids : List ℕ) (x : ℕ) → length ids < count
     → placed (placed (zeros (4 * count)) (numbers 0 4 count (padded count ids))) (number (4 * length ids) 4 x)
     ≡ placed (zeros (4 * count)) (numbers 0 4 count (padded count (ids ++ x ∷ [])))

@@ -17,6 +17,7 @@ use Rattle.nv_layout.specs.Parts.{Part, bytes_of, number, number_at, numbers, nu
 use Rattle.nv_layout.specs.Parts.{place_of, placed, text, text_at, width_of, zeros}
 use Rattle.nv_layout.specs.Bits.{at_bits}
 
+-- zeros n has n elements
 pub length_zeros : (n : ℕ) → length (zeros n) ≡ n
 unfolding zeros
 length_zeros n = length-replicate n 0
@@ -29,9 +30,11 @@ IsSized (number at width x) = Unit {0}
 IsSized (numbers at width count xs) = length xs ≡ count
 IsSized (text at width bytes) = length bytes ≡ width
 
+-- w times the successor of n is w + w * n
 pub times_suc : (w n : ℕ) → w * suc n ≡ w + w * n
 times_suc w n = omega arith
 
+-- the bytes of the numbers of a list are `width` for each number
 pub length_each : (width : ℕ) (xs : List ℕ) → length (flat_map (little_bytes width) xs)
     ≡ width * length xs
 length_each width [] = sym (mul-zero width)
@@ -41,6 +44,7 @@ length_each width (x ∷ xs) =
     ∙ ap (λ n. width + n) (length_each width xs)
     ∙ sym (times_suc width (length xs))
 
+-- the bytes of a field whose array or text has the right length are as many as its width
 pub length-bytes_of : (p : Part) → IsSized p → length (bytes_of p) ≡ width_of p
 length-bytes_of (number at width x) s = length-bytes_low_first 0 width x
 length-bytes_of (numbers at width count xs) s = length_each width xs ∙ ap (λ n. width * n) s
@@ -48,15 +52,18 @@ length-bytes_of (text at width bytes) s = s
 
 -- ---- a field over some bytes
 
+-- bytes with `width` of them replaced from `at` on have as many bytes as before
 length_over : (b c : List ℕ) (at width : ℕ) → length c ≡ width → at + width ≤ length b
     → length (take at b ++ (c ++ drop width (drop at b))) ≡ length b
 length_over b c at width e h = grind (arith, common_steps)
 
+-- bytes with a field written within them have as many bytes as before
 pub length-placed : (b : List ℕ) (p : Part) → IsSized p → place_of p + width_of p ≤ length b
     → length (placed b p) ≡ length b
 unfolding placed
 length-placed b p s h = length_over b (bytes_of p) (place_of p) (width_of p) (length-bytes_of p s) h
 
+-- the `width` bytes at `at` are the bytes that were put there
 read_over : (b c d : List ℕ) (at width : ℕ) → length c ≡ width → at ≤ length b
     → take width (drop at (take at b ++ (c ++ d))) ≡ c
 read_over b c d at width e h =
@@ -66,7 +73,7 @@ read_over b c d at width e h =
     ∙ ap (λ n. take n (c ++ d)) (sym e)
     ∙ take-append_seam c d
 
--- the field itself
+-- a field that was written has its bytes at its place
 pub text_at-placed : (b : List ℕ) (p : Part) → IsSized p → place_of p ≤ length b
     → text_at (place_of p) (width_of p) (placed b p) ≡ bytes_of p
 unfolding placed text_at
@@ -74,9 +81,11 @@ text_at-placed b p s h =
     read_over b (bytes_of p) (drop (width_of p) (drop (place_of p) b)) (place_of p) (width_of p)
     (length-bytes_of p s) h
 
+-- the first n of the first k elements are the first n elements, if n is at most k
 take_fewer : (k n : ℕ) (xs : List ℕ) → n ≤ k → take n (take k xs) ≡ take n xs
 take_fewer k n xs h = grind (arith, common_steps)
 
+-- bytes that end before `end` are the same if everything from `end` on is replaced
 read_before : (b rest : List ℕ) (end at n : ℕ) → at + n ≤ end → end ≤ length b
     → take n (drop at (take end b ++ rest)) ≡ take n (drop at b)
 read_before b rest end at n h k =
@@ -92,14 +101,14 @@ read_before b rest end at n h k =
     ∙ ap (take n) part
     ∙ take_fewer (end - at) n (drop at b) (omega arith)
 
--- the bytes before the field
+-- writing a field doesn't change the bytes before it
 pub text_at-placed_before : (b : List ℕ) (p : Part) (at n : ℕ) → at + n ≤ place_of p
     → place_of p ≤ length b → text_at at n (placed b p) ≡ text_at at n b
 unfolding placed text_at
 text_at-placed_before b p at n h k =
     read_before b (bytes_of p ++ drop (width_of p) (drop (place_of p) b)) (place_of p) at n h k
 
--- one byte
+-- setting one byte writes a field of one byte
 pub byte_placed : (b : List ℕ) (at x : ℕ) → at < length b → x < 256 → set b at x
     ≡ placed b (number at 1 x)
 unfolding placed
@@ -133,11 +142,13 @@ halves v =
 
 -- ---- numbers in a row
 
+-- numbers_at reads as many numbers as were asked for
 pub length-numbers_at : (at width n : ℕ) (bytes : List ℕ) → length (numbers_at at width n bytes) ≡ n
 unfolding numbers_at
 length-numbers_at at width zero bytes = refl
 length-numbers_at at width (suc n) bytes = ap suc (length-numbers_at (at + width) width n bytes)
 
+-- number k that numbers_at reads is the number `width` * k bytes after the first
 pub get_or-numbers_at : (at width n : ℕ) (bytes : List ℕ) (k : ℕ) → k < n
     → get_or (numbers_at at width n bytes) k 0 ≡ number_at (at + width * k) width bytes
 unfolding numbers_at
@@ -147,7 +158,7 @@ get_or-numbers_at at width (suc n) bytes (suc k) h =
     get_or-numbers_at (at + width) width n bytes k (omega arith) ∙ ap (λ m. number_at m width bytes)
     (omega (arith, times_suc width k))
 
--- values that were read one by one
+-- values that were read one by one are the numbers that numbers_at reads
 pub numbers_read : (at width n : ℕ) (bytes xs : List ℕ) → length xs ≡ n
     → ((k : ℕ) → k < n → get_or xs k 0 ≡ number_at (at + width * k) width bytes)
     → xs ≡ numbers_at at width n bytes
@@ -157,7 +168,7 @@ numbers_read at width n bytes xs e h =
     (λ k below. h k (omega (arith, e))
     ∙ sym (get_or-numbers_at at width n bytes k (omega (arith, e))))
 
--- the first of them
+-- the first k of n numbers are the numbers that numbers_at reads for k
 pub take_numbers_at : (k at width n : ℕ) (bytes : List ℕ) → k ≤ n
     → take k (numbers_at at width n bytes) ≡ numbers_at at width k bytes
 unfolding numbers_at
@@ -167,7 +178,7 @@ take_numbers_at (suc k) at width (suc n) bytes h =
     ap (λ rest. number_at at width bytes ∷ rest) (take_numbers_at k (at + width) width n bytes
     (omega arith))
 
--- what holds for each by its index
+-- numbers that are below a limit by their indices are all below it
 pub all_below : (limit : ℕ) (xs : List ℕ) → ((k : ℕ) → k < length xs → get_or xs k 0 < limit)
     → AllByRecursion (λ x. x < limit) xs
 all_below limit [] h = tt
@@ -177,7 +188,7 @@ all_below limit (x ∷ xs) h = (
       h (suc k) (omega arith) in at),
 )
 
--- a number in a part of the bytes
+-- a number in a part of the bytes is the number at the same place in all bytes
 pub number_at-part : (at width size skip : ℕ) (bytes : List ℕ) → skip + width ≤ size
     → little_number width (drop skip (take size (drop at bytes)))
     ≡ number_at (at + skip) width bytes
@@ -191,6 +202,7 @@ number_at-part at width size skip bytes h =
 
 -- ---- bits of 32
 
+-- a value shifted to bit `low` with its lowest `count` bits, in 32 bits, is the value at those bits
 pub to_bits_value : (value low count : ℕ) → low < 32 → count < 32 → low + count ≤ 32
     → value % (1 * 2 ^ count % 2 ^ 32) * 2 ^ low % 2 ^ 32 ≡ at_bits low count value
 to_bits_value value low count l c h =
@@ -201,7 +213,7 @@ to_bits_value value low count l c h =
 
 -- ---- arrays
 
--- the results of a function for each element
+-- if each element of ys is f of the element of xs, ys is the mapped list
 pub map_read : {X Y : Type 0} (f : X → Y) (xs : List X) (ys : List Y) (d : X) (e : Y)
     → length ys ≡ length xs → ((k : ℕ) → k < length xs → get_or ys k e ≡ f (get_or xs k d))
     → ys ≡ map f xs
@@ -216,13 +228,14 @@ map_read f (x ∷ xs) (y ∷ ys) d e l h =
 
 -- ---- a part of the bytes, with zeros past their end
 
+-- a part of n bytes has n bytes
 pub length-part : (bytes : List ℕ) (from n : ℕ) → length (part bytes from n) ≡ n
 unfolding part
 length-part bytes from n =
     length-take-le n (drop from bytes ++ replicate n 0)
     (simp (length-append, length-replicate) (omega arith))
 
--- what is read past the end is also there
+-- reading past the end of a list gives the default, whether or not copies of it are there
 pub get_or-past : {X : Type 0} (xs : List X) (d : X) (n k : ℕ) → get_or (xs ++ replicate n d) k d
     ≡ get_or xs k d
 get_or-past [] d zero k = refl
@@ -231,6 +244,7 @@ get_or-past [] d (suc n) (suc k) = get_or-past [] d n k
 get_or-past (x ∷ xs) d n zero = refl
 get_or-past (x ∷ xs) d n (suc k) = get_or-past xs d n k
 
+-- byte k of a part from `from` on is byte from + k of the bytes, and 0 past their end
 pub get_or-part : (bytes : List ℕ) (from n k : ℕ) → k < n → get_or (part bytes from n) k 0
     ≡ get_or bytes (from + k) 0
 unfolding part
@@ -239,7 +253,7 @@ get_or-part bytes from n k h =
     ∙ get_or-past (drop from bytes) 0 n k
     ∙ get_or-drop from bytes k 0
 
--- a list that agrees with the bytes at each index is the part
+-- a list that agrees with the bytes at each index is a part of them
 pub is_part : (bytes : List ℕ) (from : ℕ) (xs : List ℕ)
     → ((k : ℕ) → k < length xs → get_or xs k 0 ≡ get_or bytes (from + k) 0) → xs
     ≡ part bytes from (length xs)
@@ -247,6 +261,7 @@ is_part bytes from xs h =
     same_number_lists xs (part bytes from (length xs)) (sym (length-part bytes from (length xs)))
     (λ k below. h k below ∙ sym (get_or-part bytes from (length xs) k below))
 
+-- byte k of two parts, one directly after the other, is byte from + k of the bytes
 byte_of_parts : (bytes : List ℕ) (from m n k : ℕ) → k < m + n
     → get_or (part bytes from m ++ part bytes (from + m) n) k 0 ≡ get_or bytes (from + k) 0
 byte_of_parts bytes from m n k h =
@@ -260,7 +275,7 @@ byte_of_parts bytes from m n k h =
           ∙ ap (λ i. get_or bytes i 0) (omega arith)
     ]
 
--- parts whose bytes agree
+-- parts whose bytes agree are equal
 pub same_parts : (xs ys : List ℕ) (i j n : ℕ)
     → ((k : ℕ) → k < n → get_or xs (i + k) 0 ≡ get_or ys (j + k) 0) → part xs i n ≡ part ys j n
 same_parts xs ys i j n h =
@@ -269,7 +284,7 @@ same_parts xs ys i j n h =
     (λ k below. let small : k < n = omega (arith, size) in
     get_or-part xs i n k small ∙ h k small ∙ sym (get_or-part ys j n k small))
 
--- one part after another
+-- a part and the part directly after it are one longer part
 pub part-append : (bytes : List ℕ) (from m n : ℕ)
     → part bytes from m ++ part bytes (from + m) n ≡ part bytes from (m + n)
 part-append bytes from m n =
@@ -280,13 +295,13 @@ part-append bytes from m n =
     (λ k below. byte_of_parts bytes from m n k (omega (arith, size, below)))
     ∙ ap (part bytes from) size
 
--- everything past the end is zeros
+-- a part that begins past the end is all zeros, as if it began at the end
 pub part_past : (bytes : List ℕ) (from n : ℕ) → part bytes (min from (length bytes)) n
     ≡ part bytes from n
 unfolding part
 part_past bytes from n = ap (λ rest. take n (rest ++ replicate n 0)) (drop_min from bytes)
 
--- a part of a part
+-- m bytes from i on of a part are the part of m bytes that begins i bytes later
 pub part-part : (bytes : List ℕ) (from n i m : ℕ) → i + m ≤ n
     → take m (drop i (part bytes from n)) ≡ part bytes (from + i) m
 part-part bytes from n i m h =
@@ -308,18 +323,21 @@ unfolding part
 part_within bytes from n h =
     take-append-le n (drop from bytes) (replicate n 0) (simp length-drop (omega arith))
 
+-- the part from 0 on that is as long as the bytes is all of them
 pub part_whole : (bytes : List ℕ) (n : ℕ) → length bytes ≡ n → part bytes 0 n ≡ bytes
 part_whole bytes n e =
     part_within bytes 0 n (omega (arith, e)) ∙ take_all n bytes (omega (arith, e))
 
 -- ---- a part as what the bytes have of it and the zeros after that
 
+-- a list and `rest` zeros after it are the first n elements of the list and n zeros
 past_end : (xs : List ℕ) (rest n : ℕ) → n ≡ length xs + rest → xs ++ replicate rest 0 ≡ take n (xs ++ replicate n 0)
 past_end xs rest n e =
     ap (λ t. xs ++ t) (sym (take-replicate {X = ℕ} rest n 0 (omega (arith, e))))
     ∙ sym (take-append-add xs (replicate n 0) rest)
     ∙ ap (λ m. take m (xs ++ replicate n 0)) (sym e)
 
+-- as many elements as a list has, up to n, with zeros up to n, are the first n of the list and n zeros
 take_over : (xs : List ℕ) (n count : ℕ) → count ≡ min n (length xs)
     → take count xs ++ replicate (n - count) 0 ≡ take n (xs ++ replicate n 0)
 take_over xs n count e =
@@ -335,6 +353,7 @@ take_over xs n count e =
           ∙ past_end xs (n - count) n (omega arith)
     ]
 
+-- what the bytes have from `from` on, up to n, with zeros up to n, is the part of n bytes from `from` on
 pub part_in_two : (bytes : List ℕ) (from n at count : ℕ)
     → at ≡ min from (length bytes) → count ≡ min n (length bytes - at)
     → take count (drop at bytes) ++ replicate (n - count) 0 ≡ part bytes from n

@@ -20,26 +20,31 @@ use Rattle.nv_layout.proofs.TableLaws.{field_back, length-laid_out, table_back}
 
 -- ---- flags
 
+-- the bit of a flag is 1 if and only if the flag is set
 pub flag_back : (flag : Bool) → (bit flag == 1) ≡ flag
 flag_back true = refl
 flag_back false = refl
 
+-- the bit of a flag is below 2
 pub bit_below : (flag : Bool) → bit flag < 2
 bit_below true = omega arith
 bit_below false = omega arith
 
 -- ---- the status field
 
+-- the number of a status has 15 bits, whatever its fields are
 pub number_of_status_below : (s : Status) → number_of_status s < 2 ^ 15
 unfolding number_of_status
 number_of_status_below s = omega arith
 
+-- the bits of a number made of a status's five fields, each of which fits, are the fields
 status_bits : (a b c d e : ℕ) → a < 2 ^ 8 → b < 2 ^ 3 → c < 2 ^ 2 → d < 2 → e < 2
     → let n = at_bits 0 8 a + at_bits 8 3 b + at_bits 11 2 c + at_bits 13 1 d + at_bits 14 1 e in
     (bits 0 8 n ≡ a) × (bits 8 3 n ≡ b) × (bits 11 2 n ≡ c) × (bits 13 1 n ≡ d) × (bits 14 1 n ≡ e)
 status_bits a b c d e ha hb hc hd he =
     (omega arith, omega arith, omega arith, omega arith, omega arith)
 
+-- a status whose fields fit is read back from its number
 pub status_back : StatusReadsBack
 unfolding number_of_status status_of_number
 status_back s fits =
@@ -56,15 +61,18 @@ status_back s fits =
 
 -- ---- submission queue entries
 
+-- a submission queue entry has 64 bytes
 pub length-bytes_of_sqe : (r : Sqe) → length (bytes_of_sqe r) ≡ 64
 unfolding bytes_of_sqe
 length-bytes_of_sqe r = length-laid_out 64 (sqe_parts r) refl assumption
 
+-- a number made of the four fields of command dword 0 has four bytes, and its bits are the fields
 dword0_bits : (o f p c : ℕ) → o < 2 ^ 8 → f < 2 ^ 2 → p < 2 ^ 2 → c < 2 ^ 16
     → let n = at_bits 0 8 o + at_bits 8 2 f + at_bits 14 2 p + at_bits 16 16 c in
     (n < 256 ^ 4) × (bits 0 8 n ≡ o) × (bits 8 2 n ≡ f) × (bits 14 2 n ≡ p) × (bits 16 16 n ≡ c)
 dword0_bits o f p c ho hf hp hc = (omega arith, omega arith, omega arith, omega arith, omega arith)
 
+-- a submission queue entry whose fields fit is read back from its bytes
 pub sqe_back : SqeReadsBack
 unfolding bytes_of_sqe sqe_of_bytes
 sqe_back r fits =
@@ -90,15 +98,18 @@ sqe_back r fits =
 
 -- ---- completion queue entries
 
+-- a completion queue entry has 16 bytes
 pub length-bytes_of_cqe : (r : Cqe) → length (bytes_of_cqe r) ≡ 16
 unfolding bytes_of_cqe
 length-bytes_of_cqe r = length-laid_out 16 (cqe_parts r) refl assumption
 
+-- a number made of the three fields of dword 3 has four bytes, and its bits are the fields
 dword3_bits : (c p s : ℕ) → c < 2 ^ 16 → p < 2 → s < 2 ^ 15
     → let n = at_bits 0 16 c + at_bits 16 1 p + at_bits 17 15 s in
     (n < 256 ^ 4) × (bits 0 16 n ≡ c) × (bits 16 1 n ≡ p) × (bits 17 15 n ≡ s)
 dword3_bits c p s hc hp hs = (omega arith, omega arith, omega arith, omega arith)
 
+-- a completion queue entry whose fields fit is read back from its bytes
 pub cqe_back : CqeReadsBack
 unfolding bytes_of_cqe cqe_of_bytes
 cqe_back r fits =
@@ -119,12 +130,14 @@ cqe_back r fits =
 
 -- ---- namespace lists
 
+-- a namespace list with at most most_nsids identifiers has 4,096 bytes
 pub length-bytes_of_ns_list : (ids : List ℕ) → length ids ≤ most_nsids → length (bytes_of_ns_list ids)
     ≡ 4096
 unfolding bytes_of_ns_list
 length-bytes_of_ns_list ids h =
     length-laid_out 4096 (ns_list_parts ids) refl (length-padded most_nsids ids h, tt)
 
+-- a list of at most most_nsids identifiers, none of them 0, is read back from its bytes
 pub ns_list_back : (ids : List ℕ) → length ids ≤ most_nsids → AllByRecursion (λ x. (x ≢ 0)
     × (x < 2 ^ 32)) ids
     → ns_list_of_bytes (bytes_of_ns_list ids) ≡ ids
@@ -141,15 +154,18 @@ ns_list_back ids h fits =
 
 -- ---- controller lists
 
+-- the fields of a controller list lie one after the other in 4,096 bytes, if it has at most most_cntlids identifiers
 is_table_of_ids : (ids : List ℕ) → length ids ≤ most_cntlids → is_table 0 4096 (ctrl_list_parts ids) ≡ true
 is_table_of_ids ids h = grind arith
 
+-- a controller list with at most most_cntlids identifiers has 4,096 bytes
 pub length-bytes_of_ctrl_list : (ids : List ℕ) → length ids ≤ most_cntlids → length (bytes_of_ctrl_list ids)
     ≡ 4096
 unfolding bytes_of_ctrl_list
 length-bytes_of_ctrl_list ids h =
     length-laid_out 4096 (ctrl_list_parts ids) (is_table_of_ids ids h) (tt, (refl, tt))
 
+-- a controller list that fits its record is read back from its bytes
 pub ctrl_list_back : CtrlListReadsBack
 unfolding bytes_of_ctrl_list ctrl_list_of_bytes
 ctrl_list_back ids fits =

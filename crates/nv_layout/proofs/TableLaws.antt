@@ -16,9 +16,11 @@ use Rattle.nv_layout.proofs.PartLaws.{text_at-placed_before, times_suc}
 
 -- ---- places
 
+-- if a test of a ≤ b and a further test are both true, then a ≤ b and the further one is true
 both_true : (a b : ℕ) (rest : Bool) → (nat_le a b && rest) ≡ true → (a ≤ b) × (rest ≡ true)
 both_true a b rest h = (grind (arith, h), grind (arith, h))
 
+-- a table of fields begins at or before the end of its bytes
 table_end : (from size : ℕ) (ps : List Part) → is_table from size ps ≡ true → from ≤ size
 table_end from size [] t = grind (arith, t)
 table_end from size (p ∷ ps) t =
@@ -26,6 +28,7 @@ table_end from size (p ∷ ps) t =
     let later = table_end (place_of p + width_of p) size ps split.1 in
     omega (arith, split.0)
 
+-- bytes over which all fields of a table are written have as many bytes as before
 length-fold_placed : (b : List ℕ) (from size : ℕ) (ps : List Part) → is_table from size ps ≡ true
     → AllByRecursion IsSized ps → length b ≡ size → length (fold placed b ps) ≡ size
 length-fold_placed b from size [] t s e = e
@@ -54,9 +57,11 @@ before_table b from size (p ∷ ps) t s e at n h =
     (omega (arith, split.0))
     ∙ text_at-placed_before b p at n (omega (arith, split.0)) (omega (arith, later))
 
+-- the bytes have the field's bytes at its place
 abbrev Stands : List ℕ → Part → Type 0
 Stands b p = text_at (place_of p) (width_of p) b ≡ bytes_of p
 
+-- after all fields of a table are written, the bytes have each of them at its place
 all_stand : (b : List ℕ) (from size : ℕ) (ps : List Part) → is_table from size ps ≡ true
     → AllByRecursion IsSized ps → length b ≡ size → AllByRecursion (Stands (fold placed b ps)) ps
 all_stand b from size [] t s e = tt
@@ -71,6 +76,7 @@ all_stand b from size (p ∷ ps) t s e =
 
 -- ---- values
 
+-- a number that fits its width is read from the bytes that have it at its place
 number_back : (at width x : ℕ) (bytes : List ℕ) → x < 256 ^ width
     → text_at at width bytes ≡ little_bytes width x → number_at at width bytes ≡ x
 unfolding text_at number_at
@@ -79,7 +85,7 @@ number_back at width x bytes f e =
     ∙ ap (little_from 0 width) (e ∙ sym (append-nil (little_bytes width x)))
     ∙ little_number-reads_back width x [] f
 
--- the first number of an array, and the rest
+-- the bytes of an array are the bytes of its first number and then the bytes of the others
 first_and_rest : (at width n x : ℕ) (rest bytes : List ℕ)
     → text_at at (width * suc n) bytes ≡ little_bytes width x ++ rest
     → (text_at at width bytes ≡ little_bytes width x) × (text_at (at + width) (width * n) bytes
@@ -100,6 +106,7 @@ first_and_rest at width n x rest bytes e =
           ∙ drop-append_seam (little_bytes width x) rest,
     )
 
+-- numbers that fit their width are read from the bytes that have them one after the other
 numbers_back : (at width count : ℕ) (xs bytes : List ℕ) → length xs ≡ count
     → AllByRecursion (λ x. x < 256 ^ width) xs
     → text_at at (width * count) bytes ≡ flat_map (little_bytes width) xs
@@ -113,21 +120,25 @@ numbers_back at width (suc n) (x ∷ xs) bytes l f e =
     (λ i. number_back at width x bytes f.0 split.0 i ∷ numbers_back (at + width) width n xs bytes
     (omega arith) f.1 split.1 i)
 
+-- a field that fits is read from the bytes that have it at its place
 value_back : (bytes : List ℕ) (p : Part) → Fits p → Stands bytes p → Holds bytes p
 value_back bytes (number at width x) f e = number_back at width x bytes f e
 value_back bytes (numbers at width count xs) f e = numbers_back at width count xs bytes f.0 f.1 e
 value_back bytes (text at width t) f e = e
 
+-- fields that fit are each read from the bytes that have all of them at their places
 values_back : (bytes : List ℕ) (ps : List Part) → AllByRecursion Fits ps
     → AllByRecursion (Stands bytes) ps → AllByRecursion (Holds bytes) ps
 values_back bytes [] f e = tt
 values_back bytes (p ∷ ps) f e = (value_back bytes p f.0 e.0, values_back bytes ps f.1 e.1)
 
+-- the array or text of a field that fits has the right length
 sized : (p : Part) → Fits p → IsSized p
 sized (number at width x) f = tt
 sized (numbers at width count xs) f = f.0
 sized (text at width bytes) f = f
 
+-- the arrays and texts of fields that all fit have the right lengths
 all_sized : (ps : List Part) → AllByRecursion Fits ps → AllByRecursion IsSized ps
 all_sized [] f = tt
 all_sized (p ∷ ps) f = (sized p f.0, all_sized ps f.1)
@@ -142,6 +153,7 @@ table_back size ps t f =
 abbrev pub nothing : Part
 nothing = number 0 0 0
 
+-- if the bytes hold every field of a list, they hold field k, or `nothing` past the end of the list
 field_holds : (bytes : List ℕ) (ps : List Part) → AllByRecursion (Holds bytes) ps → (k : ℕ)
     → Holds bytes (get_or ps k nothing)
 unfolding number_at
@@ -149,6 +161,7 @@ field_holds bytes [] h k = refl
 field_holds bytes (p ∷ ps) h zero = h.0
 field_holds bytes (p ∷ ps) h (suc k) = field_holds bytes ps h.1 k
 
+-- the bytes of a table whose fields fit hold field k
 pub field_back : (size : ℕ) (ps : List Part) → is_table 0 size ps ≡ true → AllByRecursion Fits ps
     → (k : ℕ) → Holds (laid_out size ps) (get_or ps k nothing)
 field_back size ps t f = field_holds (laid_out size ps) ps (table_back size ps t f)

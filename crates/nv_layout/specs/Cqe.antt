@@ -12,6 +12,7 @@ dword3_of r =
     + at_bits 16 1 (bit r.phase)
     + at_bits 17 15 (number_of_status r.status)
 
+-- the fields of a completion queue entry at their offsets
 abbrev pub cqe_parts : Cqe → List Part
 cqe_parts r =
     number 0 4 r.command_specific
@@ -20,9 +21,11 @@ cqe_parts r =
     ∷ number 12 4 (dword3_of r)
     ∷ []
 
+-- a completion queue entry as 16 bytes
 unfoldable pub bytes_of_cqe : Cqe → List ℕ
 bytes_of_cqe r = laid_out 16 (cqe_parts r)
 
+-- the completion queue entry in these bytes
 unfoldable pub cqe_of_bytes : List ℕ → Cqe
 cqe_of_bytes bytes =
     let dword3 = number_at 12 4 bytes in
@@ -43,5 +46,6 @@ pub record CqeFits (r : Cqe) : Type 0 where
   pub cid : r.cid < 2 ^ 16
   pub status : StatusFits r.status
 
+-- a completion queue entry whose fields fit is read back from its bytes
 abbrev pub CqeReadsBack : Type 0
 CqeReadsBack = (r : Cqe) → CqeFits r → cqe_of_bytes (bytes_of_cqe r) ≡ r

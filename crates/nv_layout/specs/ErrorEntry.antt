@@ -16,6 +16,7 @@ pub record ErrorEntryFits (r : ErrorEntry) : Type 0 where
   pub vendor : r.vendor < 2 ^ 8
   pub specific : r.specific < 2 ^ 64
 
+-- the status of a command that succeeded: all fields are 0
 abbrev success : Status
 success = record { sc = 0; sct = 0; crd = 0; more = false; dnr = false }
 

@@ -11,6 +11,7 @@ use Rattle.nv_layout.specs.ErrorEntry.{ErrorEntryFits}
 abbrev pub status_word : ErrorEntry → ℕ
 status_word r = at_bits 0 1 (bit r.phase) + at_bits 1 15 (number_of_status r.status)
 
+-- the fields of an error log entry at their offsets
 abbrev pub error_entry_parts : ErrorEntry → List Part
 error_entry_parts r =
     number 0 8 r.count
@@ -24,9 +25,11 @@ error_entry_parts r =
     ∷ number 32 8 r.specific
     ∷ []
 
+-- an error log entry as 64 bytes
 unfoldable pub bytes_of_error_entry : ErrorEntry → List ℕ
 bytes_of_error_entry r = laid_out 64 (error_entry_parts r)
 
+-- the error log entry in these bytes
 unfoldable pub error_entry_of_bytes : List ℕ → ErrorEntry
 error_entry_of_bytes bytes =
     let word = number_at 12 2 bytes in
@@ -43,6 +46,7 @@ error_entry_of_bytes bytes =
       specific = number_at 32 8 bytes;
     }
 
+-- an error log entry whose fields fit is read back from its bytes
 abbrev pub ErrorEntryReadsBack : Type 0
 ErrorEntryReadsBack =
     (r : ErrorEntry) → ErrorEntryFits r → error_entry_of_bytes (bytes_of_error_entry r) ≡ r

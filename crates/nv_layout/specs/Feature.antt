@@ -37,6 +37,7 @@ abbrev pub thresholds : List ℕ
 thresholds =
     0 ∷ 1 ∷ 2 ∷ 3 ∷ 4 ∷ 5 ∷ 6 ∷ 7 ∷ 8 ∷ 16 ∷ 17 ∷ 18 ∷ 19 ∷ 20 ∷ 21 ∷ 22 ∷ 23 ∷ 24 ∷ []
 
+-- the row of each feature
 abbrev pub row_of : Feature → FeatureRow
 row_of feature.Arbitration = row 0x01 (codes "Arbitration") 0xffffff07 0 false
 row_of feature.PowerManagement = row 0x02 (codes "Power Management") 0xff 0x1f false

@@ -4,6 +4,7 @@ use Rattle.nv_layout.specs.Parts.{Part, laid_out, number, number_at, text, text_
 use Rattle.nv_layout.specs.Bits.{at_bits}
 use Rattle.nv_layout.specs.declared.id_ctrl.IdCtrl.{IdCtrl}
 
+-- the fields of a controller's Identify data at their offsets
 abbrev pub id_ctrl_parts : IdCtrl → List Part
 id_ctrl_parts r =
     number 0 2 r.vid
@@ -35,9 +36,11 @@ id_ctrl_parts r =
     ∷ text 768 256 r.subnqn
     ∷ []
 
+-- a controller's Identify data as 4,096 bytes
 unfoldable pub bytes_of_id_ctrl : IdCtrl → List ℕ
 bytes_of_id_ctrl r = laid_out 4096 (id_ctrl_parts r)
 
+-- the controller's Identify data in these bytes
 unfoldable pub id_ctrl_of_bytes : List ℕ → IdCtrl
 id_ctrl_of_bytes bytes = record {
   vid = number_at 0 2 bytes;
@@ -99,5 +102,6 @@ pub record IdCtrlFits (r : IdCtrl) : Type 0 where
   pub vwc : r.vwc < 2 ^ 8
   pub subnqn : length r.subnqn ≡ 256
 
+-- a controller's Identify data whose fields fit is read back from its bytes
 abbrev pub IdCtrlReadsBack : Type 0
 IdCtrlReadsBack = (r : IdCtrl) → IdCtrlFits r → id_ctrl_of_bytes (bytes_of_id_ctrl r) ≡ r

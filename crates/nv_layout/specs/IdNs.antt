@@ -13,15 +13,19 @@ number_of_lbaf l =
     + at_bits 16 8 l.lbads
     + at_bits 24 2 l.rp
 
+-- the LBA format whose four bytes are this number
 abbrev pub lbaf_of_number : ℕ → Lbaf
 lbaf_of_number x = record { ms = bits 0 16 x; lbads = bits 16 8 x; rp = bits 24 2 x }
 
+-- an LBA format as four bytes
 unfoldable pub bytes_of_lbaf : Lbaf → List ℕ
 bytes_of_lbaf l = laid_out 4 (number 0 4 (number_of_lbaf l) ∷ [])
 
+-- the LBA format in these bytes
 unfoldable pub lbaf_of_bytes : List ℕ → Lbaf
 lbaf_of_bytes bytes = lbaf_of_number (number_at 0 4 bytes)
 
+-- the fields of a namespace's Identify data at their offsets
 abbrev pub id_ns_parts : IdNs → List Part
 id_ns_parts r =
     number 0 8 r.nsze
@@ -38,9 +42,11 @@ id_ns_parts r =
     ∷ numbers 128 4 16 (map number_of_lbaf r.lbafs)
     ∷ []
 
+-- a namespace's Identify data as 4,096 bytes
 unfoldable pub bytes_of_id_ns : IdNs → List ℕ
 bytes_of_id_ns r = laid_out 4096 (id_ns_parts r)
 
+-- the namespace's Identify data in these bytes
 unfoldable pub id_ns_of_bytes : List ℕ → IdNs
 id_ns_of_bytes bytes = record {
   nsze = number_at 0 8 bytes;
@@ -79,8 +85,10 @@ pub record IdNsFits (r : IdNs) : Type 0 where
   pub formats : length r.lbafs ≡ 16
   pub each_format : AllByRecursion LbafFits r.lbafs
 
+-- a namespace's Identify data whose fields fit is read back from its bytes
 abbrev pub IdNsReadsBack : Type 0
 IdNsReadsBack = (r : IdNs) → IdNsFits r → id_ns_of_bytes (bytes_of_id_ns r) ≡ r
 
+-- an LBA format whose fields fit is read back from its bytes
 abbrev pub LbafReadsBack : Type 0
 LbafReadsBack = (l : Lbaf) → LbafFits l → lbaf_of_bytes (bytes_of_lbaf l) ≡ l

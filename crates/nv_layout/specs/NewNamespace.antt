@@ -1,8 +1,11 @@
 -- What a host asks of a namespace to create, by its offset table.
 use Rattle.std.specs.Prelude.{◌≡◌, ℕ, ◌^◌, ◌<◌, List, [], ◌∷◌}
 use Rattle.nv_layout.specs.Parts.{Part, laid_out, number, number_at}
+use Rattle.nv_layout.specs.IdNs.{id_ns_of_bytes}
+use Rattle.nv_layout.specs.declared.id_ns.IdNs.{IdNs}
 use Rattle.nv_layout.specs.declared.new_namespace.NewNamespace.{NewNamespace}
 
+-- the fields of a namespace to create at their offsets
 abbrev pub new_namespace_parts : NewNamespace → List Part
 new_namespace_parts w =
     number 0 8 w.nsze
@@ -12,9 +15,11 @@ new_namespace_parts w =
     ∷ number 30 1 w.nmic
     ∷ []
 
+-- the parameters of a namespace to create as 4,096 bytes
 unfoldable pub bytes_of_new_namespace : NewNamespace → List ℕ
 bytes_of_new_namespace w = laid_out 4096 (new_namespace_parts w)
 
+-- the parameters of a namespace to create in these bytes
 unfoldable pub new_namespace_of_bytes : List ℕ → NewNamespace
 new_namespace_of_bytes bytes = record {
   nsze = number_at 0 8 bytes;
@@ -32,6 +37,17 @@ pub record NewNamespaceFits (w : NewNamespace) : Type 0 where
   pub dps : w.dps < 2 ^ 8
   pub nmic : w.nmic < 2 ^ 8
 
+-- the parameters of a namespace to create whose fields fit are read back from their bytes
 abbrev pub NewNamespaceReadsBack : Type 0
 NewNamespaceReadsBack = (w : NewNamespace) → NewNamespaceFits w
     → new_namespace_of_bytes (bytes_of_new_namespace w) ≡ w
+
+-- what a host chooses of a namespace, by its Identify data
+abbrev pub chosen_in : IdNs → NewNamespace
+chosen_in r =
+    record { nsze = r.nsze; ncap = r.ncap; flbas = r.flbas; dps = r.dps; nmic = r.nmic }
+
+-- each field is read where a namespace's Identify data has it
+abbrev pub NewNamespacePlaces : Type 0
+NewNamespacePlaces =
+    (bytes : List ℕ) → new_namespace_of_bytes bytes ≡ chosen_in (id_ns_of_bytes bytes)

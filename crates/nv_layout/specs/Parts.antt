@@ -10,11 +10,13 @@ pub data Part : Type 0 where
   numbers : ℕ → ℕ → ℕ → List ℕ → Part
   text : ℕ → ℕ → List ℕ → Part
 
+-- the offset of a field's first byte
 abbrev pub place_of : Part → ℕ
 place_of (number at width x) = at
 place_of (numbers at width count xs) = at
 place_of (text at width bytes) = at
 
+-- how many bytes a field has
 abbrev pub width_of : Part → ℕ
 width_of (number at width x) = width
 width_of (numbers at width count xs) = width * count
@@ -31,6 +33,7 @@ unfoldable pub placed : List ℕ → Part → List ℕ
 placed bytes p =
     take (place_of p) bytes ++ (bytes_of p ++ drop (width_of p) (drop (place_of p) bytes))
 
+-- a list of n zeros
 unfoldable pub zeros : ℕ → List ℕ
 zeros n = replicate n 0
 

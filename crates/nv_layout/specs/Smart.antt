@@ -4,6 +4,7 @@ use Rattle.std.specs.List.{AllByRecursion}
 use Rattle.nv_layout.specs.Parts.{Part, laid_out, number, number_at, numbers, numbers_at}
 use Rattle.nv_layout.specs.declared.smart.Smart.{Smart}
 
+-- the fields of the health log at their offsets
 abbrev pub smart_parts : Smart → List Part
 smart_parts r =
     number 0 1 r.critical_warning
@@ -26,9 +27,11 @@ smart_parts r =
     ∷ numbers 200 2 8 r.sensors
     ∷ []
 
+-- a health log as 512 bytes
 unfoldable pub bytes_of_smart : Smart → List ℕ
 bytes_of_smart r = laid_out 512 (smart_parts r)
 
+-- the health log in these bytes
 unfoldable pub smart_of_bytes : List ℕ → Smart
 smart_of_bytes bytes = record {
   critical_warning = number_at 0 1 bytes;
@@ -73,5 +76,6 @@ pub record SmartFits (r : Smart) : Type 0 where
   pub sensor_count : length r.sensors ≡ 8
   pub each_sensor : AllByRecursion (λ x. x < 2 ^ 16) r.sensors
 
+-- a health log whose fields fit is read back from its bytes
 abbrev pub SmartReadsBack : Type 0
 SmartReadsBack = (r : Smart) → SmartFits r → smart_of_bytes (bytes_of_smart r) ≡ r

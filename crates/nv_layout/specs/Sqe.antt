@@ -12,6 +12,7 @@ dword0_of r =
     + at_bits 14 2 r.psdt
     + at_bits 16 16 r.cid
 
+-- the fields of a submission queue entry at their offsets
 abbrev pub sqe_parts : Sqe → List Part
 sqe_parts r =
     number 0 4 (dword0_of r)
@@ -27,9 +28,11 @@ sqe_parts r =
     ∷ number 60 4 r.cdw15
     ∷ []
 
+-- a submission queue entry as 64 bytes
 unfoldable pub bytes_of_sqe : Sqe → List ℕ
 bytes_of_sqe r = laid_out 64 (sqe_parts r)
 
+-- the submission queue entry in these bytes
 unfoldable pub sqe_of_bytes : List ℕ → Sqe
 sqe_of_bytes bytes =
     let dword0 = number_at 0 4 bytes in
@@ -67,5 +70,6 @@ pub record SqeFits (r : Sqe) : Type 0 where
   pub cdw14 : r.cdw14 < 2 ^ 32
   pub cdw15 : r.cdw15 < 2 ^ 32
 
+-- a submission queue entry whose fields fit is read back from its bytes
 abbrev pub SqeReadsBack : Type 0
 SqeReadsBack = (r : Sqe) → SqeFits r → sqe_of_bytes (bytes_of_sqe r) ≡ r

@@ -33,5 +33,6 @@ pub record StatusFits (s : Status) : Type 0 where
   pub sct : s.sct < 2 ^ 3
   pub crd : s.crd < 2 ^ 2
 
+-- a status whose fields fit is read back from its number
 abbrev pub StatusReadsBack : Type 0
 StatusReadsBack = (s : Status) → StatusFits s → status_of_number (number_of_status s) ≡ s

@@ -1,4 +1,4 @@
--- What a call answers that may run out of memory.
+-- The result of a call that may run out of memory.
 use Rattle.std.specs.Prelude.{◌≡◌, ◌⊎◌, Result, Ok, Err}
 
 -- the result is the answer, as `view` sees it, unless memory ran out, which is the error `memory`

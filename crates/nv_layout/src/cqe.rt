@@ -57,7 +57,7 @@ impl Cqe {
     }
 }
 
-/// The outcome of a command: the 15 bits beside the phase tag in a completion queue entry. Section
+/// The outcome of a command: the 15 bits above the phase tag in a completion queue entry. Section
 /// "Status Field Definition".
 #[derive(Clone, Copy, Debug, PartialEq, Eq)]
 pub struct Status {

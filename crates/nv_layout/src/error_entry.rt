@@ -18,7 +18,7 @@ pub struct ErrorEntry {
     pub cid: u16,
     /// Status Field, without its phase tag.
     pub status: Status,
-    /// The phase tag beside the status field.
+    /// The phase tag below the status field.
     pub phase: bool,
     /// Parameter Error Location.
     pub location: u16,

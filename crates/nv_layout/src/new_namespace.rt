@@ -21,11 +21,17 @@ pub struct NewNamespace {
 impl NewNamespace {
     ghost use Rattle.std.specs.Prelude.{◌≡◌};
     ghost use Rattle.nv_layout.specs.NewNamespace.{NewNamespaceFits, bytes_of_new_namespace};
-    ghost use Rattle.nv_layout.specs.NewNamespace.{new_namespace_of_bytes};
+    ghost use Rattle.nv_layout.specs.NewNamespace.{NewNamespacePlaces, new_namespace_of_bytes};
 
     /// States a law: each field fits its bits, as its type says. The call does nothing.
     pub fn fits(self)
         ensures { NewNamespaceFits self }
+    {}
+
+    /// States a law: in any bytes, each field is read where the Identify Namespace data structure
+    /// has it. The call does nothing.
+    pub fn places()
+        ensures { NewNamespacePlaces }
     {}
 
     /// Writes the data's bytes. What a host doesn't choose is 0.

@@ -37,6 +37,7 @@ pub record AnswersAs (p a : App) : Type 0 where
   pub matches : (ws : List Text) → matches_of a ws ≡ matches_of p ws
   pub built_as : built a ≡ built p
 
+-- an application that is simple, without a rule of one argument on another, gives the same answers as itself
 answers_itself : (p : App) → is_simple_and_free p ≡ true → AnswersAs p p
 answers_itself p simple = record {
   simple = simple;
@@ -45,9 +46,11 @@ answers_itself p simple = record {
   built_as = refl;
 }
 
+-- an application that is built changes no more when it is built again
 built_again : (p : App) → (built p).top.is_built ≡ true → built (built p) ≡ built p
 built_again p h = rw h refl
 
+-- a reusable application gives the same answers when it is built
 answers_built : (p : App) → IsReusable p → AnswersAs p (built p)
 answers_built p reusable =
     let again = built_again p reusable.once in
@@ -59,21 +62,25 @@ answers_built p reusable =
       built_as = again;
     }
 
+-- every application of a command word gives the same answers as the word's own
 pub answers_as : (v : Verb) (a : App) → IsAppOf v a → AnswersAs (app_for v) a
 answers_as v a (inl e) =
     subst (AnswersAs (app_for v)) (sym e) (answers_itself (app_for v) (each_is_reusable v).simple)
 answers_as v a (inr e) = subst (AnswersAs (app_for v)) (sym e) (answers_built (app_for v) (each_is_reusable v))
 
+-- every application of a command word is simple, and no argument of it has a rule on another
 pub simple_as : (v : Verb) (a : App) → IsAppOf v a → is_simple_and_free a ≡ true
 simple_as v a e = (answers_as v a e).simple
 
+-- every application of a command word is simple
 pub matches_as : (v : Verb) (a : App) → IsAppOf v a → is_simple a ≡ true
 matches_as v a e = (both _ _ (simple_as v a e)).0
 
+-- every application of a command word can be built
 buildable_as : (v : Verb) (a : App) → IsAppOf v a → is_buildable a ≡ true
 buildable_as v a e = (both _ _ (matches_as v a e)).0
 
--- a command stays that of its word unless it is broken
+-- a command whose application is its word's keeps it when it is built, unless it breaks
 pub stays_made : (v : Verb) (old new : Command) → IsAppOf v (app_of old) → BuildsOrBreaks old new
     → (is_broken new ≡ true) ⊎ IsAppOf v (app_of new)
 stays_made v old new e (inl broken) = inl broken
@@ -81,14 +88,16 @@ stays_made v old new e (inr (builds, keeps, inl same)) = inr (subst (IsAppOf v) 
 stays_made v old new e (inr (builds, keeps, inr grows)) =
     inr (inr (grows (buildable_as v (app_of old) e) ∙ (answers_as v (app_of old) e).built_as))
 
+-- a list of no kinds of error is empty
 none_taken : (ks : Kinds) → ks ≡ [] → is_empty ks ≡ true
 none_taken ks e = ap (λ (x : Kinds). is_empty x) e
 
+-- a list with a kind of error isn't empty
 among_taken : (k : ErrorKind) (ks : Kinds) → IsAmong k ks → is_empty ks ≡ false
 among_taken k [] h = absurd h
 among_taken k (x ∷ xs) h = search rules
 
--- words in which an application finds no fault, and what it finds then
+-- words in which an application finds no fault have none for an equal one, which finds the same rows
 pub without_fault : (p a : App) (ws : List Text) (rows : List Row) → a ≡ p → fault_of a ws ≡ []
     → rows ≡ matches_of a ws → (is_empty (fault_of p ws) ≡ true) × (rows ≡ matches_of p ws)
 without_fault p a ws rows e f r = (
@@ -96,17 +105,20 @@ without_fault p a ws rows e f r = (
   r ∙ ap (λ (x : App). matches_of x ws) e,
 )
 
--- words in which an application finds a fault
+-- words in which an application finds a fault have one for an equal application
 pub with_fault : (p a : App) (ws : List Text) (k : ErrorKind) → a ≡ p → IsAmong k (fault_of a ws)
     → is_empty (fault_of p ws) ≡ false
 with_fault p a ws k e among = ap (λ (x : App). is_empty (fault_of x ws)) (sym e) ∙ among_taken k _ among
 
+-- if clap finds no fault in the words, their rows are what it finds
 taken_rows : (v : Verb) (ws : List Text) → is_taken v ws ≡ true → rows_of_words v ws ≡ Ok (clap_rows v ws)
 taken_rows v ws h = rw h refl
 
+-- if clap finds a fault in the words, that is a usage error
 refused_rows : (v : Verb) (ws : List Text) → is_taken v ws ≡ false → rows_of_words v ws ≡ Err fault.Usage
 refused_rows v ws h = rw h refl
 
+-- what an application of a command word finds without a fault are the rows of the words
 pub taken : (v : Verb) (ws : List Text) (a : App) (rows : List Row) → IsAppOf v a
     → fault_of a ws ≡ [] → rows ≡ matches_of a ws → rows_of_words v ws ≡ Ok rows
 unfolding is_taken clap_rows
@@ -116,6 +128,7 @@ taken v ws a rows e f r =
     (r ∙ same.matches ws) in
     taken_rows v ws found.0 ∙ ap Ok (sym found.1)
 
+-- an error of such an application other than lack of memory is a usage error
 pub refused : (v : Verb) (ws : List Text) (a : App) (k : ErrorKind) → IsAppOf v a
     → (k ≡ kind.OutOfMemory) ⊎ IsAmong k (fault_of a ws) → (k ≡ kind.OutOfMemory → ⊥)
     → rows_of_words v ws ≡ Err fault.Usage
@@ -125,5 +138,6 @@ refused v ws a k e (inr among) n =
     let told = subst (IsAmong k) ((answers_as v a e).faults ws) among in
     refused_rows v ws (with_fault (app_for v) (app_for v) ws k refl told)
 
+-- commands that were made, and one more that was made, are all made
 pub made_more : (xs : List MadeCommand) (x : MadeCommand) → All IsMade xs → IsMade x → All IsMade (xs ++ x ∷ [])
 made_more xs x h m = All-push IsMade xs x h m

@@ -12,51 +12,64 @@ use Rattle.clap.proofs.WalkLemmas.{both}
 use Rattle.clap.specs.Walk.{is_empty}
 use Rattle.nv_line.specs.Values.{digits_of, within}
 
+-- the greatest number of 64 bits
 abbrev most_of_64 : ℕ
 most_of_64 = 18446744073709551615
 
+-- whether these are digits of the base, and at least one
 abbrev is_numeral : ℕ → List ℕ → Bool
 is_numeral base ds = not (is_empty ds) && list_all (λ d. nat_lt (digit_value d) base) ds
 
+-- digits of a base pass the test for digits
 all_in : (base : ℕ) (ds : List ℕ) → AllDigits base ds → list_all (λ d. nat_lt (digit_value d) base) ds ≡ true
 all_in base [] h = refl
 all_in base (d ∷ ds) h = let rest = all_in base ds h.1 in let first = h.0 in grind (arith, rest, first)
 
+-- if a test of m < n and a further test are both true, then m < n and the further one is true
 first_of_two : (m n : ℕ) (b : Bool) → (nat_lt m n && b) ≡ true → (m < n) × (b ≡ true)
 first_of_two m n b h = (grind (arith, h), grind (arith, h))
 
+-- what passes the test for digits are digits of the base
 all_out : (base : ℕ) (ds : List ℕ) → list_all (λ d. nat_lt (digit_value d) base) ds ≡ true → AllDigits base ds
 all_out base [] h = tt
 all_out base (d ∷ ds) h = let p = first_of_two (digit_value d) base _ h in (p.0, all_out base ds p.1)
 
+-- a numeral passes the test for numerals
 numeral_in : (base : ℕ) (ds : List ℕ) → IsNumeral base ds → is_numeral base ds ≡ true
 numeral_in base [] h = absurd (omega arith)
 numeral_in base (d ∷ ds) h = let all = all_in base (d ∷ ds) h.1 in search (rules, all)
 
+-- what passes the test for numerals is a numeral
 numeral_out : (base : ℕ) (ds : List ℕ) → is_numeral base ds ≡ true → IsNumeral base ds
 numeral_out base [] h = absurd (cc)
 numeral_out base (d ∷ ds) h = (omega arith, all_out base (d ∷ ds) (both _ _ h).1)
 
+-- a number from `least` to `most` is in the range
 within_yes : (least most n : ℕ) → least ≤ n → n ≤ most → within least most n ≡ Some n
 within_yes least most n a b = grind arith
 
+-- a number above `most` isn't in the range
 within_no : (least most n : ℕ) → most < n → within least most n ≡ None
 within_no least most n a = grind arith
 
+-- a value of 64 bits that the test accepts is a number in the range
 when_numeral : (b : Bool) (v : ℕ) → b ≡ true → v ≤ most_of_64
     → Some v ≡ option_and_then (within 0 most_of_64) (if b then Some v else None)
 when_numeral b v e h = rw e (sym (within_yes 0 most_of_64 v (omega arith) h))
 
+-- there is no number if the test accepts only a value above 64 bits
 no_numeral : (b : Bool) (v : ℕ) → (b ≡ true → most_of_64 < v)
     → None ≡ option_and_then (within 0 most_of_64) (if b then Some v else None)
 no_numeral true v h = sym (within_no 0 most_of_64 v (h refl))
 no_numeral false v h = refl
 
+-- a numeral that isn't a number of 64 bits has a value above the greatest one
 too_large : (base : ℕ) (bs : List ℕ) → (IsNumeral base bs → digits_value base bs < 2 ^ 64 → ⊥)
     → is_numeral base bs ≡ true → most_of_64 < digits_value base bs
 too_large base bs k b = elim (cases_lt most_of_64 (digits_value base bs))
     [ inl more ↦ more | inr less ↦ absurd (k (numeral_out base bs b) (omega arith)) ]
 
+-- parsing bytes that don't begin with a plus sign gives the number of their digits, if it has 64 bits
 pub digits_at : {E : Type 0} (base : ℕ) (bs : List ℕ) (r : Result ℕ E) → ParsesUnsigned 64 base bs r
     → get_or bs 0 0 ≢ 43 → result_ok r ≡ option_and_then (within 0 most_of_64) (digits_of base bs)
 unfolding digits_of
@@ -67,6 +80,7 @@ digits_at base bs (Err e) h n =
     let k = rw (without_leading_plus_none bs n) at h in
     no_numeral (is_numeral base bs) (digits_value base bs) (λ b. too_large base bs (λ a v. k (a, v)) b)
 
+-- bytes that begin with a plus sign have no number
 pub plus_is_none : (base : ℕ) (bs : List ℕ) → base ≤ 16 → get_or bs 0 0 ≡ 43
     → None ≡ option_and_then (within 0 most_of_64) (digits_of base bs)
 unfolding digits_of

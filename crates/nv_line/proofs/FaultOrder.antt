@@ -17,6 +17,7 @@ use Rattle.nv_line.specs.declared.line.Line.TheVariants as line
 use Rattle.nv_line.specs.Word.{line_limit}
 use Rattle.nv_line.specs.declared.request.Request.{Request}
 
+-- a line within the limit that isn't skipped and isn't UTF-8 has the fault NotText
 pub no_text : (text : Text) (controllers : ℕ) → length text ≤ line_limit → is_skipped text ≡ false
     → (IsUtf8 text → ⊥) → reading text controllers ≡ Err fault.NotText
 no_text text controllers short busy bad =
@@ -28,6 +29,7 @@ no_text text controllers short busy bad =
 abbrev pub said_by : Result Request LineFault → Result Line LineFault
 said_by answer = answer >>= λ request. Ok (line.Request request)
 
+-- a line within the limit that isn't skipped and is UTF-8 means what its words ask for
 some_text : (text : Text) (controllers : ℕ) → length text ≤ line_limit → is_skipped text ≡ false → IsUtf8 text
     → reading text controllers ≡ said_by (request_of controllers (without_nvme (words_of text)))
 some_text text controllers short busy good =
@@ -35,13 +37,13 @@ some_text text controllers short busy good =
     let long : nat_lt line_limit (length text) ≡ false = grind arith in
     rw (long, busy, utf8) refl
 
--- `?`: lack of memory or the fault is returned
+-- lack of memory or the fault of a request is also what the line returns
 pub handed_up : (answer : Result Request LineFault) (e : LineFault) → (e ≡ fault.Memory) ⊎ (answer ≡ Err e)
     → (e ≡ fault.Memory) ⊎ (said_by answer ≡ Err e)
 handed_up answer e (inl m) = inl m
 handed_up answer e (inr is) = inr (ap said_by is)
 
--- the result for a text, by its words
+-- a result that is right for the request of a text's words is right for the text
 pub answer_at : (text : Text) (controllers : ℕ) (words : List Text) (r : Result Line LineFault)
     → length text ≤ line_limit → is_skipped text ≡ false → IsUtf8 text
     → words ≡ without_nvme (words_of text)

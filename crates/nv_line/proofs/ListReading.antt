@@ -15,10 +15,12 @@ pub record IsReadTo (pieces : List Text) (ids : List ℕ) (n : ℕ) : Type 0 whe
   pub room : n ≤ most_cntlids
   pub rest : identifiers_in pieces ≡ option_map (λ ns. ids ++ ns) (identifiers_in (drop n pieces))
 
+-- an optional list is the same with no elements put before it
 same_option : (o : Option (List ℕ)) → o ≡ option_map (λ ns. [] ++ ns) o
 same_option (Some ns) = refl
 same_option None = refl
 
+-- before the first piece, no identifiers were read
 pub nothing_read : (pieces : List Text) → IsReadTo pieces [] 0
 nothing_read pieces = record {
   count = refl;
@@ -26,6 +28,7 @@ nothing_read pieces = record {
   rest = same_option (identifiers_in pieces);
 }
 
+-- the identifiers of the rest are the next piece, if it is a number of 16 bits, and the identifiers after it
 after_piece : (pieces : List Text) (n : ℕ) (p : Text)
     → (n < length pieces) × (p ≡ get_or pieces n p)
     → identifiers_in (drop n pieces)
@@ -36,12 +39,14 @@ after_piece pieces n p turn =
     at_drop_more identifiers_in pieces n p turn.0
     ∙ ap (λ q. identifiers_in (q ∷ drop (n + 1) pieces)) (sym turn.1)
 
+-- an element put before an optional list, and others before that, are the others and the element before the list
 one_more : (ids : List ℕ) (x : ℕ) (o : Option (List ℕ))
     → option_map (λ ns. ids ++ ns) (option_map (λ ns. x ∷ ns) o)
     ≡ option_map (λ ns. (ids ++ x ∷ []) ++ ns) o
 one_more ids x (Some ns) = ap Some (sym (append_assoc ids (x ∷ []) ns))
 one_more ids x None = refl
 
+-- a piece that is a number of 16 bits adds it to the identifiers that were read
 pub piece_read : (pieces : List Text) (ids : List ℕ) (n : ℕ) (p : Text) (x : ℕ)
     → IsReadTo pieces ids n → n < most_cntlids
     → (n < length pieces) × (p ≡ get_or pieces n p) → number_in 0 65535 p ≡ Some x
@@ -57,12 +62,14 @@ piece_read pieces ids n p x so room turn number = record {
 
 -- ---- the three ends
 
+-- a text with no more pieces than a list has room for is the list of their identifiers
 listed : (text : Text) → length (slice_split is_comma text) ≤ most_cntlids
     → list_in text ≡ identifiers_in (slice_split is_comma text)
 unfolding list_in
 listed text h =
     let room : nat_le (length (slice_split is_comma text)) most_cntlids ≡ true = grind (arith, h) in rw room refl
 
+-- when all pieces were read, the identifiers are the list of the text
 pub all_read : (text : Text) (ids : List ℕ) (n : ℕ) → IsReadTo (slice_split is_comma text) ids n
     → length (slice_split is_comma text) ≤ n → Some ids ≡ list_in text
 unfolding identifiers_in
@@ -73,11 +80,13 @@ all_read text ids n so end =
     ∙ ap (option_map (λ ns. ids ++ ns)) (at_drop_all identifiers_in pieces n end)
     ∙ ap Some (append-nil ids))
 
+-- a text with more pieces than a list has room for is no list
 pub too_many : (text : Text) → most_cntlids < length (slice_split is_comma text) → None ≡ list_in text
 unfolding list_in
 too_many text h =
     let none : nat_le (length (slice_split is_comma text)) most_cntlids ≡ false = grind (arith, h) in rw none refl
 
+-- a text with a piece that is no identifier is no list
 either_none : (text : Text)
     → identifiers_in (slice_split is_comma text) ≡ None → None ≡ list_in text
 unfolding list_in
@@ -87,7 +96,7 @@ either_none text none = elim (nat_le (length (slice_split is_comma text)) most_c
       | false ↦ refl
     ]
 
--- a piece that is no number
+-- a text with a piece that is no number of 16 bits is no list
 pub no_number : (text : Text) (ids : List ℕ) (n : ℕ) (p : Text)
     → IsReadTo (slice_split is_comma text) ids n
     → (n < length (slice_split is_comma text)) × (p ≡ get_or (slice_split is_comma text) n p)

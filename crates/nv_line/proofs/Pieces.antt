@@ -2,7 +2,7 @@
 use Rattle.std.proofs.Common.{◌≡◌, ◌∙◌, ◌||◌, ◌++◌, ℕ, ap, refl, Bool, true, false, cond, List, [], ◌∷◌}
 use Rattle.std.specs.List.{flat_map, onto_first, slice_split}
 
--- a split has a first part
+-- a split text has a first part
 has_first : (p : ℕ → Bool) (xs : List ℕ) → (h : List ℕ) × (t : List (List ℕ)) × (slice_split p xs ≡ h ∷ t)
 has_first p [] = ([], [], refl)
 has_first p (x ∷ xs) = go (p x) (slice_split p xs) where
@@ -12,6 +12,8 @@ has_first p (x ∷ xs) = go (p x) (slice_split p xs) where
   go false [] = (x ∷ [], [], refl)
   go false (part ∷ parts) = (x ∷ part, parts, refl)
 
+-- with one more character in front, splitting twice begins a new piece if either split ends there, and otherwise adds
+-- the character to the first piece
 step : (S : List ℕ → List (List ℕ)) (x : ℕ) (b c : Bool) (P W : List (List ℕ)) (h : List ℕ)
     (t : List (List ℕ)) (a : List ℕ) (r : List (List ℕ))
     → P ≡ h ∷ t → S [] ≡ [] ∷ [] → S h ≡ a ∷ r → S (x ∷ h) ≡ cond c ([] ∷ S h) (onto_first x (S h)) → flat_map S P ≡ W
@@ -26,6 +28,7 @@ step S x false false P W h t a r eP e0 eh ec ih =
     let put : S (x ∷ h) ≡ (x ∷ a) ∷ r = ec ∙ ap (onto_first x) eh in
     rw eP (ap (λ l. l ++ flat_map S t) put ∙ ap (onto_first x) ih3)
 
+-- splitting at p and then each part at q is splitting at p or q
 pub split_twice : (p q : ℕ → Bool) (xs : List ℕ)
     → flat_map (slice_split q) (slice_split p xs) ≡ slice_split (λ b. p b || q b) xs
 split_twice p q [] = refl

@@ -36,6 +36,7 @@ option_rule (Number o) = rule_for o.name o.letter Set (is_required o)
 option_rule (ListOf o) = rule_for o.name o.letter Set true
 option_rule (Format o) = rule_for o.name o.letter Set false
 
+-- the rule of the device, which is required
 abbrev pub device_rule : Rule
 device_rule = record (new_rule (codes "device")) { required = true }
 
@@ -52,6 +53,7 @@ bare_app verb.List = without_help (new_app (word_of verb.List))
 abbrev pub with_options : App → List CommandOption → App
 with_options app options = fold (λ a o. with_rule a (option_rule o)) app options
 
+-- the application of a command word
 abbrev pub app_for : Verb → App
 app_for v = with_options (bare_app v) (options_of v)
 
@@ -71,5 +73,6 @@ is_taken verb words = is_empty (fault_of (app_for verb) words)
 unfoldable pub clap_rows : Verb → List Text → List Row
 clap_rows verb words = matches_of (app_for verb) words
 
+-- what clap finds in the words, or a usage fault
 abbrev pub rows_of_words : Verb → List Text → Result (List Row) LineFault
 rows_of_words verb words = if is_taken verb words then Ok (clap_rows verb words) else Err Usage

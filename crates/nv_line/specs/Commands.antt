@@ -19,6 +19,7 @@ use Rattle.nv_line.specs.declared.request.Ask.{Ask}
 use Rattle.nv_line.specs.declared.request.Ask.TheVariants.{Send, ErrorLog}
 use Rattle.nv_command.specs.declared.command.Command.{Command}
 
+-- the command of get-feature
 abbrev pub get_feature_of : List Row → Device → Result Ask LineFault
 get_feature_of rows device = do
   nsid ← number_option_in rows feature_nsid_option device
@@ -27,6 +28,7 @@ get_feature_of rows device = do
   cdw11 ← number_option_in rows cdw11_option device
   Ok (Send (GetFeature (record { fid = fid; sel = sel; nsid = nsid; cdw11 = cdw11 })))
 
+-- the command of set-feature
 abbrev pub set_feature_of : List Row → Device → Result Ask LineFault
 set_feature_of rows device = do
   nsid ← number_option_in rows feature_nsid_option device
@@ -39,6 +41,7 @@ set_feature_of rows device = do
     nsid = nsid;
   })))
 
+-- the command of format
 abbrev pub format_of : List Row → Device → Result Ask LineFault
 format_of rows device = do
   nsid ← number_option_in rows nsid_option device
@@ -63,21 +66,25 @@ list_ns_of rows device = do
   first ← number_option_in rows first_nsid_option device
   Ok (Send (list_command (flag_in rows all_option) (first - 1)))
 
+-- the command of id-ns
 abbrev pub id_ns_of : List Row → Device → Result Ask LineFault
 id_ns_of rows device = do
   nsid ← number_option_in rows nsid_option device
   Ok (Send (namespace_command (flag_in rows force_option) nsid))
 
+-- the command of smart-log: all 512 bytes of the health log
 abbrev pub smart_log_of : List Row → Device → Result Ask LineFault
 smart_log_of rows device = do
   nsid ← number_option_in rows smart_nsid_option device
   Ok (Send (GetLog (record { lid = 0x02; nsid = nsid; offset = 0; dwords = 128 })))
 
+-- what error-log asks for
 abbrev pub error_log_of : List Row → Device → Result Ask LineFault
 error_log_of rows device = do
   entries ← number_option_in rows log_entries_option device
   Ok (ErrorLog entries)
 
+-- the command of create-ns
 abbrev pub create_ns_of : List Row → Device → Result Ask LineFault
 create_ns_of rows device = do
   nsze ← number_option_in rows nsze_option device
@@ -94,6 +101,7 @@ attachment_of detach rows device = do
   ids ← list_option_in rows controllers_option
   Ok (Send (Attachment nsid detach ids))
 
+-- the command of delete-ns
 abbrev pub delete_ns_of : List Row → Device → Result Ask LineFault
 delete_ns_of rows device = do
   nsid ← number_option_in rows nsid_option device

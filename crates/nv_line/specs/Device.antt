@@ -27,6 +27,7 @@ abbrev pub namespace_address : Text → ℕ → Option Device
 namespace_address text controller =
     option_map (λ n. record { controller = controller; nsid = Some n }) (nsid_of text)
 
+-- the device of an address after /dev/nvme, which has a namespace if it has the letter n
 abbrev pub address_of : ℕ → Text → Option Device
 address_of controllers text =
     if nat_lt (position_or_len is_n text) (length text)

@@ -11,6 +11,7 @@ use Rattle.nv_line.specs.declared.line.Line.{Line}
 use Rattle.nv_line.specs.declared.line.Line.TheVariants as line
 use Rattle.nv_line.specs.Word.{line_limit}
 
+-- the meaning of a line for so many controllers, with its faults in order
 abbrev pub reading : Text → ℕ → Result Line LineFault
 reading text controllers =
     if nat_lt line_limit (length text) then Err TooLong

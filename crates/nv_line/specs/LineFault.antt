@@ -4,6 +4,7 @@ use Rattle.nv_line.specs.OptionName.{name_of}
 use Rattle.nv_line.specs.declared.fault.LineFault.{LineFault}
 use Rattle.nv_line.specs.declared.fault.LineFault.TheVariants as fault
 
+-- the text of each fault
 abbrev pub fault_text : LineFault → List ℕ
 fault_text fault.NotText = codes "not UTF-8 text"
 fault_text fault.Usage = codes "usage error"

@@ -18,6 +18,7 @@ is_required o = not o.takes_path && is_none o.default
 abbrev pub fallback_of : NumberOption → Device → Option ℕ
 fallback_of o device = if o.takes_path then option_or device.nsid o.default else o.default
 
+-- the name of each option
 abbrev pub name_of : OptionName → Text
 name_of NamespaceId = codes "namespace-id"
 name_of All = codes "all"

@@ -48,6 +48,7 @@ ask_of SmartLog = smart_log_of
 ask_of ErrorLog = error_log_of
 ask_of Reset = λ rows device. Ok ask.Reset
 
+-- the device that a line names, if it is one of the subsystem
 abbrev pub device_in : ℕ → ListOf Row → Result Device LineFault
 device_in controllers rows =
     ok_or (device_of controllers (unwrap_or (first_of (codes "device") rows) [])) fault.Device
@@ -76,6 +77,7 @@ pub record IsAskKnown (controllers c : ℕ) (a : Ask) : Type 0 where
   pub controller : c < controllers
   pub askable : IsAskable a
 
+-- a query asks only controllers of the subsystem
 abbrev pub IsQueryKnown : ℕ → Query → Type 0
 IsQueryKnown controllers (query.One c a) = IsAskKnown controllers c a
 IsQueryKnown controllers query.List = Unit {0}

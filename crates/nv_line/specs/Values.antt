@@ -1,4 +1,4 @@
--- The values that the texts of options stand for.
+-- The values of the texts of options.
 use Rattle.std.specs.Prelude.{ℕ, Bool, ◌==◌, nat_le, length, if◌then◌else◌, List, [], ◌∷◌, Option, Some}
 use Rattle.std.specs.Prelude.{None, option_and_then, option_map, not, ◌||◌, ◌&&◌, nat_lt, drop}
 use Rattle.std.specs.Prelude.{slice_index, false, Result, Ok, Err, codes}
@@ -21,10 +21,11 @@ use Rattle.nv_line.specs.declared.option.NumberOption.{NumberOption}
 use Rattle.nv_line.specs.declared.output_format.OutputFormat.{OutputFormat}
 use Rattle.nv_line.specs.declared.output_format.OutputFormat.TheVariants.{Normal, Json}
 
+-- whether a byte is a comma
 abbrev pub is_comma : ℕ → Bool
 is_comma b = b == 44
 
--- the number that these digits of a base stand for: at least one digit, and no sign
+-- the number that is written in these digits of a base: at least one digit, and no sign
 unfoldable pub digits_of : ℕ → Text → Option ℕ
 digits_of base ds = if not (is_empty ds) && list_all (λ d. nat_lt (digit_value d) base) ds
     then Some (digits_value base ds) else None
@@ -37,6 +38,7 @@ number_of text =
     then digits_of 16 (drop 2 text) else digits_of 8 (drop 1 text))
     else digits_of 10 text
 
+-- a number, if it is from `least` to `most`
 abbrev pub within : ℕ → ℕ → ℕ → Option ℕ
 within least most n = if nat_le least n && nat_le n most then Some n else None
 
@@ -79,6 +81,7 @@ abbrev pub flag_in : List Row → FlagOption → Bool
 flag_in rows o =
     option_map_or (λ t. bytes_eq t (codes "true")) (first_of (name_of o.name) rows) false
 
+-- the output format with this name
 abbrev pub format_named : Text → Option OutputFormat
 format_named name =
     if bytes_eq name (codes "normal") then Some Normal

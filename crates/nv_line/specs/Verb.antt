@@ -10,6 +10,7 @@ use Rattle.nv_line.specs.declared.verb.DeviceVerb.TheVariants.{ErrorLog, Reset}
 use Rattle.nv_line.specs.declared.verb.Verb.{Verb}
 use Rattle.nv_line.specs.declared.verb.Verb.TheVariants.{Of, List}
 
+-- the word of each command that takes a device
 abbrev pub device_word_of : DeviceVerb → Text
 device_word_of IdCtrl = codes "id-ctrl"
 device_word_of IdNs = codes "id-ns"
@@ -25,6 +26,7 @@ device_word_of SmartLog = codes "smart-log"
 device_word_of ErrorLog = codes "error-log"
 device_word_of Reset = codes "reset"
 
+-- the word of each command
 abbrev pub word_of : Verb → Text
 word_of (Of verb) = device_word_of verb
 word_of List = codes "list"
@@ -48,5 +50,6 @@ verbs =
     ∷ List
     ∷ []
 
+-- the command with this word
 abbrev pub verb_of : Text → Option Verb
 verb_of word = find (λ v. bytes_eq word (word_of v)) verbs

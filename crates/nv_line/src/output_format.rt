@@ -1,14 +1,14 @@
-//! How answers are written.
+//! How output is written.
 
 ghost use Rattle.std.specs.Prelude.{◌≡◌};
 ghost use Rattle.nv_line.specs.Values.{format_named};
 
-/// How an answer is written.
+/// How output is written.
 #[derive(Clone, Copy, Debug, PartialEq, Eq)]
 pub enum OutputFormat {
     /// As text.
     Normal,
-    /// As JSON, if the answer has a JSON form.
+    /// As JSON, if what is shown has a JSON form.
     Json,
 }
 

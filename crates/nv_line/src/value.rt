@@ -14,7 +14,7 @@ use crate::output_format::OutputFormat;
 use clap::ArgMatches;
 use nv_layout::{ControllerIds, CtrlList, MOST_CNTLIDS};
 
-/// Returns the number that digits of a base stand for.
+/// Returns the number that is written in digits of a base.
 fn digits(text: &str, base: u32) -> Option<u64>
     requires low { 2 ≤ base }
     requires high { base ≤ 16 }

@@ -9,7 +9,7 @@ use crate::option::{
     CommandOption, FlagOption, FormatOption, ListOption, NumberOption, OptionName,
 };
 
-/// An NSID, which is required. Its default is that of the path.
+/// An NSID, which is required. Its default is the NSID in the path.
 pub const NSID: NumberOption = NumberOption {
     name: OptionName::NamespaceId,
     letter: 'n',
@@ -126,7 +126,7 @@ pub const MS: NumberOption = NumberOption {
     ..PIL
 };
 
-/// The NSID of a feature. Its default is that of the path, or else 0.
+/// The NSID of a feature. Its default is the NSID in the path, or else 0.
 pub const FEATURE_NSID: NumberOption = NumberOption {
     default: Some(0),
     ..NSID

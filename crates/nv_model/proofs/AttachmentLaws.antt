@@ -25,7 +25,7 @@ use Rattle.nv_model.specs.WellFormed.{AreValues, IsController, IsWellFormed}
 
 -- ---- attach
 
--- the NSIDs of a controller after an attach
+-- after an attach, a listed controller also has NSID n, and every controller has the NSIDs that it had
 has_more : (n : ℕ) (ids : List ℕ) (x : Controller) (q : ℕ)
     → map_of.contains_key (more n ids x).nsids q
     ≡ (cond (q == n) (is_listed ids x) false || map_of.contains_key x.attached q)
@@ -46,12 +46,14 @@ has_more n ids x q = at_test (is_listed ids x)
         ∙ same (q == n) (map_of.contains_key x.attached q)
     at_test false = none (q == n) (map_of.contains_key x.attached q)
 
+-- a disjunction doesn't depend on the order of its parts
 or_comm : (a b : Bool) → (a || b) ≡ (b || a)
 or_comm true true = refl
 or_comm true false = refl
 or_comm false true = refl
 or_comm false false = refl
 
+-- an attach that isn't refused leaves a well-formed subsystem well formed
 attach_keeps : (s : State) (n : ℕ) (ids : List ℕ) → IsWellFormed s
     → first_refusal (attach_rows s n ids) ≡ None → IsWellFormed (attached s n ids)
 attach_keeps s n ids w accepted = attached_keep s (more n ids) s.namespaces w (record {
@@ -111,6 +113,7 @@ attach_keeps s n ids w accepted = attached_keep s (more n ids) s.namespaces w (r
 
 -- ---- detach
 
+-- an NSID that a controller has after a detach was attached to it before
 kept : (n : ℕ) (ids : List ℕ) (x : Controller) (q : ℕ) → map_of.contains_key (fewer n ids x).nsids q
     ≡ true → map_of.contains_key x.attached q ≡ true
 kept n ids x q = at_test (is_listed ids x)
@@ -121,6 +124,7 @@ kept n ids x q = at_test (is_listed ids x)
     at_test true t = (left x.attached n q t).1
     at_test false t = t
 
+-- a detach leaves a well-formed subsystem well formed
 detach_keeps : (s : State) (n : ℕ) (ids : List ℕ) → IsWellFormed s → IsWellFormed (detached s n ids)
 detach_keeps s n ids w = attached_keep s (fewer n ids) s.namespaces w (record {
   allocated = λ x is q t. is.attached q (kept n ids x q t);
@@ -149,17 +153,20 @@ detach_keeps s n ids w = attached_keep s (fewer n ids) s.namespaces w (record {
 
 -- ---- both
 
+-- each row of an attach or a detach has a refusal
 pub attachment_rows_fit : (s : State) (n : ℕ) (detach : Bool) (ids : List ℕ)
     → AllRefuse (attachment_rows s n detach ids)
 attachment_rows_fit s n true ids = search (rules, is_refusal-refusal_by)
 attachment_rows_fit s n false ids = search (rules, is_refusal-refusal_by)
 
+-- an attach or a detach that isn't refused leaves a well-formed subsystem well formed
 pub attachment_keeps : (s : State) (n : ℕ) (detach : Bool) (ids : List ℕ) → IsWellFormed s
     → first_refusal (attachment_rows s n detach ids) ≡ None
     → IsWellFormed (with_attachments s n detach ids)
 attachment_keeps s n true ids w accepted = detach_keeps s n ids w
 attachment_keeps s n false ids w accepted = attach_keeps s n ids w accepted
 
+-- an attach or a detach adds or removes no controller
 pub attachment_controllers : (s : State) (n : ℕ) (detach : Bool) (ids : List ℕ)
     → length (with_attachments s n detach ids).controllers ≡ length s.controllers
 attachment_controllers s n true ids = length-map s.controllers (with_nsids (fewer n ids))

@@ -4,7 +4,7 @@ use Rattle.std.proofs.Common.{◌∷◌, fold, length, map, set, get_or}
 use Rattle.std.specs.Prelude.{All, count_by}
 use Rattle.nv_model.specs.State.{changed_at}
 
--- the views of a list with an element written
+-- writing an element whose view is f of the old one's changes the list of views by f at that index
 pub views_changed : {X Y : Type 0} (view : X → Y) (f : Y → Y) (xs : List X) (i : ℕ) (y d : X) → i
     < length xs → view y ≡ f (view (get_or xs i d)) → map view (set xs i y)
     ≡ changed_at (map view xs) i f
@@ -13,6 +13,7 @@ views_changed view f (x ∷ xs) zero y d h e = ap (λ v. v ∷ map view xs) e
 views_changed view f (x ∷ xs) (suc i) y d h e =
     ap (λ t. view x ∷ t) (views_changed view f xs i y d (omega arith) e)
 
+-- a list with an element changed is as long as before
 pub length-changed_at : {Y : Type 0} (f : Y → Y) (ys : List Y) (i : ℕ) → length (changed_at ys i f)
     ≡ length ys
 length-changed_at f [] i = refl
@@ -30,13 +31,14 @@ each_place R f same next (y ∷ ys) zero (suc k) d = same (get_or ys k d)
 each_place R f same next (y ∷ ys) (suc i) zero d = same y
 each_place R f same next (y ∷ ys) (suc i) (suc k) d = each_place R f same next ys i k d
 
--- what f preserves holds for each element
+-- what f preserves holds for each element after one was changed by f
 pub All-changed_at : {Y : Type 0} (P : Y → Type 0) (f : Y → Y) → ((y : Y) → P y → P (f y))
     → (ys : List Y) (i : ℕ) → All P ys → All P (changed_at ys i f)
 All-changed_at P f keeps ys i all k d h =
     each_place (λ a b. P a → P b) f (λ y p. p) keeps ys i k d
     (all k d (omega (arith, length-changed_at f ys i)))
 
+-- a sum over the elements doesn't depend on a change that leaves what is added up as it is
 fold-changed_at : {Y : Type 0} (h : Y → ℕ) (f : Y → Y) → ((y : Y) → h (f y) ≡ h y)
     → (ys : List Y) (i a : ℕ) → fold (λ n y. n + h y) a (changed_at ys i f)
     ≡ fold (λ n y. n + h y) a ys
@@ -44,7 +46,7 @@ fold-changed_at h f same [] i a = refl
 fold-changed_at h f same (y ∷ ys) zero a = ap (λ n. fold (λ n y. n + h y) (a + n) ys) (same y)
 fold-changed_at h f same (y ∷ ys) (suc i) a = fold-changed_at h f same ys i (a + h y)
 
--- a count of what f doesn't change
+-- a count doesn't depend on a change that keeps whether an element is counted
 pub count_by-changed_at : {Y : Type 0} (p : Y → Bool) (f : Y → Y) → ((y : Y) → p (f y) ≡ p y)
     → (ys : List Y) (i : ℕ) → count_by p (changed_at ys i f) ≡ count_by p ys
 count_by-changed_at p f same ys i =

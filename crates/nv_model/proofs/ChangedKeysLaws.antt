@@ -18,9 +18,11 @@ changed_if b change o = cond b (option_map change o) o
 
 module _ {K X : Type 0} {R : K → K → Ordering} (total : IsTotalOrder R) (same : IsAntisymmetric R)
     (change : X → X) where
+  -- whether a key is in a list of keys
   abbrev is_in : List K → K → Bool
   is_in keys q = list_any (eq_by_cmp R q) keys
 
+  -- in entries whose values at some keys are changed, a key of these has its value changed, and any other as before
   found : (keys : List K) (es : List (K × X)) (q : K)
       → find R q (map (λ e. (e.0, if is_in keys e.0 then change e.1 else e.1)) es)
       ≡ changed_if (is_in keys q) change (find R q es)
@@ -44,12 +46,14 @@ module _ {K X : Type 0} {R : K → K → Ordering} (total : IsTotalOrder R) (sam
           (sym (same q e.0 ((Equal-is (R q e.0)).0 tied)))
       at_test false o p other later = later
 
+  -- in a map changed at some keys, a key of these has its value changed, and any other has its own
   pub get-changed_at_keys : (keys : List K) (m : FinMap R X) (q : K)
       → map_of.get (changed_at_keys keys change m) q ≡ changed_if (is_in keys q) change
       (map_of.get m q)
   get-changed_at_keys keys m q = get-from_entries total _ q ∙ found keys (map_of.entries m) q
       ∙ ap (changed_if (is_in keys q) change) (sym (get-entries m q))
 
+  -- a map changed at no keys is the same
   pub changed_at_none : (m : FinMap R X) → changed_at_keys [] change m ≡ m
   changed_at_none m = same_map total same _ m (get-changed_at_keys [] m)
 
@@ -57,6 +61,7 @@ module _ {K X : Type 0} {R : K → K → Ordering} (total : IsTotalOrder R) (sam
   abbrev changed_at_one : FinMap R X → K → FinMap R X
   changed_at_one m k = option_map_or (λ x. map_of.insert m k (change x)) (map_of.get m k) m
 
+  -- in a map changed at one key, this key has its value changed, and any other has its own
   get-changed_at_one : (m : FinMap R X) (k q : K)
       → map_of.get (changed_at_one m k) q ≡ changed_if (eq_by_cmp R q k) change (map_of.get m q)
   get-changed_at_one m k q = by (map_of.get m k) refl
@@ -102,6 +107,7 @@ module _ {K X : Type 0} {R : K → K → Ordering} (total : IsTotalOrder R) (sam
       both false true o = refl
       both false false o = refl
 
+  -- changing a map at one key after another changes it at all of them, if a second change has no effect
   pub folded : ((x : X) → change (change x) ≡ change x) → (keys : List K) (m : FinMap R X)
       → fold changed_at_one m keys ≡ changed_at_keys keys change m
   folded once [] m = sym (changed_at_none m)

@@ -8,6 +8,7 @@ pub chosen_fits : {A : Type 0} (P : A → Type 0) (b : Bool) (x y : A) → P x �
 chosen_fits P true x y p q = p
 chosen_fits P false x y p q = q
 
+-- a truth value whose negation is false is true
 pub not_false : (b : Bool) → not b ≡ false → b ≡ true
 not_false true h = refl
 not_false false h = absurd (cc h)

@@ -28,30 +28,36 @@ use Rattle.nv_model.specs.declared.feature_value.FeatureValue.{FeatureValue}
 
 -- ---- which keys have a value after a change
 
+-- a choice between a value and an optional one is a value if the test holds or the optional one is a value
 some_cond : {A : Type 0} (b : Bool) (x : A) (o : Option A) → is_some (cond b (Some x) o)
     ≡ cond b true (is_some o)
 some_cond true x o = refl
 some_cond false x o = refl
 
+-- a choice between nothing and an optional value is a value if the test fails and the optional one is a value
 none_cond : {A : Type 0} (b : Bool) (o : Option A) → is_some (cond b None o)
     ≡ cond b false (is_some o)
 none_cond true o = refl
 none_cond false o = refl
 
+-- a choice between an optional value and nothing is a value if the test holds and the optional one is a value
 else_none : {A : Type 0} (b : Bool) (o : Option A) → is_some (cond b o None)
     ≡ cond b (is_some o) false
 else_none true o = refl
 else_none false o = refl
 
+-- after a value is inserted under k, there is one under k and under each key that had one
 pub has_inserted : (m : FeatureValues) (k : ValueKey) (x : FeatureValue) (q : ValueKey)
     → map_of.contains_key (map_of.insert m k x) q ≡ cond (is_key q k) true (map_of.contains_key m q)
 has_inserted m k x q =
     ap is_some (value_of_insert m k x q) ∙ some_cond (is_key q k) x (map_of.get m q)
 
+-- after the value under k is removed, there is none under k, and one under each other key that had one
 has_removed : (m : FeatureValues) (k q : ValueKey)
     → map_of.contains_key (map_of.remove m k) q ≡ cond (is_key q k) false (map_of.contains_key m q)
 has_removed m k q = ap is_some (value_of_remove m k q) ∙ none_cond (is_key q k) (map_of.get m q)
 
+-- after the keys of namespaces are removed, there is a value under each other key that had one
 has_retained : (m : FeatureValues) (q : ValueKey)
     → map_of.contains_key (map_of.retain_keys m is_alone) q
     ≡ cond (is_alone q) (map_of.contains_key m q) false
@@ -60,10 +66,12 @@ has_retained m q =
 
 -- ---- each value is one that its feature may have
 
+-- each value is one that the feature of its key may have
 abbrev pub AreSound : FeatureValues → Type 0
 AreSound values = (k : ValueKey) (x : FeatureValue) → map_of.get values k ≡ Some x
     → is_value_at k x ≡ true
 
+-- sound values stay sound when one that the feature of its key may have is inserted
 pub sound-insert : (values : FeatureValues) (k : ValueKey) (x : FeatureValue) → AreSound values
     → is_value_at k x ≡ true → AreSound (map_of.insert values k x)
 sound-insert values k x all fits q y e =
@@ -75,11 +83,13 @@ sound-insert values k x all fits q y e =
         ap (λ p. is_value_at p y) (same_key q k h) ∙ ap (is_value_at k) (sym same) ∙ fits
     at_test false h e = all q y e
 
+-- if a choice between nothing and an optional value is x, the optional value is x
 was_there : (b : Bool) (o : Option FeatureValue) (x : FeatureValue) → cond b None o ≡ Some x
     → o ≡ Some x
 was_there true o x e = absurd (cc e)
 was_there false o x e = e
 
+-- if a choice between an optional value and nothing is x, the optional value is x
 is_there : (b : Bool) (o : Option FeatureValue) (x : FeatureValue) → cond b o None ≡ Some x
     → o ≡ Some x
 is_there true o x e = e
@@ -87,10 +97,11 @@ is_there false o x e = absurd (cc e)
 
 -- ---- defaults
 
+-- the conjunction of a true value and true is true
 and_true : (b : Bool) → b ≡ true → (b && true) ≡ true
 and_true b e = ap (λ c. c && true) e
 
--- the default of a feature, by its rule or, if it has none, the default rule
+-- the default of a feature, by its rule or by the default rule, is a value of it
 pub default_is_sound : (rules : FeatureRules) → AreRules rules → (f : Feature) (selector : ℕ)
     → is_value f (default_of (rule_of rules f) selector) ≡ true
 default_is_sound rules are f selector = by_rule (map_of.get rules (row_of f).fid) refl
@@ -109,11 +120,12 @@ default_is_sound rules are f selector = by_rule (map_of.get rules (row_of f).fid
         let is = are (row_of f).fid r e in
         by_feature (feature_of r.fid) r.defaults (ap feature_of is.1 ∙ feature_at f) is.0.default
 
--- a value that a feature may have, under a key of that feature
+-- a value that a feature may have is sound under a key of that feature
 pub sound_at : (f : Feature) (n s : ℕ) (x : FeatureValue) → may_have f x ≡ true
     → is_value_at (key_of f n s) x ≡ true
 sound_at f n s x e = ap (λ o. option_map_or (λ f. may_have f x) o false) (feature_at f) ∙ e
 
+-- the first value under a key of a feature is one that the feature may have
 pub first_is_sound : (rules : FeatureRules) → AreRules rules → (f : Feature) (n s : ℕ)
     → is_value_at (key_of f n s) (first_value rules (key_of f n s)) ≡ true
 first_is_sound rules are f n s = sound_at f n s (first_value rules (key_of f n s))
@@ -121,6 +133,7 @@ first_is_sound rules are f n s = sound_at f n s (first_value rules (key_of f n s
 
 -- ---- NSIDs are attached and detached
 
+-- no NSIDs
 abbrev no_nsids : Nsids
 no_nsids = map_of.empty
 
@@ -131,7 +144,7 @@ module _ (rules : FeatureRules) (vwc : ℕ) where
       && (if (row_of f).per_namespace then map_of.contains_key nsids q.nsid else q.nsid == 0)))
       o false
 
-  -- when an NSID is attached or detached, its key of Error Recovery has a value or none
+  -- when an NSID is attached or detached, only its key of Error Recovery gets or loses a value
   recovery_moved : (attached moved : Nsids) (n : ℕ) (now : Bool)
       → ((q : ℕ) → map_of.contains_key moved q
       ≡ cond (q == n) now (map_of.contains_key attached q))
@@ -263,6 +276,7 @@ module _ (rules : FeatureRules) (vwc : ℕ) where
 
 module _ (rules : FeatureRules) (vwc : ℕ) (attached : Nsids) (values : FeatureValues)
     (are : AreValues rules vwc attached values) where
+  -- when n is attached and its Error Recovery has the default, exactly the keys that are due have values
   pub values-with : AreRules rules → (n : ℕ) → AreValues rules vwc (map_of.insert attached n tt)
       (map_of.insert values (recovery_key n) (first_value rules (recovery_key n)))
   values-with are_rules n = record {
@@ -274,6 +288,7 @@ module _ (rules : FeatureRules) (vwc : ℕ) (attached : Nsids) (values : Feature
         (first_is_sound rules are_rules feature.ErrorRecovery n 0);
   }
 
+  -- when n is detached and its Error Recovery is removed, exactly the keys that are due have values
   pub values-without : (n : ℕ)
       → AreValues rules vwc (map_of.remove attached n) (map_of.remove values (recovery_key n))
   values-without n = record {
@@ -285,6 +300,7 @@ module _ (rules : FeatureRules) (vwc : ℕ) (attached : Nsids) (values : Feature
         (sym (value_of_remove values (recovery_key n) q) ∙ e));
   }
 
+  -- when all NSIDs are detached and what namespaces have is removed, exactly the keys that are due have values
   pub values-without_any : map_of.contains_key attached 0 ≡ false
       → AreValues rules vwc map_of.empty (map_of.retain_keys values is_alone)
   values-without_any first = record {
@@ -294,7 +310,7 @@ module _ (rules : FeatureRules) (vwc : ℕ) (attached : Nsids) (values : Feature
         (sym (value_of_retain values is_alone q) ∙ e));
   }
 
-  -- an existing value is overwritten
+  -- when an existing value is overwritten by a sound one, exactly the keys that are due have values
   pub values-written : (k : ValueKey) (x : FeatureValue) → map_of.contains_key values k ≡ true
       → is_value_at k x ≡ true → AreValues rules vwc attached (map_of.insert values k x)
   values-written k x there fits = record {

@@ -29,6 +29,7 @@ use Rattle.nv_model.specs.State.{Namespaces, State}
 use Rattle.nv_model.proofs.UsedLaws.{used-change}
 use Rattle.nv_model.specs.WellFormed.{IsController, IsNamespace, IsWellFormed}
 
+-- each row of a format has a refusal
 pub format_rows_fit : (s : State) (c : ℕ) (f : NewFormat) → AllRefuse (format_rows s c f)
 format_rows_fit s c f = search (rules, is_refusal-refusal_by)
 
@@ -39,6 +40,7 @@ below size o = option_map_or (λ x. nat_lt x.capacity size) o false
 -- ---- one namespace
 
 module _ (format : Format) (lbaf : ℕ) (mset : Bool) where
+  -- a namespace in the new format
   abbrev as_format : Namespace → Namespace
   as_format x = in_format lbaf mset x
 
@@ -51,6 +53,7 @@ module _ (format : Format) (lbaf : ℕ) (mset : Bool) where
     pub found : slice_get s.formats lbaf ≡ Some format
     pub extends : may_extend s.mc format mset ≡ true
 
+  -- a namespace whose capacity isn't below the size of a logical block has room for one
   size_of : (s : State) (n : ℕ) (x : Namespace) → map_of.get s.namespaces n ≡ Some x
       → is_below s (2 ^ format.lbads) n ≡ false → 2 ^ format.lbads ≤ x.capacity
   size_of s n x found room =
@@ -58,11 +61,13 @@ module _ (format : Format) (lbaf : ℕ) (mset : Bool) where
       = sym (ap (below (2 ^ format.lbads)) found) ∙ room in
       grind (arith, nat_tests)
 
+  -- a namespace in a format has a capacity of at most 2 ^ 63 - 1 bytes
   few : (mc : ℕ) (x : Namespace) (o : Option Format) → IsSomeAnd o (λ f. IsInFormat mc f x)
       → x.capacity ≤ 2 ^ 63 - 1
   few mc x None is = absurd is
   few mc x (Some f) is = is.capacity.1
 
+  -- bringing a namespace with room for a logical block into the format leaves the subsystem well formed
   one_keeps : (s : State) (n : ℕ) (o : Option Namespace) → map_of.get s.namespaces n ≡ o
       → CanHave s → is_below s (2 ^ format.lbads) n ≡ false → IsWellFormed s
       → IsWellFormed (record s {
@@ -132,7 +137,7 @@ module _ (format : Format) (lbaf : ℕ) (mset : Bool) where
 
   -- ---- one after another
 
-  -- a namespace with enough room keeps it
+  -- a namespace with room for a size still has it when another one or itself gets a format
   room_stays : (s : State) (n q size : ℕ) → is_below s size q ≡ false
       → is_below (with_one s n) size q ≡ false
   room_stays s n q size room = by (map_of.get s.namespaces n) refl
@@ -152,6 +157,7 @@ module _ (format : Format) (lbaf : ℕ) (mset : Bool) where
       by (Some x) found = ap (below size) (get_of_insert s.namespaces n (as_format x) q)
           ∙ at_test x (q == n) refl found
 
+  -- bringing several namespaces with such room into the format leaves the subsystem well formed
   all_keep : (ns : List ℕ) (s : State) → CanHave s
       → AllByRecursion (λ n. is_below s (2 ^ format.lbads) n ≡ false) ns → IsWellFormed s
       → IsWellFormed (record s { namespaces = fold (with_format lbaf mset) s.namespaces ns })
@@ -165,6 +171,7 @@ module _ (format : Format) (lbaf : ℕ) (mset : Bool) where
       rooms [] h = tt
       rooms (q ∷ qs) h = (room_stays s n q (2 ^ format.lbads) h.0, rooms qs h.1)
 
+-- if no number of a list passes a test, each number fails it
 none_passes : (p : ℕ → Bool) (ns : List ℕ) → list_any p ns ≡ false
     → AllByRecursion (λ n. p n ≡ false) ns
 none_passes p [] h = tt
@@ -177,11 +184,13 @@ none_passes p (n ∷ ns) h = both (p n) (list_any p ns) h (none_passes p ns)
 
 -- ---- a format
 
+-- bringing one namespace after another into a format changes the values of their NSIDs
 pub formatted_each : (lbaf : ℕ) (mset : Bool) (ns : List ℕ) (m : Namespaces)
     → fold (with_format lbaf mset) m ns ≡ changed_at_keys ns (in_format lbaf mset) m
 formatted_each lbaf mset ns m =
     folded nat_cmp_total nat_cmp-IsAntisymmetric (in_format lbaf mset) (λ x. refl) ns m
 
+-- a format that the subsystem can have, and for which no namespace is too small, leaves it well formed
 format_by : (s : State) (ns : List ℕ) (f : NewFormat) (o : Option Format)
     → slice_get s.formats f.lbaf ≡ o
     → option_map_or (λ format. may_extend s.mc format f.mset) o false ≡ true
@@ -196,6 +205,7 @@ format_by s ns f (Some format) at can room w =
     (all_keep format f.lbaf f.mset ns s (record { found = at; extends = can })
     (none_passes (is_below s (2 ^ format.lbads)) ns room) w)
 
+-- a format that isn't refused leaves a well-formed subsystem well formed
 pub format_keeps : (s : State) (c : ℕ) (f : NewFormat) → IsWellFormed s
     → first_refusal (format_rows s c f) ≡ None → IsWellFormed (formatted s c f)
 format_keeps s c f w accepted =

@@ -15,13 +15,16 @@ use Rattle.nv_model.specs.Identify.{no_lbaf}
 use Rattle.nv_model.specs.declared.format.Format.{Format}
 use Rattle.nv_model.specs.declared.namespace.Namespace.{Namespace}
 
+-- an LBA format of zeros fits its record
 no_lbaf_fits : LbafFits no_lbaf
 no_lbaf_fits = record { ms = lit< tt; lbads = lit< tt; rp = lit< tt }
 
+-- LBA formats of zeros fit their records
 blanks_fit : (n : ℕ) → AllByRecursion LbafFits (replicate n no_lbaf)
 blanks_fit zero = tt
 blanks_fit (suc n) = (no_lbaf_fits, blanks_fit n)
 
+-- the formats of a subsystem, and zeros after them, fit their records
 formats_fit : (fs : List Format) (n : ℕ) → All IsFormat fs → AllByRecursion LbafFits (map lbaf_of fs
     ++ replicate n no_lbaf)
 formats_fit [] n h = blanks_fit n
@@ -36,11 +39,13 @@ formats_fit (f ∷ fs) n h =
           later),
     )
 
+-- there are sixteen formats with the zeros after them
 length_lbafs : (fs : List Format) → length fs ≤ 16 → length (lbafs_of fs) ≡ 16
 length_lbafs fs h = length-append (map lbaf_of fs) (replicate (16 - length fs) no_lbaf)
     ∙ (let a = length-map fs lbaf_of in let b = length-replicate (16 - length fs) no_lbaf in
     omega (arith, a, b))
 
+-- the Identify data of a namespace that doesn't exist fits its record
 pub blank_fits : IdNsFits blank
 blank_fits = record {
   nsze = lit< tt;
@@ -58,6 +63,7 @@ blank_fits = record {
   each_format = blanks_fit 16;
 }
 
+-- the Identify data that all namespaces have in common fits its record
 pub common_fits : (fs : List Format) (mc : ℕ) → mc ≤ 3 → length fs ≤ 16 → All IsFormat fs
     → IdNsFits (common_of fs mc)
 common_fits fs mc m few h = record {
@@ -76,11 +82,13 @@ common_fits fs mc m few h = record {
   each_format = formats_fit fs (16 - length fs) h;
 }
 
+-- a capacity of 64 bits in logical blocks has 64 bits
 blocks_of : (o : Option Format) (capacity : ℕ) → capacity < 2 ^ 64
     → option_map_or (λ f. capacity / 2 ^ f.lbads) o 0 < 2 ^ 64
 blocks_of None capacity h = lit< tt
 blocks_of (Some f) capacity h = omega (arith, div-le_self capacity (2 ^ f.lbads))
 
+-- FLBAS has eight bits if the index of the format is below 16
 flbas_fits : (x : Namespace) → x.format < 16 → flbas_of x < 2 ^ 8
 flbas_fits x h = elim x.extended as (λ b. x.format + (if b then 16 else 0) < 2 ^ 8) [
   | true
@@ -88,6 +96,7 @@ flbas_fits x h = elim x.extended as (λ b. x.format + (if b then 16 else 0) < 2 
   | false ↦ omega arith
 ]
 
+-- the Identify data of a namespace with a format below 16 and a capacity of 64 bits fits its record
 pub id_ns_fits : (fs : List Format) (mc : ℕ) (x : Namespace) → mc ≤ 3 → length fs ≤ 16
     → All IsFormat fs → x.format < 16 → x.capacity < 2 ^ 64 → IdNsFits (id_ns_of fs mc x)
 id_ns_fits fs mc x m few h f c =

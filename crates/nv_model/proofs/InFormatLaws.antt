@@ -6,18 +6,19 @@ use Rattle.nv_model.specs.Ranges.{IsInFormat}
 use Rattle.nv_model.specs.declared.format.Format.{Format}
 use Rattle.nv_model.specs.declared.namespace.Namespace.{Namespace}
 
+-- an index at which a table has some format is within the table
 some_within : (fs : List Format) (i : ℕ) (P : Format → Type 0) (o : Option Format) → slice_get fs i
     ≡ o → IsSomeAnd o P → i < length fs
 some_within fs i P None e h = absurd h
 some_within fs i P (Some f) e h = slice_get_within fs i f e
 
--- it names a format of the table
+-- a namespace in a format names a format of the table
 pub format_below : (mc : ℕ) (x : Namespace) (fs : List Format) → IsSomeAnd (slice_get fs x.format)
     (λ f. IsInFormat mc f x) → x.format < length fs
 format_below mc x fs h =
     some_within fs x.format (λ f. IsInFormat mc f x) (slice_get fs x.format) refl h
 
--- its capacity fits its field
+-- the capacity of a namespace in a format is below 2 ^ 64
 pub capacity_fits : (mc : ℕ) (x : Namespace) (o : Option Format)
     → IsSomeAnd o (λ f. IsInFormat mc f x) → x.capacity < 2 ^ 64
 capacity_fits mc x None h = absurd h

@@ -13,10 +13,12 @@ pub record KeepsController (f : Controller → Controller) : Type 0 where
   pub attached : (x : Controller) → (f x).attached ≡ x.attached
   pub sound : (ns : Namespaces) (x : Controller) → IsController ns x → IsController ns (f x)
 
+-- a change that keeps a controller keeps which NSIDs are attached to it
 same_shared : (f : Controller → Controller) (k : KeepsController f) (n : ℕ) (x : Controller)
     → map_of.contains_key (f x).attached n ≡ map_of.contains_key x.attached n
 same_shared f k n x = ap (λ (a : Nsids). map_of.contains_key a n) (k.attached x)
 
+-- a change that keeps each controller leaves a well-formed subsystem well formed
 pub keeps : (s : State) (c : ℕ) (f : Controller → Controller) → KeepsController f → IsWellFormed s
     → IsWellFormed (with_controller s c f)
 keeps s c f k w =

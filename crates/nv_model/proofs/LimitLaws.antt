@@ -25,16 +25,18 @@ use Rattle.nv_model.specs.Step.{refused, step, step_by, with_command, with_refus
 use Rattle.nv_model.specs.WellFormed.{IsController, IsWellFormed}
 use Rattle.nv_model.specs.Conditions.{greatest_limit, limit_of, mdts_of}
 
+-- an MDTS up to 8 gives at most the greatest limit
 pub limit_within : (m : ℕ) → m ≤ 8 → 4096 * 2 ^ m ≤ greatest_limit
 limit_within m high =
     let most : 2 ^ m ≤ 2 ^ 8 = pow-le-pow_right (omega arith) high in omega (arith, most)
 
+-- an MDTS from 2 to 8 gives from 16,384 bytes to the greatest limit
 powers : (m : ℕ) → 2 ≤ m → m ≤ 8 → (16384 ≤ 4096 * 2 ^ m) × (4096 * 2 ^ m ≤ greatest_limit)
 powers m low high =
     let least : 2 ^ 2 ≤ 2 ^ m = pow-le-pow_right (omega arith) low in
     (omega (arith, least), limit_within m high)
 
--- it is at least four pages of 4,096 bytes, and at most the greatest limit
+-- the limit is at least four pages of 4,096 bytes, and at most the greatest limit
 pub limit_bounds : (s : State) (c : ℕ) → IsWellFormed s → c < length s.controllers
     → (16384 ≤ limit_of s c) × (limit_of s c ≤ greatest_limit)
 limit_bounds s c w below = elim ((slice_get_cases s.controllers c).1) [
@@ -51,18 +53,22 @@ limit_bounds s c w below = elim ((slice_get_cases s.controllers c).1) [
 
 -- ---- no command changes it
 
+-- MDTS of controller d among these controllers
 abbrev mdts_in : List Controller → ℕ → ℕ
 mdts_in xs d = option_map_or (λ x. x.identity.numbers.mdts) (slice_get xs d) 0
 
+-- a change of a controller keeps its identity
 abbrev KeepsIdentity : (Controller → Controller) → Type 0
 KeepsIdentity f = (x : Controller) → (f x).identity ≡ x.identity
 
+-- changing each controller without its identity doesn't change MDTS
 of_each : (f : Controller → Controller) → KeepsIdentity f → (xs : List Controller) (d : ℕ)
     → mdts_in (map f xs) d ≡ mdts_in xs d
 of_each f same [] d = refl
 of_each f same (x ∷ xs) zero = ap (λ (i : Identity). i.numbers.mdts) (same x)
 of_each f same (x ∷ xs) (suc d) = of_each f same xs d
 
+-- changing one controller without its identity doesn't change MDTS
 of_one : (f : Controller → Controller) → KeepsIdentity f → (xs : List Controller) (c d : ℕ)
     → mdts_in (changed_at xs c f) d ≡ mdts_in xs d
 of_one f same [] c d = refl
@@ -71,6 +77,7 @@ of_one f same (x ∷ xs) zero (suc d) = refl
 of_one f same (x ∷ xs) (suc c) zero = refl
 of_one f same (x ∷ xs) (suc c) (suc d) = of_one f same xs c d
 
+-- the effect of a command doesn't change MDTS
 effect_mdts : (s : State) (c : ℕ) (k : Command) (d : ℕ) → mdts_of (effect_of s c k) d ≡ mdts_of s d
 effect_mdts s c (Create w) d =
     elim (free_nsid s) as (λ o. mdts_of (option_map_or
@@ -91,16 +98,18 @@ effect_mdts s c (SetFeature x) d =
     ]
 effect_mdts s c k d = refl
 
+-- a step, refused or not, doesn't change MDTS
 step_mdts : (o : Option Refusal) (s : State) (c : ℕ) (k : Command) (cid d : ℕ)
     → mdts_of (step_by o s c k cid).state d ≡ mdts_of s d
 step_mdts None s c k cid d = of_one _ (λ x. refl) (effect_of s c k).controllers c d ∙ effect_mdts s c k d
 step_mdts (Some r) s c k cid d =
     of_one _ (λ x. refl) _ c d ∙ of_one _ (λ x. refl) s.controllers c d
 
+-- a step doesn't change the greatest length of a command's data
 pub step_limit : (s : State) (c : ℕ) (k : Command) (cid d : ℕ) → limit_of (step s c k cid).state d ≡ limit_of s d
 step_limit s c k cid d = ap (λ m. 4096 * 2 ^ m) (step_mdts (refusal_of s c k) s c k cid d)
 
--- nor does a refusal
+-- a refusal doesn't change the greatest length of a command's data
 pub refused_limit : (s : State) (c nsid cid d : ℕ) (r : Refusal)
     → limit_of (with_command (refused s c nsid cid r) c) d ≡ limit_of s d
 refused_limit s c nsid cid d r = ap (λ m. 4096 * 2 ^ m)

@@ -16,33 +16,41 @@ use Rattle.nv_command.specs.Reply.{IsNsidList}
 use Rattle.nv_bits.specs.Above.{above}
 use Rattle.nv_layout.specs.Limits.{most_nsids}
 
+-- if a conjunction holds, its first part holds
 first : (a b : Bool) → T (a && b) → T a
 first true b p = tt
 first false b p = p
 
+-- if a conjunction holds, its second part holds
 second : (a b : Bool) → T (a && b) → T b
 second true b p = p
 second false b p = absurd p
 
+-- if two truth values hold, so does their conjunction
 both : (a b : Bool) → T a → T b → T (a && b)
 both true b p q = q
 both false b p q = p
 
+-- if an order that decides how m and n compare is Less, then m < n
 before : (o : Ordering) (m n : ℕ) → MatchOrdering o (m < n) (m ≡ n) (n < m) → T (is_lt o) → m < n
 before Less m n h t = h
 before Equal m n h t = absurd t
 before Greater m n h t = absurd t
 
+-- if the order of numbers says that m is less than n, then m < n
 less : (m n : ℕ) → T (is_lt (nat_cmp m n)) → m < n
 less m n h = before (nat_cmp m n) m n (ranks m n) h
 
+-- each number is equal to itself in the order of numbers
 ties : (n : ℕ) → eq_by_cmp nat_cmp n n ≡ true
 ties n = unsigned_tied n n ∙ grind (arith, nat_tests)
 
+-- the disjunction of any value and true is true
 or-true : (a : Bool) → (a || true) ≡ true
 or-true true = refl
 or-true false = refl
 
+-- there are no more numbers above another one than numbers in all
 above_few : (after : ℕ) (ns : List ℕ) → length (above after ns) ≤ length ns
 above_few after ns = omega (
   arith,
@@ -56,7 +64,7 @@ module _ {X : Type 0} where
   below_all k [] = true
   below_all k (e ∷ es) = is_lt (nat_cmp k e.0) && below_all k es
 
-  -- in order, each key is above the first
+  -- in sorted entries, each later key is above the first
   keys_above : (k : ℕ) (x : X) (es : List (ℕ × X)) → T (is_sorted nat_cmp ((k, x) ∷ es))
       → AllByRecursion (λ e. k < e.0) es
   keys_above k x [] h = tt
@@ -71,17 +79,19 @@ module _ {X : Type 0} where
             (is_sorted nat_cmp es) back)),
       )
 
+  -- keys above k, up to nn, are from k + 1 to nn
   raised : (k nn : ℕ) (es : List (ℕ × X)) → AllByRecursion (λ e. k < e.0) es
       → AllByRecursion (λ e. e.0 ≤ nn) es → AllByRecursion (λ e. (k + 1 ≤ e.0) × (e.0 ≤ nn)) es
   raised k nn [] a b = tt
   raised k nn (e ∷ es) a b = ((omega (arith, a.0), b.0), raised k nn es a.1 b.1)
 
+  -- keys from `lo` to nn are up to nn
   tops : (lo nn : ℕ) (es : List (ℕ × X)) → AllByRecursion (λ e. (lo ≤ e.0) × (e.0 ≤ nn)) es
       → AllByRecursion (λ e. e.0 ≤ nn) es
   tops lo nn [] a = tt
   tops lo nn (e ∷ es) a = (a.0.1, tops lo nn es a.1)
 
-  -- so there are no more keys than numbers in their range
+  -- sorted keys from `lo` to nn are no more than the numbers in that range
   few : (lo nn : ℕ) (es : List (ℕ × X)) → T (is_sorted nat_cmp es) → AllByRecursion (λ e. (lo ≤ e.0)
       × (e.0 ≤ nn)) es → length es ≤ (nn + 1) - lo
   few lo nn [] h a = omega arith
@@ -90,7 +100,7 @@ module _ {X : Type 0} where
       (raised e.0 nn es (keys_above e.0 e.1 es h) (tops lo nn es a.1)) in
       omega (arith, rest, a.0.0, a.0.1)
 
-  -- what holds for each number that is found holds for each key
+  -- if a statement holds for each number that is found, it holds for each key
   each_key : (B : ℕ → Type 0) (es : List (ℕ × X))
       → ((n : ℕ) → list_any (eq_by_cmp nat_cmp n) (map (λ e. e.0) es) ≡ true → B n)
       → AllByRecursion (λ e. B e.0) es
@@ -101,6 +111,7 @@ module _ {X : Type 0} where
         ∙ or-true (eq_by_cmp nat_cmp n e.0))),
   )
 
+  -- keys from 1 to nn that are above a number are identifiers of 32 bits other than 0
   above_in : (after nn : ℕ) (es : List (ℕ × X)) → nn ≤ most_nsids → AllByRecursion (λ e. (1 ≤ e.0)
       × (e.0 ≤ nn)) es → AllByRecursion (λ n. (n ≢ 0) × (n < 2 ^ 32))
       (above after (map (λ e. e.0) es))
@@ -113,7 +124,7 @@ module _ {X : Type 0} where
         | false ↦ rest
       ]
 
-  -- the keys of a map above a number, where each key is from 1 to nn
+  -- the keys of a map above a number fit a namespace list if all keys are from 1 to nn
   pub keys_fit : (after nn : ℕ) (m : map_of.FinMap nat_cmp X) → nn ≤ most_nsids
       → ((n : ℕ) → map_of.contains_key m n ≡ true → (1 ≤ n) × (n ≤ nn))
       → IsNsidList (above after (map_of.keys m))

@@ -20,9 +20,11 @@ use Rattle.nv_model.proofs.ManagementLaws.{AllRefuse}
 use Rattle.nv_model.specs.State.{Controller, Namespaces, State}
 use Rattle.nv_model.specs.WellFormed.{IsController}
 
+-- each row of a Get Log Page has a refusal
 pub log_rows_fit : (s : State) (c : ℕ) (q : LogQuery) → AllRefuse (log_rows s c q)
 log_rows_fit s c q = search (rules, is_refusal-refusal_by)
 
+-- entries that fit their records and entries without an error after them all fit
 entries_fit : (es : List ErrorEntry) (n : ℕ) → All ErrorEntryFits es
     → AllByRecursion ErrorEntryFits (es ++ replicate n no_entry)
 entries_fit [] zero all = tt
@@ -60,10 +62,12 @@ health_fits base refusals s few =
       each_sensor = all_below (2 ^ 16) base.sensors (λ k h. let low = s.sensors.1 k 0 h in omega (arith, low));
     }
 
+-- a health log about which the file says nothing is in range
 zero_is_smart : IsSmart zero_smart
 zero_is_smart = search rules
 
 module _ (ns : Namespaces) where
+  -- the error log of a controller, or of none, fits its record
   pub errors_fit : (o : Option Controller) → ((x : Controller) → o ≡ Some x → IsController ns x)
       → IsEntryList (option_map_or errors_of o (no_entry ∷ []))
   errors_fit None is = record { some = lit< tt; count = omega arith; entries = (no_entry_fits, tt) }
@@ -78,6 +82,7 @@ module _ (ns : Namespaces) where
         entries = entries_fit x.log more c.entries;
       }
 
+  -- the health log of a controller, or of none, fits its record
   pub smart_fits : (o : Option Controller) → ((x : Controller) → o ≡ Some x → IsController ns x)
       → SmartFits (option_map_or smart_of o no_health)
   smart_fits None is = health_fits zero_smart 0 zero_is_smart (lit< tt)

@@ -35,10 +35,11 @@ pub data IsLookup (nn : ℕ) : Command → Type 0 where
 
 -- ---- its effect
 
+-- an NSID that a namespace could have passes the test for valid ones
 valid : (n nn : ℕ) → IsInside nn n → (nat_le 1 n && nat_le n nn) ≡ true
 valid n nn h = grind (arith, nat_tests, h.0, h.1)
 
--- it is accepted and counted
+-- a command of `list` is accepted and counted, and changes nothing else
 pub looked : (s : State) {k : Command} (c cid : ℕ) → IsLookup s.nn k
     → step s c k cid ≡ record { answer = Ok (reply_of s c k); state = with_command s c }
 looked s c cid controller = refl
@@ -47,13 +48,14 @@ looked s c cid (namespace {n} h) =
     ap (λ b. step_by (first_refusal (row (not (b || n == broadcast_nsid)) InvalidNamespaceOrFormat ∷ []))
     s c (IdentifyNamespace n) cid) (valid n s.nn h)
 
+-- the reply to a command of `list` is received unchanged
 as_it_is : (nn : ℕ) {k : Command} (s : State) (c : ℕ) → IsLookup nn k
     → answer_received k (Ok (reply_of s c k)) ≡ Ok (reply_of s c k)
 as_it_is nn s c controller = refl
 as_it_is nn s c attached = refl
 as_it_is nn s c (namespace h) = refl
 
--- its reply is received unchanged
+-- the reply to a command of `list`, as the step returns it, is received unchanged
 pub looked_received : (s : State) {k : Command} (c cid : ℕ) → IsLookup s.nn k
     → answer_received k (step s c k cid).answer ≡ Ok (reply_of s c k)
 looked_received s {k} c cid h =
@@ -66,9 +68,11 @@ pub record IsAlike (s now : State) : Type 0 where
   pub nn : now.nn ≡ s.nn
   pub active : (c : ℕ) → active_nsids now c ≡ active_nsids s c
 
+-- the NSIDs that are attached to controller c among these controllers
 attached_at : List Controller → ℕ → List ℕ
 attached_at xs c = option_map_or (λ x. ascending x.attached) (slice_get xs c) []
 
+-- counting a command of one controller changes no attached NSIDs
 same_attached : (xs : List Controller) (c d : ℕ)
     → attached_at (changed_at xs c (λ x. record x { commands = next_count x.commands })) d
     ≡ attached_at xs d
@@ -79,6 +83,7 @@ same_attached (x ∷ xs) zero (suc d) = refl
 same_attached (x ∷ xs) (suc c) zero = refl
 same_attached (x ∷ xs) (suc c) (suc d) = same_attached xs c d
 
+-- a state in which a command was counted is alike
 counted : (s now : State) (c : ℕ) → now ≡ with_command s c → IsAlike s now
 unfolding attached_at
 counted s now c e = record {
@@ -86,23 +91,28 @@ counted s now c e = record {
   active = λ d. ap (λ (x : State). active_nsids x d) e ∙ same_attached s.controllers c d;
 }
 
+-- a command of `list` leaves a state that is alike
 pub looked_alike : (s : State) {k : Command} (c cid : ℕ) → IsLookup s.nn k
     → IsAlike s (step s c k cid).state
 looked_alike s {k} c cid h =
     counted s (step s c k cid).state c (ap (λ (x : Step). x.state) (looked s c cid h))
 
+-- each state is alike to itself
 pub alike-self : (s : State) → IsAlike s s
 alike-self s = record { nn = refl; active = λ c. refl }
 
+-- states that are alike to one another in turn are alike
 pub alike-join : (a b c : State) → IsAlike a b → IsAlike b c → IsAlike a c
 alike-join a b c h k = record { nn = k.nn ∙ h.nn; active = λ d. k.active d ∙ h.active d }
 
 -- ---- NSIDs that are attached
 
+-- what follows from each value of an optional one that is a value holds
 of_some : {A : Type 0} (P : Type 0) (o : Option A) → ((x : A) → o ≡ Some x → P) → is_some o ≡ true → P
 of_some P None h t = absurd (cc)
 of_some P (Some x) h t = h x refl
 
+-- the NSIDs that are attached to a controller, or to none, are from 1 to NN
 attached_inside : (s : State) → IsWellFormed s → (o : Option Controller)
     → ((x : Controller) → o ≡ Some x → IsController s.namespaces x)
     → All (IsInside s.nn) (option_map_or (λ x. ascending x.attached) o [])
@@ -112,7 +122,7 @@ attached_inside s w (Some x) is =
     (λ n t. of_some (IsInside s.nn n) (map_of.get s.namespaces n) (λ x e. (w.namespaces n x e).nsid)
     ((is x refl).attached n (contains_key-keys x.attached n ∙ t)))
 
--- they are those of namespaces
+-- the NSIDs that are active on a controller of a well-formed subsystem are from 1 to NN
 pub active_inside : (s : State) (c : ℕ) → IsWellFormed s → All (IsInside s.nn) (active_nsids s c)
 active_inside s c w =
     attached_inside s w (controller_at s c)

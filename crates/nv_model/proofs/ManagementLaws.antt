@@ -54,6 +54,7 @@ none_holds (r ∷ rows) e = at_test r.when refl e (none_holds rows)
     at_test true h e rest = absurd (cc e)
     at_test false h e rest = (h, rest e)
 
+-- the refusal for too little capacity is a refusal, whatever number of bytes it tells
 capacity_refused : (bytes : ℕ) → IsRefusal (capacity_refusal bytes)
 capacity_refused bytes =
     let is = is_refusal-refusal_by NamespaceInsufficientCapacity in
@@ -63,9 +64,11 @@ capacity_refused bytes =
 abbrev pub AllRefuse : List Row → Type 0
 AllRefuse rows = AllByRecursion (λ row. IsRefusal row.refusal) rows
 
+-- each row of a create has a refusal
 pub create_rows_fit : (s : State) (w : NewNamespace) → AllRefuse (create_rows s w)
 create_rows_fit s w = search (rules, is_refusal-refusal_by, capacity_refused) depth 12
 
+-- each row of a delete has a refusal
 pub delete_rows_fit : (s : State) (n : ℕ) → AllRefuse (delete_rows s n)
 delete_rows_fit s n = search (rules, is_refusal-refusal_by)
 
@@ -86,6 +89,7 @@ first_of p first (suc count) n e = at_test (p first) refl e (first_of p (first +
         ((omega arith, omega arith), subst (λ m. p m ≡ true) same h)
     at_test false h e rest = let r = rest e in ((omega (arith, r.0.0), omega (arith, r.0.1)), r.1)
 
+-- the free NSID is from 1 to NN, and no namespace has it
 pub free_is : (s : State) (n : ℕ) → free_nsid s ≡ Some n
     → ((1 ≤ n) × (n ≤ s.nn)) × (is_allocated s n ≡ false)
 free_is s n e =
@@ -96,6 +100,7 @@ free_is s n e =
     not_true true h = absurd (cc h)
     not_true false h = refl
 
+-- the NSID that a create returns is a number of 32 bits
 pub created_nsid_fits : (s : State) → s.nn ≤ most_nsids → created_nsid s < 2 ^ 32
 created_nsid_fits s h = by (free_nsid s) refl
   where
@@ -105,21 +110,23 @@ created_nsid_fits s h = by (free_nsid s) refl
 
 -- ---- create
 
+-- an optional namespace that isn't there is None
 none_of : (o : Option Namespace) → is_some o ≡ false → o ≡ None
 none_of None e = refl
 none_of (Some x) e = absurd (cc e)
 
--- the condition under which metadata can be at the end of logical blocks
+-- if metadata can be placed as asked and is to be at the end of logical blocks, there is some, and mc allows that
 pub extends_by : (ms mc : ℕ) (e : Bool) → (not e || (nat_lt 0 ms && (bit_and mc 1 == 1))) ≡ true
     → e ≡ true
     → (0 < ms) × (bit_and mc 1 ≡ 1)
 extends_by ms mc true h e = grind (arith, nat_tests)
 extends_by ms mc false h e = absurd (cc e)
 
+-- n blocks of b bytes each, of which there is at least one, have at least b bytes
 some_blocks : (n b : ℕ) → 0 < n → b ≤ n * b
 some_blocks n b h = grind arith
 
--- the new namespace is in its format
+-- a new namespace with at least one block, in a format that allows its metadata, is in that format
 in_format : (mc bytes nsze format : ℕ) (extended shared : Bool) (o : Option Format)
     → not (option_map_or (λ f. may_extend mc f extended) o false) ≡ false → 0 < nsze
     → option_map_or (λ f. nsze * 2 ^ f.lbads) o 0 ≡ bytes → bytes ≤ 2 ^ 63 - 1
@@ -143,6 +150,7 @@ none_attached s n w free =
     (λ t. let both : true ≡ false = sym (is.attached n t) ∙ free in absurd (cc both))) s.controllers
     w.controllers)
 
+-- a create with a free NSID or with none, if no row refuses it, leaves the subsystem well formed
 create_by : (s : State) (w : NewNamespace) (o : Option ℕ) → free_nsid s ≡ o → IsWellFormed s
     → first_refusal (create_rows s w) ≡ None
     → IsWellFormed (option_map_or
@@ -214,6 +222,7 @@ create_by s w (Some n) e well accepted =
     named q y false is at = let old = well.namespaces q y at in
         record { nsid = old.nsid; format = old.format; private = old.private }
 
+-- a create that isn't refused leaves a well-formed subsystem well formed
 pub create_keeps : (s : State) (w : NewNamespace) → IsWellFormed s
     → first_refusal (create_rows s w) ≡ None → IsWellFormed (created s w)
 create_keeps s w well accepted = create_by s w (free_nsid s) refl well accepted
@@ -230,6 +239,7 @@ pub record AreAttached (s : State) (change : Controller → Attached) (to : Name
       → IsNamespace (record (with_attached s change) { namespaces = to }) n x
   pub capacities : used to ≤ s.tnvmcap
 
+-- a change of what is attached that AreAttached allows leaves the subsystem well formed
 pub attached_keep : (s : State) (change : Controller → Attached) (to : Namespaces) → IsWellFormed s
     → AreAttached s change to → IsWellFormed (record (with_attached s change) { namespaces = to })
 attached_keep s change to w are = record {
@@ -268,11 +278,13 @@ left m n q t = at_test (q == n) refl (sym (contains-remove m n q) ∙ t)
     at_test true h e = absurd (cc e)
     at_test false h e = (h, e)
 
+-- removing a namespace uses no more capacity than before
 used-remove_le : (m : Namespaces) (n : ℕ) (o : Option Namespace) → map_of.get m n ≡ o
     → used (map_of.remove m n) ≤ used m
 used-remove_le m n None e = let same = ap used (remove_absent m n (ap is_some e)) in omega arith
 used-remove_le m n (Some x) e = omega (arith, used-remove m n x e)
 
+-- removing one namespace leaves the subsystem well formed
 one_keeps : (s : State) (n : ℕ) → IsWellFormed s → IsWellFormed (without_one s n)
 one_keeps s n w = attached_keep s (without n) (map_of.remove s.namespaces n) w
     (record {
@@ -302,6 +314,7 @@ one_keeps s n w = attached_keep s (without n) (map_of.remove s.namespaces n) w
       );
     })
 
+-- removing all namespaces leaves the subsystem well formed
 all_keep : (s : State) → IsWellFormed s → IsWellFormed (without_all s)
 all_keep s w = attached_keep s without_any map_of.empty w (record {
   allocated = λ x is q t. let both : true ≡ false = sym t
@@ -324,11 +337,13 @@ all_keep s w = attached_keep s without_any map_of.empty w (record {
         absurd (is_first (map_of.get s.namespaces 0) refl (is.attached 0 e))
     no_first x is false e = refl
 
+-- a delete leaves a well-formed subsystem well formed
 pub delete_keeps : (s : State) (n : ℕ) → IsWellFormed s → IsWellFormed (deleted s n)
 delete_keeps s n w = elim (n == broadcast_nsid) as (λ b. IsWellFormed
     (if b then without_all s else without_one s n))
     [ true ↦ all_keep s w | false ↦ one_keeps s n w ]
 
+-- a create adds or removes no controller
 pub created_controllers : (s : State) (w : NewNamespace) → length (created s w).controllers
     ≡ length s.controllers
 created_controllers s w = by (free_nsid s)
@@ -340,6 +355,7 @@ created_controllers s w = by (free_nsid s)
     by None = refl
     by (Some n) = refl
 
+-- a delete adds or removes no controller
 pub deleted_controllers : (s : State) (n : ℕ) → length (deleted s n).controllers
     ≡ length s.controllers
 deleted_controllers s n = elim (n == broadcast_nsid) as

@@ -7,6 +7,7 @@ use Rattle.std.specs.List.{list_any}
 use Rattle.std.proofs.lemmas.List.{length-map, get_or-map}
 use Rattle.std.proofs.lemmas.List.Sums.{sum_by-cons}
 
+-- if every element fails a test, the count of elements that pass it is 0
 pub none_pass : {X : Type 0} (p : X → Bool) (xs : List X) → All (λ x. p x ≡ false) xs
     → count_by p xs ≡ 0
 none_pass p [] h = refl
@@ -20,10 +21,12 @@ none_pass p (x ∷ xs) h =
       one,
     )
 
+-- what isn't true is false
 pub untrue : (b : Bool) → (b ≡ true → ⊥) → b ≡ false
 untrue true h = absurd (h refl)
 untrue false h = refl
 
+-- if pairs of elements are related by what f makes of them, pairs of the mapped list are related
 pub pairs_map : {X Y : Type 0} (R : Y → Y → Type 0) (f : X → Y) (xs : List X)
     → AllPairs (λ a b. R (f a) (f b)) xs → AllPairs R (map f xs)
 pairs_map R f [] h i j d a b = absurd (omega arith)
@@ -34,7 +37,7 @@ pairs_map R f (x ∷ xs) h i j d a b =
     subst (λ y. R y (get_or (map f (x ∷ xs)) j d)) (sym first)
     (subst (R (f (get_or (x ∷ xs) i x))) (sym second) (h i j x a (omega arith)))
 
--- a count over a mapped list
+-- a count over a mapped list is the count of the elements whose image passes
 pub count_by-map : {X Y : Type 0} (p : Y → Bool) (f : X → Y) (q : X → Bool)
     → ((x : X) → p (f x) ≡ q x) → (xs : List X) → count_by p (map f xs) ≡ count_by q xs
 count_by-map p f q same [] = refl
@@ -48,11 +51,12 @@ count_by-map p f q same (x ∷ xs) =
       sum_by-cons (λ x. cond (q x) 1 0) x xs,
     )
 
+-- if a implies b, then a counts for no more than b
 no_more : (a b : Bool) → (a ≡ true → b ≡ true) → cond a 1 0 ≤ cond b 1 0
 no_more true b h = let e = h refl in rw e (omega arith)
 no_more false b h = omega arith
 
--- the count if fewer of the mapped ones pass
+-- if each element whose image passes p passes q, no more images pass p than elements pass q
 pub count_by-map_le : {X Y : Type 0} (p : Y → Bool) (f : X → Y) (q : X → Bool)
     → ((x : X) → p (f x) ≡ true → q x ≡ true) → (xs : List X)
     → count_by p (map f xs) ≤ count_by q xs
@@ -66,13 +70,13 @@ count_by-map_le p f q fewer (x ∷ xs) =
       sum_by-cons (λ x. cond (q x) 1 0) x xs,
     )
 
--- a test of a mapped list
+-- a mapped list has an element that passes if and only if the image of an element passes
 pub list_any-map : {X Y : Type 0} (p : Y → Bool) (f : X → Y) (xs : List X) → list_any p (map f xs)
     ≡ list_any (λ x. p (f x)) xs
 list_any-map p f [] = refl
 list_any-map p f (x ∷ xs) = ap (λ b. p (f x) || b) (list_any-map p f xs)
 
--- a list that is overwritten, element by element, with what f makes of each
+-- overwriting element i by its image adds one to the overwritten elements and takes one from the mapped rest
 pub next_mapped : {X Y : Type 0} (view : X → Y) (f : Y → Y) (xs : List X) (i : ℕ) (y d : X)
     → i < length xs → view y ≡ f (view (get_or xs i d))
     → take (suc i) (map view (set xs i y)) ++ map f (drop (suc i) (map view (set xs i y)))

@@ -10,7 +10,9 @@ use Rattle.nv_layout.specs.IdNs.{IdNsFits}
 use Rattle.nv_layout.specs.declared.error_entry.ErrorEntry.{ErrorEntry}
 use Rattle.nv_layout.specs.declared.smart.Smart.{Smart}
 use Rattle.nv_command.specs.Form.{form_of}
-use Rattle.nv_command.specs.Form.{is_error_log, log_kind}
+use Rattle.nv_command.specs.LogPage.{log_asked, log_kind}
+use Rattle.nv_command.specs.declared.log_page.LogPage.{LogPage}
+use Rattle.nv_command.specs.declared.log_page.LogPage.TheVariants.{ErrorInformation, Health}
 use Rattle.nv_command.specs.Refusal.{IsRefusal}
 use Rattle.nv_command.proofs.RefusalLaws.{is_refusal-refusal_by}
 use Rattle.nv_command.specs.Reply.{FitsRecord, IsNsidList, kind_of}
@@ -36,7 +38,7 @@ use Rattle.nv_model.proofs.IdentifyLaws.{blank_fits, common_fits, id_ns_fits}
 use Rattle.nv_model.proofs.InFormatLaws.{capacity_fits, format_below}
 use Rattle.nv_model.proofs.ListLaws.{keys_fit}
 use Rattle.nv_model.proofs.LogLaws.{errors_fit, log_rows_fit, smart_fits}
-use Rattle.nv_model.specs.Logs.{errors_at, smart_at}
+use Rattle.nv_model.specs.Logs.{log_reply}
 use Rattle.nv_model.proofs.ManagementLaws.{create_keeps, create_rows_fit, created_controllers}
 use Rattle.nv_model.proofs.ManagementLaws.{created_nsid_fits, delete_keeps, delete_rows_fit}
 use Rattle.nv_model.proofs.ManagementLaws.{deleted_controllers}
@@ -58,6 +60,7 @@ inside : (s : State) → IsWellFormed s → (n : ℕ) (o : Option Namespace) →
 inside s w n None e t = absurd (cc)
 inside s w n (Some x) e t = (w.namespaces n x e).nsid
 
+-- the Identify data of an allocated namespace, or of none, fits its record
 allocated_fits : (s : State) → IsWellFormed s → (n : ℕ) (o : Option Namespace)
     → map_of.get s.namespaces n ≡ o → IdNsFits (option_map_or (id_ns_of s.formats s.mc) o blank)
 allocated_fits s w n None e = blank_fits
@@ -67,6 +70,7 @@ allocated_fits s w n (Some x) e =
     (omega (arith, format_below s.mc x s.formats is.format, w.format_count.1))
     (capacity_fits s.mc x (slice_get s.formats x.format) is.format)
 
+-- the NSIDs above a number that are attached to a controller, or to none, fit a list
 list_fits : (s : State) (after : ℕ) → IsWellFormed s → (o : Option Controller)
     → ((x : Controller) → o ≡ Some x → IsController s.namespaces x)
     → IsNsidList (above after (option_map_or (λ x. ascending x.attached) o []))
@@ -76,17 +80,19 @@ list_fits s after w (Some x) is =
     keys_fit after s.nn x.attached w.keys.nn.1 (λ n t. inside s w n (map_of.get s.namespaces n) refl
     (c.attached n t))
 
-logs_fit : (s : State) (c : ℕ) (is_errors : Bool)
+-- the error log and the health log of a controller fit their records
+logs_fit : (s : State) (c : ℕ) (page : LogPage)
     → ((x : Controller) → controller_at s c ≡ Some x → IsController s.namespaces x)
-    → FitsRecord (if is_errors then reply.Errors (errors_at s c) else reply.Smart (smart_at s c))
-logs_fit s c true is = errors_fit s.namespaces (controller_at s c) is
-logs_fit s c false is = smart_fits s.namespaces (controller_at s c) is
+    → FitsRecord (log_reply s c page)
+logs_fit s c ErrorInformation is = errors_fit s.namespaces (controller_at s c) is
+logs_fit s c Health is = smart_fits s.namespaces (controller_at s c) is
 
-is_log_reply : (is_errors : Bool) (es : List ErrorEntry) (r : Smart)
-    → kind_of (if is_errors then reply.Errors es else reply.Smart r) ≡ log_kind is_errors
-is_log_reply true es r = refl
-is_log_reply false es r = refl
+-- a reply with the error log or the health log has the kind of that log
+is_log_reply : (s : State) (c : ℕ) (page : LogPage) → kind_of (log_reply s c page) ≡ log_kind page
+is_log_reply s c ErrorInformation = refl
+is_log_reply s c Health = refl
 
+-- each controller of a well-formed subsystem is one that IsController allows
 is_controller : (s : State) (c : ℕ) → IsWellFormed s → (x : Controller) → controller_at s c ≡ Some x
     → IsController s.namespaces x
 is_controller s c w x e =
@@ -105,6 +111,7 @@ pub record IsSound (kind : ReplyKind) (m : Meaning) : Type 0 where
       → IsWellFormed (m.effect s c)
   pub controllers : (s : State) (c : ℕ) → length (m.effect s c).controllers ≡ length s.controllers
 
+-- the meaning of each command is sound
 pub sound : (k : Command) → IsSound (form_of k).reply (meaning_of k)
 sound IdentifyController = record {
   rows = λ s c. tt;
@@ -189,8 +196,8 @@ sound (SetFeature x) = record {
 }
 sound (GetLog q) = record {
   rows = λ s c. log_rows_fit s c q;
-  is_reply = λ s c. is_log_reply (is_error_log q.lid) (errors_at s c) (smart_at s c);
-  fits = λ s c w. logs_fit s c (is_error_log q.lid) (is_controller s c w);
+  is_reply = λ s c. is_log_reply s c (log_asked q.lid);
+  fits = λ s c w. logs_fit s c (log_asked q.lid) (is_controller s c w);
   keeps = λ s c accepted w. w;
   controllers = λ s c. refl;
 }

@@ -26,6 +26,7 @@ use Rattle.nv_model.specs.declared.feature_value.FeatureValue.{FeatureValue}
 
 -- ---- the value of each key
 
+-- in entries whose values are changed by their keys, a key has its value changed
 found : (g : ValueKey → FeatureValue → FeatureValue) (es : List (ValueKey × FeatureValue))
     (k : ValueKey)
     → find key_cmp k (map (λ e. (e.0, g e.0 e.1)) es) ≡ option_map (g k) (find key_cmp k es)
@@ -37,6 +38,7 @@ found g (e ∷ es) k = at_test (is_key k e.0) _ _ refl (found g es k)
     at_test true o p same later = ap (λ q. Some (g q e.1)) (sym (same_key k e.0 same))
     at_test false o p same later = later
 
+-- after a reset, a key has its value restored from the saved one or the default
 pub get-all_restored : (rules : FeatureRules) (values : FeatureValues) (k : ValueKey)
     → map_of.get (all_restored rules values) k
     ≡ option_map (restored (first_value rules k).current) (map_of.get values k)
@@ -47,12 +49,13 @@ get-all_restored rules values k =
 
 -- ---- one controller
 
+-- a restored value is there if and only if the value is
 has_restored : (d : ℕ) (o : Option FeatureValue) → is_some (option_map (restored d) o) ≡ is_some o
 has_restored d None = refl
 has_restored d (Some x) = refl
 
 module _ (rules : FeatureRules) (are : AreRules rules) where
-  -- a saved value was sound before, and a default is
+  -- a saved value that a feature may have, or else its default, is a value of the feature
   current_is_sound : (f : Feature) (selector d : ℕ) (saved : Option ℕ)
       → d ≡ default_of (rule_of rules f) selector
       → option_map_or (is_value f) saved true ≡ true → is_value f (unwrap_or saved d) ≡ true
@@ -60,9 +63,11 @@ module _ (rules : FeatureRules) (are : AreRules rules) where
       ap (is_value f) is ∙ default_is_sound rules are f selector
   current_is_sound f selector d (Some v) is fits = fits
 
+  -- the conjunction of two true values is true
   both : (a b : Bool) → a ≡ true → b ≡ true → (a && b) ≡ true
   both a b e h = λ i. e i && h i
 
+  -- a sound value stays sound when it is restored
   one_is_sound : (k : ValueKey) (x : FeatureValue) → is_value_at k x ≡ true
       → is_value_at k (restored (first_value rules k).current x) ≡ true
   one_is_sound k x fits = by (feature_of k.fid) refl fits
@@ -78,6 +83,7 @@ module _ (rules : FeatureRules) (are : AreRules rules) where
           (feature_with k.fid f e) in
           both _ _ (current_is_sound f k.selector _ x.saved is saved) saved
 
+  -- sound values stay sound when they are restored
   all_sound : (values : FeatureValues) → AreSound values → AreSound (all_restored rules values)
   all_sound values sound k y e =
       by (map_of.get values k) refl (sym (get-all_restored rules values k) ∙ e)
@@ -90,6 +96,7 @@ module _ (rules : FeatureRules) (are : AreRules rules) where
           let same : restored (first_value rules k).current x ≡ y = cc is in
           subst (λ z. is_value_at k z ≡ true) same (one_is_sound k x (sound k x e))
 
+-- restoring values keeps a controller
 restoring_keeps : KeepsController with_restored
 restoring_keeps = record {
   identity = λ x. refl;
@@ -112,17 +119,21 @@ restoring_keeps = record {
   };
 }
 
+-- a reset leaves a well-formed subsystem well formed
 pub reset_keeps : (s : State) (c : ℕ) → IsWellFormed s → IsWellFormed (reset s c)
 reset_keeps s c w = keeps s c with_restored restoring_keeps w
 
+-- a reset adds or removes no controller
 pub length-reset : (s : State) (c : ℕ) → length (reset s c).controllers ≡ length s.controllers
 length-reset s c = length-changed_at with_restored s.controllers c
 
+-- a reset that is done only if a test holds leaves a well-formed subsystem well formed
 reset_if_keeps : (b : Bool) (s : State) (c : ℕ) → IsWellFormed s
     → IsWellFormed (if b then reset s c else s)
 reset_if_keeps true s c w = reset_keeps s c w
 reset_if_keeps false s c w = w
 
+-- a reset that is done only if a test holds adds or removes no controller
 length-reset_if : (b : Bool) (s : State) (c : ℕ)
     → length (if b then reset s c else s).controllers ≡ length s.controllers
 length-reset_if true s c = length-reset s c
@@ -131,19 +142,21 @@ length-reset_if false s c = refl
 -- ---- the enabled ones of some controllers
 
 module _ (enabled : List Bool) where
+  -- resets of the enabled ones of some controllers leave a well-formed subsystem well formed
   each_keeps : (cs : List ℕ) (s : State) → IsWellFormed s
       → IsWellFormed (fold (reset_if enabled) s cs)
   each_keeps [] s w = w
   each_keeps (c ∷ cs) s w = each_keeps cs (reset_if enabled s c)
       (reset_if_keeps (slice_index_or enabled c false) s c w)
 
+  -- resets of the enabled ones of some controllers add or remove no controller
   length-each : (cs : List ℕ) (s : State)
       → length (fold (reset_if enabled) s cs).controllers ≡ length s.controllers
   length-each [] s = refl
   length-each (c ∷ cs) s = length-each cs (reset_if enabled s c)
       ∙ length-reset_if (slice_index_or enabled c false) s c
 
-  -- no controller is enabled
+  -- if no controller is enabled, resets of the enabled ones of some controllers change nothing
   each_same : ((c : ℕ) → slice_index_or enabled c false ≡ false) → (cs : List ℕ) (s : State)
       → fold (reset_if enabled) s cs ≡ s
   each_same off [] s = refl
@@ -151,22 +164,27 @@ module _ (enabled : List Bool) where
       ap (λ b. fold (reset_if enabled) (if b then reset s c else s) cs) (off c)
       ∙ each_same off cs s
 
+  -- resets of all enabled controllers leave a well-formed subsystem well formed
   pub reset_where_keeps : (s : State) → IsWellFormed s → IsWellFormed (reset_where enabled s)
   reset_where_keeps s w = each_keeps (range_with_len 0 (length enabled)) s w
 
+  -- resets of all enabled controllers add or remove no controller
   pub length-reset_where : (s : State)
       → length (reset_where enabled s).controllers ≡ length s.controllers
   length-reset_where s = length-each (range_with_len 0 (length enabled)) s
 
+  -- if no controller is enabled, resets of the enabled ones change nothing
   pub reset_nowhere : ((c : ℕ) → slice_index_or enabled c false ≡ false) → (s : State)
       → reset_where enabled s ≡ s
   reset_nowhere off s = each_same off (range_with_len 0 (length enabled)) s
 
   -- ---- the enabled ones of the first n controllers, for a loop over all
 
+  -- the state after resets of the enabled ones of the first n controllers
   abbrev pub reset_first : ℕ → State → State
   reset_first n s = fold (reset_if enabled) s (range_with_len 0 n)
 
+  -- resets of the enabled ones of n + 1 controllers reset the first n and then the last, as far as they are enabled
   one_more : (a n : ℕ) (s : State) → fold (reset_if enabled) s (range_with_len a (suc n))
       ≡ reset_if enabled (fold (reset_if enabled) s (range_with_len a n)) (a + n)
   one_more a zero s = ap (reset_if enabled s) last
@@ -179,6 +197,7 @@ module _ (enabled : List Bool) where
       last : (a + 1) + n ≡ a + suc n
       last = omega arith
 
+  -- resets of the enabled ones of the first n + 1 controllers reset the first n and then controller n
   pub reset_first_more : (n : ℕ) (s : State)
       → reset_first (n + 1) s ≡ reset_if enabled (reset_first n s) n
   reset_first_more n s =
@@ -188,7 +207,7 @@ module _ (enabled : List Bool) where
       last : 0 + n ≡ n
       last = omega arith
 
--- before any controller is enabled
+-- with n controllers of which none is enabled, resets of the enabled ones change nothing
 pub reset_where_off : (n : ℕ) (s : State) → reset_where (replicate n false) s ≡ s
 reset_where_off n s = reset_nowhere (replicate n false) (off n) s
   where

@@ -40,25 +40,30 @@ use Rattle.nv_model.specs.Conditions.{Row}
 
 -- ---- rows
 
+-- each row of a Get for a feature has a refusal
 get_rows_fit : (s : State) (c : ℕ) (q : FeatureQuery) (f : Feature) → AllRefuse (get_rows s c q f)
 get_rows_fit s c q f = search (rules, is_refusal-refusal_by)
 
+-- each row of a Set for a feature has a refusal
 set_rows_fit : (s : State) (c : ℕ) (x : FeatureSetting) (f : Feature)
     → AllRefuse (set_rows s c x f)
 set_rows_fit s c x f = search (rules, is_refusal-refusal_by)
 
+-- if the rows of each feature and the other rows have refusals, so have the rows of a supported feature, or of none
 supported_rows_fit : (o : Option Feature) (rows : Feature → List Row) (others : List Row)
     → ((f : Feature) → AllRefuse (rows f)) → AllRefuse others
     → AllRefuse (option_map_or rows o others)
 supported_rows_fit None rows others fit other = other
 supported_rows_fit (Some f) rows others fit other = fit f
 
+-- each row of a Get Features has a refusal
 pub get_feature_rows_fit : (s : State) (c : ℕ) (q : FeatureQuery)
     → AllRefuse (get_feature_rows s c q)
 get_feature_rows_fit s c q =
     supported_rows_fit (supported_at s c q.fid) (get_rows s c q) _ (get_rows_fit s c q)
     (search (rules, is_refusal-refusal_by))
 
+-- each row of a Set Features has a refusal
 pub set_feature_rows_fit : (s : State) (c : ℕ) (x : FeatureSetting)
     → AllRefuse (set_feature_rows s c x)
 set_feature_rows_fit s c x =
@@ -67,16 +72,18 @@ set_feature_rows_fit s c x =
 
 -- ---- a set
 
+-- if a conjunction is true, both its parts are
 and_parts : (a b : Bool) → (a && b) ≡ true → (a ≡ true) × (b ≡ true)
 and_parts true b e = (refl, e)
 and_parts false b e = absurd (cc e)
 
--- the values that a feature may have, by its key
+-- a value that is sound under a key of a feature is one that the feature may have
 sound_value : (f : Feature) (n s : ℕ) (x : FeatureValue) → is_value_at (key_of f n s) x ≡ true
     → may_have f x ≡ true
 sound_value f n s x e =
     sym (ap (λ o. option_map_or (λ g. may_have g x) o false) (feature_at f)) ∙ e
 
+-- a value that a feature may have stays one when another value of the feature is written
 may_have_written : (f : Feature) (value : ℕ) (save : Bool) (x : FeatureValue)
     → is_value f value ≡ true
     → may_have f x ≡ true → may_have f (written value save x) ≡ true
@@ -85,9 +92,11 @@ may_have_written f value false x fits e = rw fits (and_parts (is_value f x.curre
 
 module _ (f : Feature) (value : ℕ) (save : Bool) (fits : is_accepted f value ≡ true)
     (rules : FeatureRules) (vwc : ℕ) (attached : Nsids) where
+  -- exactly the keys that are due have a value, which their feature may have
   abbrev AreHere : FeatureValues → Type 0
   AreHere = AreValues rules vwc attached
 
+  -- a Set for one key keeps the values well formed
   one_selector : (values : FeatureValues) (n s : ℕ) → AreHere values
       → AreHere (changed_at (write f value save) values (key_of f n s))
   one_selector values n s are = by (is_set f value s) (map_of.get values (key_of f n s)) refl
@@ -105,6 +114,7 @@ module _ (f : Feature) (value : ℕ) (save : Bool) (fits : is_accepted f value �
           (may_have_written f (stored f value) save x (stored_is_value f value fits)
           (sound_value f n s x (are.sound (key_of f n s) x e))))
 
+  -- a Set for several selectors of one NSID keeps the values well formed
   some_selectors : (n : ℕ) (ss : List ℕ) (values : FeatureValues) → AreHere values
       → AreHere (changed (write f value save) (map (key_of f n) ss) values)
   some_selectors n [] values are = are
@@ -112,6 +122,7 @@ module _ (f : Feature) (value : ℕ) (save : Bool) (fits : is_accepted f value �
       some_selectors n ss (changed_at (write f value save) values (key_of f n s))
       (one_selector values n s are)
 
+  -- a Set for all selectors of several NSIDs keeps the values well formed
   all_values : (ns : List ℕ) (values : FeatureValues) → AreHere values
       → AreHere (fold (with_value f value save) values ns)
   all_values [] values are = are
@@ -119,6 +130,7 @@ module _ (f : Feature) (value : ℕ) (save : Bool) (fits : is_accepted f value �
       all_values ns (with_value f value save values n)
       (some_selectors n (row_of f).selectors values are)
 
+-- a Set with an accepted dword keeps a controller
 set_keeps : (f : Feature) (value : ℕ) (save : Bool) (ns : List ℕ) → is_accepted f value ≡ true
     → KeepsController (with_values f value save ns)
 set_keeps f value save ns fits = record {
@@ -144,10 +156,12 @@ module _ (s : State) (c : ℕ) (x : FeatureSetting) where
   to_controller f = with_values f x.value x.save (changed_nsids s c x.nsid f)
 
   module _ (f : Feature) where
+    -- no row refuses a Set for this feature, or for no feature
     abbrev accepted_by : Option Feature → Type 0
     accepted_by o = first_refusal
         (option_map_or (set_rows s c x) o (row true InvalidFieldInCommand ∷ [])) ≡ None
 
+    -- a Set that is accepted if its feature is supported has a dword that the feature accepts
     by_support : (b : Bool) (g : Feature) → accepted_by (if b then Some g else None) → g ≡ f
         → is_accepted f x.value ≡ true
     by_support true g accepted same =
@@ -155,6 +169,7 @@ module _ (s : State) (c : ℕ) (x : FeatureSetting) where
         subst (λ h. is_accepted h x.value ≡ true) same (not_false (is_accepted g x.value) rows.0)
     by_support false g accepted same = absurd (cc accepted)
 
+    -- a Set that a controller accepts for a feature, if there is one, has a dword that the feature accepts
     by_feature : (y : Controller) (o : Option Feature)
         → accepted_by (option_map_or
         (λ g. if is_supported y.rules y.identity.numbers.vwc g then Some g else None) o None)
@@ -164,12 +179,14 @@ module _ (s : State) (c : ℕ) (x : FeatureSetting) where
         let same : g ≡ f = cc e in
         by_support (is_supported y.rules y.identity.numbers.vwc g) g accepted same
 
+    -- a Set that is accepted by a controller, if there is one, has a dword that the feature accepts
     by_controller : (o : Option Controller)
         → accepted_by (option_map_or (λ y. supported y.rules y.identity.numbers.vwc x.fid) o None)
         → feature_of x.fid ≡ Some f → is_accepted f x.value ≡ true
     by_controller None accepted e = absurd (cc accepted)
     by_controller (Some y) accepted e = by_feature y (feature_of x.fid) accepted e
 
+  -- a Set Features that isn't refused leaves a well-formed subsystem well formed
   pub feature_keeps : IsWellFormed s → first_refusal (set_feature_rows s c x) ≡ None
       → IsWellFormed (with_feature s c x)
   feature_keeps w accepted = by (feature_of x.fid) refl
@@ -181,6 +198,7 @@ module _ (s : State) (c : ℕ) (x : FeatureSetting) where
           (set_keeps f x.value x.save (changed_nsids s c x.nsid f)
           (by_controller f (controller_at s c) accepted e)) w
 
+  -- a Set Features adds or removes no controller
   pub feature_controllers : length (with_feature s c x).controllers ≡ length s.controllers
   feature_controllers = by (feature_of x.fid)
     where
@@ -192,6 +210,7 @@ module _ (s : State) (c : ℕ) (x : FeatureSetting) where
 
 -- ---- a number that is returned
 
+-- the capabilities of a feature are a number of 32 bits
 capabilities_fit : (a b c : Bool)
     → (if a then 1 else 0) + (if b then 2 else 0) + (if c then 4 else 0) < 2 ^ 32
 capabilities_fit true true true = lit< tt
@@ -203,6 +222,7 @@ capabilities_fit false true false = lit< tt
 capabilities_fit false false true = lit< tt
 capabilities_fit false false false = lit< tt
 
+-- what a select names for a sound value and default is a number of 32 bits
 selected_fits : (rule : FeatureRule) (f : Feature) (sel selector : ℕ) (x : FeatureValue)
     → is_value f (default_of rule selector) ≡ true
     → may_have f x ≡ true → selected rule f sel selector x < 2 ^ 32
@@ -219,6 +239,7 @@ selected_fits rule f sel selector x default is =
     saved_fits None e = value_fits f (default_of rule selector) default
     saved_fits (Some v) e = value_fits f v e
 
+-- what a Get names for a controller's feature is a number of 32 bits
 told_fits : (s : State) (x : Controller) → IsController s.namespaces x
     → (q : FeatureQuery) (f : Feature) → told q f x < 2 ^ 32
 told_fits s x is q f = chosen_fits (λ m. m < 2 ^ 32) (is_get_selector f q.cdw11) _ 0
@@ -233,6 +254,7 @@ told_fits s x is q f = chosen_fits (λ m. m < 2 ^ 32) (is_get_selector f q.cdw11
         (default_is_sound x.rules is.rules f t)
         (sound_value f q.nsid t v (is.values.sound (key_of f q.nsid t) v e))
 
+-- the number that a Get Features returns has 32 bits
 pub feature_number_fits : (s : State) (c : ℕ) (q : FeatureQuery) → IsWellFormed s
     → feature_number s c q < 2 ^ 32
 feature_number_fits s c q w = by_feature (feature_of q.fid)

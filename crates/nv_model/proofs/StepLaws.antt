@@ -24,9 +24,11 @@ use Rattle.nv_model.proofs.ChangedAtLaws.{length-changed_at}
 use Rattle.nv_model.proofs.KeepingLaws.{KeepsController, keeps}
 use Rattle.nv_model.proofs.MeaningLaws.{sound}
 
+-- the next count is at most the greatest count
 next_count-le : (n : ℕ) → next_count n ≤ greatest_count
 next_count-le n = omega arith
 
+-- counting a command keeps a controller
 pub counting_keeps : KeepsController (λ x. record x { commands = next_count x.commands })
 counting_keeps = record {
   identity = λ x. refl;
@@ -44,6 +46,7 @@ counting_keeps = record {
   };
 }
 
+-- the log after a refusal has as many entries as there were refusals, but at most as many as are kept
 length-with_refusal : (most refusals : ℕ) (e : ErrorEntry) (log : List ErrorEntry) → 0 < most → most
     ≤ 256 → refusals ≤ greatest_count → length log ≡ min refusals most
     → length (take most (e ∷ log)) ≡ min (next_count refusals) most
@@ -51,11 +54,13 @@ length-with_refusal most refusals e log some few low len =
     length-take most (e ∷ log) ∙ (let up : length (e ∷ log) ≡ suc (length log) = refl in
     omega arith)
 
+-- the entries of the log after a refusal fit their records
 all_entries : (most : ℕ) (e : ErrorEntry) (log : List ErrorEntry) → ErrorEntryFits e
     → All ErrorEntryFits log → All ErrorEntryFits (take most (e ∷ log))
 all_entries most e log h all =
     All-take ErrorEntryFits most (e ∷ log) (All-cons ErrorEntryFits e log h all)
 
+-- the entry of a refusal fits its record
 entry_fits : (count cid nsid : ℕ) (r : Refusal) → count ≤ greatest_count → nsid < 2 ^ 32
     → cid < 2 ^ 16
     → IsRefusal r → ErrorEntryFits (log_entry count cid nsid r)
@@ -71,6 +76,7 @@ entry_fits count cid nsid r low a b fits = record {
   specific = omega (arith, fits.specific);
 }
 
+-- logging a refusal keeps a controller
 pub booking_keeps : (nsid cid : ℕ) (r : Refusal) → nsid < 2 ^ 32 → cid < 2 ^ 16 → IsRefusal r
     → KeepsController (with_refusal nsid cid r)
 booking_keeps nsid cid r a b fits = record {
@@ -92,9 +98,11 @@ booking_keeps nsid cid r a b fits = record {
   };
 }
 
+-- counting a command leaves a well-formed subsystem well formed
 pub with_command_keeps : (s : State) (c : ℕ) → IsWellFormed s → IsWellFormed (with_command s c)
 with_command_keeps s c w = keeps s c _ counting_keeps w
 
+-- a refusal leaves a well-formed subsystem well formed
 pub refused_keeps : (s : State) (c nsid cid : ℕ) (r : Refusal) → nsid < 2 ^ 32 → cid < 2 ^ 16
     → IsRefusal r → IsWellFormed s → IsWellFormed (with_command (refused s c nsid cid r) c)
 refused_keeps s c nsid cid r a b fits w = with_command_keeps (refused s c nsid cid r) c
@@ -102,35 +110,41 @@ refused_keeps s c nsid cid r a b fits w = with_command_keeps (refused s c nsid c
 
 -- ---- one command
 
+-- each row of a command has a refusal
 pub rows_fit : (s : State) (c : ℕ) (k : Command) → AllByRecursion (λ row. IsRefusal row.refusal)
     (rows_of s c k)
 rows_fit s c k = (sound k).rows s c
 
+-- if a row's refusal and the refusals of later rows are refusals, so is the one that is chosen
 chosen_fits : (b : Bool) (first r : Refusal) (later : Option Refusal) → IsRefusal first
     → (later ≡ Some r → IsRefusal r)
     → (if b then Some first else later) ≡ Some r → IsRefusal r
 chosen_fits true first r later here there e = let same : first ≡ r = cc in subst IsRefusal same here
 chosen_fits false first r later here there e = there e
 
+-- the first refusal of rows that all have refusals is a refusal
 first_fits : (rows : List Row) (r : Refusal) → AllByRecursion (λ row. IsRefusal row.refusal) rows
     → first_refusal rows ≡ Some r → IsRefusal r
 first_fits [] r all e = absurd (cc)
 first_fits (row ∷ rows) r all e =
     chosen_fits row.when row.refusal r (first_refusal rows) all.0 (first_fits rows r all.1) e
 
+-- what refuses a command is a refusal
 pub refusal_fits : (s : State) (c : ℕ) (k : Command) (r : Refusal) → refusal_of s c k ≡ Some r
     → IsRefusal r
 refusal_fits s c k r e = first_fits (rows_of s c k) r (rows_fit s c k) e
 
--- what an accepted command changes preserves well-formedness, and adds or removes no controller
+-- the effect of a command that isn't refused leaves a well-formed subsystem well formed
 pub effect_keeps : (s : State) (c : ℕ) (k : Command) → refusal_of s c k ≡ None → IsWellFormed s
     → IsWellFormed (effect_of s c k)
 effect_keeps s c k accepted w = (sound k).keeps s c accepted w
 
+-- no effect of a command adds or removes a controller
 pub effect_controllers : (s : State) (c : ℕ) (k : Command) → length (effect_of s c k).controllers
     ≡ length s.controllers
 effect_controllers s c k = (sound k).controllers s c
 
+-- a step, refused or not, leaves a well-formed subsystem well formed
 step_by_keeps : (o : Option Refusal) (s : State) (c : ℕ) (k : Command) (cid : ℕ) → refusal_of s c k
     ≡ o → ((r : Refusal) → o ≡ Some r → IsRefusal r) → namespace_of k < 2 ^ 32 → cid < 2 ^ 16
     → IsWellFormed s → IsWellFormed (step_by o s c k cid).state
@@ -139,12 +153,13 @@ step_by_keeps None s c k cid is fits a b w =
 step_by_keeps (Some r) s c k cid is fits a b w =
     refused_keeps s c (namespace_of k) cid r a b (fits r refl) w
 
+-- a step leaves a well-formed subsystem well formed
 pub step_keeps : (s : State) (c : ℕ) (k : Command) (cid : ℕ) → namespace_of k < 2 ^ 32 → cid
     < 2 ^ 16 → IsWellFormed s → IsWellFormed (step s c k cid).state
 step_keeps s c k cid a b w =
     step_by_keeps (refusal_of s c k) s c k cid refl (refusal_fits s c k) a b w
 
--- no command adds or removes a controller
+-- a step, refused or not, adds or removes no controller
 step_by_controllers : (o : Option Refusal) (s : State) (c : ℕ) (k : Command) (cid : ℕ)
     → length (step_by o s c k cid).state.controllers ≡ length s.controllers
 step_by_controllers None s c k cid = length-changed_at _ (effect_of s c k).controllers c
@@ -153,6 +168,7 @@ step_by_controllers (Some r) s c k cid =
     length-changed_at _ (refused s c (namespace_of k) cid r).controllers c
     ∙ length-changed_at (with_refusal (namespace_of k) cid r) s.controllers c
 
+-- a step adds or removes no controller
 pub step_controllers : (s : State) (c : ℕ) (k : Command) (cid : ℕ)
     → length (step s c k cid).state.controllers ≡ length s.controllers
 step_controllers s c k cid = step_by_controllers (refusal_of s c k) s c k cid

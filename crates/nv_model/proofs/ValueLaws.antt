@@ -15,6 +15,7 @@ use Rattle.nv_model.specs.declared.feature_value.FeatureValue.{FeatureValue}
 
 -- ---- the order of keys
 
+-- the order of keys is total
 pub key_cmp_total : IsTotalOrder key_cmp
 key_cmp_total = record {
   antisymm = λ x y. nat_list_cmp_total.antisymm (numbers_of x) (numbers_of y);
@@ -22,6 +23,7 @@ key_cmp_total = record {
   congr = λ x y z. nat_list_cmp_total.congr (numbers_of x) (numbers_of y) (numbers_of z);
 }
 
+-- the order of keys is antisymmetric
 pub key_cmp-IsAntisymmetric : IsAntisymmetric key_cmp
 key_cmp-IsAntisymmetric x y e =
     let same : numbers_of x ≡ numbers_of y =
@@ -35,9 +37,11 @@ key_cmp-IsAntisymmetric x y e =
 abbrev pub is_key : ValueKey → ValueKey → Bool
 is_key q k = eq_by_cmp key_cmp q k
 
+-- keys that pass the test for the same key are equal
 pub same_key : (q k : ValueKey) → is_key q k ≡ true → q ≡ k
 same_key q k e = key_cmp-IsAntisymmetric q k ((Equal-is (key_cmp q k)).0 e)
 
+-- three comparisons in turn are equal if and only if each of them is
 then_equal : (r s t : Ordering)
     → is_eq (ordering_then r (ordering_then s (ordering_then t Equal)))
     ≡ (is_eq r && (is_eq s && is_eq t))
@@ -49,6 +53,7 @@ then_equal Equal Equal Greater = refl
 then_equal Equal Greater t = refl
 then_equal Greater s t = refl
 
+-- two keys are the same if their three numbers are
 pub by_numbers : (q k : ValueKey) → is_key q k
     ≡ ((q.fid == k.fid) && ((q.nsid == k.nsid) && (q.selector == k.selector)))
 by_numbers q k = then_equal (nat_cmp q.fid k.fid) (nat_cmp q.nsid k.nsid)
@@ -56,6 +61,7 @@ by_numbers q k = then_equal (nat_cmp q.fid k.fid) (nat_cmp q.nsid k.nsid)
     ∙ λ i. unsigned_tied q.fid k.fid i
     && (unsigned_tied q.nsid k.nsid i && unsigned_tied q.selector k.selector i)
 
+-- a key is the same as itself
 pub is_itself : (k : ValueKey) → is_key k k ≡ true
 is_itself k = by_numbers k k ∙ λ i. same k.fid i && (same k.nsid i && same k.selector i)
   where
@@ -64,19 +70,23 @@ is_itself k = by_numbers k k ∙ λ i. same k.fid i && (same k.nsid i && same k.
 
 -- ---- what is found after a change
 
+-- after x is inserted under k, k has x, and each other key has its own value
 pub value_of_insert : (m : FeatureValues) (k : ValueKey) (x : FeatureValue) (q : ValueKey)
     → map_of.get (map_of.insert m k x) q ≡ cond (is_key q k) (Some x) (map_of.get m q)
 value_of_insert m k x q = get-insert key_cmp_total m k x q
 
+-- after the value of k is removed, k has none, and each other key has its own value
 pub value_of_remove : (m : FeatureValues) (k q : ValueKey)
     → map_of.get (map_of.remove m k) q ≡ cond (is_key q k) None (map_of.get m q)
 value_of_remove m k q = get-remove key_cmp_total m k q
 
+-- after keys are removed that fail a test, each key that passes has its own value
 pub value_of_retain : (m : FeatureValues) (p : ValueKey → Bool) (q : ValueKey)
     → map_of.get (map_of.retain_keys m p) q ≡ cond (p q) (map_of.get m q) None
 value_of_retain m p q =
     get-retain_keys m p q (λ x e. ap p (sym (key_cmp-IsAntisymmetric q x e)))
 
+-- two maps in which each key has the same value are equal
 pub same_values : (m n : FeatureValues)
     → ((q : ValueKey) → map_of.get m q ≡ map_of.get n q) → m ≡ n
 same_values m n = same_map key_cmp_total key_cmp-IsAntisymmetric m n

@@ -12,10 +12,11 @@ abbrev pub answer_by : Option Refusal → Reply → Result Reply Refusal
 answer_by None reply = Ok reply
 answer_by (Some r) reply = Err r
 
--- the answer, where entries of logs that differ only in the phase tag are considered equal
+-- the answer without the phase tags of log entries
 abbrev pub answer_without_phases : Result Reply Refusal → Result Reply Refusal
 answer_without_phases (Ok reply) = Ok (without_phases reply)
 answer_without_phases (Err r) = Err r
 
+-- the answer to a command of controller c, with the whole refusal
 abbrev pub answer_to : State → ℕ → Command → Result Reply Refusal
 answer_to s c k = answer_by (refusal_of s c k) (reply_of s c k)

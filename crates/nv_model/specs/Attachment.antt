@@ -38,6 +38,7 @@ is_list_of s ids = not (length ids == 0) && is_ascending ids && list_all (is_kno
 
 -- ---- rows
 
+-- whether a controller has the namespace attached
 abbrev pub has_attached : ℕ → Controller → Bool
 has_attached n x = map_of.contains_key x.attached n
 
@@ -65,6 +66,7 @@ lacks_one_attached s n ids = list_any (λ x. is_listed ids x && not (has_attache
 abbrev pub count_with : State → ℕ → List ℕ → ℕ
 count_with s n ids = count_by (λ x. has_attached n x || is_listed ids x) s.controllers
 
+-- the rows of an attach: those that it shares, an attached namespace, and a private one with two controllers
 abbrev pub attach_rows : State → ℕ → List ℕ → List Row
 attach_rows s n ids =
     first_rows s n ids
@@ -72,10 +74,12 @@ attach_rows s n ids =
     ∷ row (is_private s n && nat_lt 1 (count_with s n ids)) NamespaceIsPrivate
     ∷ []
 
+-- the rows of a detach: those that it shares, and a namespace that isn't attached
 abbrev pub detach_rows : State → ℕ → List ℕ → List Row
 detach_rows s n ids =
     first_rows s n ids ++ row (lacks_one_attached s n ids) NamespaceNotAttached ∷ []
 
+-- the rows of an attach or a detach
 abbrev pub attachment_rows : State → ℕ → Bool → List ℕ → List Row
 attachment_rows s n detach ids = if detach then detach_rows s n ids else attach_rows s n ids
 
@@ -108,5 +112,6 @@ attached s n ids = with_attached s (more n ids)
 abbrev pub detached : State → ℕ → List ℕ → State
 detached s n ids = with_attached s (fewer n ids)
 
+-- the state after an attach or a detach
 abbrev pub with_attachments : State → ℕ → Bool → List ℕ → State
 with_attachments s n detach ids = if detach then detached s n ids else attached s n ids

@@ -12,6 +12,7 @@ use Rattle.nv_model.specs.declared.feature_value.FeatureValue.{FeatureValue}
 abbrev pub Change : Type 0
 Change = ValueKey → Option FeatureValue → Option FeatureValue
 
+-- changes the value of one key
 abbrev pub changed_at : Change → FeatureValues → ValueKey → FeatureValues
 changed_at change values k =
     option_map_or (map_of.insert values k) (change k (map_of.get values k)) (map_of.remove values k)

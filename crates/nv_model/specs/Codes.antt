@@ -7,11 +7,13 @@ use Rattle.nv_model.specs.declared.identity.Identity as code
 use Rattle.nv_model.specs.State.{Identity}
 use Rattle.nv_model.specs.Values.{ValueKey, FeatureValues}
 
+-- a feature's value is stored as its fields
 abbrev pub feature_value_code : Coded FeatureValue
 feature_value_code = code_by (ℕ × Option ℕ) (coded× coded_ℕ (coded_option coded_ℕ))
     (λ x. (x.current, x.saved))
     (λ p. record { current = p.0; saved = p.1 }) (λ _. refl)
 
+-- the value of an identity in the code
 abbrev pub identity_view : code.Identity → Identity
 identity_view i = record {
   cntlid = i.cntlid;
@@ -22,10 +24,12 @@ identity_view i = record {
   crypto_erase = i.crypto_erase;
 }
 
+-- a key is stored as its three numbers
 abbrev pub value_key_code : Coded ValueKey
 value_key_code = code_by (ℕ × (ℕ × ℕ)) (coded× coded_ℕ (coded× coded_ℕ coded_ℕ))
     (λ k. (k.fid, (k.nsid, k.selector)))
     (λ p. record { fid = p.0; nsid = p.1.0; selector = p.1.1 }) (λ _. refl)
 
+-- the values of features are stored as a map from keys
 abbrev pub feature_values_code : Coded FeatureValues
 feature_values_code = map_of.code value_key_code feature_value_code

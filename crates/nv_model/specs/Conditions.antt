@@ -33,6 +33,7 @@ mdts_of s c = option_map_or (λ x. x.identity.numbers.mdts) (controller_at s c) 
 abbrev pub greatest_limit : ℕ
 greatest_limit = 1048576
 
+-- the greatest length of a command's data in bytes
 abbrev pub limit_of : State → ℕ → ℕ
 limit_of s c = 4096 * 2 ^ mdts_of s c
 
@@ -44,6 +45,7 @@ is_valid s n = nat_le 1 n && nat_le n s.nn
 abbrev pub active_nsids : State → ℕ → List ℕ
 active_nsids s c = option_map_or (λ x. ascending x.attached) (controller_at s c) []
 
+-- whether an NSID is attached to controller c
 abbrev pub is_active : State → ℕ → ℕ → Bool
 is_active s c n = option_map_or (λ x. map_of.contains_key x.attached n) (controller_at s c) false
 
@@ -68,6 +70,7 @@ pub record Row : Type 0 where
 abbrev pub row : Bool → StatusCode → Row
 row when code = record { when = when; refusal = refusal_by code }
 
+-- the refusal of the first row whose condition holds
 abbrev pub first_refusal : List Row → Option Refusal
 first_refusal [] = None
 first_refusal (r ∷ rows) = if r.when then Some r.refusal else first_refusal rows

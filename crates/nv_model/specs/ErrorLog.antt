@@ -9,6 +9,7 @@ pub record Log : Type 0 where
   pub most : ℕ
   pub entries : List ErrorEntry
 
+-- a status is stored as its fields
 abbrev pub status_code : Coded Status
 status_code = code_by (ℕ × (ℕ × (ℕ × (Bool × Bool))))
     (coded× coded_ℕ (coded× coded_ℕ (coded× coded_ℕ (coded× coded_bool coded_bool))))
@@ -16,6 +17,7 @@ status_code = code_by (ℕ × (ℕ × (ℕ × (Bool × Bool))))
     (λ p. record { sc = p.0; sct = p.1.0; crd = p.1.1.0; more = p.1.1.1.0; dnr = p.1.1.1.1 })
     (λ _. refl)
 
+-- an entry is stored as its fields
 abbrev pub entry_code : Coded ErrorEntry
 entry_code = code_by (ℕ × (ℕ × (ℕ × (Status × (Bool × (ℕ × (ℕ × (ℕ × (ℕ × ℕ)))))))))
     (coded× coded_ℕ
@@ -44,6 +46,7 @@ entry_code = code_by (ℕ × (ℕ × (ℕ × (Status × (Bool × (ℕ × (ℕ ×
       specific = p.1.1.1.1.1.1.1.1.1;
     }) (λ _. refl)
 
+-- a log is stored as its fields
 abbrev pub log_code : Coded Log
 log_code = code_by (ℕ × List ErrorEntry) (coded× coded_ℕ (coded_list entry_code))
     (λ l. (l.most, l.entries))

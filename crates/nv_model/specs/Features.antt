@@ -54,9 +54,12 @@ get_rows s c q f =
     ∷ row ((row_of f).per_namespace && not (is_active s c q.nsid)) InvalidFieldInCommand
     ∷ []
 
+-- the rows of a Get Features
 abbrev pub get_feature_rows : State → ℕ → FeatureQuery → List Row
 get_feature_rows s c q = supported_rows s c q.fid (get_rows s c q)
 
+-- a dword that the feature doesn't accept; an NSID that isn't valid, not active, or not for this feature; saving a
+-- feature that isn't saveable; and changing one that isn't changeable
 abbrev pub set_rows : State → ℕ → FeatureSetting → Feature → List Row
 set_rows s c x f =
     let each = (row_of f).per_namespace in
@@ -69,6 +72,7 @@ set_rows s c x f =
     ∷ row (not (rule_at s c f).changeable) FeatureNotChangeable
     ∷ []
 
+-- the rows of a Set Features
 abbrev pub set_feature_rows : State → ℕ → FeatureSetting → List Row
 set_feature_rows s c x = supported_rows s c x.fid (set_rows s c x)
 
@@ -98,6 +102,7 @@ abbrev pub told : FeatureQuery → Feature → Controller → ℕ
 told q f x =
     if is_get_selector f q.cdw11 then told_under (selector_in f q.cdw11) f q.sel q.nsid x else 0
 
+-- the number that a Get Features returns
 abbrev pub feature_number : State → ℕ → FeatureQuery → ℕ
 feature_number s c q =
     option_map_or (λ f. option_map_or (told q f) (controller_at s c) 0) (feature_of q.fid) 0
@@ -122,10 +127,12 @@ write f dword save k old =
 abbrev pub with_value : Feature → ℕ → Bool → FeatureValues → ℕ → FeatureValues
 with_value f value save values n = changed (write f value save) (keys_of f n) values
 
+-- a controller after a Set for each of some NSIDs
 abbrev pub with_values : Feature → ℕ → Bool → List ℕ → Controller → Controller
 with_values f value save ns x =
     record x { values = fold (with_value f value save) x.values ns }
 
+-- the state after a Set Features
 abbrev pub with_feature : State → ℕ → FeatureSetting → State
 with_feature s c x =
     option_map_or

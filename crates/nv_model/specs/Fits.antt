@@ -11,5 +11,6 @@ pub record ReplyFits (s : State) (c : ℕ) (k : Command) : Type 0 where
   pub is_reply : IsReplyTo k (reply_of s c k)
   pub fits : FitsRecord (reply_of s c k)
 
+-- each reply of a well-formed subsystem fits its record
 abbrev pub RepliesFit : Type 0
 RepliesFit = (s : State) (c : ℕ) (k : Command) → IsWellFormed s → ReplyFits s c k

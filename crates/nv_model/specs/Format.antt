@@ -28,6 +28,8 @@ has_one_below s lbaf ns =
 abbrev pub can_erase_by_key : State → ℕ → Bool
 can_erase_by_key s c = option_map_or (λ x. x.identity.crypto_erase) (controller_at s c) false
 
+-- an NSID that isn't valid, or not active; a format that the subsystem can't have, that has protection information, or
+-- for which a namespace has no room; and an erase that the controller doesn't have
 abbrev pub format_rows : State → ℕ → NewFormat → List Row
 format_rows s c f =
     row (not (is_valid s f.nsid || f.nsid == broadcast_nsid)) InvalidNamespaceOrFormat
@@ -42,6 +44,7 @@ format_rows s c f =
 abbrev pub in_format : ℕ → Bool → Namespace → Namespace
 in_format lbaf mset x = record x { format = lbaf; extended = mset }
 
+-- the state after a format: each concerned namespace is in it
 abbrev pub formatted : State → ℕ → NewFormat → State
 formatted s c f =
     record s {

@@ -34,9 +34,11 @@ list_rows after = row (nat_le 0xffff_fffe after) InvalidNamespaceOrFormat ∷ []
 
 -- ---- records
 
+-- a format as an LBA format
 abbrev pub lbaf_of : Format → Lbaf
 lbaf_of f = record { ms = f.ms; lbads = f.lbads; rp = f.rp }
 
+-- an LBA format of zeros
 abbrev pub no_lbaf : Lbaf
 no_lbaf = record { ms = 0; lbads = 0; rp = 0 }
 
@@ -90,17 +92,21 @@ active_namespace s c n = if is_active s c n then allocated_namespace s n else bl
 
 -- ---- replies
 
+-- the data of an active namespace; for the broadcast NSID, what all namespaces have in common
 abbrev pub active_reply : State → ℕ → ℕ → Reply
 active_reply s c n =
     reply.Namespace (if n == broadcast_nsid
     then common_of s.formats s.mc
     else active_namespace s c n)
 
+-- the data of an allocated namespace
 abbrev pub allocated_reply : State → ℕ → Reply
 allocated_reply s n = reply.Namespace (allocated_namespace s n)
 
+-- the NSIDs above `after` that are attached to the controller
 abbrev pub active_list_reply : State → ℕ → ℕ → Reply
 active_list_reply s c after = reply.List (above after (active_nsids s c))
 
+-- the NSIDs above `after` that are allocated
 abbrev pub allocated_list_reply : State → ℕ → Reply
 allocated_list_reply s after = reply.List (above after (allocated_nsids s))

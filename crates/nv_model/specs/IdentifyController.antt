@@ -1,6 +1,7 @@
 -- The Identify data of a controller.
 use Rattle.std.specs.Prelude.{ℕ, nat_le, List, ◌++◌, length, replicate, take, if◌then◌else◌}
 use Rattle.std.specs.Option.{option_map_or}
+use Rattle.nv_layout.specs.IdCtrl.{id_ctrl_of_bytes}
 use Rattle.nv_layout.specs.declared.id_ctrl.IdCtrl.{IdCtrl}
 use Rattle.nv_command.specs.declared.reply.Reply.{Reply}
 use Rattle.nv_command.specs.declared.reply.Reply.TheVariants as reply
@@ -54,36 +55,9 @@ id_ctrl_of s x = record {
 
 -- a controller that doesn't exist: zeros
 abbrev pub no_controller : IdCtrl
-no_controller = record {
-  vid = 0;
-  ssvid = 0;
-  sn = replicate 20 0;
-  mn = replicate 40 0;
-  fr = replicate 8 0;
-  rab = 0;
-  ieee = 0;
-  cmic = 0;
-  mdts = 0;
-  cntlid = 0;
-  ver = 0;
-  oacs = 0;
-  frmw = 0;
-  lpa = 0;
-  elpe = 0;
-  npss = 0;
-  wctemp = 0;
-  cctemp = 0;
-  tnvmcap = 0;
-  unvmcap = 0;
-  sqes = 0;
-  cqes = 0;
-  nn = 0;
-  oncs = 0;
-  fna = 0;
-  vwc = 0;
-  subnqn = replicate 256 0;
-}
+no_controller = id_ctrl_of_bytes (replicate 4096 0)
 
+-- the data of controller c, or zeros if it doesn't exist
 abbrev pub controller_reply : State → ℕ → Reply
 controller_reply s c =
     reply.Controller (option_map_or (id_ctrl_of s) (controller_at s c) no_controller)

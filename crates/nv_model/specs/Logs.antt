@@ -1,12 +1,14 @@
 -- Get Log Page: when it is refused, and what it returns.
 use Rattle.std.specs.Prelude.{ℕ, ◌+◌, ◌-◌, ◌*◌, ◌%◌, ◌==◌, ◌||◌, not, nat_lt, Bool, List, [], ◌∷◌}
-use Rattle.std.specs.Prelude.{◌++◌, length, replicate, if◌then◌else◌}
+use Rattle.std.specs.Prelude.{◌++◌, length, replicate}
 use Rattle.std.specs.Option.{option_map_or}
 use Rattle.nv_layout.specs.ErrorEntry.{no_entry}
 use Rattle.nv_layout.specs.declared.error_entry.ErrorEntry.{ErrorEntry}
 use Rattle.nv_layout.specs.declared.smart.Smart.{Smart}
-use Rattle.nv_command.specs.Form.{is_error_log}
+use Rattle.nv_command.specs.LogPage.{lid_of, log_asked}
 use Rattle.nv_command.specs.Nsid.{broadcast_nsid}
+use Rattle.nv_command.specs.declared.log_page.LogPage.{LogPage}
+use Rattle.nv_command.specs.declared.log_page.LogPage.TheVariants.{ErrorInformation, Health}
 use Rattle.nv_command.specs.declared.logs.LogQuery.{LogQuery}
 use Rattle.nv_command.specs.declared.reply.Reply.{Reply}
 use Rattle.nv_command.specs.declared.reply.Reply.TheVariants as reply
@@ -20,17 +22,18 @@ use Rattle.nv_model.specs.declared.smart_base.SmartBase.{SmartBase}
 
 -- ---- refusals
 
--- the error log, or the health log
+-- a log page has the identifier
 abbrev pub is_log : ℕ → Bool
-is_log lid = is_error_log lid || lid == 0x02
+is_log lid = lid_of (log_asked lid) == lid
 
 -- how many entries the error log has: ELPE + 1
 abbrev pub entry_count : State → ℕ → ℕ
 entry_count s c = option_map_or (λ x. x.identity.numbers.elpe + 1) (controller_at s c) 1
 
--- the length of a log in bytes
-abbrev pub log_length : State → ℕ → ℕ → ℕ
-log_length s c lid = if is_error_log lid then 64 * entry_count s c else 512
+-- the length of a log page in bytes
+abbrev pub log_length : State → ℕ → LogPage → ℕ
+log_length s c ErrorInformation = 64 * entry_count s c
+log_length s c Health = 512
 
 -- more bytes than the controller transfers at a time; another log; an NSID other than 0 and the
 -- broadcast one; an offset past the end of the log, or inside a dword
@@ -39,7 +42,7 @@ log_rows s c q =
     row (nat_lt (limit_of s c) (4 * q.dwords)) InvalidFieldInCommand
     ∷ row (not (is_log q.lid)) InvalidLogPage
     ∷ row (not (q.nsid == 0 || q.nsid == broadcast_nsid)) InvalidFieldInCommand
-    ∷ row (nat_lt (log_length s c q.lid) q.offset || not (q.offset % 4 == 0)) InvalidFieldInCommand
+    ∷ row (nat_lt (log_length s c (log_asked q.lid)) q.offset || not (q.offset % 4 == 0)) InvalidFieldInCommand
     ∷ []
 
 -- ---- replies
@@ -71,6 +74,7 @@ health_of base refusals = record {
   sensors = base.sensors;
 }
 
+-- the health log of a controller
 abbrev pub smart_of : Controller → Smart
 smart_of x = health_of x.smart x.refusals
 
@@ -102,13 +106,15 @@ zero_smart = record {
 abbrev pub no_health : Smart
 no_health = health_of zero_smart 0
 
+-- the error log of controller c; if it doesn't exist, one entry without an error
 abbrev pub errors_at : State → ℕ → List ErrorEntry
 errors_at s c = option_map_or errors_of (controller_at s c) (no_entry ∷ [])
 
+-- the health log of controller c; if it doesn't exist, no_health
 abbrev pub smart_at : State → ℕ → Smart
 smart_at s c = option_map_or smart_of (controller_at s c) no_health
 
--- the error log, or the health log
-abbrev pub log_reply : State → ℕ → ℕ → Reply
-log_reply s c lid =
-    if is_error_log lid then reply.Errors (errors_at s c) else reply.Smart (smart_at s c)
+-- what brings a log page
+abbrev pub log_reply : State → ℕ → LogPage → Reply
+log_reply s c ErrorInformation = reply.Errors (errors_at s c)
+log_reply s c Health = reply.Smart (smart_at s c)

@@ -43,6 +43,7 @@ capacity_refusal bytes = record {
   specific = min bytes (2 ^ 64 - 1);
 }
 
+-- the rows of a create, in the order in which they are tested
 abbrev pub create_rows : State → NewNamespace → List Row
 create_rows s w =
     row (not (can_have s (format_index w.flbas) (is_extended w.flbas))) InvalidFormat
@@ -58,6 +59,7 @@ create_rows s w =
     }
     ∷ []
 
+-- the namespace that a create makes
 abbrev pub new_namespace : State → NewNamespace → Namespace
 new_namespace s w = record {
   capacity = bytes_needed s w;
@@ -78,6 +80,7 @@ created s w =
 
 -- ---- delete
 
+-- an NSID that isn't valid, or not allocated, other than the broadcast NSID
 abbrev pub delete_rows : State → ℕ → List Row
 delete_rows s n =
     row (not (is_valid s n || n == broadcast_nsid)) InvalidNamespaceOrFormat
@@ -93,6 +96,7 @@ pub record Attached : Type 0 where
 abbrev pub with_nsids : (Controller → Attached) → Controller → Controller
 with_nsids to x = record x { attached = (to x).nsids; values = (to x).values }
 
+-- a subsystem whose controllers all have other NSIDs and values
 abbrev pub with_attached : State → (Controller → Attached) → State
 with_attached s to = record s { controllers = map (with_nsids to) s.controllers }
 
@@ -118,5 +122,6 @@ without_one s n = record (with_attached s (without n)) { namespaces = map_of.rem
 abbrev pub without_all : State → State
 without_all s = record (with_attached s without_any) { namespaces = map_of.empty }
 
+-- the state after a delete, which deletes all namespaces for the broadcast NSID
 abbrev pub deleted : State → ℕ → State
 deleted s n = if n == broadcast_nsid then without_all s else without_one s n

@@ -15,6 +15,7 @@ use Rattle.nv_model.specs.Format.{format_rows, formatted}
 use Rattle.nv_model.specs.Identify.{active_list_reply, active_reply, active_rows, allocated_list_reply}
 use Rattle.nv_model.specs.Identify.{allocated_reply, allocated_rows, list_rows}
 use Rattle.nv_model.specs.IdentifyController.{controller_reply}
+use Rattle.nv_command.specs.LogPage.{log_asked}
 use Rattle.nv_model.specs.Logs.{log_reply, log_rows}
 use Rattle.nv_model.specs.Management.{create_rows, created, created_nsid, delete_rows, deleted}
 use Rattle.nv_model.specs.State.{State}
@@ -37,6 +38,7 @@ telling rows told = record { rows = rows; reply = told; effect = λ s c. s }
 abbrev pub changing : (State → ℕ → List Row) → (State → ℕ → State) → Meaning
 changing rows after = record { rows = rows; reply = λ s c. Done; effect = after }
 
+-- the meaning of a create: it changes something, and returns an NSID
 abbrev pub creating : NewNamespace → Meaning
 creating w = record {
   rows = λ s c. create_rows s w;
@@ -44,6 +46,7 @@ creating w = record {
   effect = λ s c. created s w;
 }
 
+-- the meaning of each command
 abbrev pub meaning_of : Command → Meaning
 meaning_of IdentifyController = telling (λ s c. []) (λ s c. controller_reply s c)
 meaning_of (IdentifyNamespace n) = telling (λ s c. active_rows s n) (λ s c. active_reply s c n)
@@ -62,8 +65,9 @@ meaning_of (GetFeature q) =
     telling (λ s c. get_feature_rows s c q) (λ s c. Number (feature_number s c q))
 meaning_of (SetFeature x) =
     changing (λ s c. set_feature_rows s c x) (λ s c. with_feature s c x)
-meaning_of (GetLog q) = telling (λ s c. log_rows s c q) (λ s c. log_reply s c q.lid)
+meaning_of (GetLog q) = telling (λ s c. log_rows s c q) (λ s c. log_reply s c (log_asked q.lid))
 
+-- the state after a command of controller c that isn't refused
 abbrev pub effect_of : State → ℕ → Command → State
 effect_of s c k = (meaning_of k).effect s c
 
@@ -71,8 +75,10 @@ effect_of s c k = (meaning_of k).effect s c
 abbrev pub rows_of : State → ℕ → Command → List Row
 rows_of s c k = (meaning_of k).rows s c
 
+-- the refusal of a command of controller c, if a row refuses it
 abbrev pub refusal_of : State → ℕ → Command → Option Refusal
 refusal_of s c k = first_refusal (rows_of s c k)
 
+-- the reply to a command of controller c that isn't refused
 abbrev pub reply_of : State → ℕ → Command → Reply
 reply_of s c k = (meaning_of k).reply s c

@@ -38,6 +38,7 @@ pub record AreTopKeys (last_nsid capacity metadata : ℕ) (name : List ℕ) : Ty
   pub mc : metadata ≤ 3
   pub subnqn : is_text 223 name ≡ true
 
+-- a format: its fields are in range
 pub record IsFormat (f : Format) : Type 0 where
   pub lbads : (9 ≤ f.lbads) × (f.lbads ≤ 16)
   pub ms : f.ms ≤ 65535
@@ -52,6 +53,7 @@ pub record IsFeatureRule (r : FeatureRule) : Type 0 where
       (λ f. (s : ℕ) → is_value f (default_at r.defaults s) ≡ true)
   pub saveable : r.fid ≡ 0x05 → r.saveable ≡ false
 
+-- the counters of a health log are integers that a file can hold
 pub record IsCounters (c : Counters) : Type 0 where
   pub data_units_read : c.data_units_read ≤ greatest_integer
   pub data_units_written : c.data_units_written ≤ greatest_integer
@@ -63,6 +65,7 @@ pub record IsCounters (c : Counters) : Type 0 where
   pub unsafe_shutdowns : c.unsafe_shutdowns ≤ greatest_integer
   pub media_errors : c.media_errors ≤ greatest_integer
 
+-- a health log: its fields are in range
 pub record IsSmart (s : SmartBase) : Type 0 where
   pub critical_warning : s.critical_warning ≤ 255
   pub temperature : s.temperature ≤ 65535
@@ -86,6 +89,7 @@ pub record IsIdentityNumbers (n : IdentityNumbers) : Type 0 where
   pub cctemp : n.cctemp ≤ 65535
   pub vwc : n.vwc ≤ 7
 
+-- the identity of a controller: its identifier is in range, and its texts and numbers are
 pub record IsIdentity (i : Identity) : Type 0 where
   pub cntlid : i.cntlid ≤ 65519
   pub sn : is_text 20 i.sn ≡ true

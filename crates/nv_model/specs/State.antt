@@ -10,6 +10,7 @@ use Rattle.nv_model.specs.declared.format.Format.{Format}
 use Rattle.nv_model.specs.declared.namespace.Namespace.{Namespace}
 use Rattle.nv_model.specs.declared.smart_base.SmartBase.{SmartBase}
 
+-- what a controller says about itself: its identifier, its texts, its numbers, and whether it can erase by a key
 pub record Identity : Type 0 where
   pub cntlid : ℕ
   pub sn : List ℕ
@@ -22,6 +23,7 @@ pub record Identity : Type 0 where
 abbrev pub Namespaces : Type 0
 Namespaces = map_of.FinMap nat_cmp Namespace
 
+-- sets of NSIDs
 abbrev pub Nsids : Type 0
 Nsids = set_of.FinSet nat_cmp
 
@@ -49,6 +51,7 @@ pub record State : Type 0 where
   pub controllers : List Controller
   pub namespaces : Namespaces
 
+-- controller c, if it exists
 abbrev pub controller_at : State → ℕ → Option Controller
 controller_at s c = slice_get s.controllers c
 
@@ -66,5 +69,6 @@ changed_at [] n f = []
 changed_at (x ∷ xs) zero f = f x ∷ xs
 changed_at (x ∷ xs) (suc n) f = x ∷ changed_at xs n f
 
+-- a subsystem with controller c changed
 abbrev pub with_controller : State → ℕ → (Controller → Controller) → State
 with_controller s c f = record s { controllers = changed_at s.controllers c f }

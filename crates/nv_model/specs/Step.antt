@@ -72,10 +72,12 @@ refused s c nsid cid r = with_controller s c (with_refusal nsid cid r)
 abbrev pub with_command : State → ℕ → State
 with_command s c = with_controller s c (λ x. record x { commands = next_count x.commands })
 
+-- the answer to a command, and the state after it
 pub record Step : Type 0 where
   pub answer : Result Reply Status
   pub state : State
 
+-- a command that isn't refused is done and counted, and one that is refused is logged and counted
 abbrev pub step_by : Option Refusal → State → ℕ → Command → ℕ → Step
 step_by None s c k cid = record {
   answer = Ok (reply_of s c k);

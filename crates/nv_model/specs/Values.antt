@@ -13,8 +13,8 @@ use Rattle.nv_model.specs.declared.feature_rule.FeatureRule.{FeatureRule}
 use Rattle.nv_model.specs.declared.feature_value.FeatureValue.{FeatureValue}
 use Rattle.nv_layout.specs.declared.feature.Feature.TheVariants.{ErrorRecovery}
 
--- the default under a selector; of Temperature Threshold those from 16 on are of temperatures under
--- a threshold
+-- the default under a selector; the selectors of Temperature Threshold from 16 on are for temperatures
+-- under a threshold
 abbrev pub default_at : Defaults → ℕ → ℕ
 default_at (One value) selector = value
 default_at (Thresholds over under) selector =
@@ -29,6 +29,7 @@ are_lists (Thresholds over under) = true
 abbrev pub AreThresholds : List ℕ → Type 0
 AreThresholds numbers = (length numbers ≡ 9) × All (λ n. n ≤ 65535) numbers
 
+-- the defaults of Temperature Threshold are two lists of thresholds; any other default is allowed
 abbrev pub AreDefaults : Defaults → Type 0
 AreDefaults (One value) = Unit {0}
 AreDefaults (Thresholds over under) = AreThresholds over × AreThresholds under
@@ -41,10 +42,11 @@ FeatureRules = map_of.FinMap nat_cmp FeatureRule
 abbrev pub default_rule : ℕ → FeatureRule
 default_rule fid = record { fid = fid; defaults = One 0; saveable = false; changeable = true }
 
--- by its rule, or by what stands for a missing one
+-- the rule of a feature identifier, or the default rule if there is none
 abbrev pub rule_for : FeatureRules → ℕ → FeatureRule
 rule_for rules fid = unwrap_or (map_of.get rules fid) (default_rule fid)
 
+-- the rule of a feature
 abbrev pub rule_of : FeatureRules → Feature → FeatureRule
 rule_of rules f = rule_for rules (row_of f).fid
 
@@ -52,12 +54,12 @@ rule_of rules f = rule_for rules (row_of f).fid
 abbrev pub default_of : FeatureRule → ℕ → ℕ
 default_of rule selector = default_at rule.defaults selector
 
--- before any value is set
+-- a value at its default, before any value is set
 abbrev pub at_default : FeatureRule → ℕ → FeatureValue
 at_default rule selector = record { current = default_of rule selector; saved = None }
 
--- a feature identifier, an NSID, which is 0 where no namespace has a value of its own, and a
--- selector, which is 0 where there is one value
+-- a feature identifier, an NSID, which is 0 if no namespace has a value of its own, and a selector,
+-- which is 0 if there is one value
 pub record ValueKey : Type 0 where
   pub fid : ℕ
   pub nsid : ℕ
@@ -67,18 +69,19 @@ pub record ValueKey : Type 0 where
 abbrev pub first_value : FeatureRules → ValueKey → FeatureValue
 first_value rules k = at_default (rule_for rules k.fid) k.selector
 
--- with another current value, which is saved too where that is asked for
+-- a value with another current value, which is also saved if that is asked for
 abbrev pub written : ℕ → Bool → FeatureValue → FeatureValue
 written value save x = record { current = value; saved = if save then Some value else x.saved }
 
--- with the saved value as the current one, or the default where nothing was saved
+-- a value with the saved value as the current one, or with the default if nothing was saved
 abbrev pub restored : ℕ → FeatureValue → FeatureValue
 restored default x = record x { current = unwrap_or x.saved default }
 
--- keys go by their numbers, one after another
+-- the numbers of a key, by which keys are ordered
 abbrev pub numbers_of : ValueKey → List ℕ
 numbers_of k = k.fid ∷ k.nsid ∷ k.selector ∷ []
 
+-- the order of keys
 abbrev pub key_cmp : ValueKey → ValueKey → Ordering
 key_cmp a b = slice_cmp nat_cmp (numbers_of a) (numbers_of b)
 
@@ -94,7 +97,7 @@ key_of f nsid selector = record {
   selector = selector;
 }
 
--- one for each selector of the feature
+-- the keys of a feature's values for an NSID, one for each selector
 abbrev pub keys_of : Feature → ℕ → List ValueKey
 keys_of f nsid = map (key_of f nsid) (row_of f).selectors
 

@@ -97,6 +97,7 @@ pub record IsNamespace (s : State) (n : ℕ) (x : Namespace) : Type 0 where
   pub private : x.shared ≡ false
       → count_by (λ c. map_of.contains_key c.attached n) s.controllers ≤ 1
 
+-- a subsystem: its parts are in range, its controllers differ, and its namespaces fit the capacity
 pub record IsWellFormed (s : State) : Type 0 where
   pub keys : AreTopKeys s.nn s.tnvmcap s.mc s.subnqn
   pub format_count : (1 ≤ length s.formats) × (length s.formats ≤ 16)

@@ -10,7 +10,7 @@ pub struct FeatureRule {
     pub fid: u8,
     /// The values before any is set.
     pub defaults: Defaults,
-    /// Whether a value can be saved. That of Error Recovery never can.
+    /// Whether a value can be saved. A value of Error Recovery never can.
     pub saveable: bool,
     /// Whether Set Features can change the value.
     pub changeable: bool,

@@ -8,7 +8,7 @@ use Rattle.nv_prp.specs.Place.{AreDistinct, places, span_places}
 use Rattle.nv_prp.proofs.PlaceLaws.{length-span_places}
 use Rattle.nv_prp.specs.declared.spans.Span.{Span}
 
--- the bytes of one more span
+-- the first i + 1 spans have as many bytes as the first i and span i
 pub one_more_span : (spans : List Span) (i : ℕ) (d : Span) → i < length spans
     → length (places (take (i + 1) spans)) ≡ length (places (take i spans)) + (get_or spans i d).len
 unfolding places
@@ -26,7 +26,7 @@ pub record ApartTo (pages : List ℕ) (n : ℕ) : Type 0 where
 abbrev pub IsApart : List ℕ → ℕ → Type 0
 IsApart pages i = All (λ other. get_or pages i 0 ≢ other) (drop (i + 1) pages)
 
--- a page that occurs again
+-- if a page occurs again, the pages aren't distinct
 pub one_again : (pages : List ℕ) (i : ℕ) → i < length pages → ¬ IsApart pages i → ¬ AreDistinct pages
 one_again pages i h again distinct =
     again (λ k d below e.
@@ -34,7 +34,7 @@ one_again pages i h again distinct =
     distinct i (i + 1 + k) d (omega arith) there
     (get_or_default pages i d 0 h ∙ e ∙ get_or-drop (i + 1) pages k d))
 
--- one more page that doesn't
+-- if the first n pages occur once and page n doesn't occur again, the first n + 1 pages occur once
 pub one_more_apart : (pages : List ℕ) (n : ℕ) → n < length pages → ApartTo pages n → IsApart pages n
     → ApartTo pages (n + 1)
 one_more_apart pages n h so here = record {
@@ -49,6 +49,6 @@ one_more_apart pages n h so here = record {
       (get_or_default pages n 0 d h ∙ ap (λ k. get_or pages k d) (sym same) ∙ e
       ∙ ap (λ k. get_or pages k d) (omega arith) ∙ sym (get_or-drop (n + 1) pages (j - (n + 1)) d))
 
--- all pages are distinct
+-- if all pages occur once, they are distinct
 pub all_apart : (pages : List ℕ) (n : ℕ) → length pages ≤ n → ApartTo pages n → AreDistinct pages
 all_apart pages n h so = λ i j d less there. so.apart i j d (omega arith) less there

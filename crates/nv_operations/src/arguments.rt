@@ -14,7 +14,7 @@ struct Argument {
 
 /// The arguments of a line. What is missing is 0 or empty.
 #[derive(Debug, Drop)]
-pub(crate) struct Arguments {
+pub(crate) struct OperationArguments {
     given: Vec<Argument>,
 }
 
@@ -27,14 +27,14 @@ fn split_word<'a>(rows: &[Row], place: usize, word: &'a str) -> (Option<Row>, &'
     }
 }
 
-impl Arguments {
+impl OperationArguments {
     /// Reads the words after an operation's name, by a table of its arguments.
     pub(crate) fn read(
         alloc: Global,
         words: &[&str],
         rows: &[Row],
-    ) -> Result<Arguments, OperationError> {
-        let mut arguments = Arguments {
+    ) -> Result<OperationArguments, OperationError> {
+        let mut arguments = OperationArguments {
             given: Vec::new(alloc),
         };
         for (place, word) in words.iter().enumerate() {

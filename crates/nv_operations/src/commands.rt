@@ -1,7 +1,7 @@
 //! Operations on the entries of commands.
 
 use crate::answer::{Answer, Answered};
-use crate::arguments::Arguments;
+use crate::arguments::OperationArguments;
 use crate::error::OperationError;
 use crate::row::Row;
 use nv_command::{Command, Decoded, StatusCode, Transfer};
@@ -83,12 +83,12 @@ fn add_transfer(answer: Answer, transfer: Transfer) -> Result<Answer, AllocError
 }
 
 /// Reads the arguments of a command: its entry, and the data that the host sends.
-fn read_arguments(alloc: Global, words: &[&str]) -> Result<Arguments, OperationError> {
+fn read_arguments(alloc: Global, words: &[&str]) -> Result<OperationArguments, OperationError> {
     let rows = [
         Row::bytes("entry", 64),
         Row::bytes("sent", MOST_SENT).optional(),
     ];
-    Arguments::read(alloc, words, &rows)
+    OperationArguments::read(alloc, words, &rows)
 }
 
 /// Answers the command of an entry, and the entry that encodes it.
@@ -116,14 +116,14 @@ pub(crate) fn host_data(alloc: Global, words: &[&str]) -> Answered {
 
 /// Answers the data transfer of an entry's command.
 pub(crate) fn transfer(alloc: Global, words: &[&str]) -> Answered {
-    let given = Arguments::read(alloc, words, &[Row::bytes("entry", 64)])?;
+    let given = OperationArguments::read(alloc, words, &[Row::bytes("entry", 64)])?;
     let decoded = Decoded::of(&Sqe::get(&given.array("entry")))?;
     Ok(add_transfer(Answer::new(alloc), decoded.transfer())?)
 }
 
 /// Answers the name of a status, in ASCII bytes.
 pub(crate) fn status_name(alloc: Global, words: &[&str]) -> Answered {
-    let given = Arguments::read(alloc, words, &[Row::word("status")])?;
+    let given = OperationArguments::read(alloc, words, &[Row::word("status")])?;
     let name = StatusCode::name_of(Status::from_number(given.word("status")));
     Ok(Answer::new(alloc).bytes("name", name.as_bytes())?)
 }

@@ -1,12 +1,12 @@
 //! Operations on the controllers of a subsystem, and on a driver of them.
 
 use crate::answer::{Answer, Answered};
-use crate::arguments::Arguments;
+use crate::arguments::OperationArguments;
 use crate::commands::MOST_SENT;
-use crate::device::Device;
+use crate::device::DrivenDevice;
 use crate::error::OperationError;
 use crate::row::{MOST_MOVED, Row};
-use crate::session::Session;
+use crate::session::Bench;
 use nv_driver::Geometry;
 use nv_subsystem::DEMO;
 use std::alloc::Global;
@@ -15,7 +15,7 @@ use std::alloc::Global;
 const MOST_OF_FILE: usize = 4_194_304;
 
 /// Returns the geometry that the arguments describe.
-fn geometry_in(given: &Arguments) -> Geometry {
+fn geometry_in(given: &OperationArguments) -> Geometry {
     Geometry {
         depth: given.dword_or("depth", 32),
         page_size: given.dword_or("page_size", 4096),
@@ -26,25 +26,25 @@ fn geometry_in(given: &Arguments) -> Geometry {
     }
 }
 
-impl Session {
-    fn device(&mut self) -> Result<&mut Device, OperationError> {
+impl Bench {
+    fn device(&mut self) -> Result<&mut DrivenDevice, OperationError> {
         self.device.as_mut().ok_or(OperationError::NoController)
     }
 
     pub(crate) fn subsystem(&mut self, alloc: Global, words: &[&str]) -> Answered {
         let rows = [Row::bytes("file", MOST_OF_FILE).optional()];
-        let given = Arguments::read(alloc, words, &rows)?;
+        let given = OperationArguments::read(alloc, words, &rows)?;
         let file = if given.has("file") {
             given.bytes("file")
         } else {
             DEMO.as_bytes()
         };
-        self.device = Some(Device::new(alloc, file)?);
+        self.device = Some(DrivenDevice::new(alloc, file)?);
         Ok(Answer::new(alloc))
     }
 
     pub(crate) fn controllers(&self, alloc: Global, words: &[&str]) -> Answered {
-        Arguments::read(alloc, words, &[])?;
+        OperationArguments::read(alloc, words, &[])?;
         let count = match &self.device {
             Some(device) => device.controllers(),
             None => 0,
@@ -53,7 +53,11 @@ impl Session {
     }
 
     pub(crate) fn read32(&mut self, alloc: Global, words: &[&str]) -> Answered {
-        let given = Arguments::read(alloc, words, &[Row::word("ctrl"), Row::dword("offset")])?;
+        let given = OperationArguments::read(
+            alloc,
+            words,
+            &[Row::word("ctrl"), Row::dword("offset")],
+        )?;
         let value = self
             .device()?
             .read32(given.word("ctrl"), given.dword("offset"))?;
@@ -62,14 +66,18 @@ impl Session {
 
     pub(crate) fn write32(&mut self, alloc: Global, words: &[&str]) -> Answered {
         let rows = [Row::word("ctrl"), Row::dword("offset"), Row::dword("value")];
-        let given = Arguments::read(alloc, words, &rows)?;
+        let given = OperationArguments::read(alloc, words, &rows)?;
         let (offset, value) = (given.dword("offset"), given.dword("value"));
         self.device()?.write32(given.word("ctrl"), offset, value)?;
         Ok(Answer::new(alloc))
     }
 
     pub(crate) fn turn(&mut self, alloc: Global, words: &[&str]) -> Answered {
-        let given = Arguments::read(alloc, words, &[Row::word("ctrl"), Row::word("most")])?;
+        let given = OperationArguments::read(
+            alloc,
+            words,
+            &[Row::word("ctrl"), Row::word("most")],
+        )?;
         let Some(device) = &mut self.device else {
             return Err(OperationError::NoController);
         };
@@ -78,7 +86,7 @@ impl Session {
     }
 
     pub(crate) fn counts(&mut self, alloc: Global, words: &[&str]) -> Answered {
-        let given = Arguments::read(alloc, words, &[Row::word("ctrl")])?;
+        let given = OperationArguments::read(alloc, words, &[Row::word("ctrl")])?;
         let (refusals, commands) = self.device()?.counts(given.word("ctrl"))?;
         let answer = Answer::new(alloc)
             .number("refusals", refusals)?
@@ -87,7 +95,11 @@ impl Session {
     }
 
     pub(crate) fn log_entry(&mut self, alloc: Global, words: &[&str]) -> Answered {
-        let given = Arguments::read(alloc, words, &[Row::word("ctrl"), Row::word("index")])?;
+        let given = OperationArguments::read(
+            alloc,
+            words,
+            &[Row::word("ctrl"), Row::word("index")],
+        )?;
         let entry = self
             .device()?
             .log_entry(given.word("ctrl"), given.word("index"))?;
@@ -106,7 +118,7 @@ impl Session {
             "pace",
         ]
         .map(|key| Row::dword(key).optional());
-        let given = Arguments::read(alloc, words, &rows)?;
+        let given = OperationArguments::read(alloc, words, &rows)?;
         let pages = self.device()?.bring_up(alloc, geometry_in(&given))?;
         Ok(Answer::new(alloc).number("pages", pages)?)
     }
@@ -117,7 +129,7 @@ impl Session {
             Row::bytes("entry", 64),
             Row::bytes("sent", MOST_SENT).optional(),
         ];
-        let given = Arguments::read(alloc, words, &rows)?;
+        let given = OperationArguments::read(alloc, words, &rows)?;
         self.device()?.admin(alloc, &given)
     }
 
@@ -127,7 +139,7 @@ impl Session {
             Row::bytes("entries", 4096),
             Row::bytes("sent", 262_144).optional(),
         ];
-        let given = Arguments::read(alloc, words, &rows)?;
+        let given = OperationArguments::read(alloc, words, &rows)?;
         self.device()?.admin_all(alloc, &given)
     }
 
@@ -145,18 +157,18 @@ impl Session {
             Row::bytes("data", MOST_MOVED).optional(),
             Row::number("room", MOST_MOVED as u64).optional(),
         ];
-        let given = Arguments::read(alloc, words, &rows)?;
+        let given = OperationArguments::read(alloc, words, &rows)?;
         self.device()?.passthrough(alloc, &given)
     }
 
     pub(crate) fn reset(&mut self, alloc: Global, words: &[&str]) -> Answered {
-        let given = Arguments::read(alloc, words, &[Row::word("ctrl")])?;
+        let given = OperationArguments::read(alloc, words, &[Row::word("ctrl")])?;
         self.device()?.reset(given.word("ctrl"))?;
         Ok(Answer::new(alloc))
     }
 
     pub(crate) fn saw(&mut self, alloc: Global, words: &[&str]) -> Answered {
-        Arguments::read(alloc, words, &[])?;
+        OperationArguments::read(alloc, words, &[])?;
         self.device()?.saw(alloc)
     }
 }

@@ -7,7 +7,7 @@ ghost use Rattle.nv_layout.specs.Sqe.{SqeFits};
 ghost use Rattle.nv_operations.specs.Device.{IsDevice};
 
 use crate::answer::{Answer, Answered};
-use crate::arguments::Arguments;
+use crate::arguments::OperationArguments;
 use crate::error::OperationError;
 use crate::replies::add_reply;
 use crate::sending::{read_command, read_commands};
@@ -24,12 +24,12 @@ use std::marker::Model;
 /// The controllers of a subsystem, and their driver if one was brought up and nothing has changed
 /// the controllers directly since.
 #[derive(Drop)]
-pub(crate) struct Device {
+pub(crate) struct DrivenDevice {
     bus: Watched,
     driver: Option<Driver>,
 }
 
-impl Model for Device {
+impl Model for DrivenDevice {
     ghost use Rattle.nv_operations.specs.Device.{IsDevice};
 
     ghost Value = { Unit {0} };
@@ -40,7 +40,7 @@ impl Model for Device {
 }
 
 /// Returns the entry that the arguments describe.
-fn entry_in(given: &Arguments) -> Sqe
+fn entry_in(given: &OperationArguments) -> Sqe
     ensures { SqeFits result }
 {
     Sqe {
@@ -56,13 +56,13 @@ fn entry_in(given: &Arguments) -> Sqe
     }
 }
 
-/// Sends an entry to a controller, and answers its completion and the bytes that came.
+/// Sends an entry to a controller, and returns its completion and the bytes that came.
 fn pass_through(
     alloc: Global,
     bus: &mut Watched,
     driver: &mut Driver,
     ctrl: u16,
-    given: &Arguments,
+    given: &OperationArguments,
 ) -> Answered
     requires ctrl { ctrl < length driver.old.pairs }
     requires device { IsDevice bus.old.machine (Some driver.old) }
@@ -78,7 +78,7 @@ fn pass_through(
     Ok(answer)
 }
 
-/// Sends a command to a controller, and answers its reply.
+/// Sends a command to a controller, and returns its reply.
 #[tactic(auto, using(nv_driver::proofs::PassthroughLaws::room_stays))]
 fn send_command(
     alloc: Global,
@@ -98,7 +98,7 @@ fn send_command(
     Ok(add_reply(alloc, Answer::new(alloc), &told)?)
 }
 
-/// Sends commands to a controller, and answers their replies, each after its number.
+/// Sends commands to a controller, and returns their replies, each after its number.
 #[tactic(auto, using(nv_driver::proofs::PassthroughLaws::room_stays))]
 fn send_commands(
     alloc: Global,
@@ -135,11 +135,11 @@ fn places_for(alloc: Global, entries: &[u8]) -> Result<Vec<CtrlList>, OperationE
     Ok(places)
 }
 
-impl Device {
+impl DrivenDevice {
     /// Powers on the controllers of a file's subsystem, without a driver.
-    pub(crate) fn new(alloc: Global, file: &[u8]) -> Result<Device, OperationError> {
+    pub(crate) fn new(alloc: Global, file: &[u8]) -> Result<DrivenDevice, OperationError> {
         let machine = Machine::new(alloc, Subsystem::from_toml(alloc, file)?)?;
-        Ok(Device {
+        Ok(DrivenDevice {
             bus: Watched::new(alloc, machine),
             driver: None,
         })
@@ -225,8 +225,8 @@ impl Device {
         Ok(pages)
     }
 
-    /// Sends an entry to a controller, and answers its completion and the bytes that came.
-    pub(crate) fn passthrough(&mut self, alloc: Global, given: &Arguments) -> Answered {
+    /// Sends an entry to a controller, and returns its completion and the bytes that came.
+    pub(crate) fn passthrough(&mut self, alloc: Global, given: &OperationArguments) -> Answered {
         let ctrl = given.word("ctrl");
         let Some(driver) = &mut self.driver else {
             return Err(OperationError::NoDriver);
@@ -237,8 +237,8 @@ impl Device {
         pass_through(alloc, &mut self.bus, driver, ctrl, given)
     }
 
-    /// Sends the command of an entry to a controller, and answers its reply.
-    pub(crate) fn admin(&mut self, alloc: Global, given: &Arguments) -> Answered {
+    /// Sends the command of an entry to a controller, and returns its reply.
+    pub(crate) fn admin(&mut self, alloc: Global, given: &OperationArguments) -> Answered {
         let ctrl = given.word("ctrl");
         let Some(driver) = &mut self.driver else {
             return Err(OperationError::NoDriver);
@@ -251,8 +251,8 @@ impl Device {
         send_command(alloc, &mut self.bus, driver, ctrl, &command)
     }
 
-    /// Sends the commands of several entries to a controller, and answers their replies.
-    pub(crate) fn admin_all(&mut self, alloc: Global, given: &Arguments) -> Answered {
+    /// Sends the commands of several entries to a controller, and returns their replies.
+    pub(crate) fn admin_all(&mut self, alloc: Global, given: &OperationArguments) -> Answered {
         let ctrl = given.word("ctrl");
         let Some(driver) = &mut self.driver else {
             return Err(OperationError::NoDriver);

@@ -30,7 +30,7 @@ impl Slip {
     }
 }
 
-/// Why an operation isn't done: want of memory, or what the answer to its line says.
+/// Why an operation isn't done: lack of memory, or what the answer to its line says.
 #[derive(Clone, Copy, Debug, PartialEq, Eq, Error)]
 pub(crate) enum OperationError {
     #[error("out of memory")]

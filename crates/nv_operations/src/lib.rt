@@ -20,4 +20,4 @@ mod session;
 mod transfers;
 mod watched;
 
-pub use session::Session;
+pub use session::Bench;

@@ -1,7 +1,7 @@
 //! Operations that read a record and write it again.
 
 use crate::answer::{Answer, Answered};
-use crate::arguments::Arguments;
+use crate::arguments::OperationArguments;
 use crate::error::OperationError;
 use crate::row::Row;
 use nv_layout::{Cqe, CtrlList, ErrorEntry, IdCtrl, IdNs, Lbaf, NsList, Smart, Sqe, Status};
@@ -9,7 +9,7 @@ use std::alloc::Global;
 
 /// Reads the bytes of a record, filled up with zeros.
 fn given<const N: usize>(alloc: Global, words: &[&str]) -> Result<[u8; N], OperationError> {
-    Ok(Arguments::read(alloc, words, &[Row::bytes("bytes", N)])?.array("bytes"))
+    Ok(OperationArguments::read(alloc, words, &[Row::bytes("bytes", N)])?.array("bytes"))
 }
 
 /// Answers the bytes of a record.
@@ -31,7 +31,7 @@ pub(crate) fn rewrite_entry(alloc: Global, name: &str, words: &[&str]) -> Answer
             told(alloc, &bytes)
         }
         "status" => {
-            let given = Arguments::read(alloc, words, &[Row::word("status")])?;
+            let given = OperationArguments::read(alloc, words, &[Row::word("status")])?;
             let status = Status::from_number(given.word("status"));
             Ok(Answer::new(alloc).number("status", u64::from(status.number()))?)
         }

@@ -1,28 +1,32 @@
 //! Operations on the registers of a controller that has no other parts.
 
 use crate::answer::{Answer, Answered};
-use crate::arguments::Arguments;
+use crate::arguments::OperationArguments;
 use crate::rings::add_slots;
 use crate::row::Row;
-use crate::session::Session;
+use crate::session::Bench;
 use nv_register::{Readiness, RegisterBank};
 use std::alloc::Global;
 
-impl Session {
+impl Bench {
     pub(crate) fn power_on(&mut self, alloc: Global, words: &[&str]) -> Answered {
-        Arguments::read(alloc, words, &[])?;
+        OperationArguments::read(alloc, words, &[])?;
         self.bank = RegisterBank::new();
         Ok(Answer::new(alloc))
     }
 
     pub(crate) fn read_bank(&self, alloc: Global, words: &[&str]) -> Answered {
-        let given = Arguments::read(alloc, words, &[Row::dword("offset")])?;
+        let given = OperationArguments::read(alloc, words, &[Row::dword("offset")])?;
         let value = self.bank.read32(given.dword("offset"));
         Ok(Answer::new(alloc).number("value", u64::from(value))?)
     }
 
     pub(crate) fn write_bank(&mut self, alloc: Global, words: &[&str]) -> Answered {
-        let given = Arguments::read(alloc, words, &[Row::dword("offset"), Row::dword("value")])?;
+        let given = OperationArguments::read(
+            alloc,
+            words,
+            &[Row::dword("offset"), Row::dword("value")],
+        )?;
         let (offset, value) = (given.dword("offset"), given.dword("value"));
         let resets = self.bank.stops_at(offset, value);
         self.bank.write32(offset, value);
@@ -30,7 +34,7 @@ impl Session {
     }
 
     pub(crate) fn registers(&self, alloc: Global, words: &[&str]) -> Answered {
-        Arguments::read(alloc, words, &[])?;
+        OperationArguments::read(alloc, words, &[])?;
         let readiness = &self.bank.readiness;
         let answer = Answer::new(alloc)
             .number("enabled", u64::from(readiness.is_enabled()))?
@@ -47,7 +51,7 @@ impl Session {
 
     /// Sets the fatal status of a ready controller, as a turn does.
     pub(crate) fn fail(&mut self, alloc: Global, words: &[&str]) -> Answered {
-        Arguments::read(alloc, words, &[])?;
+        OperationArguments::read(alloc, words, &[])?;
         if let Readiness::Ready { fatal, .. } = &mut self.bank.readiness {
             *fatal = true;
         }

@@ -4,10 +4,10 @@ ghost use Rattle.std.specs.Prelude.{◌+◌, ◌*◌, ◌≤◌, ◌↔◌, IsTr
 ghost use Rattle.nv_queue.specs.Numbers.{IsDepth};
 
 use crate::answer::{Answer, Answered};
-use crate::arguments::Arguments;
+use crate::arguments::OperationArguments;
 use crate::error::OperationError;
 use crate::row::Row;
-use crate::session::Session;
+use crate::session::Bench;
 use nv_host::{FlatMemory, size_of_memory};
 use nv_layout::{Cqe, Sqe};
 use nv_queue::{CompletionRing, Fetch, Post, SubmitRing};
@@ -16,7 +16,7 @@ use std::marker::Model;
 
 /// Both sides of both rings of a queue pair, with the places of the rings.
 #[derive(Drop)]
-pub(crate) struct QueuePair {
+pub(crate) struct RingPair {
     depth: u16,
     submissions: u64,
     completions: u64,
@@ -26,7 +26,7 @@ pub(crate) struct QueuePair {
     collect: CompletionRing,
 }
 
-impl Model for QueuePair {
+impl Model for RingPair {
     ghost use Rattle.std.specs.Prelude.{◌≡◌};
 
     ghost Value = { Unit {0} };
@@ -54,12 +54,12 @@ pub(crate) fn add_slots(answer: Answer, fetch: &Fetch, post: &Post) -> Result<An
         .number("cq_full", u64::from(post.is_full()))
 }
 
-impl QueuePair {
+impl RingPair {
     /// Creates rings of `depth` slots at these addresses.
-    pub(crate) fn new(depth: u16, submissions: u64, completions: u64) -> QueuePair
+    pub(crate) fn new(depth: u16, submissions: u64, completions: u64) -> RingPair
         requires { IsDepth depth }
     {
-        QueuePair {
+        RingPair {
             depth,
             submissions,
             completions,
@@ -130,19 +130,19 @@ impl QueuePair {
     }
 }
 
-impl Session {
+impl Bench {
     pub(crate) fn new_rings(&mut self, alloc: Global, words: &[&str]) -> Answered {
         let rows = [
             Row::word("depth"),
             Row::qword("submissions"),
             Row::qword("completions"),
         ];
-        let given = Arguments::read(alloc, words, &rows)?;
+        let given = OperationArguments::read(alloc, words, &rows)?;
         let depth = given.word("depth");
         if depth < 2 || depth > 4096 {
             return Err(OperationError::Depth);
         }
-        self.rings = QueuePair::new(
+        self.rings = RingPair::new(
             depth,
             given.qword("submissions"),
             given.qword("completions"),
@@ -151,59 +151,59 @@ impl Session {
     }
 
     pub(crate) fn renew_rings(&mut self, alloc: Global, words: &[&str]) -> Answered {
-        Arguments::read(alloc, words, &[])?;
+        OperationArguments::read(alloc, words, &[])?;
         self.rings.renew();
         Ok(Answer::new(alloc))
     }
 
     pub(crate) fn zero(&mut self, alloc: Global, words: &[&str]) -> Answered {
-        Arguments::read(alloc, words, &[])?;
+        OperationArguments::read(alloc, words, &[])?;
         self.rings.zero(&mut self.memory)?;
         Ok(Answer::new(alloc))
     }
 
     pub(crate) fn submit(&mut self, alloc: Global, words: &[&str]) -> Answered {
-        let given = Arguments::read(alloc, words, &[Row::bytes("entry", 64)])?;
+        let given = OperationArguments::read(alloc, words, &[Row::bytes("entry", 64)])?;
         let entry = Sqe::get(&given.array("entry"));
         let tail = self.rings.submit(&mut self.memory, &entry)?;
         Ok(Answer::new(alloc).number("tail", u64::from(tail))?)
     }
 
     pub(crate) fn tail(&mut self, alloc: Global, words: &[&str]) -> Answered {
-        let given = Arguments::read(alloc, words, &[Row::dword("tail")])?;
+        let given = OperationArguments::read(alloc, words, &[Row::dword("tail")])?;
         self.rings.fetch.tail(given.dword("tail"));
         Ok(Answer::new(alloc))
     }
 
     pub(crate) fn take(&mut self, alloc: Global, words: &[&str]) -> Answered {
-        Arguments::read(alloc, words, &[])?;
+        OperationArguments::read(alloc, words, &[])?;
         let mut bytes = [0xff; 64];
         self.rings.take(&self.memory)?.put(&mut bytes);
         Ok(Answer::new(alloc).bytes("bytes", &bytes)?)
     }
 
     pub(crate) fn post(&mut self, alloc: Global, words: &[&str]) -> Answered {
-        let given = Arguments::read(alloc, words, &[Row::bytes("completion", 16)])?;
+        let given = OperationArguments::read(alloc, words, &[Row::bytes("completion", 16)])?;
         let completion = Cqe::get(&given.array("completion"));
         self.rings.post(&mut self.memory, completion)?;
         Ok(Answer::new(alloc))
     }
 
     pub(crate) fn collect(&mut self, alloc: Global, words: &[&str]) -> Answered {
-        Arguments::read(alloc, words, &[])?;
+        OperationArguments::read(alloc, words, &[])?;
         let mut bytes = [0xff; 16];
         self.rings.collect(&self.memory)?.put(&mut bytes);
         Ok(Answer::new(alloc).bytes("bytes", &bytes)?)
     }
 
     pub(crate) fn free(&mut self, alloc: Global, words: &[&str]) -> Answered {
-        let given = Arguments::read(alloc, words, &[Row::word("head")])?;
+        let given = OperationArguments::read(alloc, words, &[Row::word("head")])?;
         self.rings.free(given.word("head"))?;
         Ok(Answer::new(alloc))
     }
 
     pub(crate) fn tell(&mut self, alloc: Global, words: &[&str]) -> Answered {
-        Arguments::read(alloc, words, &[])?;
+        OperationArguments::read(alloc, words, &[])?;
         match self.rings.collect.head_to_tell() {
             Some(head) => Ok(Answer::new(alloc).number("head", u64::from(head))?),
             None => Err(OperationError::NoHead),
@@ -211,13 +211,13 @@ impl Session {
     }
 
     pub(crate) fn head(&mut self, alloc: Global, words: &[&str]) -> Answered {
-        let given = Arguments::read(alloc, words, &[Row::dword("head")])?;
+        let given = OperationArguments::read(alloc, words, &[Row::dword("head")])?;
         self.rings.post.head(given.dword("head"));
         Ok(Answer::new(alloc))
     }
 
     pub(crate) fn slots(&self, alloc: Global, words: &[&str]) -> Answered {
-        Arguments::read(alloc, words, &[])?;
+        OperationArguments::read(alloc, words, &[])?;
         Ok(add_slots(Answer::new(alloc), &self.rings.fetch, &self.rings.post)?)
     }
 }

@@ -14,7 +14,7 @@ const MOST_PAGES: usize = 257;
 /// The form of an argument's value: a number up to this one, at most so many bytes of two
 /// hexadecimal digits each, or page numbers with commas between them.
 #[derive(Clone, Copy, Debug, PartialEq, Eq)]
-enum Form {
+enum ValueForm {
     Number(u64),
     Bytes(usize),
     Pages,
@@ -32,7 +32,7 @@ pub(crate) enum Value {
 #[derive(Clone, Copy, Debug, PartialEq, Eq)]
 pub(crate) struct Row {
     pub(crate) key: &'static str,
-    form: Form,
+    form: ValueForm,
     pub(crate) is_needed: bool,
 }
 
@@ -58,7 +58,7 @@ fn read_bytes(alloc: Global, most: usize, text: &str) -> Result<Option<Vec<u8>>,
 }
 
 impl Row {
-    fn new(key: &'static str, form: Form) -> Row {
+    fn new(key: &'static str, form: ValueForm) -> Row {
         Row {
             key,
             form,
@@ -68,7 +68,7 @@ impl Row {
 
     /// Creates the row of a number up to `most`.
     pub(crate) fn number(key: &'static str, most: u64) -> Row {
-        Row::new(key, Form::Number(most))
+        Row::new(key, ValueForm::Number(most))
     }
 
     pub(crate) fn byte(key: &'static str) -> Row {
@@ -92,12 +92,12 @@ impl Row {
 
     /// Creates the row of at most `most` bytes.
     pub(crate) fn bytes(key: &'static str, most: usize) -> Row {
-        Row::new(key, Form::Bytes(most))
+        Row::new(key, ValueForm::Bytes(most))
     }
 
     /// Creates the row of the pages of a transfer.
     pub(crate) fn pages() -> Row {
-        Row::new("pages", Form::Pages)
+        Row::new("pages", ValueForm::Pages)
     }
 
     /// Returns the row of an argument that may be missing.
@@ -111,9 +111,9 @@ impl Row {
     /// Reads a value of this form from a text.
     pub(crate) fn read(self, alloc: Global, text: &str) -> Result<Option<Value>, AllocError> {
         match self.form {
-            Form::Number(most) => Ok(parse_number(text, 0, most).map(Value::Number)),
-            Form::Bytes(most) => Ok(read_bytes(alloc, most, text)?.map(Value::Bytes)),
-            Form::Pages => Ok(read_pages(alloc, text)?.map(Value::Pages)),
+            ValueForm::Number(most) => Ok(parse_number(text, 0, most).map(Value::Number)),
+            ValueForm::Bytes(most) => Ok(read_bytes(alloc, most, text)?.map(Value::Bytes)),
+            ValueForm::Pages => Ok(read_pages(alloc, text)?.map(Value::Pages)),
         }
     }
 }

@@ -2,12 +2,12 @@
 
 ghost use Rattle.std.specs.Prelude.{◌↔◌, All, IfOk, IsTrue};
 ghost use Rattle.nv_command.specs.Command.{CommandFits};
-ghost use Rattle.nv_command.specs.Form.{is_error_log};
+ghost use Rattle.nv_command.specs.LogPage.{log_asked};
 ghost use Rattle.nv_command.specs.Logs.{AreEntries, IsSendable, IsWhole};
 
 use crate::arguments::array_of;
 use crate::error::OperationError;
-use nv_command::{Command, Decoded, DwordCount, ERROR_INFORMATION, LogQuery};
+use nv_command::{Command, Decoded, DwordCount, LogPage, LogQuery};
 use nv_layout::{CtrlList, Sqe};
 use std::alloc::Global;
 
@@ -23,15 +23,14 @@ fn are_entries(dwords: DwordCount) -> bool
 /// Returns whether a query asks for a whole log: for entries of the error log from the first on, or
 /// for the 512 bytes of another log.
 fn is_whole(asked: &LogQuery) -> bool
-    ensures { IsTrue result ↔ IsWhole (is_error_log asked.now.lid) asked.now.offset asked.now.dwords }
+    ensures { IsTrue result ↔ IsWhole (log_asked asked.now.lid) asked.now.offset asked.now.dwords }
 {
     if asked.offset != 0 {
         return false;
     }
-    if asked.lid == ERROR_INFORMATION {
-        are_entries(asked.dwords)
-    } else {
-        asked.dwords.bytes() == 512
+    match LogPage::asked(asked.lid) {
+        LogPage::ErrorInformation => are_entries(asked.dwords),
+        LogPage::Health => asked.dwords.bytes() == 512,
     }
 }
 

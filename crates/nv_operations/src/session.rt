@@ -2,10 +2,10 @@
 
 use crate::answer::Answered;
 use crate::commands::{describe, host_data, status_name, transfer};
-use crate::device::Device;
+use crate::device::DrivenDevice;
 use crate::error::OperationError;
 use crate::records::rewrite_entry;
-use crate::rings::QueuePair;
+use crate::rings::RingPair;
 use nv_host::FlatMemory;
 use nv_line::{is_skipped_line, split_words};
 use nv_prp::Spans;
@@ -15,25 +15,25 @@ use std::alloc::{AllocError, Global};
 /// The state that operations work on: the host's memory, the spans of the last walk, the registers
 /// of a controller, a pair of rings, and the controllers of the last subsystem.
 #[derive(Drop)]
-pub struct Session {
+pub struct Bench {
     pub(crate) memory: FlatMemory,
     pub(crate) spans: Spans,
     pub(crate) bank: RegisterBank,
-    pub(crate) rings: QueuePair,
-    pub(crate) device: Option<Device>,
+    pub(crate) rings: RingPair,
+    pub(crate) device: Option<DrivenDevice>,
 }
 
-impl Session {
+impl Bench {
     /// Creates a session with a memory of 16 pages of 4,096 zero bytes, no spans, the registers
     /// after power on, rings of 16 slots in the first two pages, and no controllers.
     #[tactic(auto, unfolding(nv_host::specs::Pages::IsPageSize))]
-    pub fn new(alloc: Global) -> Result<Session, AllocError> {
+    pub fn new(alloc: Global) -> Result<Bench, AllocError> {
         match FlatMemory::new(alloc, 4096, 16) {
-            Ok(memory) => Ok(Session {
+            Ok(memory) => Ok(Bench {
                 memory,
                 spans: Spans::new(),
                 bank: RegisterBank::new(),
-                rings: QueuePair::new(16, 0x0000, 0x1000),
+                rings: RingPair::new(16, 0x0000, 0x1000),
                 device: None,
             }),
             Err(_) => Err(AllocError),

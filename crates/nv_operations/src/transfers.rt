@@ -3,13 +3,13 @@
 ghost use Rattle.std.specs.Prelude.{◌≡◌, ◌∷◌, IfOk};
 
 use crate::answer::{Answer, Answered};
-use crate::arguments::Arguments;
+use crate::arguments::OperationArguments;
 use crate::conditions::{
     are_distinct, bytes_in, has_page, has_pages, holds_all, is_length, is_offset, lie_in,
 };
 use crate::error::OperationError;
 use crate::row::{MOST_MOVED, Row};
-use crate::session::Session;
+use crate::session::Bench;
 use nv_host::{FlatMemory, HostMemory, PageNo, size_of_memory};
 use nv_prp::{Buffer, ListPlace, Spans, build, copy_in, copy_out, walk};
 use std::alloc::{AllocError, Global};
@@ -89,7 +89,7 @@ fn spread_buffer(
     Ok(())
 }
 
-impl Session {
+impl Bench {
     pub(crate) fn build(&mut self, alloc: Global, words: &[&str]) -> Answered {
         let rows = [
             Row::pages(),
@@ -99,7 +99,7 @@ impl Session {
             Row::dword("list_offset").optional(),
             Row::dword("length"),
         ];
-        let given = Arguments::read(alloc, words, &rows)?;
+        let given = OperationArguments::read(alloc, words, &rows)?;
         let buffer = Buffer {
             pages: given.pages(),
             offset: given.dword("offset"),
@@ -119,7 +119,7 @@ impl Session {
 
     pub(crate) fn walk(&mut self, alloc: Global, words: &[&str]) -> Answered {
         let rows = [Row::qword("prp1"), Row::qword("prp2"), Row::dword("length")];
-        let given = Arguments::read(alloc, words, &rows)?;
+        let given = OperationArguments::read(alloc, words, &rows)?;
         let len = given.dword("length");
         if !is_length(len) {
             return Err(OperationError::Length);
@@ -135,7 +135,7 @@ impl Session {
             Row::dword("offset").optional(),
             Row::dword("length"),
         ];
-        let given = Arguments::read(alloc, words, &rows)?;
+        let given = OperationArguments::read(alloc, words, &rows)?;
         let buffer = Buffer {
             pages: given.pages(),
             offset: given.dword("offset"),
@@ -150,7 +150,7 @@ impl Session {
     }
 
     pub(crate) fn copy_out(&mut self, alloc: Global, words: &[&str]) -> Answered {
-        let given = Arguments::read(alloc, words, &[Row::bytes("bytes", MOST_MOVED)])?;
+        let given = OperationArguments::read(alloc, words, &[Row::bytes("bytes", MOST_MOVED)])?;
         let bytes = given.bytes("bytes");
         if !lie_in(self.spans.as_slice(), size_of_memory(&self.memory)) {
             return Err(OperationError::SpansOutside);
@@ -163,7 +163,7 @@ impl Session {
     }
 
     pub(crate) fn copy_in(&self, alloc: Global, words: &[&str]) -> Answered {
-        Arguments::read(alloc, words, &[])?;
+        OperationArguments::read(alloc, words, &[])?;
         if !lie_in(self.spans.as_slice(), size_of_memory(&self.memory)) {
             return Err(OperationError::SpansOutside);
         }

@@ -1,11 +1,12 @@
 //! A bus that records what its driver does.
 
 ghost use Rattle.std.specs.Prelude.{◌≡◌};
+ghost use Rattle.nv_controller.specs.Machine.{bus_of};
 
 use crate::answer::{Answer, Answered};
 use crate::error::OperationError;
 use nv_controller::{Bus, Machine};
-use nv_host::HostMemory;
+use nv_host::paged::PagedMemory;
 use nv_layout::Sqe;
 use nv_register::{Readiness, RegisterBank};
 use std::alloc::{AllocError, Global};
@@ -27,7 +28,7 @@ pub(crate) struct Watched {
 /// Adds the next entries of a submission ring, with only the offsets in a page of their PRP
 /// entries.
 #[tactic(auto, using(nv_host::proofs::PageLaws::page_size_bounds))]
-fn add_entries<M: HostMemory>(
+fn add_entries<M: PagedMemory>(
     entries: &mut Vec<u8>,
     bank: &mut RegisterBank,
     mem: &M,
@@ -107,7 +108,7 @@ impl Watched {
 }
 
 impl Bus for Watched {
-    ghost meaning = { λ w. w.machine };
+    ghost meaning = { λ w. bus_of w.machine };
 
     fn controllers(&self) -> u16 {
         self.machine.controllers()
@@ -126,7 +127,7 @@ impl Bus for Watched {
         self.is_whole &= self.writes.extend_from_slice(&numbers).is_ok();
     }
 
-    fn turn<M: HostMemory>(&mut self, ctrl: u16, mem: &mut M, most: u16) -> u16 {
+    fn turn<M: PagedMemory>(&mut self, ctrl: u16, mem: &mut M, most: u16) -> u16 {
         let count = self.machine.turn(ctrl, mem, most);
         if let Some(bank) = self.banks.get_mut(usize::from(ctrl)) {
             self.is_whole &= add_entries(&mut self.entries, bank, mem, count).is_ok();

@@ -11,6 +11,8 @@ mod host;
 #[cfg(test)]
 mod layout;
 #[cfg(test)]
+mod lent;
+#[cfg(test)]
 mod prp;
 #[cfg(test)]
 mod queue;

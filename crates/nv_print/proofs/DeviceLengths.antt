@@ -13,13 +13,14 @@ use Rattle.nv_print.specs.Devices.{device_line, fields_of_device, node_of}
 use Rattle.nv_print.specs.Field.{object_of}
 use Rattle.nv_print.specs.Text.{left, right}
 use Rattle.nv_print.specs.Text.{is_printable, printable}
-use Rattle.nv_print.specs.declared.device.Device.{Device}
+use Rattle.nv_print.specs.declared.device.ListedDevice.{ListedDevice}
 use Rattle.nv_print.proofs.JsonLengths.{object_length}
 use Rattle.nv_print.proofs.Lengths.{decimal_length, decimal_short, left_length, printable_length, right_length}
 use Rattle.nv_print.proofs.PrintableLaws.{each_printable}
 
 -- ---- its line
 
+-- the node of any namespace has at most 138 bytes
 node_length : (controller nsid : ℕ) → length (node_of controller nsid) ≤ 138
 node_length controller nsid =
     omega (
@@ -29,6 +30,7 @@ node_length controller nsid =
       length-append (decimal controller) (codes "n" ++ decimal nsid),
     )
 
+-- the node of a namespace with numbers of 64 bits has at most 64 bytes
 pub node_short : (controller nsid : ℕ) → controller < 2 ^ 64 → nsid < 2 ^ 64 → length (node_of controller nsid) ≤ 64
 node_short controller nsid c n =
     omega (
@@ -38,12 +40,14 @@ node_short controller nsid c n =
       length-append (decimal controller) (codes "n" ++ decimal nsid),
     )
 
+-- six columns with a space between them and a newline are six bytes longer than the columns
 columns_length : (a b c d e f : List ℕ)
     → length (a ++ (32 ∷ b ++ (32 ∷ c ++ (32 ∷ d ++ (32 ∷ e ++ (32 ∷ f ++ 10 ∷ []))))))
     ≡ (length a + length b) + (length c + length d) + (length e + length f) + 6
 columns_length a b c d e f = simp length-append (omega arith)
 
-pub device_line_length : (d : Device) → length d.serial ≡ 20 → length d.model ≡ 40 → length (device_line d) ≤ 512
+-- the line of a device with a serial number of 20 bytes and a model of 40 has at most 512 bytes
+pub device_line_length : (d : ListedDevice) → length d.serial ≡ 20 → length d.model ≡ 40 → length (device_line d) ≤ 512
 device_line_length d has_20 has_40 =
     let serial = printable d.serial in
     let model = printable d.model in
@@ -71,10 +75,12 @@ device_line_length d has_20 has_40 =
 abbrev IsPlain : List ℕ → Type 0
 IsPlain s = All (λ b. 32 ≤ b) s
 
+-- a byte that isn't a control character is escaped in at most two bytes
 escape_byte-plain : (x : ℕ) → 32 ≤ x → length (escape_byte x) ≤ 2
 unfolding escape_byte
 escape_byte-plain x h = grind (arith, nat_tests)
 
+-- a text without control characters is at most twice as long when it is escaped
 escape_plain : (s : List ℕ) → IsPlain s → length (escape s) ≤ 2 * length s
 escape_plain [] h = omega arith
 escape_plain (x ∷ s) h =
@@ -82,20 +88,25 @@ escape_plain (x ∷ s) h =
     let others = escape_plain s (λ k d l. h (suc k) d (omega arith)) in
     omega (arith, length-append (escape_byte x) (escape s))
 
+-- a text without control characters is quoted in at most twice its length and two bytes more
 quoted_plain : (s : List ℕ) → IsPlain s → length (quoted s) ≤ 2 * length s + 2
 quoted_plain s h = omega (arith, length-append (escape s) (34 ∷ []), escape_plain s h)
 
+-- a text without control characters has none with another such byte before it
 cons_plain : (x : ℕ) (s : List ℕ) → 32 ≤ x → IsPlain s → IsPlain (x ∷ s)
 cons_plain x s hx h zero d l = hx
 cons_plain x s hx h (suc k) d l = h k d (omega arith)
 
+-- the character of a digit isn't a control character
 glyph_plain : (upper : Bool) (n : ℕ) → 32 ≤ digit_glyph upper n
 glyph_plain upper n = grind (arith, nat_tests)
 
+-- of two texts without control characters, the chosen one has none
 either : (t : Bool) (x y : List ℕ) → IsPlain x → IsPlain y → IsPlain (if t then x else y)
 either true x y hx hy = hx
 either false x y hx hy = hy
 
+-- digits before a text without control characters aren't control characters
 digits_plain : (k base : ℕ) (upper : Bool) (n : ℕ) (acc : List ℕ) → IsPlain acc
     → IsPlain (digits_onto k base upper n acc)
 digits_plain zero base upper n acc h = h
@@ -103,15 +114,18 @@ digits_plain (suc k) base upper n acc h =
     let more = cons_plain (digit_glyph upper (n % base)) acc (glyph_plain upper (n % base)) h in
     either (n / base == 0) _ _ more (digits_plain k base upper (n / base) (digit_glyph upper (n % base) ∷ acc) more)
 
+-- a decimal number has no control characters
 decimal_plain : (n : ℕ) → IsPlain (decimal n)
 unfolding digits
 decimal_plain n = digits_plain 64 10 false n [] (λ k d l. absurd (omega arith))
 
+-- a text that passes the test for control characters has none
 literal_plain : (s : List ℕ) → list_all (λ b. nat_le 32 b) s ≡ true → IsPlain s
 literal_plain s e k d h =
     let at : nat_le 32 (get_or s k d) ≡ true = AllPass-from_list_all (λ b. nat_le 32 b) s e k d h in
     grind (arith, nat_tests)
 
+-- the node of a namespace has no control characters
 node_plain : (controller nsid : ℕ) → IsPlain (node_of controller nsid)
 node_plain controller nsid =
     All-append (λ b. 32 ≤ b) (codes "/dev/nvme") (decimal controller ++ (codes "n" ++ decimal nsid))
@@ -119,13 +133,15 @@ node_plain controller nsid =
     (All-append (λ b. 32 ≤ b) (decimal controller) (codes "n" ++ decimal nsid) (decimal_plain controller)
     (cons_plain 110 (decimal nsid) (omega arith) (decimal_plain nsid)))
 
+-- the printable part of some bytes has no control characters
 printable_plain : (bs : List ℕ) → IsPlain (printable bs)
 printable_plain bs = All-take (λ b. 32 ≤ b) _ (take_while is_printable bs) (λ k d h. plain _ (each_printable bs k d h))
   where
     plain : (b : ℕ) → is_printable b ≡ true → 32 ≤ b
     plain b p = grind (arith, nat_tests)
 
-pub device_json_length : (d : Device) → length d.serial ≡ 20 → length d.model ≡ 40
+-- the JSON of a device with such texts and numbers of 64 bits has at most 511 bytes
+pub device_json_length : (d : ListedDevice) → length d.serial ≡ 20 → length d.model ≡ 40
     → length (node_of d.controller d.nsid) ≤ 64
     → d.nsid < 2 ^ 64 → d.bytes < 2 ^ 64 → d.block_size < 2 ^ 64
     → length (compact_text (object_of (fields_of_device d))) ≤ 511
@@ -144,8 +160,8 @@ device_json_length d has_20 has_40 node nsid bytes block_size =
       decimal_short d.block_size block_size,
     )
 
--- the same, with the length of its node's name
-pub device_lengths : (d : Device) → length d.serial ≡ 20 → length d.model ≡ 40 → d.controller < 2 ^ 64
+-- the JSON of a device with such texts and numbers has at most 511 bytes, because its node has at most 64
+pub device_lengths : (d : ListedDevice) → length d.serial ≡ 20 → length d.model ≡ 40 → d.controller < 2 ^ 64
     → d.nsid < 2 ^ 64 → d.bytes < 2 ^ 64 → d.block_size < 2 ^ 64
     → length (compact_text (object_of (fields_of_device d))) ≤ 511
 device_lengths d has_20 has_40 controller nsid bytes block_size =

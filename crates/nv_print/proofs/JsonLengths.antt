@@ -15,10 +15,12 @@ use Rattle.nv_print.proofs.Lengths.{quoted_length}
 abbrev pub member_length : List ℕ → Data → ℕ
 member_length k d = length (quoted k) + length (compact_text d) + 2
 
+-- the comma before a member has at most one byte
 comma_length : (later : Bool) → length (comma_if later) ≤ 1
 comma_length true = omega arith
 comma_length false = omega arith
 
+-- the text of members is the text of the first one and of the later ones, with a comma if there was one before
 one_member : (later : Bool) (k : List ℕ) (d : Data) (ms : Members)
     → length (members_text later (member k d ms))
     ≡ length (comma_if later) +
@@ -30,6 +32,7 @@ one_member later k d ms = omega (
   length-append (compact_text d) (members_text true ms),
 )
 
+-- a member that is put before, in place of or after another one adds at most its own length
 placed : (o : Ordering) (later : Bool) (k l : List ℕ) (d e : Data) (ms rest : Members)
     → length (members_text true rest) ≤ length (members_text true ms) + member_length k d
     → length (members_text later (match_ordering o (member k d (member l e ms)) (member l d ms) (member l e rest)))
@@ -39,6 +42,7 @@ placed Less later k l d e ms rest h =
 placed Equal later k l d e ms rest h = omega (arith, one_member later l d ms, one_member later l e ms)
 placed Greater later k l d e ms rest h = omega (arith, one_member later l e rest, one_member later l e ms)
 
+-- putting a member into members adds at most the length of that member
 pub put_length : (later : Bool) (k : List ℕ) (d : Data) (ms : Members)
     → length (members_text later (put k d ms)) ≤ length (members_text later ms) + member_length k d
 put_length later k d no_members = omega (arith, one_member later k d no_members, comma_length later)
@@ -50,6 +54,7 @@ abbrev pub members_length : List Field → ℕ
 members_length [] = 0
 members_length (f ∷ fields) = member_length f.key (shape_data f.shape) + members_length fields
 
+-- adding fields to members adds at most the lengths of the fields as members
 pub with_fields_length : (fields : List Field) (ms : Members)
     → length (members_text false (with_fields fields ms)) ≤ length (members_text false ms) + members_length fields
 with_fields_length [] ms = omega arith
@@ -60,10 +65,11 @@ with_fields_length (f ∷ fields) ms =
       put_length false f.key (shape_data f.shape) ms,
     )
 
+-- the object of fields is at most two bytes longer than the fields as members
 pub object_length : (fields : List Field) → length (compact_text (object_of fields)) ≤ 2 + members_length fields
 object_length fields = omega (arith, with_fields_length fields no_members)
 
--- a list in which the text of each element has at most `most` bytes
+-- a list whose elements have texts of at most `most` bytes has at most most + 1 bytes for each element and one more
 pub items_length : {A : Type 0} (data_of : A → Data) (most : ℕ) (later : Bool) (xs : List A)
     → All (λ x. length (compact_text (data_of x)) ≤ most) xs
     → length (items_text later (items_of (map data_of xs))) ≤ 1 + (most + 1) * length xs
@@ -78,7 +84,7 @@ items_length data_of most later (x ∷ xs) each =
       length-append (compact_text (data_of x)) (items_text true (items_of (map data_of xs))),
     )
 
--- an object of one such list
+-- an object of one such list has at most most + 1 bytes for each element, and 8 and six times its key more
 pub list_object_length : {A : Type 0} (key : List ℕ) (data_of : A → Data) (most : ℕ) (xs : List A)
     → All (λ x. length (compact_text (data_of x)) ≤ most) xs
     → length (compact_text (object (put key (array (items_of (map data_of xs))) no_members)))

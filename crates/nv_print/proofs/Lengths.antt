@@ -11,10 +11,12 @@ use Rattle.nv_print.specs.Text.{hexadecimal, six_digits}
 use Rattle.nv_print.specs.Text.{left, right}
 use Rattle.nv_print.specs.Text.{printable}
 
+-- of two texts of at most n bytes, the chosen one has at most n bytes
 either : (t : Bool) (x y : List ℕ) (n : ℕ) → length x ≤ n → length y ≤ n → length (if t then x else y) ≤ n
 either true x y n hx hy = hx
 either false x y n hx hy = hy
 
+-- at most k digits are written before a text
 digits_onto-length : (k base : ℕ) (upper : Bool) (n : ℕ) (acc : List ℕ)
     → length (digits_onto k base upper n acc) ≤ k + length acc
 digits_onto-length zero base upper n acc = omega arith
@@ -22,16 +24,20 @@ digits_onto-length (suc k) base upper n acc =
     let more = digits_onto-length k base upper (n / base) (digit_glyph upper (n % base) ∷ acc) in
     either (n / base == 0) _ _ (suc k + length acc) (omega arith) (omega arith)
 
+-- a number in any base has at most 64 digits
 pub digits_length : (base : ℕ) (upper : Bool) (n : ℕ) → length (digits base upper n) ≤ 64
 unfolding digits
 digits_length base upper n = omega (arith, digits_onto-length 64 base upper n [])
 
+-- a decimal number has at most 64 bytes
 pub decimal_length : (n : ℕ) → length (decimal n) ≤ 64
 decimal_length n = digits_length 10 false n
 
+-- a hexadecimal number has at most 66 bytes
 pub hexadecimal_length : (n : ℕ) → length (hexadecimal n) ≤ 66
 hexadecimal_length n = omega (arith, digits_length 16 false n)
 
+-- a number of six hexadecimal digits or more has at most 64 bytes
 pub six_digits_length : (n : ℕ) → length (six_digits n) ≤ 64
 six_digits_length n =
     omega (
@@ -41,12 +47,15 @@ six_digits_length n =
       length-replicate {A = ℕ} (6 - length (digits 16 false n)) 48,
     )
 
+-- a text at the left of a column has the width of the column, or its own length if that is greater
 pub left_length : (width : ℕ) (text : List ℕ) → length (left width text) ≡ length text + (width - length text)
 left_length width text = length-append text _ ∙ ap (λ n. length text + n) (length-replicate (width - length text) 32)
 
+-- a text at the right of a column has the width of the column, or its own length if that is greater
 pub right_length : (width : ℕ) (text : List ℕ) → length (right width text) ≡ (width - length text) + length text
 right_length width text = length-append _ text ∙ ap (λ n. n + length text) (length-replicate (width - length text) 32)
 
+-- the printable part of some bytes is no longer than they are
 pub printable_length : (bs : List ℕ) → length (printable bs) ≤ length bs
 printable_length bs = omega (arith, length-take {A = ℕ})
 
@@ -55,15 +64,18 @@ escape_byte-length : (x : ℕ) → length (escape_byte x) ≤ 6
 unfolding escape_byte
 escape_byte-length x = grind (arith)
 
+-- a text is at most six times as long when it is escaped
 pub escape_length : (s : List ℕ) → length (escape s) ≤ 6 * length s
 escape_length [] = omega arith
 escape_length (x ∷ s) = omega (arith, length-append (escape_byte x) (escape s), escape_byte-length x, escape_length s)
 
+-- a text is quoted in at most six times its length and two bytes more
 pub quoted_length : (s : List ℕ) → length (quoted s) ≤ 6 * length s + 2
 quoted_length s = omega (arith, length-append (escape s) (34 ∷ []), escape_length s)
 
 -- ---- numbers of a type
 
+-- a number of 64 bits has at most 20 decimal digits
 pub decimal_short : (n : ℕ) → n < 2 ^ 64 → length (decimal n) ≤ 20
 decimal_short n h = length-decimal-le 20 n (omega arith) (omega arith) h
 
@@ -79,6 +91,7 @@ hexadecimal_onto (suc k) (suc fuel) n acc h =
     let more = hexadecimal_onto k fuel (n / 16) (digit_glyph false (n % 16) ∷ acc) below in
     either (n / 16 == 0) _ _ (suc (suc k) + length acc) (omega arith) (omega arith)
 
+-- a number of 64 bits in hexadecimal has at most 18 bytes
 pub hexadecimal_short : (n : ℕ) → n < 2 ^ 64 → length (hexadecimal n) ≤ 18
 unfolding digits
 hexadecimal_short n h = omega (arith, hexadecimal_onto 15 64 n [] h)

@@ -26,7 +26,7 @@ use Rattle.nv_print.proofs.Lengths.{decimal_length, decimal_short, hexadecimal_s
 use Rattle.nv_print.proofs.RecordLengths.{entry_json, entry_text_length, id_ns_members, id_ns_text, lbaf_json}
 use Rattle.nv_print.proofs.RecordLengths.{lbaf_width}
 
--- lines of at most `most` bytes each, as long as their indices are below a limit
+-- lines of at most `most` bytes each, with indices below a limit, have at most `most` bytes for each element
 lines_length : {A : Type 0} (line : ℕ → A → List ℕ) (fits : A → Type 0) (limit most : ℕ)
     → ((i : ℕ) (x : A) → i < limit → fits x → length (line i x) ≤ most)
     → (i : ℕ) (xs : List A) → i + length xs ≤ limit → All fits xs → length (lines_of line i xs) ≤ most * length xs
@@ -39,6 +39,7 @@ lines_length line fits limit most each i (x ∷ xs) within all =
 
 -- ---- namespaces
 
+-- the line of an NSID has at most 42 bytes
 nsid_line_length : (i nsid : ℕ) → i < 2 ^ 64 → nsid < 2 ^ 64 → length (nsid_line i nsid) ≤ 42
 nsid_line_length i nsid hi hn = omega (
   arith,
@@ -49,11 +50,13 @@ nsid_line_length i nsid hi hn = omega (
   length-append (hexadecimal nsid) (10 ∷ []),
 )
 
+-- the lines of a namespace list have at most 65,536 bytes
 pub nsids_text_length : (nsids : List ℕ) → length nsids ≤ most_nsids → All (λ n. n < 2 ^ 64) nsids
     → length (nsids_text nsids) ≤ 65536
 nsids_text_length nsids few fit =
     omega (arith, lines_length nsid_line (λ n. n < 2 ^ 64) (2 ^ 64) 42 nsid_line_length 0 nsids (omega arith) fit)
 
+-- the JSON of a namespace list has at most 65,000 bytes
 pub nsids_json_length : (nsids : List ℕ) → length nsids ≤ most_nsids → All (λ n. n < 2 ^ 64) nsids
     → length (compact_text (nsids_data nsids)) ≤ 65000
 nsids_json_length nsids few fit =
@@ -65,6 +68,7 @@ nsids_json_length nsids few fit =
 
 -- ---- formats of a namespace
 
+-- the mark of the format in use has at most nine bytes
 mark_length : (in_use i : ℕ) → length (mark_of in_use i) ≤ 9
 mark_length in_use i = at_test (in_use == i)
   where
@@ -72,6 +76,7 @@ mark_length in_use i = at_test (in_use == i)
     at_test true = omega arith
     at_test false = omega arith
 
+-- the line of a format has at most 400 bytes
 lbaf_line_length : (in_use i : ℕ) (f : Lbaf) → length (lbaf_line in_use i f) ≤ 400
 lbaf_line_length in_use i f =
     let rest : List ℕ = mark_of in_use i ++ 10 ∷ [] in
@@ -89,9 +94,11 @@ lbaf_line_length in_use i f =
       length-append (mark_of in_use i) (10 ∷ []),
     )
 
+-- a namespace has at most 16 formats to show
 formats_length : (r : IdNs) → length (formats_of r) ≤ 16
 formats_length r = omega (arith, length-take (min r.nlbaf 15 + 1) r.lbafs)
 
+-- the text of a namespace has at most 65,536 bytes
 pub namespace_text_length : (r : IdNs) → length (namespace_text r) ≤ 65536
 namespace_text_length r = omega (
   arith,
@@ -102,6 +109,7 @@ namespace_text_length r = omega (
       (formats_of r) (omega (arith, formats_length r)) (λ k d h. tt),
 )
 
+-- the JSON of a namespace has at most 65,000 bytes
 pub namespace_json_length : (r : IdNs) → length (compact_text (namespace_data r)) ≤ 65000
 namespace_json_length r =
     let formats : Data = array (items_of (map (λ f. object_of (fields_of_lbaf f)) (formats_of r))) in
@@ -119,6 +127,7 @@ namespace_json_length r =
 
 -- ---- entries of an error log
 
+-- the text of an entry has at most 1,024 bytes if the entry holds an error, and none otherwise
 entry_length : (i : ℕ) (e : ErrorEntry) (b : Bool)
     → length (if b then field_line (field (codes "entry") (in_decimal i)) ++ fields_text (fields_of_entry e) else [])
     ≤ (if b then 1024 else 0)
@@ -130,6 +139,7 @@ entry_length i e true = omega (
 )
 entry_length i e false = omega arith
 
+-- the text of entries has at most 1,024 bytes for each one that holds an error
 entries_length : (i : ℕ) (es : List ErrorEntry)
     → length (lines_of entry_text i es) ≤ 1024 * length (filter holds_error es)
 entries_length i [] = omega arith
@@ -142,9 +152,11 @@ entries_length i (e ∷ es) = at_test (holds_error e) (entry_length i e (holds_e
     at_test true first others = omega (arith, length-append (entry_text i e) (lines_of entry_text (i + 1) es))
     at_test false first others = omega (arith, length-append (entry_text i e) (lines_of entry_text (i + 1) es))
 
+-- the text of an error log has at most 1,024 bytes for each entry that holds an error
 pub entries_text_length : (es : List ErrorEntry) → length (entries_text es) ≤ 1024 * length (filter holds_error es)
 entries_text_length es = entries_length 0 es
 
+-- the JSON of an error log has at most 65,000 bytes and 1,024 for each entry that holds an error
 pub entries_json_length : (es : List ErrorEntry)
     → length (compact_text (entries_data es)) ≤ 65000 + 1024 * length (filter holds_error es)
 entries_json_length es =

@@ -4,7 +4,7 @@ use Rattle.std.proofs.Common.{append-nil, length, take, get_or}
 use Rattle.nv_print.specs.Text.{lines_of}
 
 module _ {A : Type 0} (line : ℕ → A → List ℕ) where
-  -- one more line
+  -- the lines of i + 1 elements from number k on are the lines of the first i and the line of element i
   next_from : (k : ℕ) (xs : List A) (i : ℕ) (d : A) → i < length xs
       → lines_of line k (take (suc i) xs) ≡ lines_of line k (take i xs) ++ line (k + i) (get_or xs i d)
   next_from k [] i d h = absurd (omega arith)
@@ -16,6 +16,7 @@ module _ {A : Type 0} (line : ℕ → A → List ℕ) where
       ∙ ap (λ n. lines_of line (k + 1) (take i xs) ++ line n (get_or xs i d)) at)
       ∙ sym (append_assoc (line k x) (lines_of line (k + 1) (take i xs)) (line (k + suc i) (get_or xs i d)))
 
+  -- the lines of the first i + 1 elements are the lines of the first i and the line of element i
   pub lines_of_next : (xs : List A) (i : ℕ) (d : A) → i < length xs
       → lines_of line 0 (take (i + 1) xs) ≡ lines_of line 0 (take i xs) ++ line i (get_or xs i d)
   lines_of_next xs i d h =
@@ -24,7 +25,7 @@ module _ {A : Type 0} (line : ℕ → A → List ℕ) where
       ap (λ n. lines_of line 0 (take n xs)) next ∙ next_from 0 xs i d h
       ∙ ap (λ n. lines_of line 0 (take i xs) ++ line n (get_or xs i d)) at
 
-  -- a text to which lines were added, and one more line
+  -- a text with the lines of i elements after it, and the line of element i, has the lines of i + 1 elements after it
   pub text_and_line_next : (text : List ℕ) (xs : List A) (i : ℕ) (d : A) → i < length xs
       → (text ++ lines_of line 0 (take i xs)) ++ line i (get_or xs i d) ≡ text ++ lines_of line 0 (take (i + 1) xs)
   text_and_line_next text xs i d h =

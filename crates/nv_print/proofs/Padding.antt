@@ -10,6 +10,7 @@ use Rattle.nv_print.specs.Text.{left, right}
 
 -- ---- spaces
 
+-- spaces are ASCII
 spaces_ascii : (n : ℕ) → IsAscii (replicate n 32)
 spaces_ascii zero = IsAscii-nil
 spaces_ascii (suc n) = IsAscii-cons 32 (replicate n 32) (omega arith) (spaces_ascii n)
@@ -19,17 +20,18 @@ pub spaces_cut : (n : ℕ) → n ≤ 41 → IsCharBoundary (codes "             
 spaces_cut n within =
     IsCharBoundary-from_ascii (codes "                                         ") n (spaces_ascii 41) within
 
--- the first of them
+-- the first n of many spaces are n spaces
 pub spaces_are : (n : ℕ) → n ≤ 41 → take n (codes "                                         ") ≡ replicate n 32
 spaces_are n within = take-replicate n 41 32 within
 
+-- one more space is a space after the others
 one_more : (n : ℕ) → replicate {A = ℕ} (n + 1) 32 ≡ replicate n 32 ++ 32 ∷ []
 one_more zero = refl
 one_more (suc n) =
     let next : suc n + 1 ≡ suc (n + 1) = omega arith in
     ap (λ (k : ℕ). replicate {A = ℕ} k 32) next ∙ ap (λ t. 32 ∷ t) (one_more n)
 
--- a text to which another was added at the left of a column, and a space
+-- a text to which another and spaces were added has it at the left of a column, and a space, after it
 pub left_more : (text shown : List ℕ) (width : ℕ)
     → (text ++ shown) ++ replicate ((width - length shown) + 1) 32 ≡ text ++ (left width shown ++ 32 ∷ [])
 left_more text shown width =
@@ -38,14 +40,14 @@ left_more text shown width =
     (ap (λ t. shown ++ t) (one_more (width - length shown))
     ∙ sym (append_assoc shown (replicate (width - length shown) 32) (32 ∷ [])))
 
--- the same, where the length of what was added is told by the texts before and after
+-- the same, where the length of what was added is the difference of the lengths of the texts
 pub node_more : (text shown : List ℕ) (gap : ℕ) → gap ≡ (18 - (length (text ++ shown) - length text)) + 1
     → (text ++ shown) ++ replicate gap 32 ≡ text ++ (left 18 shown ++ 32 ∷ [])
 node_more text shown gap is =
     let same : gap ≡ (18 - length shown) + 1 = omega (arith, is, length-append text shown) in
     ap (λ (n : ℕ). (text ++ shown) ++ replicate {A = ℕ} n 32) same ∙ left_more text shown 18
 
--- a text to which a space was added, and another at the right of a column
+-- a text to which spaces and another text were added has a space, and it at the right of a column, after it
 pub column_more : (text shown : List ℕ) (width : ℕ)
     → (text ++ replicate ((width - length shown) + 1) 32) ++ shown ≡ text ++ (32 ∷ right width shown)
 column_more text shown width =
@@ -65,7 +67,7 @@ gap_cut n =
     let within : 20 - n ≤ 22 = omega arith in
     IsCharBoundary-from_ascii (codes "                    : ") (20 - n) ascii within
 
--- the rest of the gap after a key
+-- what is left of the gap after a key of k characters is the spaces up to 20 and a colon
 pub gap_is : (room k : ℕ) → room ≡ 20 - k
     → drop (20 - room) (codes "                    : ") ≡ replicate (20 - k) 32 ++ codes ": "
 gap_is room k is =

@@ -8,12 +8,14 @@ use Rattle.nv_print.specs.Records.{entries_text, entry_text}
 use Rattle.nv_print.specs.Text.{lines_of}
 use Rattle.nv_print.specs.inner.Tokens.{error_tokens}
 
+-- entries without an error after the others add no lines
 lines_past : (i : ℕ) (es : List ErrorEntry) (m : ℕ)
     → lines_of entry_text i (es ++ replicate m no_entry) ≡ lines_of entry_text i es
 lines_past i [] zero = refl
 lines_past i [] (suc m) = lines_past (i + 1) [] m
 lines_past i (e ∷ es) m = ap (λ t. entry_text i e ++ t) (lines_past (i + 1) es m)
 
+-- entries without an error after the others add no tokens
 tokens_past : (es : List ErrorEntry) (m : ℕ)
     → flat_map error_tokens (es ++ replicate m no_entry) ≡ flat_map error_tokens es
 tokens_past [] zero = refl
@@ -23,10 +25,12 @@ tokens_past (e ∷ es) m = ap (λ ts. error_tokens e ++ ts) (tokens_past es m)
 -- the first n entries are those that a log has
 module _ (es : List ErrorEntry) (n : ℕ) (past : es ≡ take n es ++ replicate (length es - n) no_entry)
     (i : ℕ) (all : i ≡ n) where
+  -- the first n entries have the same text as all of them
   pub text_present : entries_text (take i es) ≡ entries_text es
   text_present = ap (λ k. entries_text (take k es)) all
       ∙ sym (ap entries_text past ∙ lines_past 0 (take n es) (length es - n))
 
+  -- the first n entries have the same tokens as all of them
   pub tokens_present : flat_map error_tokens (take i es) ≡ flat_map error_tokens es
   tokens_present = ap (λ k. flat_map error_tokens (take k es)) all
       ∙ sym (ap (λ xs. flat_map error_tokens xs) past ∙ tokens_past (take n es) (length es - n))

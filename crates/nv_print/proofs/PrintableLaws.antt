@@ -13,18 +13,22 @@ use Rattle.std.proofs.lemmas.Str.{IsUtf8-from_ascii, IsAscii-take}
 use Rattle.std.proofs.lemmas.Str.Ascii.{IsAscii-from_reads}
 use Rattle.nv_print.specs.Text.{is_printable, printable, without_trailing_spaces}
 
+-- each byte of the printable beginning of some bytes is printable
 pub each_printable : (bs : List ℕ) (k d : ℕ) → k < length (take_while is_printable bs)
     → is_printable (get_or (take_while is_printable bs) k d) ≡ true
 each_printable bs k d h =
     let short : k < prefix_len is_printable bs = omega (arith, length-prefix_len is_printable bs) in
     ap is_printable (get_or-take _ bs k d short) ∙ prefix_len_passes is_printable bs k d short
 
+-- a printable byte is ASCII
 low : (b : ℕ) → is_printable b ≡ true → b < 128
 low b p = grind (arith, nat_tests)
 
+-- a printable byte that is white space is a space
 is_space : (b : ℕ) → is_printable b ≡ true → is_ascii_whitespace b ≡ true → (b == 32) ≡ true
 is_space b p w = grind (arith, nat_tests)
 
+-- a byte that isn't white space isn't a space
 no_space : (b : ℕ) → is_ascii_whitespace b ≡ false → (b == 32) ≡ false
 no_space b w = grind (arith, nat_tests)
 
@@ -38,7 +42,7 @@ trimmed_is bs r (n, cut, len, within, from, before) =
     let left : n ≡ length s - suffix_len (λ b. b == 32) s = omega arith in
     cut ∙ ap (λ m. take m s) left
 
--- it is UTF-8
+-- the printable part of some bytes is UTF-8
 pub printable_is_utf8 : (bs r : List ℕ) → r ≡ printable bs → IsUtf8 r
 printable_is_utf8 bs r is =
     let s : List ℕ = take_while is_printable bs in
@@ -47,13 +51,14 @@ printable_is_utf8 bs r is =
 
 -- ---- spaces at the end
 
+-- two texts that are equal but for a space at the end are so with one more character before them, or both empty
 one_more : (b : Bool) (y : ℕ) (text longer : List ℕ) → (longer ≡ text) ⊎ (longer ≡ text ++ 32 ∷ [])
     → (cond b (y ∷ longer) [] ≡ cond b (y ∷ text) []) ⊎ (cond b (y ∷ longer) [] ≡ cond b (y ∷ text) [] ++ 32 ∷ [])
 one_more true y text longer (inl same) = inl (ap (λ t. y ∷ t) same)
 one_more true y text longer (inr more) = inr (ap (λ t. y ∷ t) more)
 one_more false y text longer h = inl refl
 
--- a space more is shown, or it isn't reached
+-- with one more space at the end, the printable beginning is the same or has that space more
 space_more : (bs : List ℕ)
     → (take_while is_printable (bs ++ 32 ∷ []) ≡ take_while is_printable bs)
     ⊎ (take_while is_printable (bs ++ 32 ∷ []) ≡ take_while is_printable bs ++ 32 ∷ [])
@@ -72,12 +77,14 @@ space_cut text =
     = omega (arith, spaces, length-append text (32 ∷ [])) in
     ap (λ n. take n (text ++ 32 ∷ [])) left ∙ take-append-le _ text (32 ∷ []) (omega arith)
 
+-- one more space at the end doesn't change the printable part
 printable_space : (bs : List ℕ) → printable (bs ++ 32 ∷ []) ≡ printable bs
 printable_space bs = elim (space_more bs) [
   | inl same ↦ ap without_trailing_spaces same
   | inr more ↦ ap without_trailing_spaces more ∙ space_cut (take_while is_printable bs)
 ]
 
+-- spaces at the end don't change the printable part
 pub printable_padded : (k : ℕ) (bs : List ℕ) → printable (bs ++ replicate k 32) ≡ printable bs
 printable_padded zero bs = ap printable (append-nil bs)
 printable_padded (suc k) bs =
@@ -85,7 +92,7 @@ printable_padded (suc k) bs =
     ∙ printable_padded k (bs ++ 32 ∷ [])
     ∙ printable_space bs
 
--- eight spaces more were cut off
+-- if eight more spaces are cut off, the bytes are what is left and eight more spaces than before
 pub padding_next : (bytes rest before last : List ℕ) (m n : ℕ) → rest ≡ before ++ last → last ≡ replicate 8 32
     → bytes ≡ rest ++ replicate m 32 → n ≡ 8 + m → bytes ≡ before ++ replicate n 32
 padding_next bytes rest before last m n split spaces old more =
@@ -95,6 +102,7 @@ padding_next bytes rest before last m n split spaces old more =
     ∙ ap (λ t. before ++ t) (replicate-append-replicate 8 m 32)
     ∙ ap (λ k. before ++ replicate k 32) (sym more)
 
+-- if false is the negation of a truth value, it is true
 pub equal : (same : Bool) → false ≡ not same → true ≡ same
 equal true e = refl
 equal false e = sym e

@@ -12,6 +12,7 @@ use Rattle.nv_print.specs.declared.select.Select.{Select}
 use Rattle.nv_print.specs.declared.select.Select.TheVariants as select
 use Rattle.nv_print.proofs.Lengths.{decimal_length, hexadecimal_length}
 
+-- the line of a success is at most 65 bytes longer than its words
 pub success_length : (words : List ℕ) (nsid : ℕ) → length (success words nsid) ≤ length words + 65
 success_length words nsid =
     omega (
@@ -21,10 +22,12 @@ success_length words nsid =
       length-append (decimal nsid) (10 ∷ []),
     )
 
+-- the name of a feature has at most 100 bytes
 name_length : (f : Feature) → length (row_of f).name ≤ 100
 name_length feature.Arbitration = omega arith
 name_length _ = omega arith
 
+-- the text of a feature has at most 200 bytes
 feature_text_length : (f : Feature) → length (feature_text f) ≤ 200
 feature_text_length f = omega (
   arith,
@@ -34,10 +37,12 @@ feature_text_length f = omega (
   length-append (row_of f).name (codes ")"),
 )
 
+-- the text of a select has at most 30 bytes
 select_length : (s : Select) → length (select_text s) ≤ 30
 select_length select.Current = omega arith
 select_length _ = omega arith
 
+-- the line of a feature's value has at most 400 bytes
 pub feature_value_length : (f : Feature) (s : Select) (value : ℕ) → length (feature_value f s value) ≤ 400
 feature_value_length f s value = omega (
   arith,
@@ -49,6 +54,7 @@ feature_value_length f s value = omega (
   length-append (hexadecimal value) (10 ∷ []),
 )
 
+-- the line of a feature's setting has at most 400 bytes
 pub feature_set_length : (f : Feature) (value : ℕ) (save : Bool) → length (feature_set f value save) ≤ 400
 feature_set_length f value save = omega (
   arith,

@@ -15,18 +15,19 @@ use Rattle.nv_print.specs.Devices.{fields_of_device, node_of}
 use Rattle.nv_print.specs.Field.{Field, as_text, field, in_decimal, object_of}
 use Rattle.nv_print.specs.Records.{fields_of_entry, holds_error}
 use Rattle.nv_print.specs.Text.{printable}
-use Rattle.nv_print.specs.declared.device.Device.{Device}
+use Rattle.nv_print.specs.declared.device.ListedDevice.{ListedDevice}
 use Rattle.nv_print.specs.inner.Tokens.{Adds, before, data_tokens, error_tokens, field_tokens}
 use Rattle.nv_print.proofs.Fields.{flat_map_next}
 
 -- ---- tokens that are added in turn
 
+-- adding the tokens ts and then us adds ts ++ us
 pub both_added : (ts us : List Token) (old mid new : Written) → Adds ts old mid → Adds us mid new
     → Adds (ts ++ us) old new
 both_added ts us old mid new first second =
     (second.0 ∙ first.0, second.1 ∙ ap (λ all. all ++ us) first.1 ∙ append_assoc old.tokens ts us)
 
--- the tokens of a list's elements, and of one more
+-- adding the tokens of the first i elements and then of element i adds the tokens of the first i + 1
 pub next_added : {A : Type 0} (f : A → List Token) (xs : List A) (i : ℕ) (d : A) (old mid new : Written) → i < length xs
     → Adds (flat_map f (take i xs)) old mid → Adds (f (get_or xs i d)) mid new
     → Adds (flat_map f (take (i + 1) xs)) old new
@@ -41,7 +42,7 @@ next_added f xs i d old mid new h these this = (
 abbrev tokens_of_members : Members → List Token
 tokens_of_members ms = members_tokens (members_outline ms)
 
--- fields, and other members after them
+-- the tokens of fields and then of other members are the tokens of the members with the fields before them
 fields_before : (fields : List Field) (ms : Members)
     → flat_map field_tokens fields ++ tokens_of_members ms ≡ tokens_of_members (before fields ms)
 fields_before [] ms = refl
@@ -49,7 +50,7 @@ fields_before (f ∷ fields) ms =
     append_assoc (field_tokens f) (flat_map field_tokens fields) (tokens_of_members ms)
     ∙ ap (λ ts. field_tokens f ++ ts) (fields_before fields ms)
 
--- an object of fields
+-- an opening bracket, the tokens of fields and a closing bracket are the tokens of their object
 pub object_added : (fields : List Field) (old first last new : Written) → Adds (json.begin_object ∷ []) old first
     → Adds (flat_map field_tokens fields) first last → Adds (json.end_object ∷ []) last new
     → Adds (data_tokens (object (before fields no_members))) old new
@@ -58,8 +59,8 @@ object_added fields old first last new begun added ended =
     (both_added (json.begin_object ∷ []) _ old first new begun
     (both_added (flat_map field_tokens fields) (json.end_object ∷ []) first last new added ended))
 
--- the object of a device, whose members are in the order of their keys
-pub device_added : (d : Device) (old opened a b c e f g new : Written) → Adds (json.begin_object ∷ []) old opened
+-- the tokens of a device's fields, in the order of their keys and in brackets, are the tokens of its object
+pub device_added : (d : ListedDevice) (old opened a b c e f g new : Written) → Adds (json.begin_object ∷ []) old opened
     → Adds (field_tokens (field (codes "block_size") (in_decimal d.block_size))) opened a
     → Adds (field_tokens (field (codes "bytes") (in_decimal d.bytes))) a b
     → Adds (field_tokens (field (codes "model") (as_text (printable d.model)))) b c
@@ -79,13 +80,14 @@ device_added d old opened a b c e f g new begun block_size bytes model nsid node
 
 -- ---- lists
 
+-- the tokens of a list's items are the tokens of each item and then the closing bracket
 items : (ds : List Data) → items_tokens (items_outline (items_of ds)) ≡ flat_map data_tokens ds ++ json.end_array ∷ []
 items [] = refl
 items (d ∷ ds) =
     ap (λ ts. data_tokens d ++ ts) (items ds)
     ∙ sym (append_assoc (data_tokens d) (flat_map data_tokens ds) (json.end_array ∷ []))
 
--- the elements of a list, its closing bracket, and more tokens
+-- the tokens of a list's elements, its closing bracket and more tokens are the tokens of its items and then more
 list_before : {A : Type 0} (data_of : A → Data) (xs : List A) (more : List Token)
     → flat_map (λ x. data_tokens (data_of x)) xs ++ json.end_array ∷ more
     ≡ items_tokens (items_outline (items_of (map data_of xs))) ++ more
@@ -94,7 +96,7 @@ list_before data_of xs more =
     ∙ sym (append_assoc (flat_map data_tokens (map data_of xs)) (json.end_array ∷ []) more)
     ∙ ap (λ ts. ts ++ more) (sym (items (map data_of xs)))
 
--- a list under a key, and more tokens
+-- a key, the tokens of a list in brackets and more tokens are the tokens of that member and then more
 member_added : {A : Type 0} (key : List ℕ) (data_of : A → Data) (xs : List A) (more : List Token)
     (old named first last after new : Written) → Adds (json.key key ∷ []) old named
     → Adds (json.begin_array ∷ []) named first → Adds (flat_map (λ x. data_tokens (data_of x)) xs) first last
@@ -107,7 +109,7 @@ member_added key data_of xs more old named first last after new name begun added
     (both_added (flat_map (λ x. data_tokens (data_of x)) xs) _ first last new added
     (both_added (json.end_array ∷ []) more last after new ended others))))
 
--- an object of one list
+-- a key and the tokens of a list, all in brackets, are the tokens of an object of that list
 pub list_added : {A : Type 0} (key : List ℕ) (data_of : A → Data) (xs : List A)
     (old opened named first last after new : Written) → Adds (json.begin_object ∷ []) old opened
     → Adds (json.key key ∷ []) opened named → Adds (json.begin_array ∷ []) named first
@@ -119,7 +121,7 @@ list_added key data_of xs old opened named first last after new begun name list_
     (member_added key data_of xs (json.end_object ∷ []) opened named first last after new name list_begun added
     list_ended ended)
 
--- an object of fields, among which a list stands
+-- an object of fields and of a list among them
 pub among_added : {A : Type 0} (key : List ℕ) (data_of : A → Data) (xs : List A) (some others : List Field)
     (old opened start named first last after end new : Written) → Adds (json.begin_object ∷ []) old opened
     → Adds (flat_map field_tokens some) opened start
@@ -144,6 +146,7 @@ among_added key data_of xs some others old opened start named first last after e
 
 -- ---- entries of an error log
 
+-- the tokens of an entry, if it is chosen, and of others are the tokens of the entries with it among them
 chosen : (b : Bool) (e : ErrorEntry) (es : List ErrorEntry)
     → (if b then data_tokens (object_of (fields_of_entry e)) else [])
     ++ flat_map (λ e. data_tokens (object_of (fields_of_entry e))) es
@@ -151,7 +154,7 @@ chosen : (b : Bool) (e : ErrorEntry) (es : List ErrorEntry)
 chosen true e es = refl
 chosen false e es = refl
 
--- those that hold an error
+-- the tokens of an error log are the tokens of its entries that hold an error
 pub errors_are : (es : List ErrorEntry)
     → flat_map error_tokens es
     ≡ flat_map (λ e. data_tokens (object_of (fields_of_entry e))) (filter holds_error es)

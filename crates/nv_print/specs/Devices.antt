@@ -5,7 +5,7 @@ use Rattle.std.specs.Option.{option_map_or}
 use Rattle.std.specs.Fmt.{decimal}
 use Rattle.nv_layout.specs.declared.id_ctrl.IdCtrl.{IdCtrl}
 use Rattle.nv_layout.specs.declared.id_ns.IdNs.{IdNs}
-use Rattle.nv_print.specs.declared.device.Device.{Device}
+use Rattle.nv_print.specs.declared.device.ListedDevice.{ListedDevice}
 use Rattle.serde_json.specs.Data.{Data, array, object, no_members, put}
 use Rattle.serde_json.specs.View.{items_of}
 use Rattle.nv_print.specs.Field.{Field, field, as_text, in_decimal, object_of}
@@ -21,7 +21,7 @@ block_size_of r =
     option_map_or (λ f. shown_bytes (2 ^ f.lbads)) (slice_get r.lbafs (r.flbas % 16)) 0
 
 -- a namespace of a controller
-abbrev pub device_of : ℕ → ℕ → IdCtrl → IdNs → Device
+abbrev pub device_of : ℕ → ℕ → IdCtrl → IdNs → ListedDevice
 device_of controller nsid identity namespace = record {
   controller = controller;
   nsid = nsid;
@@ -36,7 +36,7 @@ abbrev pub node_of : ℕ → ℕ → List ℕ
 node_of controller nsid = codes "/dev/nvme" ++ (decimal controller ++ (codes "n" ++ decimal nsid))
 
 -- node, serial number, model, NSID, bytes and block size in columns
-abbrev pub device_line : Device → List ℕ
+abbrev pub device_line : ListedDevice → List ℕ
 device_line d =
     left 18 (node_of d.controller d.nsid)
     ++ (32 ∷ left 20 (printable d.serial)
@@ -46,10 +46,12 @@ device_line d =
     ++ (32 ∷ right 6 (decimal d.block_size)
     ++ 10 ∷ [])))))
 
-abbrev pub devices_text : List Device → List ℕ
+-- the lines of devices
+abbrev pub devices_text : List ListedDevice → List ℕ
 devices_text devices = flat_map device_line devices
 
-unfoldable pub fields_of_device : Device → List Field
+-- the fields of a device in JSON
+unfoldable pub fields_of_device : ListedDevice → List Field
 fields_of_device d =
     field (codes "node") (as_text (node_of d.controller d.nsid))
     ∷ field (codes "serial") (as_text (printable d.serial))
@@ -59,7 +61,8 @@ fields_of_device d =
     ∷ field (codes "block_size") (in_decimal d.block_size)
     ∷ []
 
-abbrev pub devices_data : List Device → Data
+-- an object with the devices under the key "devices"
+abbrev pub devices_data : List ListedDevice → Data
 devices_data devices =
     let objects = array (items_of (map (λ d. object_of (fields_of_device d)) devices)) in
     object (put (codes "devices") objects no_members)

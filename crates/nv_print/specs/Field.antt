@@ -16,13 +16,16 @@ pub data Shape : Type 0 where
   in_six_digits : ℕ → Shape
   as_text : List ℕ → Shape
 
+-- a field: its key, and its value with the way in which it is shown
 pub record Field : Type 0 where
   pub key : List ℕ
   pub shape : Shape
 
+-- the field with this key and this value
 abbrev pub field : List ℕ → Shape → Field
 field key shape = record { key = key; shape = shape }
 
+-- the value of a field in the code
 abbrev pub shape_of : FieldValue → Shape
 shape_of (value.Decimal n) = in_decimal n
 shape_of (value.Hexadecimal n) = in_hexadecimal n
@@ -30,6 +33,7 @@ shape_of (value.Wide n) = wide n
 shape_of (value.SixDigits n) = in_six_digits n
 shape_of (value.Text t) = as_text t.now
 
+-- a value as text
 abbrev pub shape_text : Shape → List ℕ
 shape_text (in_decimal n) = decimal n
 shape_text (in_hexadecimal n) = hexadecimal n
@@ -41,6 +45,7 @@ shape_text (as_text t) = t
 abbrev pub field_line : Field → List ℕ
 field_line f = left 20 f.key ++ (codes ": " ++ (shape_text f.shape ++ 10 ∷ []))
 
+-- the lines of fields
 abbrev pub fields_text : List Field → List ℕ
 fields_text fields = flat_map field_line fields
 
@@ -57,8 +62,10 @@ abbrev pub with_fields : List Field → Members → Members
 with_fields [] members = members
 with_fields (f ∷ fields) members = with_fields fields (put f.key (shape_data f.shape) members)
 
+-- the members that fields form
 abbrev pub members_of : List Field → Members
 members_of fields = with_fields fields no_members
 
+-- the object that fields form
 abbrev pub object_of : List Field → Data
 object_of fields = object (members_of fields)

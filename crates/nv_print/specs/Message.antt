@@ -21,6 +21,7 @@ abbrev pub refusal_text : Status → List ℕ
 refusal_text s = codes "NVMe status: "
     ++ (name_of_status s ++ (codes " (" ++ (status_text s ++ codes ")")))
 
+-- what went wrong with a line: its own fault, or a refusal
 abbrev pub cause_text : FaultCause → List ℕ
 cause_text (cause.Line fault) = fault_text fault
 cause_text (cause.Refused status) = refusal_text status
@@ -46,6 +47,7 @@ select_of n =
     else (if n == 3 then Some select.Capabilities
     else None)))
 
+-- the name of a select
 abbrev pub select_text : Select → List ℕ
 select_text select.Current = codes "Current"
 select_text select.Default = codes "Default"

@@ -14,6 +14,7 @@ use Rattle.nv_layout.specs.Status.{number_of_status}
 use Rattle.nv_layout.specs.declared.error_entry.ErrorEntry.{ErrorEntry}
 use Rattle.nv_layout.specs.declared.smart.Smart.{Smart}
 
+-- the fields of a controller's Identify data
 unfoldable pub fields_of_id_ctrl : IdCtrl → List Field
 fields_of_id_ctrl c =
     field (codes "vid") (in_hexadecimal c.vid)
@@ -61,6 +62,7 @@ fields_of_id_ns r =
     ∷ field (codes "nvmcap") (wide r.nvmcap)
     ∷ []
 
+-- the fields of a format
 unfoldable pub fields_of_lbaf : Lbaf → List Field
 fields_of_lbaf f =
     field (codes "ms") (in_decimal f.ms)
@@ -80,6 +82,7 @@ field_within f = 32 ∷ (f.key ++ 58 ∷ shape_text f.shape)
 abbrev pub lbaf_key : ℕ → List ℕ
 lbaf_key i = codes "lbaf " ++ (right 2 (decimal i) ++ codes "             :")
 
+-- the mark of the format in use
 abbrev pub mark_of : ℕ → ℕ → List ℕ
 mark_of in_use i = if in_use == i then codes " (in use)" else []
 
@@ -93,6 +96,7 @@ abbrev pub namespace_text : IdNs → List ℕ
 namespace_text r =
     fields_text (fields_of_id_ns r) ++ lines_of (lbaf_line (r.flbas % 16)) 0 (formats_of r)
 
+-- a namespace in JSON: its fields, and its formats under the key "lbafs"
 abbrev pub namespace_data : IdNs → Data
 namespace_data r =
     let formats = array (items_of (map (λ f. object_of (fields_of_lbaf f)) (formats_of r))) in
@@ -154,9 +158,11 @@ entry_text i e =
     then field_line (field (codes "entry") (in_decimal i)) ++ fields_text (fields_of_entry e)
     else []
 
+-- the lines of an error log's entries
 abbrev pub entries_text : List ErrorEntry → List ℕ
 entries_text entries = lines_of entry_text 0 entries
 
+-- an error log in JSON: the entries that hold an error, under the key "errors"
 abbrev pub entries_data : List ErrorEntry → Data
 entries_data entries =
     let objects = map (λ e. object_of (fields_of_entry e)) (filter holds_error entries) in
@@ -167,9 +173,11 @@ abbrev pub nsid_line : ℕ → ℕ → List ℕ
 nsid_line i nsid =
     codes "[" ++ (right 4 (decimal i) ++ (codes "]:" ++ (hexadecimal nsid ++ 10 ∷ [])))
 
+-- the lines of a namespace list
 abbrev pub nsids_text : List ℕ → List ℕ
 nsids_text nsids = lines_of nsid_line 0 nsids
 
+-- a namespace list in JSON: the numbers under the key "nsids"
 abbrev pub nsids_data : List ℕ → Data
 nsids_data nsids =
     let numbers = array (items_of (map (λ n. number (unsigned n)) nsids)) in

@@ -13,6 +13,7 @@ use Rattle.nv_print.specs.Message.{feature_set, feature_value, reset_done, succe
 use Rattle.nv_print.specs.declared.shown.Shown.{Shown}
 use Rattle.nv_print.specs.declared.shown.Shown.TheVariants as shown
 
+-- the text of what is shown
 abbrev pub text_of : Shown → List ℕ
 text_of (shown.Controller identity) = fields_text (fields_of_id_ctrl identity)
 text_of (shown.Namespace namespace) = namespace_text namespace
@@ -53,10 +54,12 @@ data_of _ = null
 abbrev pub json_of : Shown → List ℕ
 json_of shown = compact_text (data_of shown) ++ 10 ∷ []
 
+-- how many devices are shown
 abbrev pub devices_shown : Shown → ℕ
 devices_shown (shown.Devices devices) = length devices
 devices_shown _ = 0
 
+-- how many entries that hold an error are shown
 abbrev pub entries_shown : Shown → ℕ
 entries_shown (shown.Errors entries) = length (filter holds_error entries)
 entries_shown _ = 0

@@ -29,6 +29,7 @@ lines_of line i (x ∷ xs) = line i x ++ lines_of line (i + 1) xs
 abbrev pub is_printable : ℕ → Bool
 is_printable b = nat_le 32 b && nat_le b 126
 
+-- a text without the spaces at its end
 abbrev pub without_trailing_spaces : List ℕ → List ℕ
 without_trailing_spaces text = take (length text - suffix_len (λ b. b == 32) text) text
 

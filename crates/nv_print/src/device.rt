@@ -4,7 +4,7 @@ use nv_layout::{IdCtrl, IdNs};
 
 /// A namespace that is attached to a controller, as `list` shows it.
 #[derive(Clone, Copy, Debug, PartialEq, Eq)]
-pub struct Device {
+pub struct ListedDevice {
     /// The place of the controller in the subsystem's file, counted from 0.
     pub controller: u16,
     /// The namespace's identifier.
@@ -19,7 +19,7 @@ pub struct Device {
     pub block_size: u64,
 }
 
-impl Device {
+impl ListedDevice {
     ghost use Rattle.std.specs.Prelude.{◌≡◌};
     ghost use Rattle.nv_print.specs.Devices.{block_size_of, device_of};
 
@@ -33,11 +33,11 @@ impl Device {
 
     /// Creates the device of a namespace that is attached to a controller, from their Identify
     /// data.
-    pub fn new(controller: u16, nsid: u32, identity: &IdCtrl, namespace: &IdNs) -> Device
+    pub fn new(controller: u16, nsid: u32, identity: &IdCtrl, namespace: &IdNs) -> ListedDevice
         ensures { result ≡ device_of controller nsid identity.now namespace.now }
     {
-        let block_size = Device::block_size_of(namespace);
-        Device {
+        let block_size = ListedDevice::block_size_of(namespace);
+        ListedDevice {
             controller,
             nsid,
             serial: identity.sn,

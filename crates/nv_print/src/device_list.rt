@@ -2,21 +2,21 @@
 
 ghost use Rattle.std.specs.Prelude.{◌≡◌, ◌∷◌, ◌++◌, [], OnErr, OnOk};
 
-use crate::device::Device;
+use crate::device::ListedDevice;
 use std::alloc::{AllocError, Global};
 use std::marker::Model;
 
 /// Namespaces that are attached to controllers, in the order in which they are shown.
 #[derive(Drop)]
 pub struct DeviceList {
-    devices: Vec<Device>,
+    devices: Vec<ListedDevice>,
 }
 
 impl Model for DeviceList {
     ghost use Rattle.std.specs.Prelude.{List};
-    ghost use Rattle.nv_print.specs.declared.device.Device.{Device};
+    ghost use Rattle.nv_print.specs.declared.device.ListedDevice.{ListedDevice};
 
-    ghost Value = { List Device };
+    ghost Value = { List ListedDevice };
 
     ghost view = { λ l. l.devices.items };
 }
@@ -32,7 +32,7 @@ impl DeviceList {
     }
 
     /// Adds a device at the end. If memory is refused, the list doesn't change.
-    pub fn push(&mut self, device: Device) -> Result<(), AllocError>
+    pub fn push(&mut self, device: ListedDevice) -> Result<(), AllocError>
         ensures value { OnOk result (self.new ≡ self.old ++ device ∷ []) }
         ensures err { OnErr result (self.new ≡ self.old) }
     {
@@ -41,7 +41,7 @@ impl DeviceList {
     }
 
     /// Returns the devices in order.
-    pub fn as_slice(&self) -> &[Device]
+    pub fn as_slice(&self) -> &[ListedDevice]
         ensures { result.now ≡ self.now }
     {
         self.devices.as_slice()

@@ -3,13 +3,13 @@
 ghost use Rattle.std.specs.Prelude.{◌≡◌};
 ghost use Rattle.nv_print.specs.Text.{printable};
 
-use crate::device::Device;
+use crate::device::ListedDevice;
 use crate::printable::printable;
 
 /// A device, and its texts as they are shown.
 #[derive(Clone, Copy)]
 pub(crate) struct DeviceTexts<'a> {
-    pub(crate) device: &'a Device,
+    pub(crate) device: &'a ListedDevice,
     pub(crate) serial: &'a str,
     pub(crate) model: &'a str,
     ghost serial_shown: { serial.now ≡ printable device.now.serial },
@@ -18,7 +18,7 @@ pub(crate) struct DeviceTexts<'a> {
 
 impl<'a> DeviceTexts<'a> {
     /// Finds the texts of a device.
-    fn new(device: &'a Device) -> DeviceTexts<'a>
+    fn new(device: &'a ListedDevice) -> DeviceTexts<'a>
         ensures { result.device.now ≡ device.now }
     {
         DeviceTexts {
@@ -29,7 +29,7 @@ impl<'a> DeviceTexts<'a> {
     }
 
     /// Returns the texts of a device, which are those of the last one if it has the same bytes.
-    pub(crate) fn of(device: &'a Device, last: Option<DeviceTexts<'a>>) -> DeviceTexts<'a>
+    pub(crate) fn of(device: &'a ListedDevice, last: Option<DeviceTexts<'a>>) -> DeviceTexts<'a>
         ensures { result.device.now ≡ device.now }
     {
         let Some(last) = last else {

@@ -11,7 +11,7 @@ ghost use Rattle.nv_print.specs.Text.{left, printable};
 ghost use Rattle.nv_print.specs.inner.Tokens.{Adds, data_tokens};
 
 use crate::column::{push_column, push_decimal, push_left, push_right, push_spaces};
-use crate::device::Device;
+use crate::device::ListedDevice;
 use crate::device_texts::DeviceTexts;
 use crate::field::{write_decimal, write_text};
 use itoa::Buffer;
@@ -47,7 +47,7 @@ fn push_node_column(text: &mut String, controller: u16, nsid: u32) -> Result<(),
 #[tactic(auto, using(crate::proofs::DeviceLengths::device_line_length))]
 fn push_device(
     text: &mut String,
-    device: &Device,
+    device: &ListedDevice,
     serial: &str,
     model: &str,
 ) -> Result<(), AllocError>
@@ -57,7 +57,7 @@ fn push_device(
         (λ _. string_bytes text.new ≡ string_bytes text.old ++ device_line device.now) }
     ensures bound { OnOk result (length (device_line device.now) ≤ 512) }
 {
-    let Device {
+    let ListedDevice {
         controller,
         nsid,
         bytes,
@@ -76,7 +76,7 @@ fn push_device(
 
 /// The text of devices.
 #[tactic(auto, using(crate::proofs::Fields::flat_map_next))]
-pub(crate) fn devices_text(alloc: Global, devices: &[Device]) -> Result<String, AllocError>
+pub(crate) fn devices_text(alloc: Global, devices: &[ListedDevice]) -> Result<String, AllocError>
     ensures value { IfOk result (λ t. string_bytes t ≡ devices_text devices.now) }
     ensures bound { IfOk result (λ t. length (string_bytes t) ≤ 512 * length devices.now) }
 {
@@ -95,7 +95,7 @@ pub(crate) fn devices_text(alloc: Global, devices: &[Device]) -> Result<String, 
 /// `node` and `digits` are room for the name of its node and for a number.
 #[tactic(auto, using(crate::proofs::DeviceLengths::device_lengths))]
 fn write_device(
-    device: &Device,
+    device: &ListedDevice,
     serial: &str,
     model: &str,
     node: &mut String,
@@ -109,7 +109,7 @@ fn write_device(
     ensures bound { OnOk result
         (length (compact_text (object_of (fields_of_device device.now))) ≤ 511) }
 {
-    let Device {
+    let ListedDevice {
         controller,
         nsid,
         bytes,
@@ -129,7 +129,7 @@ fn write_device(
 }
 
 /// Writes the objects of devices.
-fn write_each(alloc: Global, devices: &[Device], out: &mut Writer) -> Result<(), AllocError>
+fn write_each(alloc: Global, devices: &[ListedDevice], out: &mut Writer) -> Result<(), AllocError>
     ensures value { OnOk result
         (Adds (flat_map (λ d. data_tokens (object_of (fields_of_device d))) devices.now)
         out.old out.new) }
@@ -158,7 +158,7 @@ fn write_each(alloc: Global, devices: &[Device], out: &mut Writer) -> Result<(),
 /// Writes the object of devices.
 pub(crate) fn write_devices(
     alloc: Global,
-    devices: &[Device],
+    devices: &[ListedDevice],
     out: &mut Writer,
 ) -> Result<(), AllocError>
     ensures value { OnOk result (Adds (data_tokens (devices_data devices.now)) out.old out.new) }

@@ -26,7 +26,7 @@ mod select;
 mod sentence;
 mod shown;
 
-pub use device::Device;
+pub use device::ListedDevice;
 pub use device_list::DeviceList;
 pub use fault::{Fault, FaultCause, message};
 pub use nv_host::Memory;

@@ -69,6 +69,7 @@ IsSubsystemAt remaining None (Ok s) = IsWellFormed s × (subsystem demo_text ≡
 IsSubsystemAt remaining None (Err why) = IsBuiltInStop why
 IsSubsystemAt remaining (Some path) r = IsRead r × IsOfSomeFile remaining r
 
+-- for valid arguments: the subsystem that they name and their geometry, or a stop because of the subsystem
 abbrev pub IsAskedBy : {F : Type 0} → (F → Option (List ℕ)) → Told → Result (State × Geometry) Stop
     → Type 0
 IsAskedBy remaining told (Ok asked) =

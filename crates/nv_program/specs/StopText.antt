@@ -8,6 +8,7 @@ use Rattle.nv_script.specs.declared.ends.RunEnd.TheVariants as end
 use Rattle.nv_program.specs.declared.stop.Stop.{Stop}
 use Rattle.nv_program.specs.declared.stop.Stop.TheVariants as stop
 
+-- the text that tells why a program stops
 abbrev pub stop_text : Stop → List ℕ
 stop_text stop.Arguments = arguments.fault_text Refused
 stop_text stop.Unreadable = codes "subsystem: unreadable"

@@ -11,6 +11,7 @@ use Rattle.nv_file.specs.declared.error.SubsystemError.TheVariants as error
 use Rattle.nv_program.specs.declared.stop.Stop.{Stop}
 use Rattle.nv_program.specs.declared.stop.Stop.TheVariants as stop
 
+-- the exit status of each stop
 abbrev pub exit_status : Stop → ℕ
 exit_status stop.Arguments = 3
 exit_status stop.Unreadable = 3
@@ -28,6 +29,7 @@ abbrev pub unless_memory : ErrorKind → Stop → Stop
 unless_memory kind.OutOfMemory otherwise = stop.Memory
 unless_memory _ otherwise = otherwise
 
+-- a stop because of a fault in the arguments, or because there was no memory
 abbrev pub of_arguments : ArgumentsFault → Stop
 of_arguments arguments.Refused = stop.Arguments
 of_arguments arguments.Memory = stop.Memory

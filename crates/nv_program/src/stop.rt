@@ -76,7 +76,7 @@ impl Stop {
         }
     }
 
-    /// What a fault of the arguments or of a file stops the program with: want of memory, or this.
+    /// Returns why a fault of the arguments or of a file stops the program: lack of memory, or this.
     pub fn of_fault(error: io::Error, otherwise: Stop) -> Stop
         ensures { result ≡ unless_memory (error_kind error) otherwise }
     {

@@ -12,6 +12,7 @@ use Rattle.nv_prp.specs.Transfer.{PrpTransfer, place_of, transfer_places}
 
 -- if the size of a memory doesn't change, its buffers stay buffers, and its places for lists too
 
+-- a buffer of a memory is one of every memory of the same length
 pub buffer_kept : (old new : List ℕ) (page_size : ℕ) (pages : List ℕ) (start len : ℕ) → length new
     ≡ length old
     → IsBuffer old page_size pages start len → IsBuffer new page_size pages start len
@@ -23,6 +24,7 @@ buffer_kept old new page_size pages start len same buffer = record {
       buffer.inside k d below in omega arith;
 }
 
+-- a place for a list in a memory is one in every memory of the same length
 pub list_place_kept : (old new : List ℕ) (page_size first second start : ℕ) → length new
     ≡ length old
     → IsListPlace old page_size first second start → IsListPlace new page_size first second start
@@ -35,7 +37,7 @@ list_place_kept old new page_size first second start same place = record {
 
 -- ---- the places of a buffer
 
--- the places of distinct pages are distinct
+-- in distinct pages, the places of a buffer are distinct
 pub buffer_distinct : (page_size : ℕ) (pages : List ℕ) (start len : ℕ) → 0 < page_size → start + len
     ≤ length pages * page_size
     → AreDistinct pages → AreDistinct (buffer_places page_size pages start len)
@@ -62,6 +64,7 @@ buffer_distinct page_size pages start len some enough distinct =
           omega (arith, same.1)
     ])
 
+-- if each byte of a transfer has its place in a buffer, the places of both are the same, and distinct if the pages are
 pub built_is_walked : (t : PrpTransfer) (pages : List ℕ) (offset : ℕ)
     → IsBuffer t.bytes t.page_size pages offset t.len
     → ((i : ℕ) → i < t.len → place_of t i ≡ buffer_place t.page_size pages offset i)
@@ -77,7 +80,7 @@ built_is_walked t pages offset buffer each =
           buffer.enough distinct),
     )
 
--- distinct pages after two others are distinct
+-- without the first two of distinct pages, the pages are distinct
 pub rest_distinct : (p q : ℕ) (pages : List ℕ) → AreDistinct (p ∷ q ∷ pages) → AreDistinct pages
 rest_distinct p q pages distinct i k d below inside =
     distinct (suc (suc i)) (suc (suc k)) d (omega arith) (omega arith)

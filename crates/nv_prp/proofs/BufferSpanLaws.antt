@@ -19,13 +19,14 @@ pub page_there : (bytes pages : List ℕ) (page_size start from most : ℕ) → 
 page_there bytes pages page_size start from most some buffer =
     div_below (start + from) page_size (length pages) (omega (arith, buffer.below)) (omega (arith, buffer.enough))
 
--- the address of a byte, and how many bytes come after it in its page
+-- the address of a buffer's byte is in the page of its index, at its offset in the page
 pub address_of : (page_size : ℕ) (pages : List ℕ) (start from : ℕ)
     → buffer_place page_size pages start from
     ≡ get_or pages ((start + from) / page_size) 0 * page_size + (start + from) % page_size
 unfolding buffer_place
 address_of page_size pages start from = refl
 
+-- the page of a byte of the buffer lies in the memory from that byte to its end
 pub rest_inside : (bytes pages : List ℕ) (page_size start from most : ℕ) → 0 < most
     → IsBuffer bytes page_size pages start (from + most)
     → buffer_place page_size pages start from + (page_size - (start + from) % page_size) ≤ length bytes
@@ -41,7 +42,7 @@ pub ruleset one_span = (page_there, address_of, rest_inside, page_times, page_si
 
 -- ---- one span after another
 
--- the bytes of one page are consecutive
+-- bytes of a buffer that lie in one page have consecutive places
 in_one_page : (page_size : ℕ) (pages : List ℕ) (start from n k : ℕ)
     → n ≤ page_size - (start + from) % page_size → k < n
     → buffer_place page_size pages start (from + k) ≡ buffer_place page_size pages start from + k
@@ -59,6 +60,7 @@ in_one_page page_size pages start from n k fits h =
     ∙ ap (λ m. get_or pages q 0 * page_size + m) (mod-mul-add q page_size (r + k) below)
     ∙ omega arith
 
+-- spans of a buffer's first bytes and a span in the page of the next byte are the spans of as many bytes more
 pub places_more : (page_size : ℕ) (pages : List ℕ) (start from : ℕ) (spans : List Span) (s : Span)
     → places spans ≡ buffer_places page_size pages start from
     → s.address ≡ buffer_place page_size pages start from
@@ -76,6 +78,7 @@ places_more page_size pages start from spans s so_far at fits =
     ∙ ap (λ l. table from f ++ l) own
     ∙ sym (table-append from s.len f)
 
+-- spans in a memory and one more span in it all lie in it
 pub inside_more : (size : ℕ) (spans : List Span) (s : Span) → LieIn size spans → s.address + s.len ≤ size
     → LieIn size (spans ++ s ∷ [])
 unfolding LieIn
@@ -94,7 +97,7 @@ next_page_begins page_size start from n len some whole few =
     let next = ap (λ m. m / page_size) is ∙ div-mul-add (q + 1) page_size 0 some in
     omega (arith, next, few)
 
--- so there are at most as many spans as pages
+-- a buffer of at most the greatest length has fewer than 257 spans before the last one
 pub few_spans : (page_size start from n : ℕ) → IsPageSize page_size → start < page_size → from < most_bytes
     → n ≤ (start + from) / page_size → n < 257
 few_spans page_size start from n is low below few =
@@ -102,14 +105,17 @@ few_spans page_size start from n is low below few =
     let most = div_below (start + from) page_size 257 (omega (arith, bounds)) (omega (arith, bounds)) in
     omega (arith, most, few)
 
+-- no spans have the places of a buffer's first 0 bytes
 pub no_places : (page_size : ℕ) (pages : List ℕ) (start : ℕ) → places [] ≡ buffer_places page_size pages start 0
 unfolding places buffer_places
 no_places page_size pages start = refl
 
+-- an empty list of spans lies in any memory
 pub none_outside : (size : ℕ) → LieIn size []
 unfolding LieIn
 none_outside size k d below = absurd (omega arith)
 
+-- a buffer of `len` bytes has `len` places
 pub length-buffer_places : (page_size : ℕ) (pages : List ℕ) (start len : ℕ)
     → length (buffer_places page_size pages start len) ≡ len
 unfolding buffer_places

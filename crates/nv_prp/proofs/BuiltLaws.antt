@@ -24,22 +24,24 @@ pub record Begins (t : PrpTransfer) (pages : List ℕ) (start : ℕ) : Type 0 wh
   pub buffer : IsBuffer t.bytes t.page_size pages start t.len
   pub prp1 : t.prp1 ≡ get_or pages 0 0 * t.page_size + start
 
+-- the first byte of the transfer has the buffer's offset in its page
 begins_at : (t : PrpTransfer) (pages : List ℕ) (start : ℕ) → Begins t pages start → offset t ≡ start
 begins_at t pages start begins =
     ap (λ n. n % t.page_size) begins.prp1 ∙ mod-mul-add (get_or pages 0 0) t.page_size start begins.buffer.below
 
--- a buffer that is long enough has as many pages as the data
+-- a buffer that holds the data has as many pages as the data needs
 pub pages_enough : (t : PrpTransfer) (pages : List ℕ) (start : ℕ) → Begins t pages start → data_pages t ≤ length pages
 pages_enough t pages start begins =
     let bounds = page_size_bounds t.page_size begins.size in
     let span = pages_span t (omega (arith, bounds)) in
     grind (arith, begins_at t pages start begins, begins.buffer.enough)
 
+-- each page of the buffer that the data needs is a page of the memory
 page_has : (t : PrpTransfer) (pages : List ℕ) (start j : ℕ) → Begins t pages start → j < data_pages t
     → HasPage t.bytes t.page_size (get_or pages j 0)
 page_has t pages start j begins below = begins.buffer.inside j 0 (omega (arith, pages_enough t pages start begins))
 
--- PRP1 has no fault, and data page 0 is the buffer's first one: what remains are PRP2, the list, and the other pages
+-- the entries are for the buffer if PRP2 and the list have no fault and the later data pages are the buffer's
 is_for : (t : PrpTransfer) (pages : List ℕ) (start : ℕ) → Begins t pages start → 0 < data_pages t → prp2_fault t ≡ None
     → ((n : ℕ) → n < qwords t → qword_fault t n ≡ None)
     → ((j : ℕ) → 0 < j → j < data_pages t → page_base t j ≡ get_or pages j 0 * t.page_size) → IsFor t pages start
@@ -71,6 +73,7 @@ is_for t pages start begins more prp2 list bases =
 
 -- ---- one data page, or two
 
+-- with one data page or two, the entries are for the buffer if PRP2 is the address of the second page
 pub few_pages : (t : PrpTransfer) (pages : List ℕ) (start : ℕ) → Begins t pages start → 0 < data_pages t
     → data_pages t ≤ 2
     → (data_pages t ≡ 2 → t.prp2 ≡ get_or pages 1 0 * t.page_size) → IsFor t pages start
@@ -85,7 +88,7 @@ few_pages t pages start begins more few second =
 
 -- ---- more
 
--- a Qword that is used holds the address of the second list page, or that of a data page
+-- a Qword that is used holds the address of the second list page, or names a data page
 qword_cases : (space pages n : ℕ) → 0 < space → n < list_qwords space pages
     → ((space < pages - 1) × (n + 1 ≡ space)) ⊎ ((j : ℕ) × (0 < j) × (j < pages) × (naming_number space pages j ≡ n))
 qword_cases space pages n some used =
@@ -98,6 +101,7 @@ qword_cases space pages n some used =
       | inr single ↦ inr (n + 1, omega arith, grind (arith, nat_tests), grind (arith, nat_tests))
     ]
 
+-- with more data pages, the entries are for the buffer if PRP2 is the address of a list of its pages
 pub many_pages : (t : PrpTransfer) (pages : List ℕ) (start first second at : ℕ) → Begins t pages start
     → 2 < data_pages t
     → t.prp2 ≡ first * t.page_size + at → IsListPlace t.bytes t.page_size first second at
@@ -127,9 +131,11 @@ many_pages t pages start first second at begins many prp2 place names =
 
 -- ---- over a later memory
 
+-- a memory that doesn't change keeps a transfer's list
 pub keeps_itself : (t : PrpTransfer) (first second : ℕ) → KeepsList t first second t.bytes
 keeps_itself t first second = record { len = refl; in_first = λ _. refl; in_second = λ _. refl }
 
+-- a Qword within bytes that don't change doesn't change
 qword_of_page : (old new : List ℕ) (q p addr : ℕ) → bytes_at new q p ≡ bytes_at old q p → q ≤ addr → addr + 8 ≤ q + p
     → qword new addr ≡ qword old addr
 unfolding qword

@@ -2,24 +2,26 @@
 use Rattle.std.proofs.Common.{append-nil, append_assoc, ◌≡◌, ◌∙◌, ℕ, ◌+◌, ◌≤◌, List, [], ◌++◌, ap, arith, drop, length}
 use Rattle.std.proofs.Common.{length-append, length-drop, length-take, sym, take, add-one, zero, suc, ◌<◌, ◌∷◌, get_or}
 use Rattle.std.proofs.Common.{refl, set, subst}
-use Rattle.std.proofs.Math.Seq.{take-suc}
+use Rattle.std.proofs.Math.Seq.{take-add, take-suc}
 use Rattle.std.proofs.lemmas.List.{drop-drop, places as item_places, same_lists, take-append-drop, drop_all, drop_more}
 use Rattle.std.proofs.lemmas.List.{take_all, get_or-drop, get_or-map, get_or-take, length-take-le, map-append}
 use Rattle.std.proofs.lemmas.List.{set_split}
 use Rattle.std.proofs.lemmas.Slice.{take-put_mid}
 use Rattle.nv_host.specs.Bytes.{bytes_at, with_bytes}
 use Rattle.nv_host.proofs.BytesLaws.{bytes_at-bytes_at, length-bytes_at, length-with_bytes}
+use borrow.Rule.Slice.PartMut.{put_mid}
 use Rattle.std.specs.List.{flat_map}
 use Rattle.std.proofs.lemmas.Grind.{same_number_lists}
 use Rattle.nv_prp.specs.Place.{LieIn, places, read_at, span_places, table, written_at}
 use Rattle.nv_prp.proofs.PlaceLaws.{get_or-table, length-read_at, length-span_places, length-table}
 use Rattle.nv_prp.specs.declared.spans.Span.{Span}
 
+-- writing no bytes changes nothing
 pub none_written : (m : List ℕ) (a : ℕ) → with_bytes m a [] ≡ m
 unfolding with_bytes
 none_written m a = let same : a + 0 ≡ a = omega arith in ap (λ n. take a m ++ drop n m) same ∙ take-append-drop a m
 
--- more bytes that are written after others
+-- writing ys directly after xs writes xs ++ ys
 pub with_more : (m : List ℕ) (a : ℕ) (xs ys : List ℕ) → a + length xs + length ys ≤ length m
     → with_bytes (with_bytes m a xs) (a + length xs) ys ≡ with_bytes m a (xs ++ ys)
 unfolding with_bytes
@@ -28,20 +30,47 @@ with_more m a xs ys inside =
 
 -- ---- a part of a range
 
+-- k bytes from s on of a range of bytes are the k bytes of the memory at the same place
 pub read_part : (m : List ℕ) (q p s k : ℕ) → s + k ≤ p → take k (drop s (bytes_at m q p)) ≡ bytes_at m (q + s) k
 unfolding bytes_at
 read_part m q p s k within = bytes_at-bytes_at m q p s k within
 
+-- ---- the next part of a range
+
+-- if the first i bytes of a range were read, reading the next k makes them the first i + k
+pub read_step : (bytes out part : List ℕ) (addr i k n : ℕ) → take i out ≡ bytes_at bytes addr i → i + k ≤ length out
+    → part ≡ bytes_at bytes (addr + i) k → addr + (i + k) ≤ length bytes → n ≡ k
+    → take (i + k) (put_mid i n out part) ≡ bytes_at bytes addr (i + k)
+unfolding bytes_at
+read_step bytes out part addr i k n before within is inside same =
+    let size : length part ≡ k = ap length is ∙ length-bytes_at bytes (addr + i) k (omega arith) in
+    take-put_mid i n out part (i + k) (omega arith) (omega arith) ∙ (λ j. before j ++ is j)
+    ∙ ap (λ l. take i (drop addr bytes) ++ take k l) (sym (drop-drop i addr bytes)) ∙ sym (take-add i k (drop addr bytes))
+
+-- if the first i bytes of a range were written, writing the next k makes them the first i + k
+pub write_step : (first now source : List ℕ) (addr i k : ℕ) → now ≡ with_bytes first addr (take i source)
+    → i + k ≤ length source → addr + (i + k) ≤ length first
+    → with_bytes now (addr + i) (take k (drop i source)) ≡ with_bytes first addr (take (i + k) source)
+write_step first now source addr i k before within inside =
+    let xs = take i source in
+    let front : length xs ≡ i = length-take-le i source (omega arith) in
+    (λ j. with_bytes (before j) (addr + sym front j) (take k (drop i source)))
+    ∙ with_more first addr xs (take k (drop i source)) (simp (length-take, length-drop) (omega arith))
+    ∙ ap (with_bytes first addr) (sym (take-add i k source))
+
 -- ---- the next span, and those after it
 
+-- a span of no bytes
 abbrev pub none : Span
 none = record { address = 0; len = 0 }
 
+-- the places of the spans from index i on are the places of span i and then of the later spans
 places_left : (spans : List Span) (i : ℕ) → i < length spans
     → places (drop i spans) ≡ span_places (get_or spans i none) ++ places (drop (i + 1) spans)
 unfolding places
 places_left spans i below = ap (λ l. flat_map span_places l) (drop_more spans i none below)
 
+-- the spans from index i on have as many bytes as span i and the later spans together
 pub count_left : (spans : List Span) (i : ℕ) → i < length spans
     → length (places (drop i spans)) ≡ (get_or spans i none).len + length (places (drop (i + 1) spans))
 count_left spans i below =
@@ -49,10 +78,12 @@ count_left spans i below =
     let rest = places (drop (i + 1) spans) in
     omega (arith, ap length (places_left spans i below), length-append (span_places s) rest, length-span_places s)
 
+-- past the last span, there are no places
 pub none_left : (spans : List Span) (i : ℕ) → length spans ≤ i → places (drop i spans) ≡ []
 unfolding places
 none_left spans i past = ap (λ l. flat_map span_places l) (drop_all i spans past)
 
+-- if spans lie in a memory, each of them does
 pub next_inside : (size : ℕ) (spans : List Span) (i : ℕ) → LieIn size spans → i < length spans
     → (get_or spans i none).address + (get_or spans i none).len ≤ size
 unfolding LieIn
@@ -60,6 +91,7 @@ next_inside size spans i inside below = inside i none below
 
 -- ---- reading
 
+-- reading at the places of a span reads the bytes of its range
 read_span : (bytes : List ℕ) (s : Span) → s.address + s.len ≤ length bytes
     → read_at bytes (span_places s) ≡ bytes_at bytes s.address s.len
 unfolding read_at span_places bytes_at
@@ -69,6 +101,7 @@ read_span bytes s inside =
     (λ k h. grind
     (arith, item_places, size, length-span_places s, get_or-map, get_or-table s.len (λ j. s.address + j) k 0))
 
+-- reading at the spans from index i on reads the range of span i and then at the later spans
 pub read_left : (bytes : List ℕ) (spans : List Span) (i : ℕ) → LieIn (length bytes) spans → i < length spans
     → read_at bytes (places (drop i spans))
     ≡ bytes_at bytes (get_or spans i none).address (get_or spans i none).len
@@ -80,7 +113,7 @@ read_left bytes spans i inside below =
     ap (λ l. read_at bytes l) (places_left spans i below) ∙ map-append (λ p. get_or bytes p 0) (span_places s) rest
     ∙ ap (λ l. l ++ read_at bytes rest) (read_span bytes s (next_inside _ spans i inside below))
 
--- one span, of which each byte lies in a page
+-- reading at the places of a single span reads its range
 pub one_span : (bytes : List ℕ) (spans : List Span) → LieIn (length bytes) spans → length spans ≡ 1
     → read_at bytes (places spans) ≡ bytes_at bytes (get_or spans 0 none).address (get_or spans 0 none).len
 unfolding read_at places
@@ -91,12 +124,14 @@ one_span bytes spans inside one =
     (none_left spans 1 (omega arith))
     ∙ append-nil _
 
+-- reading at no places reads nothing
 pub read_none : (bytes : List ℕ) → read_at bytes [] ≡ []
 unfolding read_at
 read_none bytes = refl
 
 -- ---- writing
 
+-- writing to places in two parts writes the first part and then the second one
 written_at-append : (bytes ps qs xs ys : List ℕ) → length ps ≡ length xs
     → written_at bytes (ps ++ qs) (xs ++ ys) ≡ written_at (written_at bytes ps xs) qs ys
 unfolding written_at
@@ -105,10 +140,12 @@ written_at-append bytes [] qs (x ∷ xs) ys e = absurd (omega arith)
 written_at-append bytes (p ∷ ps) qs [] ys e = absurd (omega arith)
 written_at-append bytes (p ∷ ps) qs (x ∷ xs) ys e = written_at-append (set bytes p x) ps qs xs ys (omega arith)
 
+-- setting one byte writes a range of one byte
 one_written : (bytes : List ℕ) (a b : ℕ) → a < length bytes → set bytes a b ≡ with_bytes bytes a (b ∷ [])
 unfolding with_bytes
 one_written bytes a b inside = set_split bytes a b inside ∙ ap (λ n. take a bytes ++ b ∷ drop n bytes) (sym (add-one a))
 
+-- writing bytes to consecutive places writes them to the range
 written_range : (bytes : List ℕ) (a n : ℕ) (xs : List ℕ) → n ≤ length xs → a + n ≤ length bytes
     → written_at bytes (table n (λ k. a + k)) (take n xs) ≡ with_bytes bytes a (take n xs)
 unfolding written_at
@@ -126,6 +163,7 @@ written_range bytes a (suc n) xs few inside =
       with_more bytes a ys (b ∷ []) (omega arith),
     )
 
+-- writing to the spans from index i on writes to the range of span i and then to the later spans
 pub write_left : (bytes : List ℕ) (spans : List Span) (i at : ℕ) (source : List ℕ) → LieIn (length bytes) spans
     → i < length spans
     → at + length (places (drop i spans)) ≡ length source
@@ -143,6 +181,7 @@ write_left bytes spans i at source inside below all =
     written_at-append bytes (span_places s) (places (drop (i + 1) spans)) (take s.len xs) (drop s.len xs) same in
     cc (places_left spans i below, take-append-drop s.len xs, drop-drop s.len at source)
 
+-- writing to no places changes nothing
 pub written_none : (bytes source : List ℕ) → written_at bytes [] source ≡ bytes
 unfolding written_at
 written_none bytes source = refl

@@ -27,6 +27,7 @@ qwords_stay x size is even =
     let same : x / size * size ≡ x / size * (8 * q) = ap (λ p. x / size * p) whole in
     omega arith
 
+-- the Qwords from an address that is a multiple of 8 to the end of its page end with the page
 pub whole_room : (x size : ℕ) → IsPageSize size → x % 8 ≡ 0 → x + 8 * ((size - x % size) / 8) ≡ x - x % size + size
 whole_room x size is even =
     let whole = page_size_in_qwords size is in
@@ -37,6 +38,7 @@ whole_room x size is even =
 
 -- ---- a walk over the list
 
+-- a transfer with more than two data pages whose PRP2 has no fault has a list
 pub is_list : (t : PrpTransfer) → 2 < data_pages t → IsPageSize t.page_size → data_pages t ≤ 257
     → entry_fault t.page_size (length t.bytes) 8 t.prp2 ≡ None → IsList t
 is_list t many size few none =
@@ -52,7 +54,7 @@ is_list t many size few none =
       inside = omega (arith, entry.1);
     }
 
--- the faults of all Qwords are those of the list
+-- with a list, the fault after PRP1 is the first fault of the Qwords that are used
 pub list_fault : (t : PrpTransfer) → IsList t → fault_after_prp1 t ≡ first_qword_fault t (used_of t (data_pages t))
 list_fault t list =
     let all : list_qwords (room t) (data_pages t) ≡ used_of t (data_pages t) = grind (arith, nat_tests) in
@@ -60,22 +62,25 @@ list_fault t list =
     ∙ ap (λ o. option_or o (first_qword_fault t (list_qwords (room t) (data_pages t)))) list.prp2
     ∙ ap (λ n. first_qword_fault t n) all
 
--- a fault at the Qword of data page j, or before it, is that of the list
+-- a fault at the Qword of data page j, or before it, is the fault after PRP1
 pub fault_found : (t : PrpTransfer) (e : PrpError) (j m : ℕ) → IsList t → j < data_pages t → m ≤ used_of t (j + 1)
     → first_qword_fault t m ≡ Some e
     → fault_after_prp1 t ≡ Some e
 fault_found t e j m list below most found =
     list_fault t list ∙ fault_stays t e m (used_of t (data_pages t)) (grind (arith, nat_tests)) found
 
+-- a walk of a list begins before data page 1, at PRP2
 pub comes_first : (t : PrpTransfer) → IsList t → Comes t 1 t.prp2
 comes_first t list = record { later = omega arith; here = grind (arith, nat_tests); none = grind (arith, nat_tests) }
 
+-- with more than two data pages, the address of each but the first is in the Qword that names it
 pub base_by_list : (t : PrpTransfer) (j : ℕ) → 2 < data_pages t → 0 < j
     → page_base t j ≡ qword t.bytes (qword_place t (naming_qword t j))
 unfolding page_base
 base_by_list t zero many later = absurd (omega arith)
 base_by_list t (suc j) many later = rw (lt-ltb 2 (data_pages t) many)
 
+-- the Qword at which a walk has arrived names data page j, if no Qword before it has a fault
 turn : (t : PrpTransfer) (j at : ℕ) → IsList t → 0 < j
     → list_place (room t) t.prp2 (second_page t) (naming_number (room t) (data_pages t) j) ≡ at
     → first_qword_fault t (naming_number (room t) (data_pages t) j) ≡ None → cursor_of t (j + 1) ≡ at + 8
@@ -100,6 +105,7 @@ in_page t entry n list below none =
       list.few,
     )
 
+-- in the second page of a list, the Qword of each data page lies in the memory
 second_inside : (t : PrpTransfer) (j at : ℕ) → IsList t → Comes t j at → j < data_pages t → room t < j
     → room t + 1 < data_pages t
     → second_page t + 8 * (j - room t) + 8 ≤ length t.bytes
@@ -110,9 +116,11 @@ second_inside t j at list comes below later more =
     (rw (lt-ltb (room t - 1) (room t) (omega (arith, list.some))) at
     (each_none t j none (room t - 1) (omega (arith, list.some))))
 
+-- the Qword at which a walk has arrived lies in the memory
 pub next_inside : (t : PrpTransfer) (j at : ℕ) → IsList t → Comes t j at → j < data_pages t → at + 8 ≤ length t.bytes
 next_inside t j at list comes below = grind (arith, nat_tests, second_inside t j at list comes below)
 
+-- the Qword at which a walk has arrived names data page j, unless it is the last one in the first of two list pages
 pub turn_here : (t : PrpTransfer) (j at : ℕ) → IsList t → Comes t j at → j < data_pages t
     → (j ≡ room t → data_pages t ≤ room t + 1) → ListTurn t j at
 turn_here t j at list comes below h =
@@ -124,10 +132,12 @@ pub record Chain (t : PrpTransfer) (j at : ℕ) : Type 0 where
   pub fault : first_qword_fault t j ≡ entry_fault t.page_size (length t.bytes) t.page_size (qword t.bytes at)
   pub is : qword t.bytes at ≡ second_page t
 
+-- the Qword at which a walk has arrived holds the address of the second list page, if it is the last one of the first
 pub chain : (t : PrpTransfer) (j at : ℕ) → Comes t j at → j ≡ room t → room t + 1 < data_pages t → Chain t j at
 unfolding qword_fault qword_place
 chain t j at comes last more = grind (arith, nat_tests)
 
+-- if that address has no fault, the first Qword of the second list page names data page j
 pub turn_behind : (t : PrpTransfer) (j at entry : ℕ) → IsList t → Comes t j at → j ≡ room t → room t + 1 < data_pages t
     → entry ≡ qword t.bytes at → entry_fault t.page_size (length t.bytes) t.page_size (qword t.bytes at) ≡ None
     → ListTurn t j entry

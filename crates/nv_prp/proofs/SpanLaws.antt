@@ -19,6 +19,7 @@ unfolding qword_fault prp2_fault qwords naming_qword
 later_fault t j legal later below =
     grind (arith, nat_tests, base_by_list t j, base_of_two t, legal.list (naming_qword t j), legal.prp2)
 
+-- the spans of a legal transfer lie in the memory
 pub spans_lie_in : (t : PrpTransfer) → IsLegal t → 0 < t.page_size → 0 < t.len → LieIn (length t.bytes) (spans_of t)
 unfolding LieIn spans_of
 spans_lie_in t legal some bytes =

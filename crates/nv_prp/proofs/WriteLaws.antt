@@ -18,7 +18,7 @@ use Rattle.nv_prp.specs.Transfer.{list_place, list_qwords, naming_number, qword}
 
 -- ---- one Qword
 
--- what was written is read back
+-- a Qword that was written is read back
 pub stored_value : (bytes : List ℕ) (addr value : ℕ) → addr + 8 ≤ length bytes → value < 2 ^ 64
     → qword (with_bytes bytes addr (to_le_bytes w64 value)) addr ≡ value
 unfolding qword
@@ -28,6 +28,7 @@ stored_value bytes addr value inside fits =
 
 pub ruleset stores = (stored_value, bytes_at-with_before, bytes_at-with_after)
 
+-- a Qword apart from the bytes that change doesn't change
 qword_kept : (addr n other : ℕ) (old new : List ℕ) → ChangesOnly addr n old new → IsApart addr n other 8
     → qword new other ≡ qword old other
 unfolding qword
@@ -61,6 +62,7 @@ pub list_even : (bytes : List ℕ) (size first second offset : ℕ) → IsPageSi
 list_even bytes size first second offset is place = multiple_stays first size offset 8 (page_size_in_qwords size is)
     ∙ place.aligned
 
+-- a list at a place for lists lies in two pages, from its address to the end of the first page and in the second
 pub lies_at : (bytes : List ℕ) (size first second offset start space : ℕ) → IsPageSize size
     → IsListPlace bytes size first second offset
     → first ≢ second → start ≡ first * size + offset → space ≡ (size - start % size) / 8
@@ -86,6 +88,7 @@ IsWithin size first second addr n =
 abbrev pub naming_place : ℕ → ℕ → ℕ → ℕ → ℕ → ℕ
 naming_place space start second count j = list_place space start second (naming_number space count j)
 
+-- the Qword that names a data page lies in one of the two pages
 pub place_within : (size space start first second count j behind at : ℕ) → Lies size space start first second
     → count ≤ 257
     → 0 < j → j < count → behind ≡ second → at ≡ naming_place space start behind count j
@@ -105,6 +108,7 @@ abbrev pub HasNamed : List ℕ → ℕ → ℕ → ℕ → ℕ → List ℕ → 
 HasNamed bytes size space start second pages count n = (j : ℕ) → 0 < j → j < n
     → qword bytes (naming_place space start second count j) ≡ get_or pages j 0 * size
 
+-- if the list has the Qwords of the data pages below j, it has them up to j after the one of page j was written
 pub one_named : (old new : List ℕ) (size space start first second : ℕ) (pages : List ℕ) (count j behind at : ℕ)
     → Lies size space start first second
     → count ≤ 257 → 0 < j → j < count → behind ≡ second → at ≡ naming_place space start behind count j
@@ -120,6 +124,7 @@ one_named old new size space start first second pages count j _ at lies few late
       | inr last ↦ let same : k ≡ j = omega arith in cc
     ]
 
+-- if all Qwords of the data pages are there, the list names its pages after the address of its second page was written
 pub chain_names : (old new : List ℕ) (size space start first second : ℕ) (pages : List ℕ) (count n at : ℕ)
     → Lies size space start first second
     → count ≤ 257 → space + 1 < count → at ≡ start + 8 * (space - 1) → count ≤ n
@@ -139,6 +144,7 @@ pub one_kept : (space start second count q at : ℕ) (all old new : List ℕ) �
 one_kept space start second count q at all old new used is kept others = λ from n apart.
     others from n (subst (λ a. IsApart a 8 from n) (sym is) (apart q used)) ∙ kept from n apart
 
+-- bytes outside the list don't change when the Qword of a data page is written
 pub naming_kept : (space start second count j behind at : ℕ) (all old new : List ℕ) → 0 < j → j < count
     → behind ≡ second → at ≡ naming_place space start behind count j
     → KeepsOutsideList space start second count all old → ChangesOnly at 8 old new
@@ -146,6 +152,7 @@ pub naming_kept : (space start second count j behind at : ℕ) (all old new : Li
 naming_kept space start second count j behind at all old new later below same is =
     one_kept space start second count (naming_number space count j) at all old new (grind (arith, nat_tests)) cc
 
+-- bytes outside the list don't change when the address of its second page is written
 pub chain_kept : (space start second count at : ℕ) (all old new : List ℕ) → 0 < space → space + 1 < count
     → at ≡ start + 8 * (space - 1) → KeepsOutsideList space start second count all old → ChangesOnly at 8 old new
     → KeepsOutsideList space start second count all new

@@ -13,6 +13,7 @@ table (suc n) f = table n f ++ f n ∷ []
 unfoldable pub span_places : Span → List ℕ
 span_places s = table s.len (λ k. s.address + k)
 
+-- the places of the bytes of spans in order
 unfoldable pub places : List Span → List ℕ
 places spans = flat_map span_places spans
 

@@ -14,6 +14,7 @@ use Rattle.nv_prp.specs.declared.spans.Span.{Span}
 abbrev pub most_bytes : ℕ
 most_bytes = 1048576
 
+-- a transfer: the page size, the host's memory, both PRP entries, and how many bytes are transferred
 pub record PrpTransfer : Type 0 where
   pub page_size : ℕ
   pub bytes : List ℕ
@@ -21,6 +22,7 @@ pub record PrpTransfer : Type 0 where
   pub prp2 : ℕ
   pub len : ℕ
 
+-- the transfer with these values
 abbrev pub transfer : ℕ → List ℕ → ℕ → ℕ → ℕ → PrpTransfer
 transfer page_size bytes prp1 prp2 len =
     record { page_size = page_size; bytes = bytes; prp1 = prp1; prp2 = prp2; len = len }
@@ -103,6 +105,7 @@ unfoldable pub span_of : PrpTransfer → ℕ → Span
 span_of t j =
     record { address = place_of t (first_byte t j); len = first_byte t (j + 1) - first_byte t j }
 
+-- the bytes of all data pages, in order
 unfoldable pub spans_of : PrpTransfer → List Span
 spans_of t = table (data_pages t) (span_of t)
 
@@ -116,6 +119,7 @@ entry_fault page_size size alignment entry =
     then (if nat_le (entry - entry % page_size + page_size) size then None else Some Outside)
     else Some Offset
 
+-- PRP1 is a multiple of 4, and its page lies in the memory
 abbrev pub prp1_fault : PrpTransfer → Option PrpError
 prp1_fault t = entry_fault t.page_size (length t.bytes) 4 t.prp1
 
@@ -133,6 +137,7 @@ unfoldable pub qword_fault : PrpTransfer → ℕ → Option PrpError
 qword_fault t n =
     entry_fault t.page_size (length t.bytes) t.page_size (qword t.bytes (qword_place t n))
 
+-- no entry and no Qword of the list that is used has a fault
 pub record IsLegal (t : PrpTransfer) : Type 0 where
   pub prp1 : prp1_fault t ≡ None
   pub prp2 : prp2_fault t ≡ None

@@ -10,7 +10,8 @@ ghost use Rattle.nv_prp.specs.Transfer.{room as room_of, transfer};
 
 use crate::pointer::{DataPointer, ListShape, page_address, qwords_in_page, store_qword};
 use crate::{Span, Spans};
-use nv_host::{HostMemory, PageNo};
+use nv_host::PageNo;
+use nv_host::paged::PagedMemory;
 use std::cmp::min;
 
 /// A buffer in pages of the host's memory.
@@ -28,7 +29,7 @@ impl Buffer<'_> {
     ///
     /// The pages must lie in the memory, and hold `len` bytes from the buffer's offset on.
     #[tactic(auto, using(crate::proofs::BufferSpanLaws::spans, crate::proofs::BufferSpanLaws::one_span))]
-    pub fn spans<M: HostMemory>(&self, mem: &M, len: u32, spans: &mut Spans)
+    pub fn spans<M: PagedMemory>(&self, mem: &M, len: u32, spans: &mut Spans)
         requires limit { len ≤ most_bytes }
         requires buffer { IsBuffer (M.bytes mem.now)
             (M.page_len mem.now) self.now.pages.now self.now.offset len }
@@ -77,7 +78,7 @@ pub struct ListPlace {
 /// All pages must lie in the memory, also those of the list if none is written, and must be
 /// distinct. The offsets must be below the page size and multiples of 4 (the buffer) and 8 (the
 /// list), and the pages must hold `len` bytes from the buffer's offset on.
-pub fn build<M: HostMemory>(mem: &mut M, buffer: &Buffer, list: &ListPlace, len: u32) -> (u64, u64)
+pub fn build<M: PagedMemory>(mem: &mut M, buffer: &Buffer, list: &ListPlace, len: u32) -> (u64, u64)
     requires some { 0 < len }
     requires limit { len ≤ most_bytes }
     requires buffer { IsBuffer (M.bytes mem.old)
@@ -121,7 +122,7 @@ pub fn build<M: HostMemory>(mem: &mut M, buffer: &Buffer, list: &ListPlace, len:
 /// Writes the addresses of all data pages of a buffer but the first, and the address of the second
 /// list page if there is one. Returns the list's address.
 #[tactic(auto, using(crate::proofs::WriteLaws::list_even))]
-fn write_list<M: HostMemory>(mem: &mut M, pages: &[PageNo], list: &ListPlace, count: u32) -> u64
+fn write_list<M: PagedMemory>(mem: &mut M, pages: &[PageNo], list: &ListPlace, count: u32) -> u64
     requires few { count ≤ 257 }
     requires many { 2 < count }
     requires enough { count ≤ length pages.now }

@@ -28,6 +28,7 @@ mod buffer;
 mod error;
 mod law;
 mod pointer;
+mod range;
 mod spans;
 mod walker;
 

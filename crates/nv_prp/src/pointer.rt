@@ -12,7 +12,8 @@ ghost use Rattle.nv_prp.specs.Transfer.{entry_fault, first_byte, list_place, mos
 ghost use Rattle.nv_prp.specs.Transfer.{qword};
 
 use crate::{PrpError, Span};
-use nv_host::{HostMemory, PageNo, size_of_memory};
+use nv_host::paged::PagedMemory;
+use nv_host::{PageNo, size_of_memory};
 use std::cmp::min;
 
 /// The two PRP entries of a command, and the length of its transfer in bytes. Section "Data
@@ -27,7 +28,7 @@ pub struct DataPointer {
 impl DataPointer {
     /// Returns how many pages the bytes lie in.
     #[tactic(auto, using(crate::proofs::PageLaws::page_counts))]
-    pub(crate) fn data_pages<M: HostMemory>(self, mem: &M) -> u32
+    pub(crate) fn data_pages<M: PagedMemory>(self, mem: &M) -> u32
         requires { self.len ≤ most_bytes }
         ensures value { result ≡ div_ceil (self.prp1 % M.page_len mem.now + self.len)
             (M.page_len mem.now) }
@@ -40,7 +41,7 @@ impl DataPointer {
 
     /// Returns the span of a data page, whose first byte is at `address`.
     #[tactic(auto, using(crate::proofs::PageLaws::first_bytes))]
-    pub(crate) fn span<M: HostMemory>(self, mem: &M, page: u32, address: u64) -> Span
+    pub(crate) fn span<M: PagedMemory>(self, mem: &M, page: u32, address: u64) -> Span
         requires { page < 257 }
         ensures { let t = transfer_of (M.page_len mem.now) (M.bytes mem.now) self in
             result ≡ record {
@@ -106,7 +107,7 @@ impl ListShape {
 
 /// Checks that an entry is a multiple of its alignment, and that its page lies in the memory.
 #[tactic(auto, using(crate::proofs::FaultLaws::entries))]
-pub(crate) fn check<M: HostMemory>(mem: &M, alignment: u32, entry: u64) -> Result<(), PrpError>
+pub(crate) fn check<M: PagedMemory>(mem: &M, alignment: u32, entry: u64) -> Result<(), PrpError>
     requires { 0 < alignment }
     ensures fault { let fault = entry_fault (M.page_len mem.now) (length
         (M.bytes mem.now)) alignment entry in
@@ -126,7 +127,7 @@ pub(crate) fn check<M: HostMemory>(mem: &M, alignment: u32, entry: u64) -> Resul
 
 /// Returns the page address in the Qword at an address of the memory.
 #[tactic(auto, using(nv_host::proofs::PageLaws::page_size_bounds), unfolding(crate::specs::Transfer::qword))]
-pub(crate) fn load_page_address<M: HostMemory>(mem: &M, addr: u64) -> Result<u64, PrpError>
+pub(crate) fn load_page_address<M: PagedMemory>(mem: &M, addr: u64) -> Result<u64, PrpError>
     requires { addr + 8 ≤ length (M.bytes mem.now) }
     ensures value { IfOk result (λ entry. entry ≡ qword (M.bytes mem.now) addr) }
     ensures fault { let entry = qword (M.bytes mem.now) addr in
@@ -144,7 +145,7 @@ pub(crate) fn load_page_address<M: HostMemory>(mem: &M, addr: u64) -> Result<u64
 
 /// Writes a Qword at an address.
 #[tactic(auto, using(crate::proofs::WriteLaws::stores, nv_host::proofs::BytesLaws::length_with_bytes))]
-pub(crate) fn store_qword<M: HostMemory>(mem: &mut M, addr: u64, value: u64)
+pub(crate) fn store_qword<M: PagedMemory>(mem: &mut M, addr: u64, value: u64)
     requires { addr + 8 ≤ length (M.bytes mem.old) }
     ensures value { qword (M.bytes mem.new) addr ≡ value }
     ensures others { ChangesOnly addr 8 (M.bytes mem.old) (M.bytes mem.new) }
@@ -157,7 +158,7 @@ pub(crate) fn store_qword<M: HostMemory>(mem: &mut M, addr: u64, value: u64)
 
 /// Returns how many Qwords there are from an address, a multiple of 8, to the end of its page.
 #[tactic(auto, using(crate::proofs::ListLaws::rooms))]
-pub(crate) fn qwords_in_page<M: HostMemory>(mem: &M, addr: u64) -> u32
+pub(crate) fn qwords_in_page<M: PagedMemory>(mem: &M, addr: u64) -> u32
     requires { addr % 8 ≡ 0 }
     ensures value { result ≡ (M.page_len mem.now - addr % M.page_len mem.now) / 8 }
     ensures some { 0 < result }
@@ -169,7 +170,7 @@ pub(crate) fn qwords_in_page<M: HostMemory>(mem: &M, addr: u64) -> u32
 
 /// Returns the address of a page.
 #[tactic(auto, using(crate::proofs::PageLaws::page_times))]
-pub(crate) fn page_address<M: HostMemory>(mem: &M, page: PageNo) -> u64
+pub(crate) fn page_address<M: PagedMemory>(mem: &M, page: PageNo) -> u64
     ensures value { result ≡ page * M.page_len mem.now }
     ensures small { result ≤ 2 ^ 48 }
     ensures size { IsPageSize (M.page_len mem.now) }

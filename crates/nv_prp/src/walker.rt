@@ -12,7 +12,7 @@ ghost use Rattle.nv_prp.specs.Transfer.{transfer_places};
 
 use crate::pointer::{DataPointer, ListShape, check, load_page_address, qwords_in_page};
 use crate::{PrpError, Spans};
-use nv_host::HostMemory;
+use nv_host::paged::PagedMemory;
 
 /// Finds the spans of the transfer that a command's PRP entries describe, one for each data page.
 /// The transfer has from 1 to 1,048,576 bytes. Section "Physical Region Page Entry and List".
@@ -24,7 +24,7 @@ use nv_host::HostMemory;
 /// Qwords as they are used. The offset of an entry is checked first. After an error `spans` is
 /// empty, whatever it held before.
 #[tactic(auto, using(crate::proofs::SpanLaws::walks))]
-pub fn walk<M: HostMemory>(
+pub fn walk<M: PagedMemory>(
     mem: &M,
     prp1: u64,
     prp2: u64,
@@ -57,7 +57,7 @@ pub fn walk<M: HostMemory>(
 
 /// Walks over the entries. After a fault `spans` holds the spans of the data pages before it.
 #[tactic(auto, using(crate::proofs::FaultLaws::faults, crate::proofs::PageLaws::spans))]
-fn walk_entries<M: HostMemory>(
+fn walk_entries<M: PagedMemory>(
     mem: &M,
     pointer: DataPointer,
     spans: &mut Spans,
@@ -84,7 +84,7 @@ fn walk_entries<M: HostMemory>(
 
 /// Walks over the list, which there is if there are more than two data pages.
 #[tactic(auto, using(crate::proofs::ListLaws::list_steps))]
-fn walk_list<M: HostMemory>(
+fn walk_list<M: PagedMemory>(
     mem: &M,
     pointer: DataPointer,
     pages: u32,
@@ -116,7 +116,7 @@ fn walk_list<M: HostMemory>(
 /// Returns the address of the Qword that holds the address of a data page. `next` is the address of
 /// the Qword after those that were used.
 #[tactic(auto, using(crate::proofs::ListLaws::next_inside))]
-fn naming_qword<M: HostMemory>(
+fn naming_qword<M: PagedMemory>(
     mem: &M,
     pointer: DataPointer,
     list: ListShape,

@@ -12,10 +12,12 @@ use Rattle.nv_queue.proofs.NumberLaws.{times_is}
 
 -- ---- whole numbers
 
+-- a number that is a depth further has the same slot
 pub slot_again : (d n : ℕ) → slot_of d (n + d) ≡ slot_of d n
 unfolding slot_of
 slot_again d n = add-mod_right n d
 
+-- of two numbers 0 and 1, the next one modulo 2 is 0 if and only if the number isn't
 even_next : (r : ℕ) → r < 2 → (r + 1) % 2 == 0 ≡ not (r == 0)
 even_next r h =
     elim (cases_lt r 1) [
@@ -23,10 +25,12 @@ even_next r h =
       | inr g ↦ let e : r ≡ 1 = omega arith in rw e
     ]
 
+-- a number is odd if and only if the next one is even
 even_after : (q : ℕ) → (q + 1) % 2 == 0 ≡ not (q % 2 == 0)
 even_after q =
     ap (λ x. x == 0) (sym (mod-add-mod q 2 1)) ∙ even_next (q % 2) (mod_below q 2 (omega arith))
 
+-- a number that is a depth further has the other phase
 pub phase_again : (d n : ℕ) → 0 < d → phase_of d (n + d) ≡ not (phase_of d n)
 unfolding phase_of
 phase_again d n p =
@@ -36,31 +40,38 @@ phase_again d n p =
 
 -- ---- how they are kept
 
+-- a kept number is below twice the depth
 pub kept_below : (d n : ℕ) → 0 < d → kept_number d n < 2 * d
 unfolding kept_number
 kept_below d n h = mod_below n (2 * d) (omega arith)
 
+-- the number 0 is kept as 0
 pub kept_zero : (d : ℕ) → kept_number d 0 ≡ 0
 unfolding kept_number
 kept_zero d = zero-mod (2 * d)
 
+-- the number that is j further is kept as the one that is j further modulo twice the depth
 pub kept_more : (d a b j : ℕ) → a ≡ b + j → kept_number d a ≡ (kept_number d b + j) % (2 * d)
 unfolding kept_number
 kept_more d a b j e = ap (λ x. x % (2 * d)) e ∙ sym (mod-add-mod b (2 * d) j)
 
+-- the next number after a kept one is the kept number of the next
 pub kept_next : (d n : ℕ) → next d (kept_number d n) ≡ kept_number d (n + 1)
 unfolding kept_number next
 kept_next d n = mod-add-mod n (2 * d) 1
 
+-- a number is its remainder by twice the depth and an even number of depths
 whole : (d n : ℕ) → n ≡ n % (2 * d) + d * (2 * (n / (2 * d)))
 whole d n = omega (arith, div-add-mod n (2 * d))
 
+-- a kept number has the slot of the number
 pub slot_kept : (d n : ℕ) → slot_of d (kept_number d n) ≡ slot_of d n
 unfolding slot_of kept_number
 slot_kept d n =
     let r = n % (2 * d) in
     sym (ap (λ x. x % d) (whole d n) ∙ add-mul-mod_self_left r d (2 * (n / (2 * d))))
 
+-- a kept number has the phase of the number
 pub phase_kept : (d n : ℕ) → 0 < d → phase_of d (kept_number d n) ≡ phase_of d n
 unfolding phase_of kept_number
 phase_kept d n p =
@@ -70,7 +81,7 @@ phase_kept d n p =
     let times = times_is n (r / d + 2 * k) d (r % d) e (mod_below r d p) in
     sym (ap (λ x. x % 2 == 0) times ∙ ap (λ x. x == 0) (add-mul-mod_self_left (r / d) 2 k))
 
--- the number that is j after the kept number r
+-- the number that is j after the kept number r is r + j, or that less twice the depth
 further : (d r j : ℕ) → r < 2 * d → j < 2 * d
     → ((r + j < 2 * d) × ((r + j) % (2 * d) ≡ r + j))
     ⊎ ((2 * d ≤ r + j) × ((r + j) % (2 * d) ≡ r + j - 2 * d))
@@ -80,10 +91,12 @@ further d r j h i =
       | inr g ↦ inr (g, rest_is (r + j) 1 (2 * d) (r + j - 2 * d) (omega arith) (omega arith))
     ]
 
+-- the number that is j after the kept number r, modulo twice the depth, is j above it
 above_further : (d r j x : ℕ) → r < 2 * d → j < 2 * d → x ≡ (r + j) % (2 * d) → x < 2 * d
     → above d x r ≡ j
 above_further d r j x h i e l = grind (arith, further d r j h i, above_cases d x r l h)
 
+-- if a is j above b, and j is below twice the depth, the kept number of a is j above the kept number of b
 pub above_kept : (d a b j : ℕ) → 0 < d → a ≡ b + j → j < 2 * d
     → above d (kept_number d a) (kept_number d b) ≡ j
 above_kept d a b j p e l =
@@ -106,7 +119,7 @@ slots_apart d a b l h =
     apart_slots d x r h i more less same =
         grind (arith, above_cases d x r h i, slot_cases d x h, slot_cases d r i)
 
--- the first number in the slot of a number less than a depth ahead is that number
+-- the slot of a number that is j ahead, and less than a depth, is j ahead
 pub ahead_kept : (d a b j : ℕ) → a ≡ b + j → j < d
     → ahead d (kept_number d b) (slot_of d (kept_number d a)) ≡ j
 ahead_kept d a b j e l =
@@ -115,12 +128,14 @@ ahead_kept d a b j e l =
     let high = kept_below d a (omega arith) in
     ahead_slot d (kept_number d a) (kept_number d b) high low (omega arith) ∙ is
 
+-- if a is less than a depth above b, its kept number is the first in its slot from the kept number of b on
 pub first_kept : (d a b j : ℕ) → a ≡ b + j → j < d
     → first_in_slot d (kept_number d b) (slot_of d (kept_number d a)) ≡ kept_number d a
 unfolding first_in_slot
 first_kept d a b j e l =
     ap (λ x. (kept_number d b + x) % (2 * d)) (ahead_kept d a b j e l) ∙ sym (kept_more d a b j e)
 
+-- the slot of a number between b and c, which are less than a depth apart, lies between their kept numbers
 pub between_kept : (d b j m a c : ℕ) → j ≤ m → m < d → a ≡ b + j → c ≡ b + m
     → IsSlotBetween d (kept_number d b) (kept_number d c) (slot_of d (kept_number d a))
 between_kept d b j m a c l h at end =

@@ -8,31 +8,37 @@ use Rattle.nv_queue.specs.Numbers.{IsDepth, IsFull, IsSlotBetween, IsWithinRing,
 use Rattle.nv_queue.specs.Numbers.{first_in_slot, next}
 use Rattle.nv_queue.specs.Numbers.{phase_of, slot_of}
 
+-- the remainder of q * d + r by d is r, if r is below d
 pub rest_is : (x q d r : ℕ) → x ≡ q * d + r → r < d → x % d ≡ r
 rest_is x q d r e h = rw e (mod-mul-add q d r h)
 
+-- the quotient of q * d + r by d is q, if r is below d
 pub times_is : (x q d r : ℕ) → x ≡ q * d + r → r < d → x / d ≡ q
 times_is x q d r e h = rw e (div-mul-add q d r h)
 
 -- ---- each function by cases
 
+-- the slot of a number in the first pass is the number
 pub slot_low : (d n : ℕ) → n < d → slot_of d n ≡ n
 unfolding slot_of
 slot_low d n h = rest_is n 0 d n (omega arith) h
 
+-- the slot of a number in the second pass is the number less the depth
 pub slot_high : (d n : ℕ) → d ≤ n → n < 2 * d → slot_of d n ≡ n - d
 unfolding slot_of
 slot_high d n h i = rest_is n 1 d (n - d) (omega arith) (omega arith)
 
+-- the phase of a number in the first pass is 1
 pub phase_low : (d n : ℕ) → n < d → phase_of d n ≡ true
 unfolding phase_of
 phase_low d n h = rw (times_is n 0 d n (omega arith) h)
 
+-- the phase of a number in the second pass is 0
 pub phase_high : (d n : ℕ) → d ≤ n → n < 2 * d → phase_of d n ≡ false
 unfolding phase_of
 phase_high d n h i = rw (times_is n 1 d (n - d) (omega arith) (omega arith))
 
--- the slot of n
+-- n is in the first pass and its slot is n, or in the second pass and its slot is n - d
 pub slot_cases : (d n : ℕ) → n < 2 * d
     → ((n < d) × (slot_of d n ≡ n) × (phase_of d n ≡ true))
     ⊎ ((d ≤ n) × (slot_of d n ≡ n - d) × (phase_of d n ≡ false))
@@ -42,10 +48,11 @@ slot_cases d n h =
       | inr g ↦ inr (g, slot_high d n g h, phase_high d n g h)
     ]
 
+-- a slot is below the depth
 pub slot_below : (d n : ℕ) → n < 2 * d → slot_of d n < d
 slot_below d n h = grind (arith, slot_cases d n h)
 
--- the number after n
+-- the number after n is n + 1, or 0 if that is twice the depth
 pub next_cases : (d n : ℕ) → n < 2 * d
     → ((n + 1 < 2 * d) × (next d n ≡ n + 1)) ⊎ ((n + 1 ≡ 2 * d) × (next d n ≡ 0))
 unfolding next
@@ -55,9 +62,11 @@ next_cases d n h =
       | inr g ↦ inr (omega arith, rest_is (n + 1) 1 (2 * d) 0 (omega arith) (omega arith))
     ]
 
+-- the next number is below twice the depth too
 pub next_below : (d n : ℕ) → n < 2 * d → next d n < 2 * d
 next_below d n h = grind (arith, next_cases d n h)
 
+-- a is above b by their difference, to which twice the depth is added if a is the lower number
 pub above_cases : (d a b : ℕ) → a < 2 * d → b < 2 * d
     → ((b ≤ a) × (above d a b ≡ a - b)) ⊎ ((a < b) × (above d a b ≡ a + 2 * d - b))
 unfolding above
@@ -69,11 +78,12 @@ above_cases d a b h i =
       | inr g ↦ inl (g, rest_is (a + 2 * d - b) 1 (2 * d) (a - b) (omega arith) (omega arith))
     ]
 
+-- slot t is as far ahead of n as the remainder of t + 2 * d - n by the depth
 ahead_is : (d n t k q : ℕ) → t + 2 * d - n ≡ q * d + k → k < d → ahead d n t ≡ k
 unfolding ahead
 ahead_is d n t k q e h = rest_is (t + 2 * d - n) q d k e h
 
--- how far ahead the first number in slot t is, from n on
+-- slot t is ahead of n by t - n, t + d - n or t + 2 * d - n, and the first number in it is t or t + d
 pub ahead_cases : (d n t : ℕ) → n < 2 * d → t < d
     → ((n ≤ t) × (ahead d n t ≡ t - n) × (first_in_slot d n t ≡ t))
     ⊎ (((t < n) × (n ≤ t + d) × (ahead d n t ≡ t + d - n) × (first_in_slot d n t ≡ t + d))
@@ -96,15 +106,17 @@ ahead_cases d n t h i =
       ]
     ]
 
+-- each slot is less than a depth ahead
 pub ahead_below : (d n t : ℕ) → n < 2 * d → t < d → ahead d n t < d
 ahead_below d n t h i = grind (arith, ahead_cases d n t h i)
 
+-- the first number in a slot is below twice the depth
 pub first_in_slot_below : (d n t : ℕ) → n < 2 * d → t < d → first_in_slot d n t < 2 * d
 first_in_slot_below d n t h i = grind (arith, ahead_cases d n t h i)
 
 -- ---- how far numbers are apart
 
--- one number further
+-- the number after n is one further above k than n is
 pub above_next : (d n k : ℕ) → n < 2 * d → k < 2 * d → above d n k + 1 < 2 * d
     → above d (next d n) k ≡ above d n k + 1
 above_next d n k h i l =
@@ -115,7 +127,7 @@ above_next d n k h i l =
       above_cases d (next d n) k (next_below d n h) i,
     )
 
--- one number less far
+-- n is one less far above the number after k than above k
 pub next_above : (d n k : ℕ) → n < 2 * d → k < 2 * d → k ≢ n
     → above d n (next d k) ≡ above d n k - 1
 next_above d n k h i o =
@@ -126,6 +138,7 @@ next_above d n k h i o =
       above_cases d n (next d k) h (next_below d k i),
     )
 
+-- a number that is 0 above another is that number
 pub above_none : (d n k : ℕ) → n < 2 * d → k < 2 * d → above d n k ≡ 0 → k ≡ n
 above_none d n k h i e = grind (arith, above_cases d n k h i)
 
@@ -140,6 +153,7 @@ ahead_slot d a b h i f =
       ahead_cases d b (slot_of d a) i (slot_below d a h),
     )
 
+-- the first number in a slot is as far above n as the slot is ahead of it
 pub above_first : (d n t : ℕ) → n < 2 * d → t < d → above d (first_in_slot d n t) n ≡ ahead d n t
 above_first d n t h i =
     grind (
@@ -148,7 +162,7 @@ above_first d n t h i =
       above_cases d (first_in_slot d n t) n (first_in_slot_below d n t h i) h,
     )
 
--- there are that many fewer
+-- a is less far above the first number in slot t from n on than above n, by as much as the slot is ahead
 pub first_above : (d a n t : ℕ) → a < 2 * d → n < 2 * d → t < d → ahead d n t ≤ above d a n
     → above d a (first_in_slot d n t) ≡ above d a n - ahead d n t
 first_above d a n t j h i g =
@@ -161,6 +175,7 @@ first_above d a n t j h i g =
 
 -- ---- the numbers of a ring
 
+-- a new ring, with both numbers 0, is within its depth
 pub within_new : (d : ℕ) → IsDepth d → IsWithinRing d 0 0
 within_new d deep = record {
   deep = deep;
@@ -169,6 +184,7 @@ within_new d deep = record {
   few = grind (arith, above_cases d 0 0 (omega arith) (omega arith));
 }
 
+-- a ring that isn't full is still within its depth after one number more
 pub within_more : (d k n : ℕ) → IsWithinRing d k n → ¬ IsFull d k n → IsWithinRing d k (next d n)
 within_more d k n is free =
     let deep = is.deep in
@@ -176,12 +192,14 @@ within_more d k n is free =
     let few : above d (next d n) k < d = omega (arith, is.few, free) in
     record { deep = deep; from = is.from; to = next_below d n is.to; few = few }
 
+-- a ring that isn't empty is still within its depth after one number was taken from it
 pub within_taken : (d k n : ℕ) → IsWithinRing d k n → k ≢ n → IsWithinRing d (next d k) n
 within_taken d k n is left =
     let less = next_above d n k is.to is.from left in
     let few = is.few in
     record { deep = is.deep; from = next_below d k is.from; to = is.to; few = omega arith }
 
+-- a ring is still within its depth if its first number becomes the first one in a slot between its numbers
 pub within_freed : (d k n t : ℕ) → IsWithinRing d k n → IsSlotBetween d k n t
     → IsWithinRing d (first_in_slot d k t) n
 within_freed d k n t is slot =
@@ -193,6 +211,7 @@ within_freed d k n t is slot =
       few = omega (arith, is.few);
     }
 
+-- a ring is within its depth if its last number becomes the first one in any slot
 pub within_filled : (d k n t : ℕ) → IsWithinRing d k n → t < d
     → IsWithinRing d k (first_in_slot d k t)
 within_filled d k n t is low =
@@ -201,7 +220,7 @@ within_filled d k n t is low =
     let to = first_in_slot_below d k t is.from low in
     record { deep = is.deep; from = is.from; to = to; few = omega arith }
 
--- a ring is full if the slot after the last one is that of the first
+-- a ring is full if and only if the slot after the last one is the first one's
 pub full_slots : (d k n : ℕ) → IsWithinRing d k n
     → (slot_of d (next d n) ≡ slot_of d k) ↔ IsFull d k n
 full_slots d k n is =
@@ -223,7 +242,7 @@ full_slots d k n is =
       )),
     )
 
--- a ring is empty if both slots are equal
+-- a ring is empty if and only if both slots are equal
 pub empty_slots : (d k n : ℕ) → IsWithinRing d k n → (slot_of d k ≡ slot_of d n) ↔ (k ≡ n)
 empty_slots d k n is =
     let few = is.few in (

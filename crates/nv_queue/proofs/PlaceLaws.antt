@@ -6,46 +6,54 @@ use Rattle.nv_queue.proofs.NumberLaws.{ahead_cases, ahead_slot, full_slots, next
 use Rattle.nv_queue.proofs.NumberLaws.{slot_high, slot_low}
 use Rattle.nv_queue.proofs.NumberLaws.{within_filled, within_freed, within_more, within_taken}
 
+-- the number of a place is below twice the depth
 pub number_below : (d s : ℕ) (b : Bool) → s < d → number_of d s b < 2 * d
 number_below d s true h = omega arith
 number_below d s false h = omega arith
 
+-- the slot of a place's number is the slot of the place
 pub slot_number_of : (d s : ℕ) (b : Bool) → s < d → slot_of d (number_of d s b) ≡ s
 slot_number_of d s true h = rw (slot_high d (d + s) (omega arith) (omega arith)) (omega arith)
 slot_number_of d s false h = slot_low d s h
 
+-- the phase of a place's number is 1 in the first pass and 0 in the second
 pub phase_number_of : (d s : ℕ) (b : Bool) → s < d → phase_of d (number_of d s b) ≡ not b
 phase_number_of d s true h = phase_high d (d + s) (omega arith) (omega arith)
 phase_number_of d s false h = phase_low d s h
 
+-- after the last slot, the next number is in slot 0 in the other pass
 pub step_wraps : (d s : ℕ) (b : Bool) → s + 1 ≡ d → number_of d 0 (not b) ≡ next d (number_of d s b)
 step_wraps d s true h = grind (arith, next_cases d (d + s) (omega arith))
 step_wraps d s false h = grind (arith, next_cases d s (omega arith))
 
+-- after any other slot, the next number is in the next slot in the same pass
 pub step_stays : (d s : ℕ) (b : Bool) → s + 1 < d → number_of d (s + 1) b ≡ next d (number_of d s b)
 step_stays d s true h = grind (arith, next_cases d (d + s) (omega arith))
 step_stays d s false h = grind (arith, next_cases d s (omega arith))
 
--- how far ahead a slot is; a slot that is behind is met in the other pass
+-- a slot that is behind is ahead by the slots up to the end of the pass and then up to it
 pub ahead_behind : (d s t : ℕ) (b : Bool) → s < d → t < s → t + d - s ≡ ahead d (number_of d s b) t
 ahead_behind d s t true h l = grind (arith, ahead_cases d (d + s) t (omega arith) (omega arith))
 ahead_behind d s t false h l = grind (arith, ahead_cases d s t (omega arith) (omega arith))
 
+-- a slot that isn't behind is ahead by the difference of the slots
 pub ahead_before : (d s t : ℕ) (b : Bool) → t < d → s ≤ t → t - s ≡ ahead d (number_of d s b) t
 ahead_before d s t true h l = grind (arith, ahead_cases d (d + s) t (omega arith) (omega arith))
 ahead_before d s t false h l = grind (arith, ahead_cases d s t (omega arith) (omega arith))
 
+-- the first number in a slot that is behind is its number in the other pass
 pub first_behind : (d s t : ℕ) (b : Bool) → s < d → t < s
     → number_of d t (not b) ≡ first_in_slot d (number_of d s b) t
 first_behind d s t true h l = grind (arith, ahead_cases d (d + s) t (omega arith) (omega arith))
 first_behind d s t false h l = grind (arith, ahead_cases d s t (omega arith) (omega arith))
 
+-- the first number in a slot that isn't behind is its number in the same pass
 pub first_before : (d s t : ℕ) (b : Bool) → t < d → s ≤ t
     → number_of d t b ≡ first_in_slot d (number_of d s b) t
 first_before d s t true h l = grind (arith, ahead_cases d (d + s) t (omega arith) (omega arith))
 first_before d s t false h l = grind (arith, ahead_cases d s t (omega arith) (omega arith))
 
--- how far ahead the slot of a number is that is less than a depth ahead
+-- the slot of a number that is less than a depth ahead is as far ahead as the number
 pub ahead_place : (d s k : ℕ) (b : Bool) → s < d → k < 2 * d → above d (number_of d s b) k < d
     → ahead d k s ≡ above d (number_of d s b) k
 ahead_place d s k b h i f =

@@ -28,6 +28,7 @@ record Moment : Type 0 where
   known : ℕ
   untold : Bool
 
+-- the memory and both sides of the ring at a moment of a run
 abbrev exchange_of : ℕ → ℕ → Moment → Exchange
 exchange_of base d m = record {
   bytes = m.bytes;
@@ -57,15 +58,18 @@ record KeepsExchange (base d : ℕ) (m : Moment) : Type 0 where
   told : m.known ≤ length m.polled
   few : length m.posted < m.known + d
 
+-- a moment at which everything holds has this exchange
 abbrev IsReached : ℕ → ℕ → Exchange → Type 0
 IsReached base d x = (m : Moment) × KeepsExchange base d m × (x ≡ exchange_of base d m)
 
+-- the completions that were polled and the ones that were not are all that were posted
 counted : (base d : ℕ) (m : Moment) → KeepsExchange base d m
     → length m.polled + length m.rest ≡ length m.posted
 counted base d m keeps = sym (length-append m.polled m.rest) ∙ ap length keeps.prefix
 
 -- ---- each event
 
+-- a moment has the exchange after a completion was put into a ring that isn't full
 after_put : (base d : ℕ) (m : Moment) (c : Cqe) → KeepsExchange base d m → CqeFits c
     → ¬ IsPostFull (exchange_of base d m).device → IsReached base d (with_put (exchange_of base d m) c)
 after_put base d m c keeps fits free =
@@ -111,6 +115,7 @@ found base d m keeps =
     awaited_posted m.bytes (exchange_of base d m).host m.posted (length m.polled) deep.0 refl
     (omega arith) (omega (arith, keeps.few, keeps.told)) keeps.holds
 
+-- a moment has the exchange after the awaited completion was polled
 after_poll : (base d : ℕ) (m : Moment) (rest : List Cqe) → m.rest ≡ rest → KeepsExchange base d m
     → IsAwaitedThere m.bytes (exchange_of base d m).host
     → IsReached base d (with_polled (exchange_of base d m))
@@ -146,6 +151,7 @@ after_poll base d m (r ∷ left) first keeps there =
       ap at (kept_next d k ∙ ap (kept_number d) (sym more)),
     )
 
+-- the head that the host writes lies between the numbers that the device knows
 head_taken : (base d : ℕ) (m : Moment) → KeepsExchange base d m → IsHeadTaken (exchange_of base d m)
 head_taken base d m keeps =
     let k = length m.polled in let n = length m.posted in
@@ -155,6 +161,7 @@ head_taken base d m keeps =
     between_kept d m.known (k - m.known) (n - m.known) k n
     (omega arith) (omega arith) (omega arith) (omega arith)
 
+-- a moment has the exchange after the host wrote its head to the doorbell
 after_tell : (base d : ℕ) (m : Moment) → KeepsExchange base d m
     → IsReached base d (with_told (with_head (exchange_of base d m)))
 after_tell base d m keeps =
@@ -178,9 +185,11 @@ after_tell base d m keeps =
 
 -- ---- a run
 
+-- an exchange that is equal to one that some moment has is itself one
 along : (base d : ℕ) (x y : Exchange) → y ≡ x → IsReached base d x → IsReached base d y
 along base d x y e is = (is.0, is.1, e ∙ is.2)
 
+-- a moment has the exchange after any event at a moment
 moment_keeps : (base d : ℕ) (m : Moment) (event : Event) (y : Exchange) → KeepsExchange base d m
     → Happens event (exchange_of base d m) y → IsReached base d y
 moment_keeps base d m (Put c) y keeps (fits, inl w) = (m, keeps, w.1)
@@ -193,6 +202,7 @@ moment_keeps base d m Tell y keeps (inl w) = (m, keeps, w.1)
 moment_keeps base d m Tell y keeps (inr (inl w)) = along base d _ y w.2 (after_tell base d m keeps)
 moment_keeps base d m Tell y keeps (inr (inr w)) = absurd (w.1 (head_taken base d m keeps))
 
+-- a moment has the exchange after any events, if a moment has the one before them
 run_keeps : (base d : ℕ) (events : List Event) (x y : Exchange) → Runs events x y
     → IsReached base d x
     → IsReached base d y
@@ -201,6 +211,7 @@ run_keeps base d (event ∷ events) x y (z, first, others) is =
     let P : Exchange → Type 0 = λ u. Happens event u z in
     run_keeps base d events z y others (moment_keeps base d is.0 event z is.1 (subst P is.2 first))
 
+-- a moment has the exchange of a new ring
 new_is_reached : (base d : ℕ) (x : Exchange) → IsNew base d x → IsReached base d x
 new_is_reached base d x new =
     let none : length x.posted ≡ 0 = ap length new.posted in
@@ -233,6 +244,7 @@ new_is_reached base d x new =
       λ i. record x { device = device i; host = host i },
     )
 
+-- every run over a new completion ring is in order
 pub every_run : EveryRunIsInOrder
 every_run base d events x y new runs =
     let (m, keeps, is) = run_keeps base d events x y runs (new_is_reached base d x new) in

@@ -26,16 +26,19 @@ use Rattle.nv_queue.specs.inner.Slots.{WritesCompletion, WritesSubmission}
 
 -- ---- the awaited slot
 
+-- if b is the negation of a, then a is the negation of b
 turned_back : (a b : Bool) → b ≡ not a → a ≡ not b
 turned_back true b e = rw e refl
 turned_back false b e = rw e refl
 
+-- a truth value that is the negation of another isn't equal to it
 pub not_own : (a b : Bool) → a ≡ not b → a ≢ b
 not_own true true e = λ same. cc
 not_own true false e = λ same. cc
 not_own false true e = λ same. cc
 not_own false false e = λ same. cc
 
+-- the slot of a completion that was posted less than a depth ago has the phase tag of its number
 pub posted_tag : (bytes : List ℕ) (base d : ℕ) (posted : List Cqe) (k : ℕ)
     → HoldsPosted bytes base d posted → k < length posted → length posted ≤ k + d
     → (completion_at bytes base (slot_of d k)).phase ≡ phase_of d k
@@ -43,6 +46,7 @@ posted_tag bytes base d posted k holds l h =
     let c = completion_at bytes base (slot_of d k) in
     ap (λ x. x.phase) (holds.standing k c l h) ∙ holds.phases k c l
 
+-- the slot of the next completion has the opposite of the phase tag that it gets
 awaited_tag : (bytes : List ℕ) (base d : ℕ) (posted : List Cqe) (k : ℕ) → 0 < d
     → HoldsPosted bytes base d posted → k ≡ length posted
     → (completion_at bytes base (slot_of d k)).phase ≡ not (phase_of d k)
@@ -68,11 +72,12 @@ not_posted bytes base d posted k p holds e =
 
 -- ---- one slot is written
 
+-- a slot is below the depth
 pub slot_within : (d n : ℕ) → 0 < d → slot_of d n < d
 unfolding slot_of
 slot_within d n p = mod_below n d p
 
--- the other slots, of `size` bytes each, keep their bytes
+-- writing slot t, of `size` bytes, keeps the bytes of every other slot
 pub other_slot : (bytes : List ℕ) (base size d s t : ℕ) (written : List ℕ)
     → base + size * d ≤ length bytes → length written ≡ size → s < d → t < d → s ≢ t
     → bytes_at (with_bytes bytes (base + size * t) written) (base + size * s) size
@@ -94,6 +99,7 @@ other_slot bytes base size d s t written inside len h i apart =
           bytes_at-with_after bytes at written (base + size * s) size (omega arith) (omega arith)
     ]
 
+-- a completion that is written to the bytes of slot t is in that slot, and the other slots don't change
 pub completion_written : (bytes : List ℕ) (base d t : ℕ) (c : Cqe) → base + 16 * d ≤ length bytes
     → t < d → CqeFits c
     → WritesCompletion bytes (with_bytes bytes (base + 16 * t) (bytes_of_cqe c)) base d t c
@@ -107,6 +113,7 @@ completion_written bytes base d t c inside h fits =
           ap cqe_of_bytes (other_slot bytes base 16 d s t (bytes_of_cqe c) inside len l h o);
     }
 
+-- a completion that is put is in the slot of its number with its phase tag, and the other slots don't change
 pub put_written : (bytes : List ℕ) (ring : PostNumbers) (c : Cqe) → 0 < ring.depth
     → ring.base + 16 * ring.depth ≤ length bytes → CqeFits c
     → WritesCompletion bytes (with_completion bytes ring c) ring.base ring.depth
@@ -121,6 +128,7 @@ put_written bytes ring c p inside fits =
       status = fits.status;
     })
 
+-- a memory keeps its length when a completion is put
 pub length-with_completion : (bytes : List ℕ) (ring : PostNumbers) (c : Cqe) → 0 < ring.depth
     → ring.base + 16 * ring.depth ≤ length bytes
     → length (with_completion bytes ring c) ≡ length bytes
@@ -132,6 +140,7 @@ length-with_completion bytes ring c p inside =
 
 -- ---- a submission
 
+-- a memory keeps its length when a submission is written
 pub length-with_submission : (bytes : List ℕ) (ring : SubmitNumbers) (c : Sqe) → 0 < ring.depth
     → ring.base + 64 * ring.depth ≤ length bytes
     → length (with_submission bytes ring c) ≡ length bytes
@@ -141,7 +150,7 @@ length-with_submission bytes ring c p inside =
     let len = length-bytes_of_sqe c in
     length-with_bytes bytes place (bytes_of_sqe c) (omega arith)
 
--- it is in its slot, and the others don't change
+-- a submission that is written is in its slot, and the other slots don't change
 pub push_written : (bytes : List ℕ) (ring : SubmitNumbers) (c : Sqe) → 0 < ring.depth
     → ring.base + 64 * ring.depth ≤ length bytes → SqeFits c
     → WritesSubmission bytes (with_submission bytes ring c) ring.base ring.depth
@@ -160,6 +169,7 @@ push_written bytes ring c p inside fits =
 
 -- ---- one more completion
 
+-- if the slots hold what was posted, they hold it with one more completion after that is written with its tag
 pub holds_after : (old new : List ℕ) (base d : ℕ) (posted : List Cqe) (c : Cqe) → 0 < d
     → WritesCompletion old new base d (slot_of d (length posted)) (posted_as d (length posted) c)
     → HoldsPosted old base d posted
@@ -199,6 +209,7 @@ holds_after old new base d posted c p written holds =
 
 -- ---- the calls
 
+-- a completion that is put keeps the slots in the state that HoldsOneMore says
 pub holds_one_more : (old new : List ℕ) (ring : PostNumbers) (c : Cqe) → 1 < ring.depth
     → new ≡ with_completion old ring c → HoldsOneMore old new ring c
 holds_one_more old new ring c p is posted number inside fits holds =
@@ -212,7 +223,7 @@ holds_one_more old new ring c p is posted number inside fits holds =
     (omega arith) written holds
     )
 
--- completion k is awaited: its slot has its phase tag if and only if it was posted
+-- the awaited completion is there if and only if completion k was posted
 pub awaited_posted : (bytes : List ℕ) (ring : CollectNumbers) (posted : List Cqe) (k : ℕ)
     → 1 < ring.depth
     → ring.collected ≡ kept_number ring.depth k → k ≤ length posted → length posted ≤ k + ring.depth
@@ -230,7 +241,7 @@ awaited_posted bytes ring posted k p number l h holds =
       (λ below. posted_tag bytes base d posted k holds below h),
     )
 
--- in that case it is there
+-- if completion k was posted, the awaited completion is that one
 pub awaited_stands : (bytes : List ℕ) (ring : CollectNumbers) (posted : List Cqe) (k : ℕ)
     (other : Cqe)
     → 1 < ring.depth → ring.collected ≡ kept_number ring.depth k → k < length posted
@@ -240,12 +251,14 @@ awaited_stands bytes ring posted k other p number l h holds =
     let slot = ap (slot_of ring.depth) number ∙ slot_kept ring.depth k in
     ap (completion_at bytes ring.base) slot ∙ holds.standing k other l h
 
+-- if the awaited completion isn't there, it was not posted, and collecting nothing is right
 pub collects_none : (bytes : List ℕ) (ring : CollectNumbers) → IsCollectRing ring
     → ¬ IsAwaitedThere bytes ring → CollectsPosted bytes ring None
 collects_none bytes ring is away posted k number l h holds =
     let there = awaited_posted bytes ring posted k is.deep.0 number l h holds in
     (((λ e. cc), (λ below. absurd (away (there.1 below)))), tt)
 
+-- if the awaited completion is there, it is the one that was posted next, and collecting it is right
 pub collects_one : (bytes : List ℕ) (ring : CollectNumbers) (c : Cqe) → IsCollectRing ring
     → IsAwaitedThere bytes ring → c ≡ awaited_completion bytes ring
     → CollectsPosted bytes ring (Some c)

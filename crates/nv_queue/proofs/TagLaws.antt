@@ -15,7 +15,7 @@ use Rattle.nv_queue.specs.Slots.{posted_as, with_completion}
 use Rattle.nv_queue.specs.inner.Slots.{WritesCompletion}
 use Rattle.nv_queue.proofs.SlotLaws.{not_own, put_written}
 
--- for numbers of the first pass, the slots below have tag 1, and for those of the second, the other slots
+-- in the first pass, the slots below n have tag 1, and in the second pass, the slots from its slot on
 tag_cases : (d n s : ℕ) → n < 2 * d
     → ((n < d) × (tag_below d n s ≡ nat_lt s n))
     ⊎ ((d ≤ n) × (tag_below d n s ≡ not (nat_lt s (n - d))))
@@ -35,10 +35,11 @@ tag_cases d n s h =
     if_false_true true = refl
     if_false_true false = refl
 
--- the awaited slot doesn't have the tag that is due
+-- before number n is posted, its slot doesn't have its phase tag
 pub tag_below_here : (d n : ℕ) → n < 2 * d → tag_below d n (slot_of d n) ≡ not (phase_of d n)
 tag_below_here d n h = grind (arith, nat_tests, slot_cases d n h, tag_cases d n (slot_of d n) h)
 
+-- when the next number is due, the slot of this one has its phase tag
 pub tag_below_next_same : (d n : ℕ) → n < 2 * d
     → tag_below d (next d n) (slot_of d n) ≡ phase_of d n
 tag_below_next_same d n h =
@@ -50,6 +51,7 @@ tag_below_next_same d n h =
       tag_cases d (next d n) (slot_of d n) (next_below d n h),
     )
 
+-- when the next number is due, the tag of each other slot is the same as before
 pub tag_below_next_other : (d n s : ℕ) → n < 2 * d → s < d → s ≢ slot_of d n
     → tag_below d (next d n) s ≡ tag_below d n s
 tag_below_next_other d n s h i o =
@@ -64,6 +66,7 @@ tag_below_next_other d n s h i o =
 
 -- ---- one more completion
 
+-- if the slots have the phase tags that are due, they have them after one more completion
 pub tags_after : (old new : List ℕ) (base d n : ℕ) (c : Cqe) → n < 2 * d
     → WritesCompletion old new base d (slot_of d n) (posted_as d n c)
     → HoldsTags old base d n → HoldsTags new base d (next d n)
@@ -78,6 +81,7 @@ tags_after old new base d n c h written tags s l =
           ∙ (tags s l ∙ sym (tag_below_next_other d n s h l o))
     ]
 
+-- a completion that is put keeps the phase tags in the state that KeepsTags says
 pub keeps_tags : (old new : List ℕ) (ring : PostNumbers) (c : Cqe) → 1 < ring.depth
     → ring.posted < 2 * ring.depth → new ≡ with_completion old ring c → KeepsTags old new ring c
 keeps_tags old new ring c p h written inside fits tags =
@@ -94,6 +98,7 @@ pub tag_there : (d n k : ℕ) → n < 2 * d → k < 2 * d → above d n k < d �
 tag_there d n k h i f o =
     grind (arith, nat_tests, slot_cases d k i, above_cases d n k h i, tag_cases d n (slot_of d k) h)
 
+-- if the awaited completion isn't there by its tag, collecting nothing is right
 pub finds_none : (bytes : List ℕ) (ring : CollectNumbers) → IsCollectRing ring
     → ¬ IsAwaitedThere bytes ring → FindsByTags bytes ring None
 finds_none bytes ring is away posted h f tags =
@@ -106,6 +111,7 @@ finds_none bytes ring is away posted h f tags =
       λ same. refl,
     )
 
+-- if the awaited completion is there by its tag, collecting it is right
 pub finds_one : (bytes : List ℕ) (ring : CollectNumbers) (c : Cqe) → IsCollectRing ring
     → IsAwaitedThere bytes ring → FindsByTags bytes ring (Some c)
 finds_one bytes ring c is there posted h f tags =

@@ -16,6 +16,7 @@ use Rattle.nv_queue.specs.Slots.{HoldsTags}
 
 -- ---- zeros
 
+-- each part of n zeros is zeros
 zeros_at : (n a k : ℕ) → a + k ≤ n → bytes_at (replicate n 0) a k ≡ replicate k 0
 unfolding bytes_at
 zeros_at n a k h = ap (take k) (drop-replicate a n 0) ∙ take-replicate k (n - a) 0 (omega arith)
@@ -32,10 +33,12 @@ zeroed_at bytes base n a k inside h =
 
 -- ---- tags
 
+-- a completion of 16 zeros has phase tag 0
 zero_phase : (cqe_of_bytes (replicate 16 0)).phase ≡ false
 unfolding cqe_of_bytes number_at
 zero_phase = refl
 
+-- before the first completion, the tag that is due is 0 in each slot
 zero_tag : (d slot : ℕ) → 0 < d → tag_below d 0 slot ≡ false
 unfolding tag_below
 zero_tag d slot h = grind (arith, nat_tests, slot_low d 0 h, phase_low d 0 h)
@@ -73,13 +76,14 @@ written_behind bytes base at first second is inside =
     ∙ ap (λ rest. front ++ rest) (sym (append_assoc first second (drop end bytes)))
     ∙ ap (λ k. front ++ ((first ++ second) ++ drop k bytes)) last
 
+-- writing no slots changes nothing
 pub zeroed_none : (bytes : List ℕ) (base : ℕ) → bytes ≡ with_bytes bytes base (replicate (16 * 0) 0)
 unfolding with_bytes
 zeroed_none bytes base =
     let same : base ≡ base + 0 = omega arith in
     sym (take-append-drop base bytes) ∙ ap (λ k. take base bytes ++ drop k bytes) same
 
--- after n slots, one more slot
+-- after n slots were zeroed, zeroing the next one gives n + 1 zeroed slots
 pub zeroed_more : (old mid new : List ℕ) (base n d at : ℕ) → base + 16 * d ≤ length old → n < d
     → at ≡ base + 16 * n → mid ≡ with_bytes old base (replicate (16 * n) 0)
     → new ≡ with_bytes mid at (replicate 16 0)

@@ -42,6 +42,7 @@ pub record PostNumbers : Type 0 where
 abbrev pub own_number : Ring → ℕ
 own_number ring = number_of ring.depth ring.own.slot ring.own.second
 
+-- the number of the place that was told last
 abbrev pub told_number : Ring → ℕ
 told_number ring = number_of ring.depth ring.told.slot ring.told.second
 
@@ -49,21 +50,25 @@ told_number ring = number_of ring.depth ring.told.slot ring.told.second
 abbrev pub IsRing : Ring → Type 0
 IsRing ring = IsDepth ring.depth × (ring.own.slot < ring.depth) × (ring.told.slot < ring.depth)
 
--- and the told number is behind the own one, or ahead of it
+-- both places lie in the ring, and the told number is behind the own one by less than a depth
 abbrev pub IsToldBehind : Ring → Type 0
 IsToldBehind ring = IsRing ring × IsWithinRing ring.depth (told_number ring) (own_number ring)
 
+-- both places lie in the ring, and the told number is ahead of the own one by less than a depth
 abbrev pub IsToldAhead : Ring → Type 0
 IsToldAhead ring = IsRing ring × IsWithinRing ring.depth (own_number ring) (told_number ring)
 
 -- ---- what holds for each ring
 
+-- both numbers of a host's submission ring are within its depth
 abbrev pub IsSubmitRing : SubmitNumbers → Type 0
 IsSubmitRing ring = IsWithinRing ring.depth ring.known ring.submitted
 
+-- both numbers of a device's submission ring are within its depth
 abbrev pub IsFetchRing : FetchNumbers → Type 0
 IsFetchRing ring = IsWithinRing ring.depth ring.fetched ring.rung
 
+-- both numbers of a device's completion ring are within its depth
 abbrev pub IsPostRing : PostNumbers → Type 0
 IsPostRing ring = IsWithinRing ring.depth ring.told ring.posted
 
@@ -76,34 +81,43 @@ pub record IsCollectRing (ring : CollectNumbers) : Type 0 where
 
 -- ---- full rings
 
+-- there is no free slot for another submission
 abbrev pub IsSubmitFull : SubmitNumbers → Type 0
 IsSubmitFull ring = IsFull ring.depth ring.known ring.submitted
 
+-- there is no free slot for another completion
 abbrev pub IsPostFull : PostNumbers → Type 0
 IsPostFull ring = IsFull ring.depth ring.told ring.posted
 
 -- ---- a ring after one number more
 
+-- the ring after the host wrote one more submission
 abbrev pub submitted_one : SubmitNumbers → SubmitNumbers
 submitted_one ring = record ring { submitted = next ring.depth ring.submitted }
 
+-- the ring after the host collected one more completion, for which it still has to ring the doorbell
 abbrev pub collected_one : CollectNumbers → CollectNumbers
 collected_one ring = record ring { collected = next ring.depth ring.collected; untold = true }
 
+-- the ring after the device took one more submission
 abbrev pub fetched_one : FetchNumbers → FetchNumbers
 fetched_one ring = record ring { fetched = next ring.depth ring.fetched }
 
+-- the ring after the device posted one more completion
 abbrev pub posted_one : PostNumbers → PostNumbers
 posted_one ring = record ring { posted = next ring.depth ring.posted }
 
--- ---- a ring after a slot was received, which stands for the first number in it
+-- ---- a ring after a slot was received, which means the first number in it
 
+-- the ring after the host received this submission queue head
 abbrev pub known_to : SubmitNumbers → ℕ → SubmitNumbers
 known_to ring head = record ring { known = first_in_slot ring.depth ring.known head }
 
+-- the ring after the device received this submission queue tail
 abbrev pub rung_to : FetchNumbers → ℕ → FetchNumbers
 rung_to ring tail = record ring { rung = first_in_slot ring.depth ring.fetched tail }
 
+-- the ring after the device received this completion queue head
 abbrev pub told_to : PostNumbers → ℕ → PostNumbers
 told_to ring head = record ring { told = first_in_slot ring.depth ring.told head }
 
@@ -113,14 +127,18 @@ told_all ring = record ring { told = ring.collected; untold = false }
 
 -- ---- a ring whose numbers begin at 0 again
 
+-- a host's submission ring with no submissions
 abbrev pub renewed_submit : SubmitNumbers → SubmitNumbers
 renewed_submit ring = record ring { submitted = 0; known = 0 }
 
+-- a host's completion ring with nothing collected
 abbrev pub renewed_collect : CollectNumbers → CollectNumbers
 renewed_collect ring = record ring { collected = 0; told = 0; untold = false }
 
+-- a device's submission ring with nothing taken
 abbrev pub renewed_fetch : FetchNumbers → FetchNumbers
 renewed_fetch ring = record ring { fetched = 0; rung = 0 }
 
+-- a device's completion ring with nothing posted
 abbrev pub renewed_post : PostNumbers → PostNumbers
 renewed_post ring = record ring { posted = 0; told = 0 }

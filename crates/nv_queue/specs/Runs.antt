@@ -23,6 +23,7 @@ pub record Exchange : Type 0 where
   pub posted : List Cqe
   pub polled : List Cqe
 
+-- the exchange after the device put a completion
 abbrev pub with_put : Exchange → Cqe → Exchange
 with_put x completion = record x {
   bytes = with_completion x.bytes x.device completion;
@@ -30,6 +31,7 @@ with_put x completion = record x {
   posted = x.posted ++ put_as x.device completion ∷ [];
 }
 
+-- the exchange after the host polled the awaited completion
 abbrev pub with_polled : Exchange → Exchange
 with_polled x = record x {
   host = collected_one x.host;
@@ -40,12 +42,15 @@ with_polled x = record x {
 abbrev pub told_slot : Exchange → ℕ
 told_slot x = slot_of x.host.depth x.host.collected
 
+-- the host's side after it wrote its head to the doorbell
 abbrev pub with_told : Exchange → Exchange
 with_told x = record x { host = told_all x.host }
 
+-- the device's side after it received that head
 abbrev pub with_head : Exchange → Exchange
 with_head x = record x { device = told_to x.device (told_slot x) }
 
+-- the device takes that head: it lies between the numbers that the device knows
 abbrev pub IsHeadTaken : Exchange → Type 0
 IsHeadTaken x = IsSlotBetween x.device.depth x.device.told x.device.posted (told_slot x)
 
@@ -62,6 +67,7 @@ Happens Tell x y =
     ⊎ (((x.host.untold ≡ true) × IsHeadTaken x × (y ≡ with_told (with_head x)))
     ⊎ ((x.host.untold ≡ true) × (¬ IsHeadTaken x) × (y ≡ with_told x)))
 
+-- these events happen one after another, from the first exchange to the second
 abbrev pub Runs : List Event → Exchange → Exchange → Type 0
 Runs [] x y = y ≡ x
 Runs (event ∷ events) x y = (z : Exchange) × Happens event x z × Runs events z y
@@ -83,6 +89,7 @@ pub record IsInOrder (depth : ℕ) (x : Exchange) : Type 0 where
   pub found : IsAwaitedThere x.bytes x.host ↔ (length x.polled < length x.posted)
   pub few : length x.posted < length x.polled + depth
 
+-- every run over a new ring is in order
 abbrev pub EveryRunIsInOrder : Type 0
 EveryRunIsInOrder = (base depth : ℕ) (events : List Event) (x y : Exchange)
     → IsNew base depth x → Runs events x y → IsInOrder depth y

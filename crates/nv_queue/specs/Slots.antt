@@ -13,6 +13,7 @@ use Rattle.nv_queue.specs.Rings.{CollectNumbers, FetchNumbers, PostNumbers, Subm
 abbrev pub submission_place : ℕ → ℕ → ℕ → ℕ
 submission_place base depth n = base + 64 * slot_of depth n
 
+-- the first byte of the slot of completion n
 abbrev pub completion_place : ℕ → ℕ → ℕ → ℕ
 completion_place base depth n = base + 16 * slot_of depth n
 
@@ -20,6 +21,7 @@ completion_place base depth n = base + 16 * slot_of depth n
 abbrev pub submission_at : List ℕ → ℕ → ℕ → Sqe
 submission_at bytes base slot = sqe_of_bytes (bytes_at bytes (base + 64 * slot) 64)
 
+-- the completion in a slot
 abbrev pub completion_at : List ℕ → ℕ → ℕ → Cqe
 completion_at bytes base slot = cqe_of_bytes (bytes_at bytes (base + 16 * slot) 16)
 
@@ -50,10 +52,12 @@ IsAwaitedThere bytes ring =
 abbrev pub put_as : PostNumbers → Cqe → Cqe
 put_as ring completion = posted_as ring.depth ring.posted completion
 
+-- the memory after the host wrote a submission to the slot of the next one
 abbrev pub with_submission : List ℕ → SubmitNumbers → Sqe → List ℕ
 with_submission bytes ring command =
     with_bytes bytes (submission_place ring.base ring.depth ring.submitted) (bytes_of_sqe command)
 
+-- the memory after the device wrote a completion to the slot of the next one, with its phase tag
 abbrev pub with_completion : List ℕ → PostNumbers → Cqe → List ℕ
 with_completion bytes ring completion =
     with_bytes bytes (completion_place ring.base ring.depth ring.posted)
@@ -90,6 +94,7 @@ CollectsPosted bytes ring result =
 
 -- ---- the same for the phase tags alone, by the number of the next completion as the ring keeps it
 
+-- each slot has the phase tag that is due before number n is posted
 abbrev pub HoldsTags : List ℕ → ℕ → ℕ → ℕ → Type 0
 HoldsTags bytes base depth n =
     (slot : ℕ) → slot < depth → (completion_at bytes base slot).phase ≡ tag_below depth n slot

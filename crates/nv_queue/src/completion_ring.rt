@@ -11,7 +11,8 @@ ghost use Rattle.nv_queue.specs.Slots.{IsAwaitedThere, KeepsTags, awaited_comple
 ghost use Rattle.nv_queue.specs.Slots.{next_completion, with_completion};
 
 use crate::ring::Ring;
-use nv_host::{HostMemory, size_of_memory};
+use nv_host::paged::PagedMemory;
+use nv_host::size_of_memory;
 use nv_layout::Cqe;
 use std::marker::Model;
 use thiserror::Error;
@@ -74,7 +75,7 @@ impl CompletionRing {
     /// Zeroes the slots, all of which must lie in the memory. Then no slot has the phase tag that
     /// is due in a ring that begins anew. Section "Completion Queue Entry".
     #[tactic(auto, using(crate::proofs::ZeroLaws::zeroed_tags))]
-    pub fn zero<M: HostMemory>(&self, mem: &mut M)
+    pub fn zero<M: PagedMemory>(&self, mem: &mut M)
         requires { self.now.base + 16 * self.now.depth ≤ length (M.bytes mem.old) }
         ensures bytes { M.bytes mem.new ≡ with_bytes (M.bytes mem.old) self.now.base
             (replicate (16 * self.now.depth) 0) }
@@ -92,7 +93,7 @@ impl CompletionRing {
     /// Collects the awaited completion, which was posted if and only if its slot has the phase tag
     /// of its number. Section "Completion Queue Entry". All slots must lie in the memory.
     #[tactic(auto, using(crate::proofs::PlaceLaws::places))]
-    pub fn poll<M: HostMemory>(&mut self, mem: &M) -> Option<Cqe>
+    pub fn poll<M: PagedMemory>(&mut self, mem: &M) -> Option<Cqe>
         requires { self.old.base + 16 * self.old.depth ≤ length (M.bytes mem.now) }
         ensures awaited { IsSome result ↔ IsAwaitedThere (M.bytes mem.now) self.old }
         ensures value { IfSome result (λ c. c ≡ awaited_completion (M.bytes mem.now) self.old) }
@@ -211,7 +212,7 @@ impl Post {
 
     /// Returns whether the slot of the next completion lies in the memory, which `put` requires.
     #[tactic(auto, using(crate::proofs::PlaceLaws::places))]
-    pub fn fits<M: HostMemory>(&self, mem: &M) -> bool
+    pub fn fits<M: PagedMemory>(&self, mem: &M) -> bool
         ensures { IsTrue result
             ↔ (completion_place self.now.base self.now.depth self.now.posted + 16
             ≤ length (M.bytes mem.now)) }
@@ -223,7 +224,7 @@ impl Post {
     /// its slot change, which must lie in the memory, as `fits` checks. If the ring is full,
     /// nothing changes.
     #[tactic(auto, using(crate::proofs::SlotLaws::holds_one_more, crate::proofs::PlaceLaws::rings))]
-    pub fn put<M: HostMemory>(&mut self, mem: &mut M, completion: Cqe) -> Result<(), CqFull>
+    pub fn put<M: PagedMemory>(&mut self, mem: &mut M, completion: Cqe) -> Result<(), CqFull>
         requires { completion_place self.old.base self.old.depth self.old.posted + 16
             ≤ length (M.bytes mem.old) }
         ensures full { IsErr result ↔ IsPostFull self.old }
@@ -260,7 +261,7 @@ impl Post {
     /// follows another with the same numbers, to which it was posted. The ring must not be full,
     /// and the slot must lie in the memory, as `fits` checks.
     #[tactic(auto, using(crate::proofs::PlaceLaws::rings))]
-    pub fn follow<M: HostMemory>(&mut self, mem: &M) -> Cqe
+    pub fn follow<M: PagedMemory>(&mut self, mem: &M) -> Cqe
         requires free { ¬ IsPostFull self.old }
         requires place { completion_place self.old.base self.old.depth self.old.posted + 16
             ≤ length (M.bytes mem.now) }

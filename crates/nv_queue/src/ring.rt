@@ -3,19 +3,20 @@
 ghost use Rattle.std.specs.Prelude.{◌≡◌, ◌+◌, ◌*◌, ◌<◌, ◌≤◌, ◌↔◌, IsTrue, false, length};
 ghost use Rattle.nv_queue.specs.Numbers.{IsDepth, IsSlotBetween, above, first_in_slot, next, number_of};
 
-use nv_host::{HostMemory, size_of_memory};
+use nv_host::paged::PagedMemory;
+use nv_host::size_of_memory;
 
 /// A slot, and whether it is in the second of two passes over the ring.
 #[derive(Clone, Copy)]
-pub struct Place {
+pub struct RingPlace {
     pub slot: u16,
     pub second: bool,
 }
 
-impl Place {
+impl RingPlace {
     /// Returns the place of the next number.
     #[tactic(auto, using(crate::proofs::PlaceLaws::steps))]
-    pub(crate) fn step(self, depth: u16) -> Place
+    pub(crate) fn step(self, depth: u16) -> RingPlace
         requires depth { IsDepth depth }
         requires within { self.slot < depth }
         ensures number { number_of depth result.slot result.second
@@ -23,12 +24,12 @@ impl Place {
         ensures within { result.slot < depth }
     {
         if self.slot + 1 == depth {
-            Place {
+            RingPlace {
                 slot: 0,
                 second: !self.second,
             }
         } else {
-            Place {
+            RingPlace {
                 slot: self.slot + 1,
                 second: self.second,
             }
@@ -38,7 +39,7 @@ impl Place {
     /// Returns whether the way from here to `end`, ends included, passes a slot. `end` is less than
     /// `depth` ahead.
     #[tactic(auto, using(crate::proofs::PlaceLaws::ways))]
-    pub(crate) fn meets(self, slot: u16, end: Place, depth: u16) -> bool
+    pub(crate) fn meets(self, slot: u16, end: RingPlace, depth: u16) -> bool
         requires depth { IsDepth depth }
         requires within { self.slot < depth }
         requires end { end.slot < depth }
@@ -57,7 +58,7 @@ impl Place {
 
     /// Returns the next place with this slot, which may be this one.
     #[tactic(auto, using(crate::proofs::PlaceLaws::firsts))]
-    pub(crate) fn reach(self, slot: u16, depth: u16) -> Place
+    pub(crate) fn reach(self, slot: u16, depth: u16) -> RingPlace
         requires depth { IsDepth depth }
         requires within { self.slot < depth }
         requires slot { slot < depth }
@@ -70,7 +71,7 @@ impl Place {
         } else {
             self.second
         };
-        Place { slot, second }
+        RingPlace { slot, second }
     }
 }
 
@@ -80,8 +81,8 @@ impl Place {
 pub struct Ring {
     pub base: u64,
     pub depth: u16,
-    pub own: Place,
-    pub told: Place,
+    pub own: RingPlace,
+    pub told: RingPlace,
 }
 
 impl Ring {
@@ -94,7 +95,7 @@ impl Ring {
           told = record { slot = 0; second = false };
         } }
     {
-        let first = Place {
+        let first = RingPlace {
             slot: 0,
             second: false,
         };
@@ -107,7 +108,7 @@ impl Ring {
     }
 
     /// Returns whether the slot of the own place lies in the memory, if slots have `size` bytes.
-    pub(crate) fn fits<M: HostMemory>(&self, mem: &M, size: u16) -> bool
+    pub(crate) fn fits<M: PagedMemory>(&self, mem: &M, size: u16) -> bool
         ensures { IsTrue result
             ↔ (self.now.base + size * self.now.own.slot + size ≤ length (M.bytes mem.now)) }
     {
@@ -117,7 +118,7 @@ impl Ring {
     }
 
     /// Returns the address of that slot.
-    pub(crate) fn address<M: HostMemory>(&self, mem: &M, size: u16) -> u64
+    pub(crate) fn address<M: PagedMemory>(&self, mem: &M, size: u16) -> u64
         requires { self.now.base + size * self.now.own.slot + size ≤ length (M.bytes mem.now) }
         ensures { result ≡ self.now.base + size * self.now.own.slot }
     {

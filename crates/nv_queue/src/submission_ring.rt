@@ -8,7 +8,7 @@ ghost use Rattle.nv_queue.specs.Rings.{renewed_fetch, renewed_submit, rung_to, s
 ghost use Rattle.nv_queue.specs.Slots.{next_submission, submission_place, with_submission};
 
 use crate::ring::Ring;
-use nv_host::HostMemory;
+use nv_host::paged::PagedMemory;
 use nv_layout::Sqe;
 use std::marker::Model;
 use thiserror::Error;
@@ -64,7 +64,7 @@ impl SubmitRing {
     /// slots but one hold commands that are not known to be taken. Then nothing changes. All slots
     /// must lie in the memory.
     #[tactic(auto, using(crate::proofs::PlaceLaws::rings))]
-    pub fn push<M: HostMemory>(&mut self, mem: &mut M, command: &Sqe) -> Result<u16, RingFull>
+    pub fn push<M: PagedMemory>(&mut self, mem: &mut M, command: &Sqe) -> Result<u16, RingFull>
         requires { self.old.base + 64 * self.old.depth ≤ length (M.bytes mem.old) }
         ensures full { IsErr result ↔ IsSubmitFull self.old }
         ensures submitted { OnOk result (self.new ≡ submitted_one self.old) }
@@ -184,7 +184,7 @@ impl Fetch {
 
     /// Returns whether the slot of the next submission lies in the memory, which `next` requires.
     #[tactic(auto, using(crate::proofs::PlaceLaws::places))]
-    pub fn fits<M: HostMemory>(&self, mem: &M) -> bool
+    pub fn fits<M: PagedMemory>(&self, mem: &M) -> bool
         ensures { IsTrue result
             ↔ (submission_place self.now.base self.now.depth self.now.fetched + 64
             ≤ length (M.bytes mem.now)) }
@@ -195,7 +195,7 @@ impl Fetch {
     /// Takes the next submission, or returns none if the ring is empty. The slot must lie in the
     /// memory, as `fits` checks.
     #[tactic(auto, using(crate::proofs::PlaceLaws::rings))]
-    pub fn next<M: HostMemory>(&mut self, mem: &M) -> Option<Sqe>
+    pub fn next<M: PagedMemory>(&mut self, mem: &M) -> Option<Sqe>
         requires { submission_place self.old.base self.old.depth self.old.fetched + 64
             ≤ length (M.bytes mem.now) }
         ensures empty { IsNone result ↔ (self.old.fetched ≡ self.old.rung) }

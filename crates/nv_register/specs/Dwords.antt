@@ -11,6 +11,7 @@ abbrev pub cc_dword : ControllerConfiguration → ℕ
 cc_dword r = at_bits 0 1 (bit r.en) + at_bits 7 4 r.sizes.mps + at_bits 16 4 r.sizes.iosqes
     + at_bits 20 4 r.sizes.iocqes
 
+-- the fields of CC in a dword
 abbrev pub cc_of_dword : ℕ → ControllerConfiguration
 cc_of_dword x = record {
   en = bits 0 1 x == 1;
@@ -25,5 +26,6 @@ csts_dword r = at_bits 0 1 (bit r.rdy) + at_bits 1 1 (bit r.cfs)
 abbrev pub aqa_dword : AdminQueueAttributes → ℕ
 aqa_dword r = at_bits 0 12 r.asqs + at_bits 16 12 r.acqs
 
+-- the fields of AQA in a dword
 abbrev pub aqa_of_dword : ℕ → AdminQueueAttributes
 aqa_of_dword x = record { asqs = bits 0 12 x; acqs = bits 16 12 x }

@@ -103,9 +103,11 @@ told_by ring head =
     && nat_le (ahead ring.depth ring.told head) (above ring.depth ring.posted ring.told)
     then told_to ring head else ring
 
+-- the rings after a write to the tail doorbell
 abbrev pub with_tail : ℕ → Rings → Rings
 with_tail tail rings = record rings { submission = rung_by rings.submission tail }
 
+-- the rings after a write to the head doorbell
 abbrev pub with_head : ℕ → Rings → Rings
 with_head head rings = record rings { completion = told_by rings.completion head }
 
@@ -115,6 +117,7 @@ with_head head rings = record rings { completion = told_by rings.completion head
 abbrev pub with_low : ℕ → ℕ → ℕ
 with_low address dword = address / 2 ^ 32 * 2 ^ 32 + dword
 
+-- an address with another high dword
 abbrev pub with_high : ℕ → ℕ → ℕ
 with_high address dword = dword * 2 ^ 32 + address % 2 ^ 32
 
@@ -143,9 +146,11 @@ with_register_at p offset x = option_map_or (λ r. with_register p r x) (registe
 
 -- ---- a write that clears an EN that is 1
 
+-- whether writing this value to this register clears an EN that was 1
 abbrev pub stops_by : RegisterBank → Register → ℕ → Bool
 stops_by p Cc x = is_enabled p.readiness && not (cc_of_dword x).en
 stops_by p register x = false
 
+-- whether writing this value at this offset clears an EN that was 1
 abbrev pub stops_at : RegisterBank → ℕ → ℕ → Bool
 stops_at p offset x = option_map_or (λ r. stops_by p r x) (register_at offset) false

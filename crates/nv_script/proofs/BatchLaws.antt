@@ -25,13 +25,13 @@ use Rattle.nv_script.specs.inner.Listing.{asked, asked_all}
 use Rattle.nv_script.specs.Orders.{namespace_orders}
 use Rattle.nv_script.specs.Shown.{listing_of}
 use Rattle.nv_script.specs.declared.listing.Listing.{Listing}
-use Rattle.nv_script.specs.declared.performing.Stop.{Stop}
-use Rattle.nv_script.specs.declared.performing.Stop.TheVariants as stop
+use Rattle.nv_script.specs.declared.performing.NoText.{NoText}
+use Rattle.nv_script.specs.declared.performing.NoText.TheVariants as stop
 use Rattle.nv_script.proofs.ListLaws.{begun_all, listing_asked}
 
 -- ---- the commands
 
--- the commands that ask for these NSIDs
+-- commands that ask for each NSID by its index are the commands for these NSIDs
 pub commands_are : (ks : List Command) (ns : List ℕ) → length ns < length ks + 1
     → ((k : ℕ) (d : Command) → k < length ns → get_or ks k d ≡ IdentifyNamespace (get_or ns k 0))
     → take (length ns) ks ≡ map IdentifyNamespace ns
@@ -44,11 +44,12 @@ commands_are ks ns few h =
     get_or-take (length ns) ks i IdentifyController b ∙ h i IdentifyController b
     ∙ sym (get_or-map IdentifyNamespace ns i 0 IdentifyController b))
 
--- the commands for some NSIDs and more, and for the first ones, the next ones and the rest
+-- the commands for NSIDs and more NSIDs are the commands for the first and then for the others
 pub namespaces_join : (c : ℕ) (ns more : List ℕ)
     → namespace_orders c (ns ++ more) ≡ namespace_orders c ns ++ namespace_orders c more
 namespaces_join c ns more = map-append (λ n. order_of c (IdentifyNamespace n)) ns more
 
+-- the commands for NSIDs are the commands for the first ones, for the next n of the rest, and for what remains
 pub namespaces_split : (c : ℕ) (ns done rest : List ℕ) (n : ℕ) → ns ≡ done ++ rest
     → namespace_orders c ns
     ≡ namespace_orders c done ++ (namespace_orders c (take n rest) ++ namespace_orders c (drop n rest))
@@ -57,7 +58,7 @@ namespaces_split c ns done rest n e =
     ∙ namespaces_join c done (take n rest ++ drop n rest)
     ∙ ap (λ x. namespace_orders c done ++ x) (namespaces_join c (take n rest) (drop n rest))
 
--- the same as orders
+-- the commands for NSIDs as orders are the orders for these NSIDs
 orders_are : (c : ℕ) (ns : List ℕ) → map (order_of c) (map IdentifyNamespace ns) ≡ namespace_orders c ns
 orders_are c [] = refl
 orders_are c (n ∷ ns) = ap (λ os. order_of c (IdentifyNamespace n) ∷ os) (orders_are c ns)
@@ -65,21 +66,27 @@ orders_are c (n ∷ ns) = ap (λ os. order_of c (IdentifyNamespace n) ∷ os) (o
 -- ---- their answers, one at a time
 
 module _ (c : ℕ) where
+  -- the standing after the command for one more namespace
   abbrev next : Standing → ℕ → Standing
   next w n = asked w (order_of c (IdentifyNamespace n))
 
+  -- the standing after the commands for several namespaces
   abbrev all_after : Standing → List ℕ → Standing
   all_after w ns = asked_all w (namespace_orders c ns)
 
+  -- the command identifier that is due at controller c
   abbrev due : Standing → ℕ
   due w = get_or w.serials c 0
 
+  -- after a command for a namespace, the next command identifier is due
   next_due : (w : Standing) (n : ℕ) → c < length w.serials → due (next w n) ≡ next_serial (due w)
   next_due w n h = get_or-set_same w.serials c (next_serial (due w)) 0 h
 
+  -- a command for a namespace doesn't change how many controllers there are
   still : (w : Standing) (n : ℕ) → c < length w.serials → c < length (next w n).serials
   still w n h = omega (arith, length-set w.serials c (next_serial (due w)))
 
+  -- the commands for several namespaces leave the same state as one command after another
   states : (w : Standing) (ns : List ℕ) → c < length w.serials
       → (all_after w ns).state ≡ state_after c w.state (due w) (map IdentifyNamespace ns)
   states w [] h = refl
@@ -87,6 +94,7 @@ module _ (c : ℕ) where
       states (next w n) ns (still w n h)
       ∙ ap (λ x. state_after c (next w n).state x (map IdentifyNamespace ns)) (next_due w n h)
 
+  -- the commands for several namespaces get the same answers as one command after another
   answers : (w : Standing) (ns : List ℕ) → c < length w.serials
       → answers_to w (namespace_orders c ns) ≡ answers_of c w.state (due w) (map IdentifyNamespace ns)
   answers w [] h = refl
@@ -95,6 +103,7 @@ module _ (c : ℕ) where
       (answers (next w n) ns (still w n h)
       ∙ ap (λ x. answers_of c (next w n).state x (map IdentifyNamespace ns)) (next_due w n h))
 
+  -- the commands for several namespaces use up as many command identifiers of controller c, and none of another one
   serials : (w : Standing) (n : ℕ) (ns : List ℕ) → c < length w.serials
       → (all_after w (n ∷ ns)).serials ≡ set w.serials c ((due w + length (n ∷ ns)) % serial_count)
   serials w n [] h = refl
@@ -107,9 +116,11 @@ module _ (c : ℕ) where
 
 -- ---- the driver's batch
 
+-- the command identifier that is due at a queue pair
 abbrev serial_at : QueuePair → ℕ
 serial_at l = l.serial
 
+-- there are as many answers as commands
 length_answers : (c : ℕ) (s : State) (serial : ℕ) (ks : List Command) → length (answers_of c s serial ks) ≡ length ks
 length_answers c s serial [] = refl
 length_answers c s serial (k ∷ ks) = ap suc (length_answers c (step s c k serial).state (next_serial serial) ks)
@@ -117,30 +128,36 @@ length_answers c s serial (k ∷ ks) = ap suc (length_answers c (step s c k seri
 module _ (w : Standing) (c : ℕ) (s : State) (d : DriverValue) (listing : Listing)
     (is : IsListed w s (serials_of d) listing) (below : c < length d.pairs)
     (ns : List ℕ) (ks : List Command) (are : ks ≡ map IdentifyNamespace ns) where
+  -- the command identifier that is due at controller c's queue pair
   abbrev now_due : ℕ
   now_due = (pair_at d.pairs c).serial
 
+  -- the queue pair and the standing agree on the command identifier that is due
   is_due : now_due ≡ due c w
   is_due = sym (get_or-map serial_at d.pairs c no_pair 0 below) ∙ ap (λ xs. get_or xs c 0) is.next
 
+  -- controller c is one of the subsystem
   known : c < length w.serials
   known = omega (arith, ap length is.next, length-map d.pairs serial_at)
 
+  -- there are as many commands as NSIDs
   many : length ks ≡ length ns
   many = ap length are ∙ length-map ns IdentifyNamespace
 
+  -- the state that a batch leaves is the one after the commands for its namespaces
   pub batch_state : (now : State) → now ≡ state_after c s now_due ks → now ≡ (all_after c w ns).state
   batch_state now e =
       e ∙ ap (λ x. state_after c x now_due ks) is.subsystem ∙ ap (λ x. state_after c w.state x ks) is_due
       ∙ ap (state_after c w.state (due c w)) are
       ∙ sym (states c w ns known)
 
-  -- a batch has a command
+  -- the serials after a batch with at least one NSID are the serials after its commands
   some_serials : (ns : List ℕ) → 0 < length ns
       → set w.serials c ((due c w + length ns) % serial_count) ≡ (all_after c w ns).serials
   some_serials [] h = absurd (omega arith)
   some_serials (n ∷ ns) h = sym (serials c w n ns known)
 
+  -- a batch leaves the command identifiers that the commands for its namespaces leave
   pub batch_serials : (after : DriverValue) → 0 < length ns → after ≡ after_commands d c (length ks)
       → serials_of after ≡ (all_after c w ns).serials
   batch_serials after some e =
@@ -150,6 +167,7 @@ module _ (w : Standing) (c : ℕ) (s : State) (d : DriverValue) (listing : Listi
       ∙ ap (λ x. set w.serials c ((due c w + x) % serial_count)) many
       ∙ some_serials ns some
 
+  -- the first answers, one for each NSID, are the answers to the commands for the namespaces
   pub batch_answers : (given rest : List Answer) → given ≡ answers_of c s now_due ks
       → take (length ns) (given ++ rest) ≡ answers_to w (namespace_orders c ns)
   batch_answers given rest a =
@@ -162,8 +180,8 @@ module _ (w : Standing) (c : ℕ) (s : State) (d : DriverValue) (listing : Listi
       ∙ ap (answers_of c w.state (due c w)) are
       ∙ sym (answers c w ns known)
 
-  -- what the batch leaves, by what was listed
-  pub batch_leaves : {A : Type 0} (r : Result A Stop) (now : State) (after : DriverValue) (told : Listing)
+  -- a batch leaves the standing after the commands for its namespaces, or a right stop
+  pub batch_leaves : {A : Type 0} (r : Result A NoText) (now : State) (after : DriverValue) (told : Listing)
       (given : List Answer)
       → 0 < length ns → now ≡ state_after c s now_due ks → after ≡ after_commands d c (length ks)
       → given ≡ answers_to w (namespace_orders c ns)

@@ -22,14 +22,17 @@ abbrev pub Fed : State → List ℕ → Option (List ℕ) → Left → Session �
 Fed s bytes line left session =
     (line ≡ buffer_of (pieces bytes).last) × Stands (whole s (pieces bytes).ended) left session
 
+-- what was fed with some bytes was fed with bytes that are equal to them
 Fed-same : (s : State) (xs ys : List ℕ) (line : Option (List ℕ)) (left : Left) (session : Session)
     → xs ≡ ys → Fed s ys line left session → Fed s xs line left session
 Fed-same s xs ys line left session e fed = subst (λ (bytes : List ℕ). Fed s bytes line left session) (sym e) fed
 
+-- feeding no further byte changes nothing
 pub Fed-none : (s : State) (bytes : List ℕ) (line : Option (List ℕ)) (left : Left) (session : Session)
     → Fed s bytes line left session → Fed s (bytes ++ []) line left session
 Fed-none s bytes line left session fed = Fed-same s (bytes ++ []) bytes line left session (append-nil bytes) fed
 
+-- feeding bytes without a newline adds them to the line in the buffer
 Fed-others : (s : State) (xs bytes : List ℕ) (line held : Option (List ℕ)) (left : Left) (session : Session)
     → HasNoNewline bytes → held ≡ buffer_after line bytes
     → Fed s xs line left session → Fed s (xs ++ bytes) held left session
@@ -40,6 +43,7 @@ Fed-others s xs bytes line held left session none is fed =
       subst (λ (q : Progress). Stands q left session) (sym (ap (λ (p : Pieces). whole s p.ended) more)) fed.1,
     )
 
+-- feeding a newline executes the line before it and leaves an empty buffer
 Fed-newline : (s : State) (xs : List ℕ) (b : ℕ) (held : Option (List ℕ)) (left : Left) (session : Session)
     → b ≡ 10 → held ≡ Some [] → Stands (after (whole s (pieces xs).ended) (pieces xs).last) left session
     → Fed s (xs ++ b ∷ []) held left session
@@ -52,16 +56,18 @@ Fed-newline s xs b held left session e is stands =
 
 -- ---- the first newline in the rest of a piece
 
+-- the byte at the first newline is a newline
 is_newline_at : (rest : List ℕ) (end : ℕ) → IsFirstByte (is_byte 10) rest (Some end) → get_or rest end 0 ≡ 10
 is_newline_at rest end first = let is : eqb (get_or rest end 0) 10 ≡ true = first.1 in grind (arith, nat_tests)
 
+-- no byte before the first newline is one
 none_before : (rest : List ℕ) (end : ℕ) → IsFirstByte (is_byte 10) rest (Some end) → HasNoNewline (take end rest)
 none_before rest end first = λ k low high is.
     let inside : end < length rest = first.0.high in
     let below : k < end = omega (arith, length-take-le end rest (omega arith)) in
     first.0.before k low below (subst (λ b. eqb b 10 ≡ true) (get_or-take end rest k 0 below) is)
 
--- its line is in the buffer
+-- feeding the bytes up to the next newline puts its line into the buffer
 pub Fed-line : (s : State) (bytes done rest : List ℕ) (end : ℕ) (line held : Option (List ℕ))
     (left : Left) (session : Session)
     → IsFirstByte (is_byte 10) rest (Some end) → held ≡ buffer_after line (take end rest)
@@ -69,7 +75,7 @@ pub Fed-line : (s : State) (bytes done rest : List ℕ) (end : ℕ) (line held :
 Fed-line s bytes done rest end line held left session first is fed =
     Fed-others s (bytes ++ done) (take end rest) line held left session (none_before rest end first) is fed
 
--- the line is executed
+-- when the line in the buffer was executed, the bytes up to its newline were fed
 pub Fed-executed : (s : State) (bytes done rest : List ℕ) (end : ℕ) (held : Option (List ℕ))
     (left : Left) (session : Session)
     → IsFirstByte (is_byte 10) rest (Some end) → held ≡ Some []
@@ -83,7 +89,7 @@ Fed-executed s bytes done rest end held left session first is stands =
     Fed-same s (bytes ++ (done ++ take (end + 1) rest)) (xs ++ b ∷ []) held left session joined
     (Fed-newline s xs b held left session (is_newline_at rest end first) is stands)
 
--- the line is cut short
+-- if the line in the buffer was cut short, it was cut short at a newline of the piece
 pub cut_at : (cut : RunEnd) (s : State) (bytes piece done rest : List ℕ) (end : ℕ) (left : Left)
     → piece ≡ done ++ rest → IsFirstByte (is_byte 10) rest (Some end)
     → (let p = pieces ((bytes ++ done) ++ take end rest) in IsCutIn cut (whole s p.ended) p.last left)
@@ -103,6 +109,7 @@ cut_at cut s bytes piece done rest end left e first is =
 
 -- ---- no newline is left
 
+-- feeding the rest of a piece without a newline adds it to the line in the buffer
 pub Fed-last : (s : State) (bytes piece done rest : List ℕ) (line held : Option (List ℕ))
     (left : Left) (session : Session)
     → piece ≡ done ++ rest → HasNoNewline rest → held ≡ buffer_after line rest

@@ -24,8 +24,8 @@ use Rattle.nv_script.specs.inner.Listing.{asked, nsids_told}
 use Rattle.nv_script.specs.Orders.{namespace_orders, orders_of_controller}
 use Rattle.nv_script.specs.Shown.{listing_told}
 use Rattle.nv_script.specs.declared.listing.Listing.{Listing}
-use Rattle.nv_script.specs.declared.performing.Stop.{Stop}
-use Rattle.nv_script.specs.declared.performing.Stop.TheVariants as stop
+use Rattle.nv_script.specs.declared.performing.NoText.{NoText}
+use Rattle.nv_script.specs.declared.performing.NoText.TheVariants as stop
 use Rattle.nv_script.proofs.LinkLaws.{sent, still_known}
 use Rattle.nv_script.proofs.LookupLaws.{asked_alike, sends}
 
@@ -35,15 +35,17 @@ module _ (w : Standing) (b new : BusValue) (d after : DriverValue) (listing : Li
     (is : IsListed w b.state (serials_of d) listing) (below : c < length d.pairs)
     (a : answer ≡ answer_received k (step b.state c k (pair_at d.pairs c).serial).answer)
     (s : new.state ≡ (step b.state c k (pair_at d.pairs c).serial).state) (e : after ≡ after_command d c) where
+  -- the order that sends this command to controller c
   abbrev o : Order
   o = order_of c k
 
+  -- what the driver did with the command is the exchange of the order
   sent_there : exchange_with answer new.state (serials_of after) ≡ exchange_of w.state w.serials o
   sent_there =
       sent b new d after c k answer below a s e ∙ ap (λ (x : State). exchange_of x (serials_of d) o) is.subsystem
       ∙ ap (λ (x : List ℕ). exchange_of w.state x o) is.next
 
-  -- its answer was listed
+  -- after the answer was listed, the standing is the one after the order
   told_there : (now : Listing) → now ≡ listing_told c listing (Send k) answer
       → IsListed (asked w o) new.state (serials_of after) now
   told_there now t = record {
@@ -53,8 +55,8 @@ module _ (w : Standing) (b new : BusValue) (d after : DriverValue) (listing : Li
         ∙ ap (λ (x : Exchange). listing_told c w.listing (Send k) x.answer) sent_there;
   }
 
-  -- it was refused, or memory was refused
-  pub stopped_there : (A : Type 0) (e : Stop) (later : List Order) (now : Listing) → IsHandedOn e (answer ∷ [])
+  -- if the command was refused, or memory was, a stop is right for these orders
+  pub stopped_there : (A : Type 0) (e : NoText) (later : List Order) (now : Listing) → IsHandedOn e (answer ∷ [])
       → ListLeaves {A = A} (Err e) w (o ∷ later) new.state (serials_of after) now
   stopped_there A (stop.Refused status) later now h =
       Contains-append_left ((exchange_of w.state w.serials o).answer ∷ []) (answers_to (asked w o) later) (Err status)
@@ -81,21 +83,27 @@ module _ (w : Standing) (c : ℕ) (b mid last : BusValue) (d second after : Driv
     ≡ answer_received (ActiveList 0) (step mid.state c (ActiveList 0) (pair_at second.pairs c).serial).answer)
     (s2 : last.state ≡ (step mid.state c (ActiveList 0) (pair_at second.pairs c).serial).state)
     (e2 : after ≡ after_command second c) where
+  -- the standing after the first command
   abbrev one : Standing
   one = asked w (order_of c IdentifyController)
 
+  -- the standing after both commands
   abbrev pub greeted : Standing
   greeted = asked one (order_of c (ActiveList 0))
 
+  -- the standing after the first command has the state, the command identifiers and the listing that it leaves
   is_one : IsListed one mid.state (serials_of second) told
   is_one = told_there w b mid d second listing c IdentifyController first is below a1 s1 e1 told t
 
+  -- the controller still has a queue pair after the first command
   known : c < length second.pairs
   known = still_known d second c e1 below
 
+  -- the standing after both commands has the state, the command identifiers and the listing that they leave
   pub greeted_listed : IsListed greeted last.state (serials_of after) told
   greeted_listed = told_there one mid last second after told c (ActiveList 0) then is_one known a2 s2 e2 told refl
 
+  -- the orders of a controller are these two commands and then the commands for the NSIDs in the second answer
   pub greeted_orders : (r : Reply) (ns : List ℕ) → Ok r ≡ then → ns ≡ nsids_told r
       → orders_of_controller w.state c
       ≡ (order_of c IdentifyController ∷ order_of c (ActiveList 0) ∷ []) ++ namespace_orders c ns

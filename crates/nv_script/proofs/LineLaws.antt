@@ -22,10 +22,11 @@ use Rattle.nv_line.specs.declared.line.Line.TheVariants as line
 use Rattle.nv_line.specs.declared.request.Request.{Request}
 use Rattle.nv_stream.proofs.Taking.{Appends-at, Appends-join}
 
--- a stream that took nothing else
+-- a stream that took x also took x with an empty text after it
 took_none : (a b : Option (List ℕ)) (x y : List ℕ) → y ≡ [] → Appends a b x → Appends a b (x ++ y)
 took_none a b x y e h = Appends-at a b x (x ++ y) (sym (ap (λ t. x ++ t) e ∙ append-nil x)) h
 
+-- a stream that took a text also has it in an equal state
 took_same : (a b c : Option (List ℕ)) (x : List ℕ) → c ≡ b → Appends a b x → Appends a c x
 took_same a b c x e h = subst (λ t. Appends a t x) (sym e) h
 
@@ -35,6 +36,7 @@ module _ {A : Type 0} (p : Progress) (text : List ℕ) (lr : LineResult) (k : �
     (next : serials_of session.driver ≡ lr.serials)
     (number : session.number ≡ p.number + 1) (status : session.status ≡ unwrap_or lr.status p.status)
     (all : lr.state ≡ state_amid p.state p.serials (said_at p text) k) where
+  -- a line whose message was reported leaves what the result of the report says
   pub message_leaves : (r : Result A RunEnd) (messages : Option (List ℕ)) (failed : Bool) → lr.output ≡ []
       → ReportLeaves r lr.message old.messages messages failed
       → LineLeaves r p text (left_at old.out_before old.out old.messages_before messages new) session
@@ -73,6 +75,7 @@ module _ {A : Type 0} (p : Progress) (text : List ℕ) (lr : LineResult) (k : �
         },
       )
 
+  -- a line whose output was printed leaves what the result of the print says
   pub output_leaves : (r : Result A RunEnd) (t : List ℕ) (out : Option (List ℕ)) (failed : Bool)
       → lr.message ≡ [] → t ≡ lr.output → PrintLeaves r OutWrite t old.out out failed
       → LineLeaves r p text (left_at old.out_before out old.messages_before old.messages new) session
@@ -103,20 +106,23 @@ module _ {A : Type 0} (p : Progress) (text : List ℕ) (lr : LineResult) (k : �
 
 -- ---- the meaning of the line
 
+-- the meaning of a line, or its fault
 abbrev Said : Type 0
 Said = Result Line LineFault
 
+-- a fault that may be lack of memory or the line's is the line's, if it isn't lack of memory
 pub fault_said : (f : LineFault) (said : Said) → (f ≡ fault.Memory → ⊥)
     → (f ≡ fault.Memory) ⊎ (◌≡◌ {A = Said} said (Err f)) → ◌≡◌ {A = Said} said (Err f)
 fault_said f said other (inl memory) = absurd (other memory)
 fault_said f said other (inr is) = is
 
--- its meaning at the place of the run
+-- the meaning of a line by the number of controllers is its meaning at the place of the run
 pub said_here : (p : Progress) (text : List ℕ) (s : State) (controllers : ℕ) (said : Said) → s ≡ p.state
     → controllers ≡ length s.controllers → reading text controllers ≡ said → said_at p text ≡ said
 said_here p text s controllers said es ec e = ap (λ (x : State). reading text (length x.controllers)) (sym es)
     ∙ ap (reading text) (sym ec) ∙ e
 
+-- the result of a line with a request is the result of the request for the outcome of its orders
 pub result_asked : (p : Progress) (text : List ℕ) (r : Request) (s : State) (serials : List ℕ) (n : ℕ)
     → said_at p text ≡ Ok (line.Request r) → s ≡ p.state → serials ≡ p.serials → n ≡ p.number
     → result_at p text ≡ request_result (n + 1) s r (outcome_of s serials (orders_of s r.query))
@@ -126,6 +132,7 @@ result_asked p text r s serials n e es er en =
     ∙ ap (λ (x : List ℕ). request_result (p.number + 1) s r (outcome_of s x (orders_of s r.query))) (sym er)
     ∙ ap (λ (x : ℕ). request_result (x + 1) s r (outcome_of s serials (orders_of s r.query))) (sym en)
 
+-- the result of a line with a fault is the result of the fault
 pub result_fault : (p : Progress) (text : List ℕ) (f : LineFault) (s : State) (serials : List ℕ) (n : ℕ)
     → said_at p text ≡ Err f → s ≡ p.state → serials ≡ p.serials → n ≡ p.number
     → result_at p text ≡ line_result s serials (n + 1) (Err f)
@@ -135,11 +142,13 @@ result_fault p text f s serials n e es er en =
     ∙ ap (λ (x : List ℕ). line_result s x (p.number + 1) (Err f)) (sym er)
     ∙ ap (λ (x : ℕ). line_result s serials (x + 1) (Err f)) (sym en)
 
+-- after none of a line's orders, the state is the one before the line
 pub amid-zero : (s : State) (serials : List ℕ) (said : Said) → state_amid s serials said 0 ≡ s
 amid-zero s serials (Ok line.Skipped) = refl
 amid-zero s serials (Ok (line.Request r)) = refl
 amid-zero s serials (Err f) = refl
 
+-- the state after the first k orders of a line's request is the one amid the line
 pub amid-some : (p : Progress) (text : List ℕ) (r : Request) (s : State) (serials : List ℕ) (k : ℕ)
     → said_at p text ≡ Ok (line.Request r) → s ≡ p.state → serials ≡ p.serials
     → (outcome_of s serials (take k (orders_of s r.query))).state ≡ state_amid p.state p.serials (said_at p text) k
@@ -148,6 +157,7 @@ amid-some p text r s serials k e es er =
     ∙ ap (λ (x : List ℕ). (outcome_of p.state x (take k (orders_of p.state r.query))).state) er
     ∙ ap (λ (x : Said). state_amid p.state p.serials x k) (sym e)
 
+-- the state after all orders of a line's request is the one amid the line after all of them
 pub amid-all : (p : Progress) (text : List ℕ) (r : Request) (s : State) (serials : List ℕ)
     → said_at p text ≡ Ok (line.Request r) → s ≡ p.state → serials ≡ p.serials
     → (outcome_of s serials (orders_of s r.query)).state

@@ -22,6 +22,7 @@ use Rattle.nv_script.specs.Outcomes.{exchange_of, exchange_with, order_of}
 use Rattle.nv_script.specs.inner.Link.{IsFirst}
 use Rattle.nv_script.specs.declared.session.Session.{Session}
 
+-- a session with a new driver, line number 0 and status 0 is a first one
 pub first_session : (g : Geometry) (old new : BusValue) (d : DriverValue) (session : Session) → IsLinked new d
     → d ≡ new_driver g (length old.banks)
     → session.driver ≡ d → session.number ≡ 0 → session.status ≡ 0 → IsFirst new.state session
@@ -36,7 +37,7 @@ first_session g old new d session linked is driver number status =
       status = status;
     }
 
--- a command of a controller
+-- a command that a driver sends to controller c is the exchange of its order
 pub sent : (b new : BusValue) (d after : DriverValue) (c : ℕ) (k : Command) (answer : Result Reply Status)
     → c < length d.pairs
     → answer ≡ answer_received k (step b.state c k (pair_at d.pairs c).serial).answer
@@ -49,7 +50,7 @@ sent b new d after c k answer below a s is =
     let next = serials_after d after c below is in
     λ i. exchange_with (same i) (reached i) (next i)
 
--- a reset of a controller
+-- a reset of controller c by a driver is the exchange of its order
 pub was_reset : (b new : BusValue) (d after : DriverValue) (c : ℕ) → new.state ≡ reset b.state c
     → after ≡ after_reset d c
     → exchange_with (Ok Done) new.state (serials_of after)

@@ -14,34 +14,34 @@ use Rattle.nv_script.specs.inner.Listing.{AreBegun, IsListed, ListLeaves, Standi
 use Rattle.nv_script.specs.inner.Listing.{asked, asked_all}
 use Rattle.nv_script.specs.Shown.{listing_of, listing_told, no_listing}
 use Rattle.nv_script.specs.declared.listing.Listing.{Listing}
-use Rattle.nv_script.specs.declared.performing.Stop.{Stop}
-use Rattle.nv_script.specs.declared.performing.Stop.TheVariants as stop
+use Rattle.nv_script.specs.declared.performing.NoText.{NoText}
+use Rattle.nv_script.specs.declared.performing.NoText.TheVariants as stop
 
 -- before the first command
 abbrev pub first_standing : State → List ℕ → Standing
 first_standing s serials = record { state = s; serials = serials; listing = no_listing }
 
--- all of them were executed
+-- if all orders were executed, they were begun
 pub begun_all : (w : Standing) (orders : List Order) (s : State) (serials : List ℕ) → s ≡ (asked_all w orders).state
     → serials ≡ (asked_all w orders).serials
     → AreBegun w orders s serials
 begun_all w orders s serials state next =
     record { done = orders; later = []; split = sym (append-nil orders); subsystem = state; next = next }
 
--- the answers to some orders and to more
+-- the answers to some orders and to more are the answers to the first and then to the others after them
 answers-append : (w : Standing) (orders more : List Order)
     → answers_to w (orders ++ more) ≡ answers_to w orders ++ answers_to (asked_all w orders) more
 answers-append w [] more = refl
 answers-append w (o ∷ os) more =
     ap (λ xs. (exchange_of w.state w.serials o).answer ∷ xs) (answers-append (asked w o) os more)
 
--- the answers to all of them are listed
+-- the listing after several orders is the listing with the answers to them
 pub listing_asked : (w : Standing) (orders : List Order)
     → (asked_all w orders).listing ≡ listing_of w.listing orders (answers_to w orders)
 listing_asked w [] = refl
 listing_asked w (o ∷ os) = listing_asked (asked w o) os
 
--- the answer to the first of the rest is listed first
+-- listing the rest of some answers lists the first of them and then the others
 pub told_more : (c : ℕ) (l : Listing) (ks : List Command) (xs : List Answer) (i : ℕ) (dk : Command) (da : Answer)
     → i < length ks → i < length xs
     → listing_of l (map (order_of c) (drop i ks)) (drop i xs)
@@ -52,7 +52,7 @@ told_more c l ks xs i dk da some answered =
     ∙ at_drop_more (listing_of l (order_of c (get_or ks i dk) ∷ map (order_of c) (drop (i + 1) ks))) xs i da answered
 
 module _ (w : Standing) (done all : List Order) where
-  -- a state among some commands that come after those that were executed and before the rest
+  -- a state after some of the next orders is a state after some of all orders
   begun_within : (orders rest : List Order) (s : State) (serials : List ℕ) → all ≡ done ++ (orders ++ rest)
       → AreBegun (asked_all w done) orders s serials → AreBegun w all s serials
   begun_within orders rest s serials is h = record {
@@ -64,7 +64,7 @@ module _ (w : Standing) (done all : List Order) where
     next = h.next ∙ ap (λ (x : Standing). x.serials) (sym (fold-append asked w done h.done));
   }
 
-  -- the answers to some of them
+  -- an answer among those to some of the orders is among the answers to all
   answered_within : (orders rest : List Order) (a : Answer) → all ≡ done ++ (orders ++ rest)
       → Contains (answers_to (asked_all w done) orders) a → Contains (answers_to w all) a
   answered_within orders rest a is h =
@@ -75,7 +75,8 @@ module _ (w : Standing) (done all : List Order) where
       (Contains-append_right (answers_to w done) (answers_to then orders ++ answers_to (asked_all then orders) rest) a
       (Contains-append_left (answers_to then orders) (answers_to (asked_all then orders) rest) a h))
 
-  pub stopped_within : (A B : Type 0) (e : Stop) (orders rest : List Order) (s : State) (serials : List ℕ)
+  -- if a stop is right for some orders after those that were executed, it is right for all orders
+  pub stopped_within : (A B : Type 0) (e : NoText) (orders rest : List Order) (s : State) (serials : List ℕ)
       (listing now : Listing) → all ≡ done ++ (orders ++ rest)
       → ListLeaves {A = A} (Err e) (asked_all w done) orders s serials listing
       → ListLeaves {A = B} (Err e) w all s serials now
@@ -84,13 +85,15 @@ module _ (w : Standing) (done all : List Order) where
   stopped_within A B stop.Memory orders rest s serials listing now is h = begun_within orders rest s serials is h
   stopped_within A B stop.NoReady orders rest s serials listing now is h = absurd h
 
+  -- if the standing after further orders is reached, so is the standing after all orders
   pub listed_after : (orders : List Order) (s : State) (serials : List ℕ) (listing : Listing) → all ≡ done ++ orders
       → IsListed (asked_all (asked_all w done) orders) s serials listing
       → IsListed (asked_all w all) s serials listing
   listed_after orders s serials listing is h =
       subst (λ x. IsListed x s serials listing) (sym (ap (asked_all w) is ∙ fold-append asked w done orders)) h
 
-  pub leaves_after : {A : Type 0} (r : Result A Stop) (orders : List Order) (s : State) (serials : List ℕ)
+  -- if a result is right for the further orders, it is right for all orders
+  pub leaves_after : {A : Type 0} (r : Result A NoText) (orders : List Order) (s : State) (serials : List ℕ)
       (listing : Listing) → all ≡ done ++ orders
       → ListLeaves r (asked_all w done) orders s serials listing → ListLeaves r w all s serials listing
   leaves_after (Ok x) orders s serials listing is h = listed_after orders s serials listing is h

@@ -17,14 +17,17 @@ use Rattle.nv_script.proofs.LookupLaws.{AreLookups, sends}
 -- ---- they are lookups
 
 module _ (nn : ℕ) where
+  -- orders that are lookups and more lookups are lookups together
   pub lookups-append : (os more : List Order) → AreLookups nn os → AreLookups nn more → AreLookups nn (os ++ more)
   lookups-append [] more h k = k
   lookups-append (o ∷ os) more h k = (h.0, lookups-append os more h.1 k)
 
+  -- the first ones of orders that are all lookups are lookups
   pub lookups-front : (os more : List Order) → AreLookups nn (os ++ more) → AreLookups nn os
   lookups-front [] more h = tt
   lookups-front (o ∷ os) more h = (h.0, lookups-front os more h.1)
 
+  -- the commands for some of the NSIDs within the limit are lookups
   namespace_lookups : (c : ℕ) (test : ℕ → Bool) (ns : List ℕ) → All (IsInside nn) ns
       → AreLookups nn (namespace_orders c (filter test ns))
   namespace_lookups c test [] h = tt
@@ -38,23 +41,26 @@ module _ (nn : ℕ) where
       at_test true first rest = (sends (namespace first), rest)
       at_test false first rest = rest
 
+  -- if the orders of each controller are lookups, so are the orders of several controllers
   flat_lookups : (f : ℕ → List Order) → ((c : ℕ) → AreLookups nn (f c)) → (cs : List ℕ) → AreLookups nn (flat_map f cs)
   flat_lookups f h [] = tt
   flat_lookups f h (c ∷ cs) = lookups-append (f c) (flat_map f cs) (h c) (flat_lookups f h cs)
 
+-- the orders of a controller in a well-formed subsystem are lookups
 pub controller_lookups : (s : State) (c : ℕ) → IsWellFormed s → AreLookups s.nn (orders_of_controller s c)
 controller_lookups s c w = (
   sends controller,
   (sends attached, namespace_lookups s.nn c (λ n. nat_lt 0 n) (active_nsids s c) (active_inside s c w)),
 )
 
+-- the orders of `list` in a well-formed subsystem are lookups
 pub list_lookups : (s : State) → IsWellFormed s → AreLookups s.nn (orders_of_list s)
 list_lookups s w =
     flat_lookups s.nn (orders_of_controller s) (λ c. controller_lookups s c w) (range_with_len 0 (length s.controllers))
 
 -- ---- controller by controller
 
--- the same NSIDs are attached, so the same commands are sent
+-- in alike states, a controller gets the same orders
 pub same_orders : (s now : State) (c : ℕ) → IsAlike s now → orders_of_controller now c ≡ orders_of_controller s c
 same_orders s now c h =
     ap (λ ns. order_of c IdentifyController ∷ order_of c (ActiveList 0) ∷ namespace_orders c (above 0 ns)) (h.active c)
@@ -63,12 +69,14 @@ same_orders s now c h =
 abbrev pub orders_from : State → ℕ → ℕ → List Order
 orders_from s i n = flat_map (orders_of_controller s) (range_with_len i (n - i))
 
+-- the orders that are left are the next controller's, and then the later ones'
 pub next_controller : (s : State) (i n : ℕ) (all done : List Order) → i < n → all ≡ done ++ orders_from s i n
     → all ≡ done ++ (orders_of_controller s i ++ orders_from s (i + 1) n)
 next_controller s i n all done below e =
     let more : n - i ≡ suc (n - (i + 1)) = omega arith in
     e ∙ ap (λ m. done ++ flat_map (orders_of_controller s) (range_with_len i m)) more
 
+-- if no controller is left, all orders are done
 pub no_controller_left : (s : State) (i n : ℕ) (all done : List Order) → n ≤ i → all ≡ done ++ orders_from s i n
     → all ≡ done
 no_controller_left s i n all done over e =

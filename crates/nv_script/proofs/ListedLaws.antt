@@ -8,11 +8,11 @@ use Rattle.nv_model.specs.WellFormed.{IsWellFormed}
 use Rattle.nv_script.specs.inner.Listing.{AreBegun, IsListed, ListLeaves, Standing, asked_all}
 use Rattle.nv_script.specs.Orders.{orders_of_list}
 use Rattle.nv_script.specs.Outcomes.{Outcome, outcome_of}
-use Rattle.nv_script.specs.inner.Performing.{QueryLeaves, StopLeaves}
+use Rattle.nv_script.specs.inner.Performing.{QueryLeaves, NoTextLeaves}
 use Rattle.nv_script.specs.Shown.{listing_of, no_listing}
 use Rattle.nv_script.specs.declared.listing.Listing.{Listing}
-use Rattle.nv_script.specs.declared.performing.Stop.{Stop}
-use Rattle.nv_script.specs.declared.performing.Stop.TheVariants as stop
+use Rattle.nv_script.specs.declared.performing.NoText.{NoText}
+use Rattle.nv_script.specs.declared.performing.NoText.TheVariants as stop
 use Rattle.nv_script.proofs.ListLaws.{first_standing, listing_asked}
 use Rattle.nv_script.proofs.ListOrderLaws.{list_lookups, lookups-front}
 use Rattle.nv_script.proofs.LookupLaws.{AreLookups, all_accepted, none_refused}
@@ -20,10 +20,11 @@ use Rattle.nv_script.proofs.OutcomeLaws.{accepted_with}
 use Rattle.nv_script.proofs.QueryLaws.{left_shown}
 
 module _ (s now : State) (serials next : List ℕ) (ok : IsWellFormed s) where
+  -- the standing before the first order of `list`
   abbrev first : Standing
   first = first_standing s serials
 
-  -- all controllers were asked
+  -- after all controllers were asked, what was listed is shown
   pub all_listed : (listing : Listing) → IsListed (asked_all first (orders_of_list s)) now next listing
       → QueryLeaves (Ok (Some (shown.Devices listing.devices))) query.List s serials now next
   all_listed listing h =
@@ -35,7 +36,8 @@ module _ (s now : State) (serials next : List ℕ) (ok : IsWellFormed s) where
       (ap (λ (l : Listing). Some (shown.Devices l.devices))
       (h.listed ∙ listing_asked first (orders_of_list s) ∙ ap (listing_of no_listing (orders_of_list s)) all.answers))
 
-  begun_left : AreBegun first (orders_of_list s) now next → StopLeaves stop.Memory query.List s serials now next
+  -- if some of the orders of `list` were carried out, a stop for lack of memory is right
+  begun_left : AreBegun first (orders_of_list s) now next → NoTextLeaves stop.Memory query.List s serials now next
   begun_left h =
       let all =
       all_accepted first h.done
@@ -49,10 +51,10 @@ module _ (s now : State) (serials next : List ℕ) (ok : IsWellFormed s) where
         },
       )
 
-  -- memory was refused, because no command is refused
-  pub list_stopped : (A : Type 0) (e : Stop) (listing : Listing)
+  -- a stop of `list` is right, because no command is refused
+  pub list_stopped : (A : Type 0) (e : NoText) (listing : Listing)
       → ListLeaves {A = A} (Err e) first (orders_of_list s) now next listing
-      → StopLeaves e query.List s serials now next
+      → NoTextLeaves e query.List s serials now next
   list_stopped A (stop.Refused status) listing h =
       absurd (none_refused first (orders_of_list s) status (list_lookups s ok) h)
   list_stopped A stop.Memory listing h = begun_left h

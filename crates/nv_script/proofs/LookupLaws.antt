@@ -21,22 +21,26 @@ use Rattle.nv_script.proofs.OutcomeLaws.{accepted_with}
 pub data IsLookupAct (nn : ℕ) : Act → Type 0 where
   sends : {k : Command} → IsLookup nn k → IsLookupAct nn (Send k)
 
+-- each of these orders is a lookup
 abbrev pub AreLookups : ℕ → List Order → Type 0
 AreLookups nn orders = AllByRecursion (λ (o : Order). IsLookupAct nn o.act) orders
 
+-- orders that are lookups for one limit of NSIDs are lookups for an equal one
 lookups_at : (nn now : ℕ) (orders : List Order) → now ≡ nn → AreLookups nn orders → AreLookups now orders
 lookups_at nn now orders e h = subst (λ n. AreLookups n orders) (sym e) h
 
 -- ---- what doesn't change
 
--- the state after a command of list
+-- an act of `list` leaves a state that is alike
 act_alike : (s : State) (serials : List ℕ) (c : ℕ) {a : Act} → IsLookupAct s.nn a
     → IsAlike s (exchange_by a s serials c).state
 act_alike s serials c (sends h) = looked_alike s c (get_or serials c 0) h
 
+-- a lookup leaves a state that is alike
 pub asked_alike : (w : Standing) (o : Order) → IsLookupAct w.state.nn o.act → IsAlike w.state (asked w o).state
 asked_alike w o h = act_alike w.state w.serials o.controller h
 
+-- lookups leave a state that is alike
 pub asked_all_alike : (w : Standing) (orders : List Order) → AreLookups w.state.nn orders
     → IsAlike w.state (asked_all w orders).state
 asked_all_alike w [] h = alike-self w.state
@@ -47,10 +51,12 @@ asked_all_alike w (o ∷ os) h =
 
 -- ---- all of them are accepted
 
+-- a lookup is accepted
 accepted : (s : State) (serials : List ℕ) (c : ℕ) {a : Act} → IsLookupAct s.nn a
     → (r : Reply) × ((exchange_by a s serials c).answer ≡ Ok r)
 accepted s serials c (sends {k} h) = (reply_of s c k, looked_received s c (get_or serials c 0) h)
 
+-- a reply as an answer
 abbrev ok : Reply → Answer
 ok r = Ok r
 
@@ -61,6 +67,7 @@ pub record AreAccepted (w : Standing) (orders : List Order) : Type 0 where
       ≡ accepted_with replies (asked_all w orders).state (asked_all w orders).serials
   pub answers : answers_to w orders ≡ map ok replies
 
+-- all of these lookups are accepted
 pub all_accepted : (w : Standing) (orders : List Order) → AreLookups w.state.nn orders → AreAccepted w orders
 all_accepted w [] h = record { replies = []; outcome = refl; answers = refl }
 all_accepted w (o ∷ os) h =
@@ -74,11 +81,13 @@ all_accepted w (o ∷ os) h =
       answers = ap (λ a. a ∷ answers_to next os) is.1 ∙ ap (λ xs. ok is.0 ∷ xs) rest.answers;
     }
 
+-- among answers that are all replies there is no refusal
 no_refusal : (replies : List Reply) (status : Status) → Contains (map ok replies) (Err status) → ⊥
 no_refusal replies status h =
     let at = get_or-map ok replies h.0 Done (Err status) (omega (arith, length-map replies ok, h.1)) in
     absurd (cc (at, h.2))
 
+-- no lookup is refused
 pub none_refused : (w : Standing) (orders : List Order) (status : Status) → AreLookups w.state.nn orders
     → Contains (answers_to w orders) (Err status) → ⊥
 none_refused w orders status h refused =

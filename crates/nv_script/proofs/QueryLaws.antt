@@ -10,6 +10,8 @@ use Rattle.nv_command.specs.declared.command.Command.TheVariants.{IdentifyContro
 use Rattle.nv_command.specs.declared.refusal.Refusal.{Refusal}
 use Rattle.nv_command.specs.declared.reply.Reply.{Reply}
 use Rattle.nv_command.specs.declared.reply.Reply.TheVariants as reply
+use Rattle.nv_layout.specs.IdCtrl.{id_ctrl_of_bytes}
+use Rattle.nv_layout.specs.Parts.{number_at}
 use Rattle.nv_model.specs.IdentifyController.{id_ctrl_of, no_controller}
 use Rattle.nv_model.specs.Logs.{entry_count}
 use Rattle.nv_model.specs.Meaning.{refusal_of}
@@ -25,9 +27,9 @@ use Rattle.nv_script.specs.Outcomes.{order_of}
 use Rattle.nv_script.specs.Orders.{errors_command, orders_of, orders_of_one}
 use Rattle.nv_script.specs.inner.Orders.{log_command}
 use Rattle.nv_script.specs.Outcomes.{Outcome, outcome_after, outcome_of}
-use Rattle.nv_script.specs.inner.Performing.{AskLeaves, IsReached, QueryLeaves, StopLeaves}
+use Rattle.nv_script.specs.inner.Performing.{AskLeaves, IsReached, QueryLeaves, NoTextLeaves}
 use Rattle.nv_script.specs.Shown.{shown_by, shown_of}
-use Rattle.nv_script.specs.declared.performing.Stop.TheVariants as stop
+use Rattle.nv_script.specs.declared.performing.NoText.TheVariants as stop
 use Rattle.nv_print.specs.declared.shown.Shown.{Shown}
 use Rattle.nv_script.proofs.OutcomeLaws.{accepted_first, accepted_with, refused_at_once, refused_with}
 
@@ -41,10 +43,12 @@ reply_or_done (Err status) = reply.Done
 -- Identify Controller says how many errors a controller keeps
 kept_told : (s : State) (o : Option Controller)
     → (option_map_or (id_ctrl_of s) o no_controller).elpe + 1 ≡ option_map_or (λ x. x.identity.numbers.elpe + 1) o 1
+unfolding id_ctrl_of_bytes number_at
 kept_told s None = refl
 kept_told s (Some x) = refl
 
 module _ (s : State) (serials : List ℕ) (c entries : ℕ) where
+  -- the log command by the reply to Identify Controller is the one for as many entries as the controller keeps
   log_next : (refusal : Option Refusal) (r : Reply)
       → Ok r ≡ answer_received IdentifyController (step_by refusal s c IdentifyController (get_or serials c 0)).answer
       → log_command entries r ≡ errors_command entries (entry_count s c)
@@ -54,26 +58,31 @@ module _ (s : State) (serials : List ℕ) (c entries : ℕ) where
       ∙ ap (λ n. errors_command entries n) (kept_told s (controller_at s c))
   log_next (Some refusal) r e = absurd (cc)
 
+  -- the same if the reply is the answer in the exchange of that order
   log_is_next : (r : Reply) → Ok r ≡ (exchange_of s serials (order_of c IdentifyController)).answer
       → log_command entries r ≡ errors_command entries (entry_count s c)
   log_is_next r e = log_next (refusal_of s c IdentifyController) r e
 
 -- ---- the state after an outcome
 
+-- an outcome has reached a state and command identifiers that are equal to its own
 reached : (o : Outcome) (s : State) (serials : List ℕ) → s ≡ o.state → serials ≡ o.serials → IsReached o s serials
 reached o s serials state next = record { subsystem = state; next = next }
 
 module _ (s now : State) (serials next : List ℕ) (q : Query) where
+  -- the outcome of all orders of the query
   abbrev whole : Outcome
   whole = outcome_of s serials (orders_of s q)
 
+  -- if the outcome is a refusal, a stop because of it is right
   pub left_refused : (replies : List Reply) (status : Status) → whole ≡ refused_with replies status now next
-      → StopLeaves (stop.Refused status) q s serials now next
+      → NoTextLeaves (stop.Refused status) q s serials now next
   left_refused replies status e = (
     ap (λ (x : Outcome). x.refusal) e,
     reached whole now next (sym (ap (λ (x : Outcome). x.state) e)) (sym (ap (λ (x : Outcome). x.serials) e)),
   )
 
+  -- if the outcome has only replies, what they show is right
   pub left_shown : (shown : Option Shown) (replies : List Reply) → whole ≡ accepted_with replies now next
       → shown ≡ shown_of (orders_of s q) q replies → QueryLeaves (Ok shown) q s serials now next
   left_shown shown replies e is = (
@@ -82,8 +91,8 @@ module _ (s now : State) (serials next : List ℕ) (q : Query) where
     reached whole now next (sym (ap (λ (x : Outcome). x.state) e)) (sym (ap (λ (x : Outcome). x.serials) e)),
   )
 
-  -- memory was refused after all orders
-  pub left_memory : IsReached whole now next → StopLeaves stop.Memory q s serials now next
+  -- if memory was refused after all orders, a stop for lack of memory is right
+  pub left_memory : IsReached whole now next → NoTextLeaves stop.Memory q s serials now next
   left_memory is =
       let all = ap (outcome_of s serials) (take_all (length (orders_of s q)) (orders_of s q) (omega arith)) in (
         length (orders_of s q),
@@ -96,14 +105,16 @@ module _ (s now : State) (serials next : List ℕ) (q : Query) where
 -- its only order
 module _ (s now : State) (serials next : List ℕ) (c : ℕ) (a : Ask) (o : Order)
     (only : orders_of_one s c a ≡ o ∷ []) where
+  -- if the only order of an ask is accepted, its reply is right
   pub only_accepted : (reply : Reply) → exchange_with (Ok reply) now next ≡ exchange_of s serials o
       → AskLeaves (Ok reply) c a s serials now next
   only_accepted reply e =
       left_shown s now serials next (One c a) (shown_by a reply) (reply ∷ [])
       (ap (outcome_of s serials) only ∙ accepted_first s now serials next o [] reply e) refl
 
+  -- if the only order of an ask is refused, a stop because of it is right
   pub only_refused : (status : Status) → exchange_with (Err status) now next ≡ exchange_of s serials o
-      → StopLeaves (stop.Refused status) (One c a) s serials now next
+      → NoTextLeaves (stop.Refused status) (One c a) s serials now next
   only_refused status e =
       left_refused s now serials next (One c a) [] status
       (ap (outcome_of s serials) only ∙ refused_at_once s now serials next o [] status e)
@@ -113,15 +124,18 @@ module _ (s now : State) (serials next : List ℕ) (c entries : ℕ) where
   abbrev first : Order
   first = order_of c IdentifyController
 
+  -- the ask for an error log
   abbrev log : Ask
   log = ask.ErrorLog entries
 
+  -- the order that reads the error log
   abbrev later : List Order
   later = order_of c (errors_command entries (entry_count s c)) ∷ []
 
   module _ (last : State) (end : List ℕ) (told : Reply)
       (e : exchange_with (Ok told) now next ≡ exchange_of s serials first) (k : Command)
       (is : k ≡ log_command entries told) where
+    -- the outcome of both orders is the first reply and then the outcome of the second order
     begun : outcome_of s serials (orders_of_one s c log)
         ≡ outcome_after (Ok told) now next (outcome_of now next (order_of c k ∷ []))
     begun =
@@ -129,13 +143,15 @@ module _ (s now : State) (serials next : List ℕ) (c entries : ℕ) where
         ∙ ap (λ x. outcome_after (Ok told) now next (outcome_of now next (order_of c x ∷ [])))
         (sym (is ∙ log_is_next s serials c entries told (ap (λ (x : Exchange). x.answer) e)))
 
+    -- if the second order is refused, a stop because of it is right
     pub second_refused : (status : Status)
         → exchange_with (Err status) last end ≡ exchange_of now next (order_of c k)
-        → StopLeaves (stop.Refused status) (One c log) s serials last end
+        → NoTextLeaves (stop.Refused status) (One c log) s serials last end
     second_refused status e2 =
         left_refused s last serials end (One c log) (told ∷ []) status
         (begun ∙ ap (outcome_after (Ok told) now next) (refused_at_once now last next end (order_of c k) [] status e2))
 
+    -- if both orders are accepted, the reply to the second one is right
     pub both_accepted : (reply : Reply) → exchange_with (Ok reply) last end ≡ exchange_of now next (order_of c k)
         → AskLeaves (Ok reply) c log s serials last end
     both_accepted reply e2 =
@@ -146,7 +162,7 @@ module _ (s now : State) (serials next : List ℕ) (c entries : ℕ) where
 -- ---- a request
 
 module _ (s now : State) (serials next : List ℕ) (r : Request) (q : Query) (is : r.query ≡ q) where
-  -- memory was refused for its text
+  -- if memory was refused for the text of a request, a stop for lack of memory is right
   pub no_text : (shown : Option Shown) → QueryLeaves (Ok shown) q s serials now next
-      → StopLeaves stop.Memory r.query s serials now next
+      → NoTextLeaves stop.Memory r.query s serials now next
   no_text shown h = rw is (left_memory s now serials next q h.2)

@@ -29,7 +29,7 @@ use Rattle.nv_stream.specs.Streams.{read_size}
 use Rattle.nv_script.proofs.PieceLaws.{as_line-some, length-joined, length-pieces, piece-among}
 use Rattle.nv_stream.proofs.Taking.{Appends-same, Consumes-join, Consumes-nothing, Consumes-same, length-taken}
 
--- a script was read to its end: a read after so many calls gave no byte, and one more might have been made
+-- a script was read to its end if a read gave no byte and one more could have been made
 pub read_to_end : (reads call before : ℕ) (script : SourceState) (count : ℕ) → before ≡ call
     → script.calls ≡ before + 1 → (call + 1 ≡ reads → ⊥) → script.has_failed ≡ false
     → script.has_ended ≡ (count == 0) → (count ≡ 0 → IsAtEnd script.to_come) → count ≡ 0 → IsReadToEnd reads script
@@ -41,16 +41,16 @@ read_to_end reads call before script count calls next one_more not_failed ended 
       at_end = at_end none;
     }
 
--- the last piece was a line
+-- if the last piece has a byte, it is the last line of the script
 pub last_line : (bytes : List ℕ) → 0 < length (pieces bytes).last
     → script_lines bytes ≡ (pieces bytes).ended ++ (pieces bytes).last ∷ []
 last_line bytes h = ap (λ x. (pieces bytes).ended ++ x) (as_line-some (pieces bytes).last h)
 
--- there was no last piece
+-- if the last piece is no line, the script has the lines that have ended
 pub no_last : (bytes : List ℕ) → as_line (pieces bytes).last ≡ [] → script_lines bytes ≡ (pieces bytes).ended
 no_last bytes e = ap (λ x. (pieces bytes).ended ++ x) e ∙ append-nil (pieces bytes).ended
 
--- a run is after all lines
+-- a run whose progress is that of the whole script leaves all of its lines
 pub ends_whole : (s : State) (bytes : List ℕ) (q : Progress) (left : Left) (session : Session)
     → whole s (script_lines bytes) ≡ q → Stands q left session
     → LeavesAll session.status s bytes left
@@ -60,10 +60,11 @@ ends_whole s bytes q left session e h = (
   subst (λ (x : Progress). Holds left x.output x.messages x.state) (sym e) h.holds,
 )
 
--- nothing is read
+-- before anything is read, no bytes were read
 pub read_first : (script : SourceState) → script.given ≡ 0 → WasRead script script []
 read_first script e = record { first = Consumes-same script.to_come; count = sym e }
 
+-- before the first line, the state, the texts and the session are what a script without lines leaves
 pub stands_first : (s : State) (left : Left) (session : Session) → left.out ≡ left.out_before
     → left.messages ≡ left.messages_before → left.state ≡ s
     → serials_of session.driver ≡ replicate (length s.controllers) 0 → session.number ≡ 0 → session.status ≡ 0
@@ -79,13 +80,14 @@ stands_first s left session eo em es er en et = record {
   status = et;
 }
 
--- if the bytes are known and were read to their end, they are what was read
+-- if the bytes are known and were read to their end, what holds for the bytes that were read holds for them
 read_whole : (old new : Option (List ℕ)) (bytes : List ℕ) (P : List ℕ → Type 0) → Consumes old new bytes → IsAtEnd new
     → P bytes → IfSome old P
 read_whole None new bytes P h k p = tt
 read_whole (Some xs) None bytes P h k p = absurd h
 read_whole (Some xs) (Some ys) bytes P h k p = subst P (sym (h ∙ ap (λ z. bytes ++ z) k ∙ append-nil bytes)) p
 
+-- a run from the subsystem as the first line finds it leaves what the headline says
 headline_with : (reads : ℕ) (end : RunEnd) (old new : RunState) → RunsFrom (begun old) reads end old new
     → Headline end old new
 headline_with reads end old new h status is =
@@ -94,7 +96,7 @@ headline_with reads end old new h status is =
     read_whole old.script.to_come new.script.to_come h.bytes
     (λ script. LeavesAll status (begun old) script (left_by old new)) h.was_read.first ended.0.at_end left
 
--- in the last piece
+-- a run that was cut short in the last piece of a script was cut short
 pub last_cut : (end : RunEnd) (reads : ℕ) (script : SourceState) (s : State) (bytes : List ℕ) (left : Left)
     → IsReadToEnd reads script → LastLeaves (Err end) s bytes left → IsCutShort end reads script s bytes left
 last_cut end reads script s bytes left read h =
@@ -110,7 +112,7 @@ last_cut end reads script s bytes left read h =
       ahead = omega (arith, length-joined ended last, length-pieces bytes);
     }
 
--- in a line of a further piece
+-- a run that was cut short in a line of a further piece was cut short
 pub piece_cut : (end : RunEnd) (reads : ℕ) (script : SourceState) (s : State) (bytes piece : List ℕ)
     (line : Option (List ℕ)) (left : Left) (session : Session) → length piece ≤ read_size
     → script.last_given ≡ length piece
@@ -140,7 +142,7 @@ piece_cut end reads script s bytes piece line left session small last h =
       ahead = omega (arith, at_once, last, small);
     }
 
--- what a run leaves that was cut short in a line
+-- a run that was cut short in a line leaves what its end says
 pub cut_leaves : (end : RunEnd) (reads : ℕ) (script : SourceState) (s : State) (bytes : List ℕ) (left : Left)
     → IsCutShort end reads script s bytes left → Leaves end reads script s bytes left
 cut_leaves (Status status) reads script s bytes left h = absurd h.beginning
@@ -151,6 +153,7 @@ cut_leaves OutWrite reads script s bytes left h = h
 cut_leaves MessageWrite reads script s bytes left h = h
 cut_leaves Memory reads script s bytes left h = h
 
+-- if the sinks failed as an end in a line says, the run has this end
 pub cut_ends : (end : RunEnd) (reads : ℕ) (now : RunState) → AreFailed end now.out.has_failed now.messages.has_failed
     → IsEndOf end reads now
 cut_ends (Status status) reads now h = absurd h
@@ -161,7 +164,7 @@ cut_ends OutWrite reads now h = h
 cut_ends MessageWrite reads now h = h
 cut_ends Memory reads now h = h
 
--- reads, one after another
+-- reading more bytes adds them to the bytes that were read
 pub read_more : (old mid new : SourceState) (bytes buf : List ℕ) (count : ℕ) → WasRead old mid bytes
     → Consumes mid.to_come new.to_come (take count buf) → count ≤ length buf → new.given ≡ mid.given + count
     → WasRead old new (bytes ++ take count buf)
@@ -170,6 +173,7 @@ read_more old mid new bytes buf count h k z e = record {
   count = omega (arith, h.count, length-taken bytes buf count z);
 }
 
+-- a read that gave no byte leaves the bytes that were read
 pub read_none : (old mid new : SourceState) (bytes buf : List ℕ) (count : ℕ) → WasRead old mid bytes
     → Consumes mid.to_come new.to_come (take count buf) → count ≡ 0 → new.given ≡ mid.given + count
     → WasRead old new bytes
@@ -178,7 +182,7 @@ read_none old mid new bytes buf count h k z e =
     subst (WasRead old new) (ap (λ c. bytes ++ take c buf) z ∙ append-nil bytes)
     (read_more old mid new bytes buf count h k bound e)
 
--- a read that failed returned nothing
+-- a read that failed leaves the bytes that were read
 pub read_fault : (old mid new : SourceState) (bytes : List ℕ) → WasRead old mid bytes → Keeps mid.to_come new.to_come
     → new.given ≡ mid.given + 0 → WasRead old new bytes
 read_fault old mid new bytes h k e = record {
@@ -194,13 +198,13 @@ abbrev pub Gives : DriverError → RunEnd → Type 0
 Gives e end = ((field : GeometryField) → e ≡ error.Geometry field → end ≡ Geometry field)
     × (e ≡ error.Memory → end ≡ Memory) × (e ≡ error.NoReady → end ≡ NoReady)
 
--- there is no driver
+-- an end without a driver is the one for the first field of the geometry outside its limits, or for lack of memory
 pub without : (fault : Option GeometryField) (e : DriverError) (end : RunEnd) → e ≡ error_without fault → Gives e end
     → end ≡ end_without fault
 without (Some field) e end same gives = gives.0 field same
 without None e end same gives = gives.1 same
 
--- a driver was brought up before
+-- a run from the subsystem that bringing up a driver leaves is a run
 pub with_driver : (g : DriverGeometry) (reads : ℕ) (end : RunEnd) (old new : RunState) (s : State)
     (enabled : List Bool) → fault_of g ≡ None → s ≡ begun old
     → RunsFrom s reads end (record old { subsystem = s; enabled = enabled }) new → AllEnabled new
@@ -220,10 +224,12 @@ with_driver g reads end old new s enabled is same runs all =
 
 -- ---- the main promise
 
+-- an end without a driver isn't a status, so that the headline holds
 headline_without : (o : Option GeometryField) (old new : RunState) → Headline (end_without o) old new
 headline_without None old new status e = absurd (cc)
 headline_without (Some field) old new status e = absurd (cc)
 
+-- each run leaves what the headline says
 runs_headline : (g : DriverGeometry) (reads : ℕ) (end : RunEnd) (old new : RunState) → Runs g reads end old new
     → Headline end old new
 runs_headline g reads end old new (inl h) =
@@ -233,12 +239,14 @@ runs_headline g reads end old new (inr h) =
 
 -- ---- the geometry
 
+-- an end without a driver names a field of the geometry if and only if that is the first one outside its limits
 geometry_without : (o : Option GeometryField) (field : GeometryField)
     → (end_without o ≡ Geometry field) ↔ (o ≡ Some field)
 geometry_without None field = (λ e. absurd (cc), λ e. absurd (cc))
 geometry_without (Some f) field =
     (λ e. let same : f ≡ field = cc in ap Some same, λ e. let same : f ≡ field = cc in ap Geometry same)
 
+-- a run ends with a field of the geometry if and only if that is the first one outside its limits
 runs_geometry : (g : DriverGeometry) (reads : ℕ) (end : RunEnd) (old new : RunState) (field : GeometryField)
     → Runs g reads end old new → (end ≡ Geometry field) ↔ (fault_of g ≡ Some field)
 runs_geometry g reads end old new field (inl h) =
@@ -250,6 +258,7 @@ runs_geometry g reads end old new field (inr h) = (
 
 -- ---- the faults
 
+-- a run that has its end by IsEndOf has the faults of AreFaults
 faults_with : (reads : ℕ) (end : RunEnd) (now : RunState) → IsEndOf end reads now → AreFaults reads end now
 faults_with reads (Status status) now h =
     let stopped = h.0.not_stopped in
@@ -306,7 +315,7 @@ pub record IsWell (reads : ℕ) (now : RunState) : Type 0 where
   pub out : now.out.has_failed ≡ false
   pub messages : now.messages.has_failed ≡ false
 
--- before the first read
+-- a fresh source and sinks that haven't failed are well before the first read
 pub fresh_well : (reads : ℕ) (now : RunState) → IsFresh now.script → 0 < reads → now.out.has_failed ≡ false
     → now.messages.has_failed ≡ false → IsWell reads now
 fresh_well reads now fresh some out messages =
@@ -319,6 +328,7 @@ fresh_well reads now fresh some out messages =
     stays : (failed : Bool) (calls : ℕ) → failed ≡ false → calls ≡ 0 → (failed || calls == reads) ≡ false
     stays failed calls well none = grind (arith, nat_tests, well, none, some)
 
+-- a run without a driver has the faults of AreFaults, if the streams were well before it
 faults_without : (o : Option GeometryField) (reads : ℕ) (now : RunState) → IsWell reads now
     → AreFaults reads (end_without o) now
 faults_without (Some field) reads now well =
@@ -333,6 +343,7 @@ faults_without (Some field) reads now well =
     }
 faults_without None reads now well = faults_with reads Memory now (well.out, well.messages)
 
+-- each run has the faults of AreFaults, if the streams were well before it
 faults : (g : DriverGeometry) (reads : ℕ) (end : RunEnd) (old new : RunState) → IsWell reads old
     → Runs g reads end old new → AreFaults reads end new
 faults g reads end old new well (inl h) =

@@ -10,7 +10,9 @@ use Rattle.std.proofs.lemmas.List.{map-append}
 use Rattle.std.proofs.lemmas.List.Concat.{flat_map-append}
 use Rattle.nv_bits.specs.Above.{above}
 use Rattle.nv_command.specs.Received.{answer_received, first_of_log, received}
-use Rattle.nv_command.specs.Form.{is_error_log}
+use Rattle.nv_command.specs.LogPage.{log_asked}
+use Rattle.nv_command.specs.declared.log_page.LogPage.{LogPage}
+use Rattle.nv_command.specs.declared.log_page.LogPage.TheVariants.{ErrorInformation, Health}
 use Rattle.nv_command.specs.declared.command.Command.{Command}
 use Rattle.nv_command.specs.declared.command.Command.TheVariants as command
 use Rattle.nv_command.specs.declared.refusal.Refusal.{Refusal}
@@ -29,7 +31,7 @@ use Rattle.nv_line.specs.declared.request.Query.TheVariants as query
 use Rattle.nv_model.proofs.ManagementLaws.{none_holds}
 use Rattle.nv_model.specs.Features.{get_rows, set_rows, supported_rows}
 use Rattle.nv_model.specs.Identify.{active_reply}
-use Rattle.nv_model.specs.Logs.{entry_count}
+use Rattle.nv_model.specs.Logs.{entry_count, log_reply}
 use Rattle.nv_model.specs.Conditions.{active_nsids}
 use Rattle.nv_model.specs.Meaning.{refusal_of}
 use Rattle.nv_model.specs.Meaning.{reply_of}
@@ -53,34 +55,42 @@ use Rattle.nv_script.specs.declared.listing.Listing.{Listing}
 -- ---- a feature that a command is accepted for has a name, and so has its select
 
 module _ (s : State) (c fid : ℕ) (rows : Feature → List Row) where
+  -- the rows of this feature, or the refusal of an unknown one, refuse nothing
   abbrev IsAccepted : Option Feature → Type 0
   IsAccepted o = first_refusal (option_map_or rows o (row true InvalidFieldInCommand ∷ [])) ≡ None
 
+  -- there is a feature, and its rows refuse nothing
   abbrev IsFeature : Option Feature → Type 0
   IsFeature o = (f : Feature) × (o ≡ Some f) × (first_refusal (rows f) ≡ None)
 
+  -- a feature that is accepted if it is supported is a feature that is accepted
   by_support : (b : Bool) (f : Feature) → IsAccepted (if b then Some f else None) → IsFeature (Some f)
   by_support true f e = (f, refl, e)
   by_support false f e = absurd (cc e)
 
+  -- a feature that a controller accepts is a feature that is accepted
   by_feature : (x : Controller) (o : Option Feature)
       → IsAccepted (option_map_or (λ f. if is_supported x.rules x.identity.numbers.vwc f then Some f else None) o None)
       → IsFeature o
   by_feature x None e = absurd (cc e)
   by_feature x (Some f) e = by_support (is_supported x.rules x.identity.numbers.vwc f) f e
 
+  -- a feature identifier that a controller accepts, if there is one, belongs to a feature that is accepted
   by_controller : (o : Option Controller)
       → IsAccepted (option_map_or (λ x. supported x.rules x.identity.numbers.vwc fid) o None)
       → IsFeature (feature_of fid)
   by_controller None e = absurd (cc e)
   by_controller (Some x) e = by_feature x (feature_of fid) e
 
+  -- if no row of a feature command refuses it, its identifier belongs to a feature that is accepted
   supported_is_feature : first_refusal (supported_rows s c fid rows) ≡ None → IsFeature (feature_of fid)
   supported_is_feature e = by_controller (controller_at s c) e
 
+-- a number that isn't greater than 3 is at most 3
 up_to_three : (sel : ℕ) → nat_lt 3 sel ≡ false → sel ≤ 3
 up_to_three sel e = grind (arith, nat_tests)
 
+-- a number up to 3 selects a value
 select_is_known : (sel : ℕ) → sel ≤ 3 → IsSome (select_of sel)
 select_is_known zero h = refl
 select_is_known (suc zero) h = refl
@@ -88,12 +98,14 @@ select_is_known (suc (suc zero)) h = refl
 select_is_known (suc (suc (suc zero))) h = refl
 select_is_known (suc (suc (suc (suc n)))) h = absurd (omega arith)
 
+-- a value of a feature that exists, by a select that is known, is shown
 value_is_shown : (o : Option Feature) (select : Option Select) (f : Feature) (value : ℕ) → o ≡ Some f → IsSome select
     → IsSome (feature_value o select value)
 value_is_shown None select f value e is = absurd (cc e)
 value_is_shown (Some g) None f value e is = absurd (cc is)
 value_is_shown (Some g) (Some select) f value e is = refl
 
+-- the setting of a feature that exists is shown
 set_is_shown : (o : Option Feature) (f : Feature) (value : ℕ) (save : Bool) → o ≡ Some f
     → IsSome (feature_set o value save)
 set_is_shown None f value save e = absurd (cc e)
@@ -108,6 +120,7 @@ module _ (s : State) (serials : List ℕ) (c : ℕ) (show : List Reply → Optio
       outcome_after (answer_received k (step_by refusal s c k (get_or serials c 0)).answer) now next
       (outcome_of now next [])
 
+  -- a command that comes last and is accepted is shown if its reply is shown
   by_refusal : (refusal : Option Refusal) (now : State) (next : List ℕ)
       → (refusal ≡ None → IsSome (show (received k (reply_of s c k) ∷ []))) → (left refusal now next).refusal ≡ None
       → IsSome (show (left refusal now next).replies)
@@ -121,17 +134,20 @@ module _ (s : State) (serials : List ℕ) (c : ℕ) (show : List Reply → Optio
   last_is_shown is e = let x = exchange_by (Send k) s serials c in by_refusal (refusal_of s c k) x.state x.serials is e
 
 module _ (s : State) (serials : List ℕ) (c : ℕ) where
+  -- a command that comes alone and is accepted is shown if its reply is shown
   only_is_shown : (a : Ask) (k : Command)
       → (refusal_of s c k ≡ None → IsSome (shown_by a (received k (reply_of s c k))))
       → (outcome_of s serials (order_of c k ∷ [])).refusal ≡ None
       → IsSome (shown_of_one a (outcome_of s serials (order_of c k ∷ [])).replies)
   only_is_shown a k is e = last_is_shown s serials c (shown_of_one a) k is e
 
-  log_is_shown : (a : Ask) (room : ℕ) (b : Bool) (es : List ErrorEntry) (h : Smart)
-      → IsSome (shown_by a (first_of_log room (if b then reply.Errors es else reply.Smart h)))
-  log_is_shown a room true es h = refl
-  log_is_shown a room false es h = refl
+  -- the entries of an error log or the health log, as they are received, are shown for any ask
+  log_is_shown : (a : Ask) (room : ℕ) (page : LogPage)
+      → IsSome (shown_by a (first_of_log room (log_reply s c page)))
+  log_is_shown a room ErrorInformation = refl
+  log_is_shown a room Health = refl
 
+  -- the reply to a command that is accepted is shown
   command_is_shown : (k : Command) → refusal_of s c k ≡ None
       → IsSome (shown_by (ask.Send k) (received k (reply_of s c k)))
   command_is_shown (command.GetFeature q) e =
@@ -143,9 +159,10 @@ module _ (s : State) (serials : List ℕ) (c : ℕ) where
       let is = supported_is_feature s c x.fid (set_rows s c x) e in
       set_is_shown (feature_of x.fid) is.0 x.value x.save is.1
   command_is_shown (command.GetLog q) e =
-      log_is_shown (ask.Send (command.GetLog q)) (q.dwords / 16) (is_error_log q.lid) _ _
+      log_is_shown (ask.Send (command.GetLog q)) (q.dwords / 16) (log_asked q.lid)
   command_is_shown k e = refl
 
+  -- what one controller is asked is shown if none of its orders is refused
   one_is_shown : (a : Ask) → IsShown s serials (query.One c a)
   one_is_shown (ask.Send k) e = only_is_shown (ask.Send k) k (command_is_shown k) e
   one_is_shown ask.Reset e = refl
@@ -162,21 +179,25 @@ abbrev asked_place : ℕ → Act → List (ℕ × ℕ)
 asked_place c (Send (command.IdentifyNamespace n)) = (c, n) ∷ []
 asked_place c _ = []
 
+-- the namespace that an order asks for, with its controller
 abbrev order_place : Order → List (ℕ × ℕ)
 order_place o = asked_place o.controller o.act
 
+-- the controllers and NSIDs of the devices in a listing
 abbrev places_in : Listing → List (ℕ × ℕ)
 places_in l = map place_of l.devices
 
 module _ (s : State) (serials : List ℕ) (c : ℕ) (l : Listing) where
+  -- an answer to this act lists the namespace that the act asks for, and no other
   abbrev Tells : Act → Reply → Type 0
   Tells a reply = places_in (listing_told c l a (Ok reply)) ≡ places_in l ++ asked_place c a
 
-  -- the answer to an accepted act is listed if it asks for a namespace
+  -- the answer to Identify Controller lists no namespace
   identity_told : (reply : Reply) → Tells (Send command.IdentifyController) reply
   identity_told (reply.Controller identity) = sym (append-nil (places_in l))
   identity_told r = sym (append-nil (places_in l))
 
+  -- the answer to an accepted Identify Namespace lists that namespace
   namespace_told : (n : ℕ) (refusal : Option Refusal) (reply : Reply)
       → answer_received (command.IdentifyNamespace n)
       (step_by refusal s c (command.IdentifyNamespace n) (get_or serials c 0)).answer ≡ Ok reply
@@ -187,24 +208,29 @@ module _ (s : State) (serials : List ℕ) (c : ℕ) (l : Listing) where
       ∙ map-append place_of l.devices _
   namespace_told n (Some r) reply e = absurd (cc e)
 
+  -- the answer to any accepted act lists the namespace that it asks for
   told : (a : Act) (reply : Reply) → (exchange_by a s serials c).answer ≡ Ok reply → Tells a reply
   told (Send command.IdentifyController) reply e = identity_told reply
   told (Send (command.IdentifyNamespace n)) reply e =
       namespace_told n (refusal_of s c (command.IdentifyNamespace n)) reply e
   told a reply e = sym (append-nil (places_in l))
 
+-- if none of the orders is refused, the listing has the namespaces that they ask for, in order
 abbrev AreListed : List Order → State → List ℕ → Listing → Type 0
 AreListed orders s serials l = (outcome_of s serials orders).refusal ≡ None
     → places_in (listing_of l orders (map Ok (outcome_of s serials orders).replies))
     ≡ places_in l ++ flat_map order_place orders
 
 module _ (s : State) (serials : List ℕ) (o : Order) (os : List Order) (l : Listing) where
+  -- the exchange of the first order
   abbrev x : Exchange
   x = exchange_of s serials o
 
+  -- the outcome of all orders, by the answer to the first one
   abbrev after : Result Reply Status → Outcome
   after answer = outcome_after answer x.state x.serials (outcome_of x.state x.serials os)
 
+  -- if the later orders are listed whatever was listed before, so are the first order and the later ones
   one_more : ((l : Listing) → AreListed os x.state x.serials l) → (answer : Result Reply Status) → x.answer ≡ answer
       → (after answer).refusal ≡ None
       → places_in (listing_of l (o ∷ os) (map Ok (after answer).replies)) ≡ places_in l ++ flat_map order_place (o ∷ os)
@@ -214,6 +240,7 @@ module _ (s : State) (serials : List ℕ) (o : Order) (os : List Order) (l : Lis
       ∙ ap (λ ps. ps ++ flat_map order_place os) (told s serials o.controller l o.act reply is)
       ∙ append_assoc (places_in l) (order_place o) (flat_map order_place os)
 
+-- accepted orders are listed in order, whatever was listed before
 all_listed : (orders : List Order) (s : State) (serials : List ℕ) (l : Listing) → AreListed orders s serials l
 all_listed [] s serials l e = sym (append-nil (places_in l))
 all_listed (o ∷ os) s serials l e =
@@ -222,10 +249,12 @@ all_listed (o ∷ os) s serials l e =
 
 -- ---- the namespaces that `list` asks for
 
+-- the commands for some NSIDs of a controller ask for these namespaces
 asked_of_controller : (c : ℕ) (ns : List ℕ) → flat_map order_place (namespace_orders c ns) ≡ map (λ n. (c, n)) ns
 asked_of_controller c [] = refl
 asked_of_controller c (n ∷ ns) = ap (λ ps. (c, n) ∷ ps) (asked_of_controller c ns)
 
+-- the orders of some controllers ask for the namespaces that are attached to these controllers
 asked_of_controllers : (s : State) (cs : List ℕ)
     → flat_map order_place (flat_map (orders_of_controller s) cs) ≡ flat_map (places_of s) cs
 asked_of_controllers s [] = refl
@@ -233,14 +262,17 @@ asked_of_controllers s (c ∷ cs) =
     flat_map-append order_place (orders_of_controller s c) (flat_map (orders_of_controller s) cs)
     ∙ (λ i. asked_of_controller c (above 0 (active_nsids s c)) i ++ asked_of_controllers s cs i)
 
+-- `list` shows each attached namespace once if none of its orders is refused
 list_is_shown : (s : State) (serials : List ℕ) → IsListed s serials
 list_is_shown s serials e =
     all_listed (orders_of_list s) s serials no_listing e
     ∙ asked_of_controllers s (range_with_len 0 (length s.controllers))
 
+-- each query shows something if none of its orders is refused
 is_shown : (s : State) (serials : List ℕ) (q : Query) → IsShown s serials q
 is_shown s serials (query.One c a) e = one_is_shown s serials c a e
 is_shown s serials query.List e = refl
 
+-- whatever is accepted is shown
 pub each_is_shown : EachIsShown
 each_is_shown = record { queries = is_shown; namespaces = list_is_shown }

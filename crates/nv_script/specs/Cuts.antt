@@ -24,6 +24,7 @@ pub record Left : Type 0 where
   pub messages : Option (List ℕ)
   pub state : State
 
+-- the streams and the subsystem with these values
 abbrev pub left_at : Option (List ℕ) → Option (List ℕ) → Option (List ℕ) → Option (List ℕ) → State
     → Left
 left_at out_before out messages_before messages state = record {
@@ -63,7 +64,7 @@ abbrev pub IsMessageBeginning : Progress → List ℕ → Left → Type 0
 IsMessageBeginning p line left = (part : List ℕ) × IsBeginning part (result_at p line).message
     × Holds left p.output (p.messages ++ part) (result_at p line).state
 
--- memory was refused: nothing of the line is written, and some of its orders were carried out
+-- memory was refused: nothing of the line is written, and some of its orders were executed
 abbrev pub IsMemoryBeginning : Progress → List ℕ → Left → Type 0
 IsMemoryBeginning p line left = (k : ℕ)
     × Holds left p.output p.messages (state_amid p.state p.serials (said_at p line) k)

@@ -5,7 +5,7 @@ use Rattle.nv_bits.specs.Above.{above}
 use Rattle.nv_line.specs.declared.request.Query.{Query}
 use Rattle.nv_model.specs.Conditions.{active_nsids}
 use Rattle.nv_model.specs.State.{State}
-use Rattle.nv_print.specs.declared.device.Device.{Device}
+use Rattle.nv_print.specs.declared.device.ListedDevice.{ListedDevice}
 use Rattle.nv_script.specs.Orders.{orders_of, orders_of_list}
 use Rattle.nv_script.specs.Outcomes.{outcome_of}
 use Rattle.nv_script.specs.Shown.{listing_of, no_listing, shown_of}
@@ -17,7 +17,7 @@ IsShown s serials q =
     o.refusal ≡ None → IsSome (shown_of (orders_of s q) q o.replies)
 
 -- the two numbers of a controller's namespace
-abbrev pub place_of : Device → ℕ × ℕ
+abbrev pub place_of : ListedDevice → ℕ × ℕ
 place_of d = (d.controller, d.nsid)
 
 -- the namespaces that are attached to a controller

@@ -6,6 +6,7 @@ use Rattle.nv_driver.specs.declared.error.DriverError.TheVariants as error
 use Rattle.nv_script.specs.declared.ends.RunEnd.{RunEnd}
 use Rattle.nv_script.specs.declared.ends.RunEnd.TheVariants as end
 
+-- the text of each end
 abbrev pub end_text : RunEnd → List ℕ
 end_text (end.Status status) = codes "status " ++ decimal status
 end_text (end.Geometry field) = error_text (error.Geometry field)

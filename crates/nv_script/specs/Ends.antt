@@ -24,6 +24,7 @@ pub record RunState : Type 0 where
   pub out : SinkState
   pub messages : SinkState
 
+-- what a run on this bus and these streams works on
 abbrev pub run_state : BusValue → SourceState → SinkState → SinkState → RunState
 run_state b script out messages = record {
   subsystem = b.state;
@@ -41,32 +42,32 @@ begun old = reset_where old.enabled old.subsystem
 abbrev pub AllEnabled : RunState → Type 0
 AllEnabled now = now.enabled ≡ replicate (length now.subsystem.controllers) true
 
--- what a run left, beside what there was before it
+-- what a run left, with what there was before it
 abbrev pub left_by : RunState → RunState → Left
 left_by old new =
     left_at old.out.taken new.out.taken old.messages.taken new.messages.taken new.subsystem
 
--- the bytes that a run read: the first of those to come, where they are told, and as many as were
+-- the bytes that a run read: the first of the bytes to come, if those are known, and as many as were
 -- given
 pub record WasRead (old new : SourceState) (bytes : List ℕ) : Type 0 where
   pub first : Consumes old.to_come new.to_come bytes
   pub count : length bytes ≡ new.given
 
--- a script was carried out whole, from s on, and the status is that of its last line that has one
+-- all lines of a script were executed, from s on, and its status is the status of the last line that has one
 abbrev pub LeavesAll : ℕ → State → List ℕ → Left → Type 0
 LeavesAll status s bytes left =
     (status ≡ (whole s (script_lines bytes)).status) × HoldsWhole s (script_lines bytes) left
 
--- What each end of a run with a driver leaves, where it began at s and read these bytes of a
--- script. A status: all lines. A read fault: the lines whose newline was read. Any other cut it short
--- in a line.
+-- What each end of a run with a driver leaves, if the run began at s and read these bytes of a
+-- script. With a status, all lines were executed. With a read fault, the lines whose newline was read
+-- were executed. Any other end cut the run short in a line.
 abbrev pub Leaves : RunEnd → ℕ → SourceState → State → List ℕ → Left → Type 0
 Leaves (Status status) reads script s bytes left = LeavesAll status s bytes left
 Leaves Read reads script s bytes left = HoldsWhole s (pieces bytes).ended left
 Leaves end reads script s bytes left = IsCutShort end reads script s bytes left
 
--- Which end it is: a write's exactly where that sink has failed; Read exactly where no write
--- failed, no memory was refused and the source has stopped; a status only where the script was read
+-- Which end it is: a failed write's if and only if that sink has failed; Read if and only if no write
+-- failed, no memory was refused and the source has stopped; and a status only if the script was read
 -- to its end
 abbrev pub IsEndOf : RunEnd → ℕ → RunState → Type 0
 IsEndOf (Status status) reads now = IsReadToEnd reads now.script
@@ -84,28 +85,28 @@ pub record RunsFrom (s : State) (reads : ℕ) (end : RunEnd) (old new : RunState
   pub calls : new.script.calls ≤ reads
 
 -- the end of a run that got no driver or no room for answers: the first field of the geometry that
--- is out of its limits, or, where no field is, want of memory
+-- is outside its limits, or, if no field is, lack of memory
 abbrev pub end_without : Option GeometryField → RunEnd
 end_without (Some field) = Geometry field
 end_without None = Memory
 
--- A run without a driver changes nothing. One with a driver is in a geometry within its limits,
--- which occurs nowhere else, and leaves each controller enabled.
+-- A run without a driver changes nothing. A run with a driver has a geometry within its limits,
+-- which has no other effect, and leaves each controller enabled.
 abbrev pub Runs : DriverGeometry → ℕ → RunEnd → RunState → RunState → Type 0
 Runs g reads end old new =
     ((end ≡ end_without (fault_of g)) × (new ≡ old))
     ⊎ ((fault_of g ≡ None) × AllEnabled new × RunsFrom (begun old) reads end old new)
 
--- the headline: a script that is told and was read to its end leaves what the fold over its lines
--- says
+-- the headline: a script whose bytes are known and that was read to its end leaves what the fold
+-- over its lines says
 abbrev pub Headline : RunEnd → RunState → RunState → Type 0
 Headline end old new = (status : ℕ) → end ≡ Status status
     → IfSome old.script.to_come
     (λ script. LeavesAll status (begun old) script (left_by old new))
 
--- When each fault comes: a write's exactly where that sink has failed; a read's exactly where the
--- source has stopped, no write failed and no memory was refused; a controller that isn't ready,
--- never.
+-- When each fault occurs: a failed write if and only if that sink has failed; a failed read if and
+-- only if the source has stopped, no write failed and no memory was refused; and a controller that
+-- isn't ready never.
 pub record AreFaults (reads : ℕ) (end : RunEnd) (now : RunState) : Type 0 where
   pub ready : end ≢ NoReady
   pub out_write : (end ≡ OutWrite) ↔ (now.out.has_failed ≡ true)
@@ -116,10 +117,10 @@ pub record AreFaults (reads : ℕ) (end : RunEnd) (now : RunState) : Type 0 wher
 
 -- What a run of at most so many reads promises.
 pub record IsRun (g : DriverGeometry) (reads : ℕ) (end : RunEnd) (old new : RunState) : Type 0 where
-  -- a script that is told and was read to its end: the fold over its lines
+  -- what a script whose bytes are known leaves if it was read to its end
   pub headline : Headline end old new
-  -- each end: what it leaves, and how many reads there were
+  -- what each end leaves, and how many reads there were
   pub ends : Runs g reads end old new
-  -- when each fault comes
+  -- when each fault occurs
   pub geometry : (field : GeometryField) → (end ≡ Geometry field) ↔ (fault_of g ≡ Some field)
   pub faults : AreFaults reads end new

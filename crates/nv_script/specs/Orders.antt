@@ -36,6 +36,7 @@ orders_of_one s c ask.Reset = record { controller = c; act = Reset } ∷ []
 
 -- ---- each controller is asked for its namespaces
 
+-- the commands for the data of these namespaces, in order
 abbrev pub namespace_orders : ℕ → List ℕ → List Order
 namespace_orders c nsids = map (λ n. order_of c (IdentifyNamespace n)) nsids
 
@@ -45,6 +46,7 @@ orders_of_controller s c =
     order_of c IdentifyController ∷ order_of c (ActiveList 0)
     ∷ namespace_orders c (above 0 (active_nsids s c))
 
+-- the orders of each controller, one controller after another
 abbrev pub orders_of_list : State → List Order
 orders_of_list s = flat_map (orders_of_controller s) (range_with_len 0 (length s.controllers))
 

@@ -30,6 +30,7 @@ pub record Exchange : Type 0 where
   pub state : State
   pub serials : List ℕ
 
+-- the exchange with these values
 abbrev pub exchange_with : Result Reply Status → State → List ℕ → Exchange
 exchange_with answer s serials = record { answer = answer; state = s; serials = serials }
 

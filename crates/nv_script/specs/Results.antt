@@ -50,6 +50,7 @@ answer_result (Some status) number s r o = record {
   serials = o.serials;
 }
 
+-- a request prints by whether its outcome is a refusal
 abbrev pub request_result : ℕ → State → Request → Outcome → LineResult
 request_result number s r o = answer_result o.refusal number s r o
 
@@ -89,6 +90,7 @@ said_at p line = reading line (length p.state.controllers)
 abbrev pub result_at : Progress → List ℕ → LineResult
 result_at p line = line_result p.state p.serials (p.number + 1) (said_at p line)
 
+-- the progress after a line with this result
 abbrev pub progress_with : Progress → LineResult → Progress
 progress_with p r = record {
   output = p.output ++ r.output;
@@ -99,6 +101,7 @@ progress_with p r = record {
   number = p.number + 1;
 }
 
+-- the progress after one more line
 abbrev pub after : Progress → List ℕ → Progress
 after p line = progress_with p (result_at p line)
 

@@ -20,6 +20,7 @@ with_byte p b =
     if is_newline b then (record { ended = p.ended ++ p.last ∷ []; last = [] })
     else (record { ended = p.ended; last = p.last ++ b ∷ [] })
 
+-- the pieces of some bytes
 abbrev pub pieces : List ℕ → Pieces
 pieces bytes = fold with_byte (record { ended = []; last = [] }) bytes
 

@@ -29,10 +29,12 @@ use Rattle.nv_script.specs.declared.listing.Listing.{Listing}
 
 -- ---- one controller was asked
 
+-- the value of a feature, if both the feature and the select are known
 abbrev pub feature_value : Option Feature → Option Select → ℕ → Option Shown
 feature_value (Some f) (Some select) value = Some (shown.FeatureValue f select value)
 feature_value _ _ value = None
 
+-- the setting of a feature, if the feature is known
 abbrev pub feature_set : Option Feature → ℕ → Bool → Option Shown
 feature_set f value save = option_map (λ f. shown.FeatureSet f value save) f
 
@@ -71,6 +73,7 @@ shown_of_one a (reply ∷ next ∷ later) = shown_of_one a (next ∷ later)
 
 -- ---- each controller was asked
 
+-- a listing with nothing in it yet
 abbrev pub no_listing : Listing
 no_listing = record { identity = no_controller; devices = [] }
 
@@ -101,6 +104,7 @@ abbrev pub written : OutputFormat → Shown → List ℕ
 written Normal shown = text_of shown
 written Json shown = if has_json shown then json_of shown else text_of shown
 
+-- the bytes that are printed, if anything is shown
 abbrev pub output_of : OutputFormat → Option Shown → List ℕ
 output_of wanted None = []
 output_of wanted (Some shown) = written wanted shown

@@ -14,7 +14,7 @@ ghost use Rattle.nv_script.specs.inner.ScriptLines.{buffer_after, buffer_of};
 ghost use Rattle.nv_driver.specs.Linked.{IsLinked};
 
 use crate::ends::RunEnd;
-use crate::performing::{Stop, perform};
+use crate::performing::{NoText, perform};
 use crate::session::Session;
 use nv_bus::Bus;
 use nv_line::{CtrlList, LINE_LIMIT, Line, LineFault, LineReader};
@@ -172,9 +172,9 @@ pub(crate) fn execute_line<B: Bus, O: Sink, M: Sink>(
                 session.status = 0;
                 print(out, &text, RunEnd::OutWrite)
             }
-            Err(Stop::Memory) => Err(RunEnd::Memory),
-            Err(Stop::NoReady) => Err(RunEnd::NoReady),
-            Err(Stop::Refused(status)) => {
+            Err(NoText::Memory) => Err(RunEnd::Memory),
+            Err(NoText::NoReady) => Err(RunEnd::NoReady),
+            Err(NoText::Refused(status)) => {
                 session.status = 2;
                 report(session, messages, FaultCause::Refused(status))
             }

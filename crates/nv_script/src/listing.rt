@@ -14,13 +14,13 @@ ghost use Rattle.nv_script.specs.Orders.{namespace_orders, orders_of_controller}
 ghost use Rattle.nv_script.specs.inner.Performing.{ListedAll};
 ghost use Rattle.nv_script.specs.Shown.{listing_of, listing_told, no_listing};
 
-use crate::performing::Stop;
+use crate::performing::NoText;
 use crate::session::{Answers, BATCH};
 use nv_bus::Bus;
 use nv_command::{Command, Reply};
 use nv_driver::{Answer, AnswerSlot, Driver};
 use nv_layout::IdCtrl;
-use nv_print::{Device, DeviceList};
+use nv_print::{DeviceList, ListedDevice};
 use std::alloc::Global;
 use std::array;
 
@@ -28,35 +28,7 @@ use std::array;
 fn no_controller() -> IdCtrl
     ensures { result ≡ no_controller }
 {
-    IdCtrl {
-        vid: 0,
-        ssvid: 0,
-        sn: [0; 20],
-        mn: [0; 40],
-        fr: [0; 8],
-        rab: 0,
-        ieee: 0,
-        cmic: 0,
-        mdts: 0,
-        cntlid: 0,
-        ver: 0,
-        oacs: 0,
-        frmw: 0,
-        lpa: 0,
-        elpe: 0,
-        npss: 0,
-        wctemp: 0,
-        cctemp: 0,
-        tnvmcap: 0,
-        unvmcap: 0,
-        sqes: 0,
-        cqes: 0,
-        nn: 0,
-        oncs: 0,
-        fna: 0,
-        vwc: 0,
-        subnqn: [0; 256],
-    }
+    IdCtrl::get(&[0; 4096])
 }
 
 /// The data of the controller that was asked last, and the devices so far.
@@ -78,7 +50,7 @@ impl Listing {
     }
 
     /// Keeps the answer to a command of a controller. A refusal is returned.
-    fn tell(&mut self, ctrl: u16, command: &Command, answer: Answer) -> Result<(), Stop>
+    fn tell(&mut self, ctrl: u16, command: &Command, answer: Answer) -> Result<(), NoText>
         ensures accepted { OnOk result (IsOk answer.entry) }
         ensures told { OnOk result
             (self.new ≡ listing_told ctrl self.old (Send command.now) answer.entry) }
@@ -90,8 +62,7 @@ impl Listing {
                 self.identity = *identity.get();
             }
             (Command::IdentifyNamespace { nsid }, Reply::Namespace(namespace)) => {
-                self.devices
-                    .push(Device::new(ctrl, *nsid, &self.identity, namespace.get()))?;
+                self.devices.push(ListedDevice::new(ctrl, *nsid, &self.identity, namespace.get()))?;
             }
             _ => {}
         }
@@ -104,7 +75,7 @@ impl Listing {
         ctrl: u16,
         commands: &[Command],
         answers: &[AnswerSlot],
-    ) -> Result<(), Stop>
+    ) -> Result<(), NoText>
         requires len { length answers.now ≡ length commands.now }
         ensures accepted { OnOk result (All IsOk answers.now) }
         ensures told { OnOk result
@@ -148,7 +119,7 @@ fn list_batch<B: Bus>(
     ctrl: u16,
     nsids: &[u32],
     listing: &mut Listing,
-) -> Result<(), Stop>
+) -> Result<(), NoText>
     requires linked { IsLinked (B.meaning bus.old) driver.old }
     requires controller { ctrl < length driver.old.pairs }
     requires some { 0 < length nsids.now }
@@ -174,7 +145,7 @@ fn list_namespaces<B: Bus>(
     ctrl: u16,
     nsids: &[u32],
     listing: &mut Listing,
-) -> Result<(), Stop>
+) -> Result<(), NoText>
     requires linked { IsLinked (B.meaning bus.old) driver.old }
     requires controller { ctrl < length driver.old.pairs }
     ensures left { (w : Standing)
@@ -201,7 +172,7 @@ fn list_controller<B: Bus>(
     answers: &mut Answers,
     ctrl: u16,
     listing: &mut Listing,
-) -> Result<(), Stop>
+) -> Result<(), NoText>
     requires linked { IsLinked (B.meaning bus.old) driver.old }
     requires controller { ctrl < length driver.old.pairs }
     ensures left { (w : Standing)
@@ -228,7 +199,7 @@ pub(crate) fn list<B: Bus>(
     bus: &mut B,
     driver: &mut Driver,
     answers: &mut Answers,
-) -> Result<DeviceList, Stop>
+) -> Result<DeviceList, NoText>
     requires linked { IsLinked (B.meaning bus.old) driver.old }
     ensures left { ListedAll result
         (B.meaning bus.old).state (serials_of driver.old)

@@ -11,7 +11,7 @@ ghost use Rattle.nv_script.specs.EachShown.{EachIsShown};
 ghost use Rattle.nv_script.specs.Shown.{feature_set, feature_value, output_of, shown_by, shown_done};
 ghost use Rattle.nv_script.specs.inner.Orders.{log_command};
 ghost use Rattle.nv_script.specs.inner.Performing.{AskLeaves, RequestLeaves};
-ghost use Rattle.nv_script.specs.declared.performing.Stop.TheVariants as why;
+ghost use Rattle.nv_script.specs.declared.performing.NoText.TheVariants as why;
 
 use crate::listing::list;
 use crate::session::Answers;
@@ -26,7 +26,7 @@ use std::cmp;
 
 /// Why a request has no text.
 #[derive(Drop)]
-pub enum Stop {
+pub enum NoText {
     /// A command was refused with this status.
     Refused(Status),
     /// Memory was refused.
@@ -35,27 +35,27 @@ pub enum Stop {
     NoReady,
 }
 
-impl From<Status> for Stop {
+impl From<Status> for NoText {
     ghost from_gives = { λ status stop. stop ≡ why.Refused status };
 
-    fn from(status: Status) -> Stop {
-        Stop::Refused(status)
+    fn from(status: Status) -> NoText {
+        NoText::Refused(status)
     }
 }
 
-impl From<Memory> for Stop {
+impl From<Memory> for NoText {
     ghost from_gives = { λ _ stop. stop ≡ why.Memory };
 
-    fn from(_: Memory) -> Stop {
-        Stop::Memory
+    fn from(_: Memory) -> NoText {
+        NoText::Memory
     }
 }
 
-impl From<AllocError> for Stop {
+impl From<AllocError> for NoText {
     ghost from_gives = { λ _ stop. stop ≡ why.Memory };
 
-    fn from(_: AllocError) -> Stop {
-        Stop::Memory
+    fn from(_: AllocError) -> NoText {
+        NoText::Memory
     }
 }
 
@@ -86,7 +86,7 @@ fn last_reply<'a, B: Bus>(
     answers: &'a mut Answers,
     ctrl: u16,
     ask: &Ask,
-) -> Result<Reply<'a>, Stop>
+) -> Result<Reply<'a>, NoText>
     requires linked { IsLinked (B.meaning bus.old) driver.old }
     requires known { IsAskKnown (length driver.old.pairs) ctrl ask.now }
     ensures left { AskLeaves result ctrl ask.now
@@ -108,7 +108,7 @@ fn last_reply<'a, B: Bus>(
         }
         Ask::Reset => match driver.reset(bus, ctrl) {
             Ok(()) => Ok(Reply::Done),
-            Err(_) => Err(Stop::NoReady),
+            Err(_) => Err(NoText::NoReady),
         },
     }
 }
@@ -200,7 +200,7 @@ pub(crate) fn perform<B: Bus>(
     driver: &mut Driver,
     answers: &mut Answers,
     request: &Request,
-) -> Result<Vec<u8>, Stop>
+) -> Result<Vec<u8>, NoText>
     requires linked { IsLinked (B.meaning bus.old) driver.old }
     requires known { IsQueryKnown (length driver.old.pairs) request.now.query }
     ensures left { RequestLeaves result request.now

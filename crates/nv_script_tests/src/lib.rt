@@ -10,6 +10,8 @@ mod lines;
 #[cfg(test)]
 mod list_turns;
 #[cfg(test)]
+mod own_memory;
+#[cfg(test)]
 mod resets_over_runs;
 #[cfg(test)]
 mod stops;

@@ -1,9 +1,10 @@
 //! The number of turns in which `list` asks controllers.
 
 ghost use Rattle.std.specs.Prelude.{◌≡◌};
+ghost use Rattle.nv_controller.specs.Machine.{bus_of};
 
 use nv_controller::{Bus, Machine};
-use nv_host::HostMemory;
+use nv_host::paged::PagedMemory;
 use nv_script::{Geometry, OverRead, OverWrite, RunEnd, run};
 use nv_subsystem::Subsystem;
 use std::alloc::{AllocError, Global};
@@ -25,7 +26,7 @@ struct TurnCounts {
 impl TurnCounts {
     /// Creates controllers that have had no turn yet.
     fn new(machine: Machine) -> TurnCounts
-        ensures { ⟦<TurnCounts as Bus>⟧.meaning result ≡ machine }
+        ensures { ⟦<TurnCounts as Bus>⟧.meaning result ≡ bus_of machine }
     {
         TurnCounts {
             machine,
@@ -36,7 +37,7 @@ impl TurnCounts {
 }
 
 impl Bus for TurnCounts {
-    ghost meaning = { λ t. t.machine };
+    ghost meaning = { λ t. bus_of t.machine };
 
     fn controllers(&self) -> u16 {
         self.machine.controllers()
@@ -50,7 +51,7 @@ impl Bus for TurnCounts {
         self.machine.write32(ctrl, offset, dword)
     }
 
-    fn turn<M: HostMemory>(&mut self, ctrl: u16, mem: &mut M, most: u16) -> u16 {
+    fn turn<M: PagedMemory>(&mut self, ctrl: u16, mem: &mut M, most: u16) -> u16 {
         let count = self.machine.turn(ctrl, mem, most);
         if self.turns < KEPT {
             self.taken[self.turns] = count;

@@ -1,6 +1,7 @@
 //! Several runs over the same controllers.
 
 ghost use Rattle.nv_bus.specs.Bus.{IsBus};
+ghost use Rattle.nv_controller.specs.Machine.{bus_of};
 
 use nv_controller::Machine;
 use nv_layout::ThreeBits;
@@ -25,8 +26,8 @@ fn expect_run(
     script: &str,
     want: (RunEnd, &str),
 )
-    requires { IsBus machine.old }
-    ensures { IsBus machine.new }
+    requires { IsBus (bus_of machine.old) }
+    ensures { IsBus (bus_of machine.new) }
 {
     let mut script = OverRead::new(script.as_bytes());
     let mut out = OverWrite::new(Vec::new(alloc));

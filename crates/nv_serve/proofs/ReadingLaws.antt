@@ -12,7 +12,7 @@ use Rattle.nv_serve.specs.Header.{IsCutShort, header_of, sent_length}
 use Rattle.nv_serve.specs.declared.header.Header.{Header}
 use Rattle.nv_serve.specs.inner.Reading.{Fills, Reads, request}
 
--- the beginning of a list whose middle was read
+-- the first a + n elements of a list whose middle was replaced are its first a and n of the new ones
 take_part : (a k n : ℕ) (xs ys : List ℕ) → a ≤ length xs → n ≤ length ys
     → take (a + n) (put_mid a k xs ys) ≡ take a xs ++ take n ys
 take_part a k n xs ys low few =
@@ -21,7 +21,7 @@ take_part a k n xs ys low few =
     ∙ ap (λ m. take (m + n) (take a xs ++ ys)) (sym (length-take-le a xs low))
     ∙ take-append-add (take a xs) ys n
 
--- another read fills more of a buffer
+-- if n bytes of a buffer were read and more are read after them, n + more bytes were read
 pub fills_more : {n more : ℕ} {old mid new : SourceState} {buf : List ℕ} (k : ℕ) (part : List ℕ)
     → Fills n old mid buf → n ≤ length buf
     → more ≤ length part → Consumes mid.to_come new.to_come (take more part) → new.given ≡ mid.given + more
@@ -32,7 +32,7 @@ fills_more {n} {more} {old} {mid} {new} {buf} k part fills low few next given = 
   given = omega (arith, given, fills.given);
 }
 
--- a part of a header, which is a request cut short
+-- a header of which only a part was read is a request cut short
 pub header_cut : {n : ℕ} {old new : SourceState} {buf : List ℕ} → length buf ≡ 72 → n < length buf → Fills n old new buf
     → IsCutShort (request (take n buf) []) × Reads (request (take n buf) []) old new
 header_cut {n} {old} {new} {buf} long part fills =
@@ -45,7 +45,7 @@ header_cut {n} {old} {new} {buf} long part fills =
       },
     )
 
--- a header, and then data
+-- if a header and then n bytes of data were read, the request of both was read
 pub reads_both : {n : ℕ} {old mid new : SourceState} {header buf : List ℕ} → Fills (length header) old mid header
     → Fills n mid new buf → n ≤ length buf → Reads (request header (take n buf)) old new
 reads_both {n} {old} {mid} {new} {header} {buf} first fills few = record {
@@ -54,7 +54,7 @@ reads_both {n} {old} {mid} {new} {header} {buf} first fills few = record {
   given = omega (arith, first.given, fills.given, length-append header (take n buf), length-take-le n buf few);
 }
 
--- a header and data that is incomplete: a buffer for the data wasn't filled
+-- a header whose data was read only in part is a request cut short
 pub data_cut : {n len : ℕ} {header : List ℕ} {h : Header} (sent buf : List ℕ) → length header ≡ 72
     → h ≡ header_of header → h.length ≤ 1048576 → len ≡ sent_length h → len ≤ h.length → length sent ≡ 1048576
     → length buf ≡ length (take len sent) → n < length buf → IsCutShort (request header (take n buf))

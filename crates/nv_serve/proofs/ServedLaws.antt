@@ -44,12 +44,12 @@ pub record Stands (p now : Point) (old new : SourceState) (requests : List Reque
   pub was_read : Consumes old.to_come new.to_come (flat_map bytes_of requests)
   pub count : new.given ≡ old.given + length (flat_map bytes_of requests)
 
--- no request so far
+-- before the first request, nothing was read or answered
 pub stands_first : (p : Point) (source : SourceState) → Stands p p source source [] []
 stands_first p source =
     record { answered = tt; reached = refl; was_read = Consumes-same source.to_come; count = omega arith }
 
--- one more request
+-- requests with their answers, and one more complete request with its answer, are all answered
 answered_more : (p : Point) (requests : List Request) (answers : List Answer) (r : Request) (a : Answer)
     → AreAnswered p requests answers → IsWhole r → IsAnswer (after_all p requests) r a
     → AreAnswered p (requests ++ r ∷ []) (answers ++ a ∷ [])
@@ -59,11 +59,13 @@ answered_more p (q ∷ qs) [] r a are whole is = absurd are
 answered_more p (q ∷ qs) (b ∷ bs) r a are whole is =
     (are.0, are.1, answered_more (after_one p q) qs bs r a are.2 whole is)
 
+-- the bytes of several requests and one more are the bytes of the requests and then the bytes of the one
 reads_more : (requests : List Request) (r : Request)
     → flat_map bytes_of (requests ++ r ∷ []) ≡ flat_map bytes_of requests ++ bytes_of r
 reads_more requests r = flat_map-append bytes_of requests (r ∷ [])
     ∙ ap (λ xs. flat_map bytes_of requests ++ xs) (append-nil (bytes_of r))
 
+-- one more complete request that was read and answered extends what was read and executed by it
 pub stands_more : (p now : Point) {later : Point} {old mid new : SourceState} {requests : List Request}
     {answers : List Answer} (r : Request) (a : Answer) → Stands p now old mid requests answers → IsWhole r
     → Reads r mid new → IsAnswer now r a → later ≡ after_one now r
@@ -84,10 +86,11 @@ stands_more p now {later} {old} {mid} {new} {requests} {answers} r a stands whol
   );
 }
 
+-- a sink that hasn't failed has taken no answers at first
 pub taken_first : {s : SinkState} → s.has_failed ≡ false → HasTaken s s []
 taken_first {s} ready = record { taken = Appends-same s.taken; not_failed = ready }
 
--- its answer was written
+-- after one more answer was written, the sink took it too
 pub taken_more : (old mid new : SinkState) (answers : List Answer) (a : Answer) → HasTaken old mid answers
     → Appends mid.taken new.taken (answer_bytes a) → new.has_failed ≡ false → HasTaken old new (answers ++ a ∷ [])
 taken_more old mid new answers a so_far wrote ready =
@@ -99,7 +102,7 @@ taken_more old mid new answers a so_far wrote ready =
       not_failed = ready;
     }
 
--- a beginning of its answer was written
+-- if only a beginning of one more answer was written, the sink took a part of all answers
 pub taken_part : (old mid new : SinkState) (answers : List Answer) (a : Answer) → HasTaken old mid answers
     → WritesAll false mid.taken new.taken (answer_bytes a) → new.has_failed ≡ true
     → HasTakenPart old new (answers ++ a ∷ [])
@@ -113,7 +116,7 @@ taken_part old mid new answers a so_far wrote failed = record {
   failed = failed;
 }
 
--- the greatest length of a request in bytes
+-- a complete request has at most 72 bytes and the greatest length of data
 pub request_few : {r : Request} → IsWhole r → length (bytes_of r) ≤ 72 + most_data
 request_few {r} whole =
     let few = sent_few (header_of r.header).kind (header_of r.header) in
@@ -127,6 +130,7 @@ request_few {r} whole =
 
 -- ---- the ends
 
+-- reading an empty request leaves the source unchanged
 nothing : (source : SourceState) → Reads (request [] []) source source
 nothing source = record { bytes = Consumes-same source.to_come; given = omega arith }
 
@@ -136,7 +140,7 @@ still_open ready = record { not_failed = ready.not_failed; not_ended = ready.not
 
 module _ (p : Point) {now : Point} {old mid : SourceState} {requests : List Request} {answers : List Answer}
     (stands : Stands p now old mid requests answers) (before after : Streams) (same : before.source ≡ old) where
-  -- serving has reached one of the ends, after a rest was read
+  -- what was served and a rest with its answer are right for the end that was reached
   pub ends_at : (end : RequestsEnd) (rest : Request) (last : List Answer) → Reads rest mid after.source
       → IsRest rest last → IsEnd end rest requests (answers ++ last) before after
       → IsServed p end now.subsystem before after
@@ -160,29 +164,34 @@ module _ (p : Point) {now : Point} {old mid : SourceState} {requests : List Requ
   }
 
   module _ (taken : HasTaken before.out after.out answers) where
+    -- without a further answer, the sink took the same answers
     all : HasTaken before.out after.out (answers ++ [])
     all = subst (HasTaken before.out after.out) (sym (append-nil answers)) taken
 
+    -- the end is Done if the source ended between two requests
     pub ends_done : Reads (request [] []) mid after.source → HasEnded after.source
         → IsServed p Done now.subsystem before after
     ends_done read ended = ends_at Done (request [] []) [] read (IsRest.none refl refl) (refl, ended, all)
 
+    -- the end is Short if the source ended inside a request
     pub ends_short : {rest : Request} → IsCutShort rest → bytes_of rest ≢ [] → Reads rest mid after.source
         → HasEnded after.source → IsServed p Short now.subsystem before after
     ends_short {rest} cut some read ended =
         ends_at Short rest [] read (IsRest.cut cut refl) (cut, some, ended, all)
 
+    -- the end is Read if the source failed between two requests or inside one
     pub ends_failed : {rest : Request} → IsCutShort rest → Reads rest mid after.source
         → HasFailed after.source → IsServed p Read now.subsystem before after
     ends_failed {rest} cut read failed = ends_at Read rest [] read (IsRest.cut cut refl)
         (inl (cut, failed), all)
 
+    -- the end is Read if the greatest number of requests was reached
     pub ends_full : after.source ≡ mid → IsOpen after.source → length requests ≡ request_limit
         → IsServed p Read now.subsystem before after
     ends_full here ready many = ends_at Read (request [] []) [] (rw here (nothing mid)) (IsRest.none refl refl)
         (inr (refl, ready, many), all)
 
-  -- if the last answer wasn't written, nothing more was read
+  -- the end is Write if the last answer wasn't written, and nothing more was read
   pub ends_unwritten : after.source ≡ mid → IsOpen after.source → HasTakenPart before.out after.out answers
       → IsServed p Write now.subsystem before after
   ends_unwritten here ready part =
@@ -191,14 +200,14 @@ module _ (p : Point) {now : Point} {old mid : SourceState} {requests : List Requ
 
 -- ---- with or without a driver
 
--- a driver was brought up
+-- the subsystem and the serials of a new driver are what the first request finds
 pub begun_is : (b now : BusValue) {d : DriverValue} (g : Geometry) (more : ℕ)
     → now.state ≡ reset_where (enabled_in b.banks) b.state → d ≡ driver_with g (length b.banks) more
     → point_of now d ≡ begun b
 begun_is b now g more state value =
     let serials = ap serials_of value ∙ first_serials g (length b.banks) in λ i. point (state i) (serials i)
 
--- why there is no driver
+-- an end without a driver is the one for the first field of the geometry outside its limits, or for lack of memory
 pub end_is : (fault : Option GeometryField) (e : DriverError) (end : ServeEnd) → e ≡ error_without fault
     → ((field : GeometryField) → e ≡ error.Geometry field → end ≡ stop.Geometry field)
     × (e ≡ error.Memory → end ≡ stop.Memory) × (e ≡ error.NoReady → end ≡ stop.NoReady)

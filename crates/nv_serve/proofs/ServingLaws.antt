@@ -15,7 +15,7 @@ use Rattle.nv_serve.specs.Serving.{after_header, after_if, after_kind, after_res
 use Rattle.nv_serve.specs.declared.header.Header.{Header}
 use Rattle.nv_serve.specs.inner.Serving.{point_of}
 
--- an entry was sent
+-- an entry that the driver sent leaves the point after that entry
 pub sent_on : (b b' : BusValue) (d : DriverValue) {d' : DriverValue} (c : ℕ) (e : Sqe) (bytes : List ℕ)
     → c < length d.pairs
     → b'.state ≡ (entry_step b.state c e bytes (pair_at d.pairs c).serial).state → d' ≡ after_command d c
@@ -25,25 +25,25 @@ sent_on b b' d {d'} c e bytes below state driver =
     let next = serials_after d d' c below driver in
     λ i. point (reached i) (next i)
 
--- a controller was reset
+-- a reset by the driver leaves the point after that reset
 pub reset_on : (b b' : BusValue) (d : DriverValue) {d' : DriverValue} (c : ℕ) → b'.state ≡ reset b.state c
     → d' ≡ driver_reset d c → point_of b' d' ≡ after_reset (point_of b d) c
 reset_on b b' d {d'} c state driver =
     let next = serials_reset d d' c driver in λ i. point (state i) (next i)
 
--- a header whose controller is there does what its kind says
+-- the point after a header whose controller exists is the one after a request of its kind
 pub left_by : (p : Point) (h : Header) (bytes : List ℕ) {after : Point} → h.controller < length p.serials
     → after ≡ after_kind h.kind p h bytes → after ≡ after_header p h bytes
 left_by p h bytes below is =
     let there : has_controller p h ≡ true = grind (arith) in is ∙ sym (ap (λ b. after_if b p h bytes) there)
 
--- and is answered so
+-- and has this answer
 pub answered_by : (p : Point) (h : Header) (bytes : List ℕ) (a : Answer) → h.controller < length p.serials
     → IsAnswerByKind h.kind p h bytes a → IsAnswerToHeader p h bytes a
 answered_by p h bytes a below is =
     let there : has_controller p h ≡ true = grind (arith) in subst (λ b. IsAnswerIf b p h bytes a) (sym there) is
 
--- what an entry returned
+-- what the driver returned for an entry is the completion and the data of its step
 pub returned_by : (b : BusValue) (d : DriverValue) (c : ℕ) (e : Sqe) (bytes : List ℕ) {told : Told} (out : List ℕ)
     → c < length d.pairs → told ≡ told_by (entry_step b.state c e bytes (pair_at d.pairs c).serial).answer
     → IsReceived (asked_in b.state c e bytes) (entry_step b.state c e bytes (pair_at d.pairs c).serial).answer out

@@ -8,6 +8,7 @@ use Rattle.nv_serve.specs.declared.header.Header.{Header}
 use Rattle.nv_serve.specs.declared.header.Kind.{Kind}
 use Rattle.nv_serve.specs.declared.header.Kind.TheVariants.{Entry, Reset, List as ListKind, Unknown}
 
+-- how many bytes a header has
 abbrev pub header_size : ℕ
 header_size = 72
 
@@ -15,9 +16,11 @@ header_size = 72
 abbrev pub most_data : ℕ
 most_data = 1048576
 
+-- the kind of a request by its number; any number above 2 is unknown
 abbrev pub kind_of : ℕ → Kind
 kind_of n = if n == 0 then Entry else if n == 1 then Reset else if n == 2 then ListKind else Unknown
 
+-- the header in these bytes
 unfoldable pub header_of : List ℕ → Header
 header_of bytes = record {
   controller = number_at 0 2 bytes;
@@ -35,6 +38,7 @@ abbrev pub sent_by_kind : Kind → Header → ℕ
 sent_by_kind Entry h = if sends_data h.entry then h.length else 0
 sent_by_kind kind h = 0
 
+-- how many bytes of data follow a header
 abbrev pub sent_length : Header → ℕ
 sent_length h = sent_by_kind h.kind h
 
@@ -44,6 +48,7 @@ wanted_by_kind Entry h = if sends_data h.entry then 0 else h.length
 wanted_by_kind ListKind h = h.length
 wanted_by_kind kind h = 0
 
+-- how many bytes of data the answer to a header has
 abbrev pub wanted_length : Header → ℕ
 wanted_length h = wanted_by_kind h.kind h
 
@@ -52,6 +57,7 @@ pub record Request : Type 0 where
   pub header : List ℕ
   pub payload : List ℕ
 
+-- a request as bytes: its header, and then its data
 abbrev pub bytes_of : Request → List ℕ
 bytes_of r = r.header ++ r.payload
 

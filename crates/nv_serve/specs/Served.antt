@@ -29,9 +29,11 @@ pub record Streams : Type 0 where
   pub source : SourceState
   pub out : SinkState
 
+-- the streams with this source and this sink
 abbrev pub streams : SourceState → SinkState → Streams
 streams source out = record { source = source; out = out }
 
+-- the answer to a request that is too long
 abbrev pub too_long : Answer
 too_long = record { header = bare outcome.TooLong; payload = [] }
 
@@ -41,6 +43,7 @@ pub data IsRest (r : Request) (last : List Answer) : Type 0 where
   cut : IsCutShort r → last ≡ [] → IsRest r last
   long : IsTooLong r → last ≡ too_long ∷ [] → IsRest r last
 
+-- the bytes of answers, one after another
 abbrev pub texts : List Answer → List ℕ
 texts answers = flat_map answer_bytes answers
 

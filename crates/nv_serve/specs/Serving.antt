@@ -23,9 +23,11 @@ pub record Point : Type 0 where
   pub subsystem : State
   pub serials : List ℕ
 
+-- the point with this subsystem and these command identifiers
 abbrev pub point : State → List ℕ → Point
 point subsystem serials = record { subsystem = subsystem; serials = serials }
 
+-- the next command identifier of controller c
 abbrev pub serial_at : Point → ℕ → ℕ
 serial_at p c = slice_index_or p.serials c 0
 
@@ -33,6 +35,7 @@ serial_at p c = slice_index_or p.serials c 0
 abbrev pub step_at : Point → ℕ → Sqe → List ℕ → Step
 step_at p c e bytes = entry_step p.subsystem c e bytes (serial_at p c)
 
+-- the point after an entry on controller c: its step is done, and its command identifier is used up
 abbrev pub after_entry : Point → ℕ → Sqe → List ℕ → Point
 after_entry p c e bytes =
     point (step_at p c e bytes).state (slice_set p.serials c (next_serial (serial_at p c)))
@@ -47,6 +50,7 @@ list_entry = entry_of (ActiveList 0) 0
 
 -- ---- the state after a request
 
+-- the point after a request of this kind
 abbrev pub after_kind : Kind → Point → Header → List ℕ → Point
 after_kind Entry p h bytes = after_entry p h.controller h.entry bytes
 after_kind Reset p h bytes = after_reset p h.controller
@@ -58,15 +62,19 @@ abbrev pub after_if : Bool → Point → Header → List ℕ → Point
 after_if true p h bytes = after_kind h.kind p h bytes
 after_if false p h bytes = p
 
+-- whether the controller of a header exists
 abbrev pub has_controller : Point → Header → Bool
 has_controller p h = nat_lt h.controller (length p.serials)
 
+-- the point after a request with this header
 abbrev pub after_header : Point → Header → List ℕ → Point
 after_header p h bytes = after_if (has_controller p h) p h bytes
 
+-- the point after a request
 abbrev pub after_one : Point → Request → Point
 after_one p r = after_header p (header_of r.header) r.payload
 
+-- the point after several requests
 abbrev pub after_all : Point → List Request → Point
 after_all p requests = fold after_one p requests
 
@@ -79,13 +87,16 @@ pub record IsReturned (p : Point) (c : ℕ) (e : Sqe) (bytes : List ℕ) (n : �
   pub received : IsReceived (asked_in p.subsystem c e bytes) (step_at p c e bytes).answer payload
   pub room : length payload ≡ n
 
+-- the header of an answer with a completion and n bytes of data
 abbrev pub returned : ℕ → Status → ℕ → AnswerHeader
 returned dword0 status n =
     record { dword0 = dword0; status = status; outcome = Answered; length = n }
 
+-- an answer with this header and no data
 abbrev pub IsBare : Answer → AnswerHeader → Type 0
 IsBare a header = (a.header ≡ header) × (a.payload ≡ [])
 
+-- the answer to a request of this kind, whose controller exists
 abbrev pub IsAnswerByKind : Kind → Point → Header → List ℕ → Answer → Type 0
 IsAnswerByKind Entry p h bytes a =
     (told : Told) × IsReturned p h.controller h.entry bytes (wanted_length h) told a.payload
@@ -97,13 +108,16 @@ IsAnswerByKind ListKind p h bytes a =
     × (a.header ≡ returned (length p.serials) told.status (wanted_length h))
 IsAnswerByKind Unknown p h bytes a = IsBare a (bare NoKind)
 
+-- if the controller of a request doesn't exist, the answer says so and has no data
 abbrev pub IsAnswerIf : Bool → Point → Header → List ℕ → Answer → Type 0
 IsAnswerIf true p h bytes a = IsAnswerByKind h.kind p h bytes a
 IsAnswerIf false p h bytes a = IsBare a (bare NoController)
 
+-- the answer to a request with this header
 abbrev pub IsAnswerToHeader : Point → Header → List ℕ → Answer → Type 0
 IsAnswerToHeader p h bytes a = IsAnswerIf (has_controller p h) p h bytes a
 
+-- the answer to a request
 abbrev pub IsAnswer : Point → Request → Answer → Type 0
 IsAnswer p r a = IsAnswerToHeader p (header_of r.header) r.payload a
 

@@ -23,8 +23,8 @@ fn list_entry() -> Sqe
     Command::ActiveList { after: 0 }.entry(0)
 }
 
-/// Does what a request's header says, with the data that the host sent. What came stands at the
-/// front of a buffer. The only error is `NoReady`, which no bus that keeps its contract gives.
+/// Does what a request's header says, with the data that the host sent. The data for the host is at
+/// the front of a buffer. The only error is `NoReady`, which no bus that keeps its contract returns.
 pub(crate) fn handle<B: Bus>(
     bus: &mut B,
     driver: &mut Driver,

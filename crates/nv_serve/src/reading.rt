@@ -17,7 +17,7 @@ pub(crate) enum Filled {
 }
 
 /// What was read of a request.
-pub(crate) enum Taken {
+pub(crate) enum ReadRequest {
     /// The whole request.
     Request(Header),
     /// Nothing: the source has ended.
@@ -53,7 +53,7 @@ pub(crate) fn take_request<R: Source>(
     source: &mut R,
     header: &mut [u8; HEADER_SIZE],
     sent: &mut [u8],
-) -> Taken
+) -> ReadRequest
     requires ready { IsReady (R.state source.old) }
     requires room { (R.state source.old).given + (72 + most_data) < 2 ^ 64 }
     requires long { length sent.old ≡ most_data }
@@ -62,18 +62,18 @@ pub(crate) fn take_request<R: Source>(
 {
     match fill(source, header) {
         Filled::Whole => {}
-        Filled::Ended(0) => return Taken::Nothing,
-        Filled::Ended(_) => return Taken::Short,
-        Filled::Failed(_) => return Taken::Failed,
+        Filled::Ended(0) => return ReadRequest::Nothing,
+        Filled::Ended(_) => return ReadRequest::Short,
+        Filled::Failed(_) => return ReadRequest::Failed,
     }
     let said = Header::get(header);
     if said.length > MOST_DATA {
-        return Taken::TooLong;
+        return ReadRequest::TooLong;
     }
     let len = said.sent_length() as usize;
     match fill(source, &mut sent[..len]) {
-        Filled::Whole => Taken::Request(said),
-        Filled::Ended(_) => Taken::Short,
-        Filled::Failed(_) => Taken::Failed,
+        Filled::Whole => ReadRequest::Request(said),
+        Filled::Ended(_) => ReadRequest::Short,
+        Filled::Failed(_) => ReadRequest::Failed,
     }
 }

@@ -14,7 +14,7 @@ use crate::answer::{AnswerHeader, Outcome};
 use crate::ends::{RequestsEnd, ServeEnd};
 use crate::handling::handle;
 use crate::header::{HEADER_SIZE, MOST_DATA};
-use crate::reading::{Taken, take_request};
+use crate::reading::{ReadRequest, take_request};
 use nv_bus::Bus;
 use nv_driver::{Driver, Geometry};
 use nv_stream::{Sink, Source, write_all};
@@ -59,10 +59,10 @@ fn serve_all<B: Bus, R: Source, O: Sink>(
     let mut bytes = [0; HEADER_SIZE];
     for _ in 0..REQUEST_LIMIT {
         let header = match take_request(source, &mut bytes, sent) {
-            Taken::Request(header) => header,
-            Taken::Nothing => return RequestsEnd::Done,
-            Taken::Short => return RequestsEnd::Short,
-            Taken::TooLong => {
+            ReadRequest::Request(header) => header,
+            ReadRequest::Nothing => return RequestsEnd::Done,
+            ReadRequest::Short => return RequestsEnd::Short,
+            ReadRequest::TooLong => {
                 let refusal = AnswerHeader::bare(Outcome::TooLong);
                 return if respond(out, &refusal, &[]) {
                     RequestsEnd::TooLong
@@ -70,7 +70,7 @@ fn serve_all<B: Bus, R: Source, O: Sink>(
                     RequestsEnd::Write
                 };
             }
-            Taken::Failed => return RequestsEnd::Read,
+            ReadRequest::Failed => return RequestsEnd::Read,
         };
         let len = header.sent_length() as usize;
         let Ok(answer) = handle(bus, driver, &header, &sent[..len], received) else {

@@ -12,6 +12,7 @@ use Rattle.nv_file.specs.FileValue.{NamespaceValue}
 use Rattle.nv_subsystem.specs.FromFile.{with_namespace}
 use Rattle.nv_model.specs.State.{Namespaces}
 
+-- adding the namespaces of a file, whose NSIDs differ and are new, uses their capacities
 pub used-all : (m : Namespaces) (ns : List NamespaceValue) → AllPairs (λ a b. a.nsid ≢ b.nsid) ns
     → All (λ n. map_of.get m n.nsid ≡ None) ns → used (fold with_namespace m ns) ≡ used m + sum_by
     (λ n. n.namespace.capacity) ns

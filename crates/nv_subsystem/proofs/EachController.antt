@@ -20,6 +20,7 @@ pub record Changed (to : Controller → Attached) (old now : List code.Controlle
 
 module _ (to : Controller → Attached) (old now : List code.Controller) (i : ℕ)
     (so_far : Changed to old now i) (d : code.Controller) (h : i < length now) where
+  -- if the first i controllers were changed and the next one is changed now, the first i + 1 are
   pub one_more : (y : code.Controller)
       → controller_view y ≡ with_nsids to (controller_view (get_or now i d))
       → ((nn : ℕ) → IsSized nn (get_or now i d) → IsSized nn y)
@@ -31,12 +32,13 @@ module _ (to : Controller → Attached) (old now : List code.Controller) (i : �
         All-set (IsSized nn) now i y (sized nn (now_all i d h)) now_all;
   }
 
--- which of two changes it is
+-- if the test holds, the choice between two changes is the first one
 pub chosen : (b : Bool) (p q : Controller → Attached) (x : Controller) → b ≡ true
     → with_nsids p x ≡ with_nsids (λ y. if b then p y else q y) x
 chosen true p q x e = refl
 chosen false p q x e = absurd (cc e)
 
+-- if the test fails, the choice between two changes is the second one
 pub other : (b : Bool) (p q : Controller → Attached) (x : Controller) → b ≡ false
     → with_nsids q x ≡ with_nsids (λ y. if b then p y else q y) x
 other true p q x e = absurd (cc e)

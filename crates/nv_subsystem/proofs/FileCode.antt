@@ -27,6 +27,7 @@ use Rattle.nv_subsystem.proofs.FileStates.{state_ok}
 use Rattle.nv_model.proofs.InFormatLaws.{format_below}
 use Rattle.nv_layout.specs.Limits.{most_nsids}
 
+-- the NSIDs of a file's namespaces are from 1 to NN
 pub nsids_within : (f : File) → IsFile (file_view f) → (k : ℕ) (d : NamespaceEntry)
     → k < length f.namespaces.items → IsOf 1 f.nn (get_or f.namespaces.items k d).nsid
 nsids_within f h k d b =
@@ -37,6 +38,7 @@ nsids_within f h k d b =
     let within = subst (λ n. (1 ≤ n.nsid) × (n.nsid ≤ f.nn)) at is.nsid in
     (within.0, omega (arith, within.1))
 
+-- the rules of a file's features are in range
 pub rules_within : (f : File) → IsFile (file_view f)
     → All (λ e. All IsFeatureRule e.rules.items) f.controllers.items
 rules_within f h k d b =
@@ -46,6 +48,7 @@ rules_within f h k d b =
     (omega (arith, length-map cs controller_entry_view)) in
     subst (λ c. All IsFeatureRule c.rules) at is.rules
 
+-- MDTS of each controller of a file is at most 8
 pub mdts_within : (f : File) → IsFile (file_view f)
     → All (λ e. e.identity.numbers.mdts ≤ 8) f.controllers.items
 mdts_within f h k d b =
@@ -55,6 +58,7 @@ mdts_within f h k d b =
     (omega (arith, length-map cs controller_entry_view)) in
     subst (λ c. c.identity.numbers.mdts ≤ 8) at is.identity.numbers.mdts.1
 
+-- the slots, formats and controllers that are made from a file are sound
 pub is_sound : (f : File) (slots : RangeMap Namespace) (cs : List Controller) → IsFile (file_view f)
     → slots ≡ record { first = 1; count = f.nn; values = (state_of (file_view f)).namespaces }
     → map controller_view cs ≡ map (controller_of (map namespace_entry_view f.namespaces.items))
@@ -79,6 +83,7 @@ is_sound f slots cs h is views sized =
       controllers = subst (λ (m : RangeMap Namespace). All (IsSized m.count) cs) (sym is) sized;
     }
 
+-- the sum of the capacities is the same for namespaces in the code and for their values
 sum_of_views : (ns : List NamespaceEntry)
     → sum_by (λ n. n.namespace.capacity) (map namespace_entry_view ns)
     ≡ sum_by (λ n. n.namespace.capacity) ns
@@ -95,7 +100,7 @@ pub within_capacity : (f : File) → IsFile (file_view f)
     → sum_by (λ n. n.namespace.capacity) f.namespaces.items ≤ f.tnvmcap
 within_capacity f h = omega (arith, h.capacities, sum_of_views f.namespaces.items)
 
--- the capacity that they leave is the unallocated one
+-- what the namespaces of a file leave of the capacity is the unallocated capacity
 pub adds_up : (f : File) (left : ℕ) → IsFile (file_view f)
     → left + sum_by (λ n. n.namespace.capacity) f.namespaces.items ≡ f.tnvmcap
     → left + used (state_of (file_view f)).namespaces ≡ f.tnvmcap

@@ -29,6 +29,7 @@ use Rattle.nv_model.specs.WellFormed.{AreRules, AreValues}
 
 -- ---- rules
 
+-- rules with one more valid rule are rules
 one_rule : (m : FeatureRules) (r : FeatureRule) → AreRules m → IsFeatureRule r → AreRules (with_rule m r)
 one_rule m r are is fid q e = at_test (fid == r.fid) refl (sym (get_of_insert m r.fid r fid) ∙ e)
   where
@@ -38,6 +39,7 @@ one_rule m r are is fid q e = at_test (fid == r.fid) refl (sym (get_of_insert m 
         subst (λ t. IsFeatureRule t × (t.fid ≡ fid)) same (is, here)
     at_test false h e = are fid q e
 
+-- rules with several more valid rules are rules
 some_rules : (m : FeatureRules) (rs : List FeatureRule) → AreRules m → All IsFeatureRule rs
     → AreRules (fold with_rule m rs)
 some_rules m [] are all = are
@@ -45,6 +47,7 @@ some_rules m (r ∷ rs) are all =
     some_rules (with_rule m r) rs (one_rule m r are (all zero r (omega arith)))
     (λ k d b. all (suc k) d (omega arith))
 
+-- the rules of a file are rules
 pub are_rules : (rs : List FeatureRule) → All IsFeatureRule rs → AreRules (rules_of rs)
 are_rules rs all = some_rules map_of.empty rs
     (λ fid r e. absurd (cc (sym (get-empty nat_cmp fid) ∙ e))) all
@@ -61,6 +64,7 @@ is_default rules vwc q f =
     has_default rules vwc f && list_any (λ s. is_key q (key_of f 0 s)) (row_of f).selectors
 
 module _ (rules : FeatureRules) (vwc : ℕ) where
+  -- after a feature's defaults are filled in under selectors, these keys have values, and so have the keys before
   filled : (f : Feature) (ss : List ℕ) (m : FeatureValues) (q : ValueKey)
       → map_of.contains_key (changed (fill rules) (map (key_of f 0) ss) m) q
       ≡ (list_any (λ s. is_key q (key_of f 0 s)) ss || map_of.contains_key m q)
@@ -78,6 +82,7 @@ module _ (rules : FeatureRules) (vwc : ℕ) where
       moved false true c = refl
       moved false false c = refl
 
+  -- after a feature's defaults are filled in, its keys have values if it has defaults, and so have the keys before
   one_default : (m : FeatureValues) (f : Feature) (q : ValueKey)
       → map_of.contains_key (with_default rules vwc m f) q
       ≡ (is_default rules vwc q f || map_of.contains_key m q)
@@ -91,6 +96,7 @@ module _ (rules : FeatureRules) (vwc : ℕ) where
       at_test true = filled f (row_of f).selectors m q
       at_test false = refl
 
+  -- after the defaults of features are filled in, the keys of each have values, and so have the keys before
   some_defaults : (m : FeatureValues) (fs : List Feature) (q : ValueKey)
       → map_of.contains_key (fold (with_default rules vwc) m fs) q
       ≡ (list_any (is_default rules vwc q) fs || map_of.contains_key m q)
@@ -108,6 +114,7 @@ module _ (rules : FeatureRules) (vwc : ℕ) where
 
   -- ---- the values are sound
 
+  -- sound values stay sound when a feature's defaults are filled in under selectors
   sound_fill : AreRules rules → (f : Feature) (ss : List ℕ) (m : FeatureValues) → AreSound m
       → AreSound (changed (fill rules) (map (key_of f 0) ss) m)
   sound_fill are f [] m all = all
@@ -116,6 +123,7 @@ module _ (rules : FeatureRules) (vwc : ℕ) where
       (sound-insert m (key_of f 0 s) (first_value rules (key_of f 0 s)) all
       (first_is_sound rules are f 0 s))
 
+  -- sound values stay sound when the defaults of features are filled in
   sound_defaults : AreRules rules → (m : FeatureValues) (fs : List Feature) → AreSound m
       → AreSound (fold (with_default rules vwc) m fs)
   sound_defaults are m [] all = all
@@ -129,6 +137,7 @@ module _ (rules : FeatureRules) (vwc : ℕ) where
 
   -- ---- they are the values of all keys
 
+  -- no NSIDs
   abbrev no_nsids : Nsids
   no_nsids = map_of.empty
 
@@ -139,9 +148,11 @@ module _ (rules : FeatureRules) (vwc : ℕ) where
       then map_of.contains_key no_nsids q.nsid
       else q.nsid == 0))
 
+  -- the test of equality doesn't depend on the order of the numbers
   turned : (a b : ℕ) → (a == b) ≡ (b == a)
   turned a b = grind (arith, nat_tests)
 
+  -- a test of numbers, of which only the last part depends on the number, is true if that part is true of one
   some_key : (a b : Bool) (n : ℕ) (ss : List ℕ) → list_any (λ s. a && (b && (n == s))) ss
       ≡ (a && (b && list_any (λ s. s == n) ss))
   some_key a b n [] = elim a as (λ a. false ≡ (a && (b && false)))
@@ -155,11 +166,13 @@ module _ (rules : FeatureRules) (vwc : ℕ) where
       together true false c d = refl
       together false b c d = refl
 
+  -- two tests that agree on each element agree on whether one of a list passes
   any_alike : {A : Type 0} (p r : A → Bool) → ((x : A) → p x ≡ r x) → (xs : List A)
       → list_any p xs ≡ list_any r xs
   any_alike p r same [] = refl
   any_alike p r same (x ∷ xs) = λ i. same x i || any_alike p r same xs i
 
+  -- a key is a default of a feature if and only if it has the feature's identifier and a value at the start
   is_of : (q : ValueKey) (f : Feature)
       → is_default rules vwc q f ≡ (((row_of f).fid == q.fid) && at_start q f)
   is_of q f =
@@ -206,10 +219,11 @@ module _ (rules : FeatureRules) (vwc : ℕ) where
   same_feature f g e =
       let both : Some f ≡ Some g = sym (feature_at f) ∙ ap feature_of e ∙ feature_at g in cc both
 
+  -- if the test of equality is true, the numbers are equal
   is_same : (a b : ℕ) → (a == b) ≡ true → a ≡ b
   is_same a b e = grind (arith, nat_tests)
 
-  -- a test of the features with an identifier is that of the first one
+  -- if a feature with an identifier passes a test, so does each feature with that identifier
   rest_alike : (a : ℕ) (p : Feature → Bool) (f : Feature) → (row_of f).fid ≡ a → (fs : List Feature)
       → list_any (λ g. ((row_of g).fid == a) && p g) fs ≡ true → p f ≡ true
   rest_alike a p f here [] any = absurd (cc any)
@@ -224,6 +238,7 @@ module _ (rules : FeatureRules) (vwc : ℕ) where
       at_test true false e is any later = later any
       at_test false c e is any later = later any
 
+  -- whether a feature with an identifier passes a test is whether the first feature with that identifier does
   by_first : (a : ℕ) (p : Feature → Bool) (fs : List Feature)
       → list_any (λ f. ((row_of f).fid == a) && p f) fs
       ≡ option_map_or p (find (λ f. (row_of f).fid == a) fs) false
@@ -246,13 +261,16 @@ module _ (rules : FeatureRules) (vwc : ℕ) where
               sym is ∙ rest_alike a p f (is_same (row_of f).fid a e) fs any
       at_test false e later = later
 
+  -- no values
   abbrev nothing : FeatureValues
   nothing = map_of.empty
 
+  -- a disjunction with a false value is the other value
   or_nothing : (b c : Bool) → c ≡ false → (b || c) ≡ b
   or_nothing true c e = refl
   or_nothing false c e = e
 
+  -- without attached NSIDs, exactly the keys that are due have values when the defaults are filled in
   pub start_values : AreRules rules → AreValues rules vwc map_of.empty (defaults_of rules vwc)
   start_values are = record {
     keys = λ q. some_defaults map_of.empty features q
@@ -266,6 +284,7 @@ module _ (rules : FeatureRules) (vwc : ℕ) where
 
 -- ---- attachments
 
+-- with the namespaces of a file attached, exactly the keys that are due have values
 pub attached_values : (rules : FeatureRules) (vwc cntlid : ℕ) → AreRules rules
     → (ns : List NamespaceValue) (attached : Nsids) (values : FeatureValues)
     → AreValues rules vwc attached values

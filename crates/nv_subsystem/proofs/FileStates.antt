@@ -28,37 +28,43 @@ entry_at : List NamespaceValue → ℕ → Option NamespaceValue
 entry_at [] q = None
 entry_at (n ∷ ns) q = cond (q == n.nsid) (Some n) (entry_at ns q)
 
+-- no two namespaces have the same NSID
 Distinct : List NamespaceValue → Type 0
 Distinct ns = AllPairs (λ a b. a.nsid ≢ b.nsid) ns
 
+-- the namespace of an entry, or else another one
 abbrev or_else : Option NamespaceValue → Option Namespace → Option Namespace
 or_else None o = o
 or_else (Some e) o = Some e.namespace
 
+-- whether there is an entry that passes the test
 abbrev says : (NamespaceValue → Bool) → Option NamespaceValue → Bool
 says p None = false
 says p (Some e) = p e
 
+-- if the test of equality is true, the numbers are equal
 is_nsid : (q n : ℕ) → (q == n) ≡ true → q ≡ n
 is_nsid q n h = grind (arith, nat_tests)
 
--- an NSID that no namespace has
+-- an NSID that no namespace of the file has is found nowhere
 absent : (ns : List NamespaceValue) (q : ℕ) → All (λ n. q ≢ n.nsid) ns → entry_at ns q ≡ None
 unfolding entry_at
 absent [] q h = refl
 absent (n ∷ ns) q h = rw (ne_eqb q n.nsid (h zero n (omega arith))) (absent ns q (λ k d b. h (suc k) d (omega arith)))
 
+-- if no two namespaces have the same NSID, no two of the later ones have
 later : (n : NamespaceValue) (ns : List NamespaceValue) → Distinct (n ∷ ns) → Distinct ns
 unfolding Distinct
 later n ns h = λ i j d a b. h (suc i) (suc j) d (omega arith) (omega arith)
 
+-- if no two namespaces have the same NSID, no later one has the NSID of the first
 alone : (n : NamespaceValue) (ns : List NamespaceValue) (q : ℕ) → Distinct (n ∷ ns)
     → (q == n.nsid) ≡ true → entry_at ns q ≡ None
 unfolding Distinct
 alone n ns q h e = absent ns q (λ k d b. subst (λ m. m ≢ (get_or ns k d).nsid)
     (sym (is_nsid q n.nsid e)) (h zero (suc k) d (omega arith) (omega arith)))
 
--- the entries of the map of a file's namespaces
+-- adding the first namespace to the map, and then the others, finds what looking through all of them finds
 found_at : (m : Namespaces) (n : NamespaceValue) (ns : List NamespaceValue) (q : ℕ) (t : Bool)
     → (q == n.nsid) ≡ t → Distinct (n ∷ ns)
     → or_else (entry_at ns q) (cond t (Some n.namespace) (map_of.get m q)) ≡ or_else
@@ -66,6 +72,7 @@ found_at : (m : Namespaces) (n : NamespaceValue) (ns : List NamespaceValue) (q :
 found_at m n ns q true e d = ap (λ o. or_else o (Some n.namespace)) (alone n ns q d e)
 found_at m n ns q false e d = refl
 
+-- the map has for an NSID the namespace of the file with it, or else what it had
 found : (m : Namespaces) (ns : List NamespaceValue) (q : ℕ) → Distinct ns
     → map_of.get (fold with_namespace m ns) q ≡ or_else (entry_at ns q) (map_of.get m q)
 unfolding entry_at
@@ -75,7 +82,7 @@ found m (n ∷ ns) q d =
     ∙ ap (or_else (entry_at ns q)) (get_of_insert m n.nsid n.namespace q)
     ∙ found_at m n ns q (q == n.nsid) refl d
 
--- which NSIDs are attached to a controller
+-- after one namespace, a controller has its NSID if its list names it, and the NSIDs that it had
 marked_one : (m : Nsids) (n : NamespaceValue) (cntlid q : ℕ) (t : Bool)
     → is_attached_to cntlid n ≡ t → is_some (map_of.get (if t then map_of.insert m n.nsid tt else m)
     q) ≡ (cond (q == n.nsid) t false || is_some (map_of.get m q))
@@ -86,6 +93,7 @@ marked_one m n cntlid q false e = elim (q == n.nsid)
     as (λ b. is_some (map_of.get m q) ≡ (cond b false false || is_some (map_of.get m q)))
     [ true ↦ refl | false ↦ refl ]
 
+-- the first namespace and the later ones attach an NSID to a controller if the one with the NSID does
 marked_at : (n : NamespaceValue) (ns : List NamespaceValue) (cntlid q : ℕ) (held t : Bool)
     → (q == n.nsid) ≡ t → Distinct (n ∷ ns)
     → (says (is_attached_to cntlid) (entry_at ns q) ||
@@ -95,6 +103,7 @@ marked_at n ns cntlid q held true e d = ap (λ o.
     says (is_attached_to cntlid) o || (is_attached_to cntlid n || held)) (alone n ns q d e)
 marked_at n ns cntlid q held false e d = refl
 
+-- a controller has an NSID attached if the namespace of the file with it says so, or if it had it
 marked : (m : Nsids) (ns : List NamespaceValue) (cntlid q : ℕ) → Distinct ns
     → map_of.contains_key (fold (with_attachment cntlid) m ns) q ≡
     (says (is_attached_to cntlid) (entry_at ns q) || map_of.contains_key m q)
@@ -106,7 +115,7 @@ marked m (n ∷ ns) cntlid q d =
     (marked_one m n cntlid q (is_attached_to cntlid n) refl)
     ∙ marked_at n ns cntlid q (is_some (map_of.get m q)) (q == n.nsid) refl d
 
--- what holds for each namespace of the file holds for the one with an NSID, which has that NSID
+-- what holds for each namespace of the file holds for the one with an NSID, whose NSID it is
 at_nsid : (P : NamespaceValue → Type 0) (ns : List NamespaceValue) (q : ℕ) (e : NamespaceValue)
     → All P ns → entry_at ns q ≡ Some e → P e × (e.nsid ≡ q)
 unfolding entry_at
@@ -120,7 +129,7 @@ at_nsid P (n ∷ ns) q e all is = at_test (q == n.nsid) refl is (at_nsid P ns q 
         in subst (λ x. P x × (x.nsid ≡ q)) same (all zero n (omega arith), sym (is_nsid q n.nsid h))
     at_test false h w rest = rest w
 
--- a list of at most one number attaches to at most one controller
+-- an attachment list of at most one number names at most one controller
 one_number : (zs : List ℤ) (a b : ℕ) → length zs ≤ 1 → list_any (λ z. int_eq z (pos a)) zs ≡ true
     → list_any (λ z. int_eq z (pos b)) zs ≡ true → a ≡ b
 one_number [] a b h i j = absurd (cc i)
@@ -139,6 +148,7 @@ one_number (z ∷ y ∷ zs) a b h i j = absurd (omega arith)
 
 -- ---- at most one of them
 
+-- if no two elements both pass a test, at most one element passes it
 one_passes : {X : Type 0} (p : X → Bool) (xs : List X)
     → AllPairs (λ x y. p x ≡ true → p y ≡ true → ⊥) xs → count_by p xs ≤ 1
 one_passes p [] h = omega arith
@@ -157,16 +167,18 @@ one_passes p (x ∷ xs) h = at_test (p x) refl (one_passes p xs
 
 -- ---- the state
 
--- the namespace in the state with an NSID
+-- the map of a file's namespaces has for an NSID the namespace of the file with it
 namespaces_of : (ns : List NamespaceValue) (q : ℕ) → AllPairs (λ a b. a.nsid ≢ b.nsid) ns
     → map_of.get (fold with_namespace map_of.empty ns) q ≡ or_else (entry_at ns q) None
 unfolding Distinct
 namespaces_of ns q d = found map_of.empty ns q d ∙ ap (or_else (entry_at ns q)) (get-empty nat_cmp q)
 
+-- a disjunction with false is the other value
 or_none : (b : Bool) → (b || false) ≡ b
 or_none true = refl
 or_none false = refl
 
+-- a controller of the state has an NSID attached if the namespace of the file with it says so
 attached_of : (ns : List NamespaceValue) (cntlid q : ℕ) → AllPairs (λ a b. a.nsid ≢ b.nsid) ns
     → map_of.contains_key (fold (with_attachment cntlid) map_of.empty ns) q ≡ says
     (is_attached_to cntlid) (entry_at ns q)
@@ -175,11 +187,13 @@ attached_of ns cntlid q d = marked map_of.empty ns cntlid q d
     ∙ ap (λ o. says (is_attached_to cntlid) (entry_at ns q) || is_some o) (get-empty nat_cmp q)
     ∙ or_none _
 
+-- an NSID whose entry passes a test has a namespace
 only_allocated : (o : Option NamespaceValue) (p : NamespaceValue → Bool) → says p o ≡ true
     → is_some (or_else o None) ≡ true
 only_allocated None p h = absurd (cc h)
 only_allocated (Some e) p h = refl
 
+-- each controller of the state is one that IsController allows
 controller_ok : (f : FileValue) → IsFile f → (c : ControllerValue) → IsControllerEntry c
     → IsController (state_of f).namespaces (controller_of f.namespaces c)
 controller_ok f h c is = record {
@@ -199,6 +213,7 @@ controller_ok f h c is = record {
       (start_values (rules_of c.rules) c.identity.numbers.vwc (are_rules c.rules is.rules));
 }
 
+-- each namespace of the state is one that IsNamespace allows
 namespace_ok : (f : FileValue) → IsFile f → (n : ℕ) (x : Namespace) (o : Option NamespaceValue)
     → entry_at f.namespaces n ≡ o → or_else o None ≡ Some x → IsNamespace (state_of f) n x
 namespace_ok f h n x None e is = absurd (cc is)
@@ -224,6 +239,7 @@ namespace_ok f h n x (Some v) e is =
         (λ k d b t. sym (attached_of f.namespaces (get_or f.controllers k d).identity.cntlid n
         h.nsids ∙ ap (says (is_attached_to (get_or f.controllers k d).identity.cntlid)) e) ∙ t)
 
+-- the state of a valid file is well formed
 pub state_ok : (f : FileValue) → IsFile f → IsWellFormed (state_of f)
 state_ok f h = record {
   keys = h.keys;

@@ -4,12 +4,13 @@ use Rattle.std.proofs.Common.{take, set, get_or}
 use Rattle.std.specs.Prelude.{replicate}
 use Rattle.std.proofs.lemmas.List.{length-map, length-take-le, map-append, take_more}
 
+-- the first copy after the elements is replaced by one more element
 put_first : {Y : Type 0} (ys : List Y) (n : ℕ) (z y : Y)
     → set (ys ++ replicate (suc n) z) (length ys) y ≡ (ys ++ y ∷ []) ++ replicate n z
 put_first [] n z y = refl
 put_first (x ∷ ys) n z y = ap (λ t. x ∷ t) (put_first ys n z y)
 
--- one more element, mapped from the next one of a list
+-- after the next element was written, the list has one more mapped element before the copies
 pub filled : {X Y : Type 0} (f : X → Y) (xs : List X) (i n : ℕ) (d : X) (z : Y) (ys : List Y)
     → i < length xs → i < n → ys ≡ map f (take i xs) ++ replicate (n - i) z
     → set ys i (f (get_or xs i d)) ≡ map f (take (i + 1) xs) ++ replicate (n - (i + 1)) z

@@ -8,6 +8,7 @@ use Rattle.nv_bits.specs.Numbers.{IsOf}
 use Rattle.nv_bits.specs.Slots.{IsLowestFree, RangeMap}
 use Rattle.nv_model.specs.declared.namespace.Namespace.{Namespace}
 
+-- if no number of a range passes a test, none is found
 none_found : (p : ℕ → Bool) (first count : ℕ) → ((q : ℕ) → IsOf first count q → p q ≡ false)
     → find p (range_with_len first count) ≡ None
 none_found p first zero none = refl
@@ -16,6 +17,7 @@ none_found p first (suc count) none =
     rw here (none_found p (first + 1) count
     (λ q of. none q (omega (arith, of.0), omega (arith, of.1))))
 
+-- a number of a range that passes a test, and before which none does, is the one that is found
 found : (p : ℕ → Bool) (first count n : ℕ) → IsOf first count n → p n ≡ true
     → ((q : ℕ) → IsOf first count q → q < n → p q ≡ false) → find p (range_with_len first count)
     ≡ Some n
@@ -30,6 +32,7 @@ found p first (suc count) n of is least =
           (λ q in_range h. least q (omega (arith, in_range.0), omega (arith, in_range.1)) h))
     ]
 
+-- the lowest free number of slots from 1 on is the least free NSID
 pub lowest_is_free : (m : RangeMap Namespace) (o : Option ℕ) → m.first ≡ 1
     → MatchOption o ((q : ℕ) → IsOf m.first m.count q → map_of.contains_key m.values q ≡ true)
     (IsLowestFree m)

@@ -26,6 +26,7 @@ pub record Puts (numbers : List ℕ) (after : ℕ) (page : List ℕ) (last count
 
 module _ (numbers : List ℕ) (after : ℕ) (list : List ℕ) (last count : ℕ)
     (so_far : Lists numbers after list last count) where
+  -- if the next number above the last one is n, n is listed next
   pub one_more : (n : ℕ) → above last numbers ≡ n ∷ above n numbers
       → Lists numbers after (list ++ n ∷ []) n (count + 1)
   one_more n next = record {
@@ -33,10 +34,11 @@ module _ (numbers : List ℕ) (after : ℕ) (list : List ℕ) (last count : ℕ)
     rest = append_assoc list (n ∷ []) (above n numbers) ∙ ap (λ t. list ++ t) (sym next) ∙ so_far.rest;
   }
 
+  -- if there are no numbers above the last one, all are listed
   pub none_left : above last numbers ≡ [] → list ≡ above after numbers
   none_left none = sym (append-nil list) ∙ ap (λ t. list ++ t) (sym none) ∙ so_far.rest
 
-  -- there are no more numbers than there are at all
+  -- if as many numbers are listed as there are, all numbers above the first one are listed
   pub all_left : length numbers ≤ count → list ≡ above after numbers
   all_left full = none_left (empty (above last numbers)
       (omega (

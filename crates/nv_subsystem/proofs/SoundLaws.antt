@@ -15,16 +15,18 @@ use Rattle.nv_subsystem.specs.Sound.{IsSized, IsSound}
 use Rattle.nv_model.proofs.UsedLaws.{used-change, used-empty, used-insert, used-remove}
 use Rattle.nv_subsystem.specs.declared.controller.Controller.{Controller}
 
+-- slots, formats and controllers are sound, and the running total and the used capacity are TNVMCAP
 abbrev AddsUp : RangeMap Namespace → List Format → List Controller → ℕ → ℕ → Type 0
 AddsUp m fs cs unallocated tnvmcap = IsSound m fs cs × (unallocated + used m.values ≡ tnvmcap)
 
+-- an optional namespace that isn't there is None
 none_of : (o : Option Namespace) → is_some o ≡ false → o ≡ None
 none_of None e = refl
 none_of (Some x) e = absurd (cc e)
 
 module _ (m : RangeMap Namespace) (fs : List Format) (cs : List Controller)
     (unallocated tnvmcap : ℕ) (is : AddsUp m fs cs unallocated tnvmcap) (n : ℕ) where
-  -- the slots with another namespace in one of them
+  -- the slots stay sound if a slot gets a namespace in one of the first 16 formats
   sound-slot : (x : Namespace) → x.format < 16
       → IsSound (record m { values = map_of.insert m.values n x }) fs cs
   sound-slot x small = record {
@@ -42,6 +44,7 @@ module _ (m : RangeMap Namespace) (fs : List Format) (cs : List Controller)
       at_test q y true e = let same : x ≡ y = cc e in omega (arith, ap (λ z. z.format) same)
       at_test q y false e = is.0.in_formats q y e
 
+  -- adding a namespace with enough capacity left takes its capacity from the total
   pub sound-insert : (x : Namespace) → map_of.contains_key m.values n ≡ false
       → x.capacity ≤ unallocated → x.format < 16
       → AddsUp (record m { values = map_of.insert m.values n x }) fs cs
@@ -51,6 +54,7 @@ module _ (m : RangeMap Namespace) (fs : List Format) (cs : List Controller)
     omega (arith, is.1, used-insert m.values n x (none_of (map_of.get m.values n) free)),
   )
 
+  -- changing a namespace without its capacity keeps the total
   pub sound-change : (x y : Namespace) → map_of.get m.values n ≡ Some x
       → y.capacity ≡ x.capacity → y.format < 16
       → AddsUp (record m { values = map_of.insert m.values n y }) fs cs unallocated tnvmcap
@@ -59,6 +63,7 @@ module _ (m : RangeMap Namespace) (fs : List Format) (cs : List Controller)
     omega (arith, is.1, used-change m.values n x y found same),
   )
 
+  -- removing what NSID n has keeps the slots sound, with a total that adds up
   sound-without : (total : ℕ) → total + used (map_of.remove m.values n) ≡ tnvmcap
       → AddsUp (record m { values = map_of.remove m.values n }) fs cs total tnvmcap
   sound-without total adds = (
@@ -76,17 +81,20 @@ module _ (m : RangeMap Namespace) (fs : List Format) (cs : List Controller)
     adds,
   )
 
+  -- removing a namespace adds its capacity to the total
   pub sound-remove : (x : Namespace) → map_of.get m.values n ≡ Some x
       → AddsUp (record m { values = map_of.remove m.values n }) fs cs
       (unallocated + x.capacity) tnvmcap
   sound-remove x e = sound-without (unallocated + x.capacity)
       (omega (arith, is.1, used-remove m.values n x e))
 
+  -- removing nothing keeps the total
   pub sound-absent : map_of.get m.values n ≡ None
       → AddsUp (record m { values = map_of.remove m.values n }) fs cs unallocated tnvmcap
   sound-absent e = sound-without unallocated
       (omega (arith, is.1, ap used (remove_absent m.values n (ap is_some e))))
 
+-- removing all namespaces makes the total TNVMCAP
 pub sound-clear : (m : RangeMap Namespace) (fs : List Format) (cs : List Controller)
     (unallocated tnvmcap : ℕ) → AddsUp m fs cs unallocated tnvmcap
     → AddsUp (record m { values = map_of.empty }) fs cs tnvmcap tnvmcap
@@ -104,7 +112,7 @@ sound-clear m fs cs unallocated tnvmcap is = (
   omega (arith, used-empty),
 )
 
--- controllers that keep their sizes
+-- the slots and the total stay right if the controllers keep their number and sizes
 pub sound-controllers : (m : RangeMap Namespace) (fs : List Format) (old new : List Controller)
     (unallocated tnvmcap : ℕ) → AddsUp m fs old unallocated tnvmcap
     → length new ≡ length old → All (IsSized m.count) new → AddsUp m fs new unallocated tnvmcap

@@ -6,10 +6,11 @@ use Rattle.nv_model.specs.State.{Controller, State, with_controller}
 use Rattle.nv_subsystem.specs.declared.controller.Controller as code
 use Rattle.nv_model.proofs.ChangedAtLaws.{views_changed}
 
+-- the state with these controllers
 abbrev pub with_controllers : State → List Controller → State
 with_controllers s cs = record s { controllers = cs }
 
--- the state is given by its fields, and one of its controllers was changed by f
+-- writing a controller whose value is f of the old one's gives the state with that controller changed by f
 pub controller_written : (s fields : State) (xs : List code.Controller) (i : ℕ)
     (old new : code.Controller) (f : Controller → Controller)
     → with_controllers fields (map controller_view xs) ≡ s → i < length s.controllers

@@ -15,9 +15,11 @@ use Rattle.nv_model.specs.WellFormed.{is_supported}
 use Rattle.nv_model.specs.State.{Controller, Namespaces, Nsids, State}
 use Rattle.nv_model.specs.Values.{FeatureValues, keys_of, recovery_key}
 
+-- the namespaces with one more of the file
 abbrev pub with_namespace : Namespaces → NamespaceValue → Namespaces
 with_namespace namespaces n = map_of.insert namespaces n.nsid n.namespace
 
+-- the rules with one more of the file
 abbrev pub with_rule : FeatureRules → FeatureRule → FeatureRules
 with_rule rules r = map_of.insert rules r.fid r
 
@@ -39,16 +41,20 @@ with_recovery cntlid rules values n =
     then map_of.insert values (recovery_key n.nsid) (first_value rules (recovery_key n.nsid))
     else values
 
+-- the rules of a controller of the file, by feature identifier
 abbrev pub rules_of : List FeatureRule → FeatureRules
 rules_of rules = fold with_rule map_of.empty rules
 
+-- the values of a controller before any namespace is attached
 abbrev pub defaults_of : FeatureRules → ℕ → FeatureValues
 defaults_of rules vwc = fold (with_default rules vwc) map_of.empty features
 
+-- the attached NSIDs, with the NSID of a namespace if its list names the controller
 abbrev pub with_attachment : ℕ → Nsids → NamespaceValue → Nsids
 with_attachment cntlid nsids n =
     if is_attached_to cntlid n then map_of.insert nsids n.nsid tt else nsids
 
+-- the controller of the file, which has refused and taken no command
 abbrev pub controller_of : List NamespaceValue → ControllerValue → Controller
 controller_of namespaces c = record {
   identity = c.identity;
@@ -62,6 +68,7 @@ controller_of namespaces c = record {
       (defaults_of (rules_of c.rules) c.identity.numbers.vwc) namespaces;
 }
 
+-- the subsystem of a file
 abbrev pub state_of : FileValue → State
 state_of f = record {
   nn = f.nn;

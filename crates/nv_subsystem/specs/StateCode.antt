@@ -20,12 +20,14 @@ use Rattle.nv_model.specs.declared.identity.IdentityNumbers.{IdentityNumbers}
 use Rattle.nv_model.specs.declared.namespace.Namespace.{Namespace}
 use Rattle.nv_model.specs.declared.smart_base.SmartBase.{SmartBase}
 
+-- a format is stored as its fields
 abbrev pub format_code : Coded Format
 format_code = code_by (ℕ × (ℕ × ℕ))
     (coded× coded_ℕ (coded× coded_ℕ coded_ℕ))
     (λ x. (x.lbads, (x.ms, x.rp)))
     (λ p. record { lbads = p.0; ms = p.1.0; rp = p.1.1 }) (λ _. refl)
 
+-- a namespace is stored as its fields
 abbrev pub namespace_code : Coded Namespace
 namespace_code = code_by (ℕ × (ℕ × (Bool × Bool)))
     (coded× coded_ℕ (coded× coded_ℕ (coded× coded_bool coded_bool)))
@@ -33,6 +35,7 @@ namespace_code = code_by (ℕ × (ℕ × (Bool × Bool)))
     (λ p. record { capacity = p.0; format = p.1.0; extended = p.1.1.0; shared = p.1.1.1 })
     (λ _. refl)
 
+-- the numbers of an identity are stored as its fields
 abbrev pub numbers_code : Coded IdentityNumbers
 numbers_code = code_by (ℕ × (ℕ × (ℕ × (ℕ × (ℕ × (ℕ × (ℕ × (ℕ × ℕ))))))))
     (coded× coded_ℕ
@@ -53,6 +56,7 @@ numbers_code = code_by (ℕ × (ℕ × (ℕ × (ℕ × (ℕ × (ℕ × (ℕ × (
       vwc = p.1.1.1.1.1.1.1.1;
     }) (λ _. refl)
 
+-- an identity is stored as its fields
 abbrev pub identity_code : Coded Identity
 identity_code = code_by (ℕ × (List ℕ × (List ℕ × (List ℕ × (IdentityNumbers × Bool)))))
     (coded× coded_ℕ (coded× (coded_list coded_ℕ) (coded× (coded_list coded_ℕ)
@@ -67,24 +71,29 @@ identity_code = code_by (ℕ × (List ℕ × (List ℕ × (List ℕ × (Identity
       crypto_erase = p.1.1.1.1.1;
     }) (λ _. refl)
 
+-- defaults as one number or two lists
 defaults_parts : Defaults → ℕ ⊎ (List ℕ × List ℕ)
 defaults_parts (One value) = inl value
 defaults_parts (Thresholds over under) = inr (over, under)
 
+-- the defaults that one number or two lists are
 parts_defaults : ℕ ⊎ (List ℕ × List ℕ) → Defaults
 parts_defaults (inl value) = One value
 parts_defaults (inr lists) = Thresholds lists.0 lists.1
 
+-- defaults are got back from their one number or two lists
 defaults_back : (d : Defaults) → parts_defaults (defaults_parts d) ≡ d
 unfolding defaults_parts parts_defaults
 defaults_back (One value) = refl
 defaults_back (Thresholds over under) = refl
 
+-- defaults are stored as one number or two lists
 pub defaults_code : Coded Defaults
 defaults_code = code_by (ℕ ⊎ (List ℕ × List ℕ))
     (coded⊎ coded_ℕ (coded× (coded_list coded_ℕ) (coded_list coded_ℕ)))
     defaults_parts parts_defaults defaults_back
 
+-- a rule is stored as its fields
 abbrev pub rule_code : Coded FeatureRule
 rule_code = code_by (ℕ × (Defaults × (Bool × Bool)))
     (coded× coded_ℕ (coded× defaults_code (coded× coded_bool coded_bool)))
@@ -92,6 +101,7 @@ rule_code = code_by (ℕ × (Defaults × (Bool × Bool)))
     (λ p. record { fid = p.0; defaults = p.1.0; saveable = p.1.1.0; changeable = p.1.1.1 })
     (λ _. refl)
 
+-- counters are stored as their fields
 abbrev pub counters_code : Coded Counters
 counters_code = code_by (ℕ × (ℕ × (ℕ × (ℕ × (ℕ × (ℕ × (ℕ × (ℕ × ℕ))))))))
     (coded× coded_ℕ
@@ -127,6 +137,7 @@ counters_code = code_by (ℕ × (ℕ × (ℕ × (ℕ × (ℕ × (ℕ × (ℕ × 
       media_errors = p.1.1.1.1.1.1.1.1;
     }) (λ _. refl)
 
+-- a health log is stored as its fields
 abbrev pub smart_code : Coded SmartBase
 smart_code = code_by (ℕ × (ℕ × (ℕ × (ℕ × (ℕ × (Counters × (ℕ × (ℕ × List ℕ))))))))
     (coded× coded_ℕ
@@ -163,6 +174,7 @@ smart_code = code_by (ℕ × (ℕ × (ℕ × (ℕ × (ℕ × (Counters × (ℕ �
       sensors = p.1.1.1.1.1.1.1.1;
     }) (λ _. refl)
 
+-- a controller is stored as its fields
 abbrev pub controller_code : Coded Controller
 controller_code =
     code_by (Identity
@@ -185,6 +197,7 @@ controller_code =
       values = p.1.1.1.1.1.1.1;
     }) (λ _. refl)
 
+-- a state is stored as its fields
 abbrev pub state_code : Coded State
 state_code = code_by (ℕ × (ℕ × (ℕ × (List ℕ × (List Format × (List Controller × Namespaces))))))
     (coded× coded_ℕ

@@ -13,6 +13,7 @@ use Rattle.nv_model.specs.declared.origin.Origin.{Origin}
 
 -- ---- without tags
 
+-- a controller whose log has no phase tags
 abbrev pub untagged_log : Controller → Controller
 untagged_log x = record x { log = map without_phase x.log }
 
@@ -22,6 +23,7 @@ untagged s = record s { controllers = map untagged_log s.controllers }
 
 -- ---- with tags
 
+-- an entry with this phase tag
 abbrev pub with_phase : Bool → ErrorEntry → ErrorEntry
 with_phase phase e = record e { phase = phase }
 

@@ -15,6 +15,7 @@ pub record ValueTable : Type 0 where
   pub nn : ℕ
   pub values : FeatureValues
 
+-- such a table is stored as its fields
 abbrev pub value_table_code : Coded ValueTable
 value_table_code = code_by (ℕ × FeatureValues) (coded× coded_ℕ feature_values_code)
     (λ t. (t.nn, t.values)) (λ p. record { nn = p.0; values = p.1 }) (λ _. refl)

@@ -9,7 +9,7 @@ ghost use Rattle.nv_subsystem.specs.Tagged.{settled, untagged};
 
 use crate::nsid_lists::list_above;
 use crate::subsystem::Subsystem;
-use nv_command::{Borrowed, Command, ERROR_INFORMATION, Refusal, Reply, ReplyRoom};
+use nv_command::{Borrowed, Command, LogPage, Refusal, Reply, ReplyRoom};
 use nv_layout::NsList;
 use nv_model::Origin;
 
@@ -47,12 +47,12 @@ impl Subsystem {
             | Command::Attachment { .. }
             | Command::Format(_)
             | Command::SetFeature(_) => room.keep(&Reply::Done),
-            Command::GetLog(asked) if asked.lid == ERROR_INFORMATION => {
-                room.keep(&Reply::Errors(controller.errors()));
-            }
-            Command::GetLog(_) => {
-                room.keep(&Reply::Smart(Borrowed::new(&controller.health())));
-            }
+            Command::GetLog(asked) => match LogPage::asked(asked.lid) {
+                LogPage::ErrorInformation => room.keep(&Reply::Errors(controller.errors())),
+                LogPage::Health => {
+                    room.keep(&Reply::Smart(Borrowed::new(&controller.health())));
+                }
+            },
         }
     }
 

@@ -40,7 +40,7 @@ mod subsystem;
 
 pub use nv_command::{
     BROADCAST_NSID, Borrowed, Command, DwordCount, ERROR_INFORMATION, FeatureQuery, FeatureSetting,
-    HEALTH, LogQuery, NewFormat, NewNamespace, Refusal, Reply, ReplyRoom, StatusCode,
+    HEALTH, LogPage, LogQuery, NewFormat, NewNamespace, Refusal, Reply, ReplyRoom, StatusCode,
 };
 pub use nv_file::{DEMO, Key, SubsystemError, TableName};
 pub use nv_layout::{ControllerIds, FourBits, NsList, ThreeBits};

@@ -11,9 +11,7 @@ ghost use Rattle.nv_model.specs.inner.Conditions.{Checks};
 
 use crate::controller::Controller;
 use crate::subsystem::Subsystem;
-use nv_command::{
-    BROADCAST_NSID, Borrowed, ERROR_INFORMATION, HEALTH, LogQuery, Refusal, Reply, StatusCode,
-};
+use nv_command::{BROADCAST_NSID, Borrowed, LogPage, LogQuery, Refusal, Reply, StatusCode};
 use nv_layout::{ErrorEntries, Smart};
 
 impl Controller {
@@ -57,15 +55,16 @@ impl Controller {
 
 impl Subsystem {
     /// Returns the length of a log in bytes.
-    fn log_length(&self, ctrl: u16, lid: u8) -> u64
+    fn log_length(&self, ctrl: u16, page: LogPage) -> u64
         requires { ctrl < length self.now.controllers }
-        ensures { result ≡ log_length self.now ctrl lid }
+        ensures { result ≡ log_length self.now ctrl page }
     {
-        if lid == ERROR_INFORMATION {
-            let elpe = self.controllers[ctrl as usize].identity.numbers.elpe;
-            64 * (u64::from(elpe) + 1)
-        } else {
-            512
+        match page {
+            LogPage::ErrorInformation => {
+                let elpe = self.controllers[ctrl as usize].identity.numbers.elpe;
+                64 * (u64::from(elpe) + 1)
+            }
+            LogPage::Health => 512,
         }
     }
 
@@ -81,13 +80,14 @@ impl Subsystem {
             offset,
             dwords,
         } = asked;
+        let page = LogPage::asked(lid);
         if self.limit(ctrl) < dwords.bytes() {
             Err(Refusal::from(StatusCode::InvalidFieldInCommand))
-        } else if !(lid == ERROR_INFORMATION || lid == HEALTH) {
+        } else if page.lid() != lid {
             Err(Refusal::from(StatusCode::InvalidLogPage))
         } else if !(nsid == 0 || nsid == BROADCAST_NSID) {
             Err(Refusal::from(StatusCode::InvalidFieldInCommand))
-        } else if self.log_length(ctrl, lid) < offset || offset % 4 != 0 {
+        } else if self.log_length(ctrl, page) < offset || offset % 4 != 0 {
             Err(Refusal::from(StatusCode::InvalidFieldInCommand))
         } else {
             Ok(())
@@ -95,16 +95,17 @@ impl Subsystem {
     }
 
     /// Fills `out` with the bytes of a log of a controller from `from` on, and with zeros past its end.
-    pub fn fill_log(&self, ctrl: u16, lid: u8, from: usize, out: &mut [u8])
+    pub fn fill_log(&self, ctrl: u16, page: LogPage, from: usize, out: &mut [u8])
         requires { ctrl < length self.now.controllers }
-        ensures { out.new ≡ part (log_of (log_reply self.now ctrl lid)) from (length out.old) }
+        ensures { out.new ≡ part (log_of (log_reply self.now ctrl page)) from (length out.old) }
     {
         let controller = &self.controllers[ctrl as usize];
-        if lid == ERROR_INFORMATION {
-            controller.errors().fill(from, out);
-        } else {
-            let health = controller.health();
-            Reply::Smart(Borrowed::new(&health)).fill(from, out);
+        match page {
+            LogPage::ErrorInformation => controller.errors().fill(from, out),
+            LogPage::Health => {
+                let health = controller.health();
+                Reply::Smart(Borrowed::new(&health)).fill(from, out);
+            }
         }
     }
 }

@@ -96,8 +96,8 @@ impl Subsystem {
     }
 
     /// Reads a subsystem file: the subsystem that its tables give, or its first fault, unless
-    /// memory runs out. What is found before anything is allocated is answered whatever memory there
-    /// is, as `File::from_toml` does.
+    /// memory runs out. Faults that are found before anything is allocated are returned regardless of
+    /// memory, as `File::from_toml` does.
     #[tactic(auto, unfolding(crate::specs::FromFile::subsystem))]
     pub fn from_toml(alloc: Global, bytes: &[u8]) -> Result<Subsystem, SubsystemError>
         ensures exact { IsUnlessMemory SubsystemError.Memory (λ s. s) result (subsystem bytes.now) }

@@ -36,6 +36,7 @@ pub ruleset elements = (get_or-set_same, get_or-set_other, get_or-eq_default)
 
 -- ---- the values of registers
 
+-- CSTS reads 1 if and only if the controller takes entries
 pub running_read : (x : Readiness)
     → (csts_dword (record { rdy = is_ready x; cfs = is_fatal x }) == 1) ≡ is_running x
 running_read Off = refl
@@ -43,11 +44,11 @@ running_read Failed = refl
 running_read (Ready rings true) = refl
 running_read (Ready rings false) = refl
 
--- an address by its two dwords
+-- an address is its upper dword times 2 ^ 32 and its lower dword
 pub address_read : (address : ℕ) → address / 2 ^ 32 * 2 ^ 32 + address % 2 ^ 32 ≡ address
 address_read address = omega arith
 
--- the sizes of queues, if they have at most 4,096 entries
+-- the sizes of queues with at most 4,096 entries are read back from AQA
 aqa_read : (q : AdminQueueAttributes) → q.asqs ≤ 4095 → q.acqs ≤ 4095 → aqa_of_dword (aqa_dword q) ≡ q
 aqa_read q few less =
     let read = aqa_of_dword (aqa_dword q) in
@@ -57,15 +58,18 @@ aqa_read q few less =
 
 -- ---- a write after which a controller takes entries that it didn't take before
 
+-- if the test of a start is true, both queues have at most 4,096 entries
 few_by : (m a b s c : ℕ)
     → (nat_le m 4 && ((a == 0 && (nat_le 1 s && nat_le s 4095)) && (b == 0 && (nat_le 1 c && nat_le c 4095)))) ≡ true
     → (s ≤ 4095) × (c ≤ 4095)
 few_by m a b s c h = (grind (arith, nat_tests), grind (arith, nat_tests))
 
+-- if a controller takes entries after its start, the test of the start was true
 can_by : (can : Bool) (r : Rings) → is_running (if can then Ready r false else Failed) ≡ true → can ≡ true
 can_by true r on = refl
 can_by false r on = on
 
+-- a start after which a controller takes entries is the same with the registers as they are read
 started : (p : RegisterBank) (sizes : Sizes) → is_running (start (record p { sizes = sizes })).readiness ≡ true
     → start (record (as_read p) { sizes = sizes }) ≡ start (record p { sizes = sizes })
 started p sizes on =
@@ -79,6 +83,7 @@ configured p sizes was en =
     let set = record p { sizes = sizes } in
     if was then (if en then p else stop p) else (if en then start set else set)
 
+-- a write to CC after which a controller newly takes entries is the same with the registers as they are read
 configured_anew : (p : RegisterBank) (sizes : Sizes) (was en : Bool) → is_running p.readiness ≡ false
     → is_running (configured p sizes was en).readiness ≡ true
     → configured (as_read p) sizes false en ≡ configured p sizes was en
@@ -87,17 +92,19 @@ configured_anew p sizes true false off on = absurd (cc)
 configured_anew p sizes false false off on = absurd (cc)
 configured_anew p sizes false true off on = started p sizes on
 
--- a register that takes a write unless the controller is enabled
+-- a write that a controller takes unless it is enabled doesn't make it take entries
 unless : (p other : RegisterBank) → other.readiness ≡ p.readiness → is_running p.readiness ≡ false → (b : Bool)
     → is_running (if b then p else other).readiness ≡ false
 unless p other same off true = off
 unless p other same off false = ap is_running same ∙ off
 
+-- a doorbell doesn't make a controller take entries
 rung : (change : Rings → Rings) (x : Readiness) → is_running x ≡ false → is_running (with_rings change x) ≡ false
 rung change Off off = refl
 rung change Failed off = refl
 rung change (Ready r fatal) off = off
 
+-- any write after which a controller newly takes entries is the same with the registers as they are read
 written_anew : (p : RegisterBank) (x : ℕ) → is_running p.readiness ≡ false → (o : Option Register)
     → is_running (option_map_or (λ r. with_register p r x) o p).readiness ≡ true
     → option_map_or (λ r. with_register (as_read p) r x) o (as_read p) ≡ option_map_or (λ r. with_register p r x) o p
@@ -123,15 +130,18 @@ written_anew p x off (Some HeadDoorbell) on = let stays = rung (with_head x) p.r
 
 -- ---- a turn
 
+-- if the test of reaching is true, both slots end within the memory
 slots_by : (p q a b size : ℕ) → ((p == q) && (nat_le a size && nat_le b size)) ≡ true → (a ≤ size) × (b ≤ size)
 slots_by p q a b size h = (grind (arith, nat_tests), grind (arith, nat_tests))
 
+-- an entry that a turn takes was waiting, and had slots in the memory
 taken_one : (page_size c : ℕ) (old new : Scene) → Takes page_size c old new → IsTaken (length old.bytes) old.rings
 taken_one page_size c old new t =
     let can = can_means _ _ _ _ t.can in
     let reached = slots_by _ _ _ _ (length old.bytes) t.reached in
     record { waits = can.0; free = can.1; entry = reached.0; completion = reached.1 }
 
+-- so were several entries, and the rings after them are rings_after
 are_taken : (count page_size c : ℕ) (old new : Scene) → Taken count page_size c old new
     → AreTaken count (length old.bytes) old.rings × (new.rings ≡ rings_after count old.rings)
 are_taken zero page_size c old new same = (tt, ap (λ (x : Scene). x.rings) same)
@@ -153,12 +163,13 @@ record Turned (count size : ℕ) (m p : RegisterBank) : Type 0 where
   taken : AreTakenBy count size m.readiness
   follows : Follows (turned count m) p
 
+-- 0 entries can be taken of any controller
 none_taken : (size : ℕ) (x : Readiness) → AreTakenBy 0 size x
 none_taken size Off = tt
 none_taken size Failed = tt
 none_taken size (Ready rings fatal) = tt
 
--- a controller that takes nothing
+-- a controller that takes nothing is still followed, and no entry of it was taken
 idle : (count : ℕ) (m : RegisterBank) (old new : Site) → (count ≡ 0) × (new ≡ old)
     → is_running old.bank.readiness ≡ false
     → Turned count (length old.bytes) m new.bank
@@ -170,10 +181,12 @@ idle count m old new none off = record {
       absurd (cc);
 }
 
+-- a controller that takes entries has no fatal status
 well_by : (fatal : Bool) (r : Rings) → is_running (Ready r fatal) ≡ true → fatal ≡ false
 well_by true r on = absurd (cc)
 well_by false r on = refl
 
+-- a turn of a controller whose registers are kept took entries of its rings, and what is kept still follows it
 turned_by : (x : Readiness) (page_size c most count : ℕ) (m : RegisterBank) (old new : Site)
     → old.bank.readiness ≡ x → TurnBy x page_size c most count old new → Follows m old.bank
     → Turned count (length old.bytes) m new.bank
@@ -200,7 +213,7 @@ turned_by (Ready rings false) page_size c most count m old new was turn at =
 
 -- ---- of all controllers
 
--- an element that was set, if there is one
+-- an element that was set is the one that is found, if there is one
 set_is : (kept : List (Option RegisterBank)) (c : ℕ) (p : RegisterBank)
     → ForSome (slice_index_or (slice_set kept c (Some p)) c None) (λ m. p ≡ m)
 set_is kept c p m there =
@@ -212,12 +225,13 @@ set_is kept c p m there =
           absurd (cc)
     ]
 
+-- what holds for each optional value after a change holds for the changed value
 mapped : (change : RegisterBank → RegisterBank) (o : Option RegisterBank) (P : RegisterBank → Type 0)
     → ForSome o (λ m. P (change m)) → ForSome (option_map change o) P
 mapped change None P has m' is = absurd (cc)
 mapped change (Some m) P has m' is = let same : change m ≡ m' = cc in subst P same (has m refl)
 
--- the registers of one controller changed, and those that are kept of it
+-- if only one controller's registers changed, and what is kept of it follows them, all are followed
 one_changed : (kept kept' : List (Option RegisterBank)) (banks banks' : List RegisterBank) (c : ℕ)
     → ((d : ℕ) → d ≢ c → bank_at banks' d ≡ bank_at banks d) → AreOthers c kept kept'
     → ForSome (slice_index_or kept' c None) (λ m. Follows m (bank_at banks' c))
@@ -231,7 +245,7 @@ one_changed kept kept' banks banks' c same others own at d m there =
           subst (λ (b : RegisterBank). Follows m b) (sym (same d apart)) (at d m (sym (others d apart) ∙ there))
     ]
 
--- they changed in the same way
+-- after the same change of the registers and of what is kept of them, all controllers are followed
 changed : (change : RegisterBank → RegisterBank) (kept kept' : List (Option RegisterBank))
     (banks banks' : List RegisterBank) (c : ℕ) (p : RegisterBank) → banks' ≡ slice_set banks c p
     → slice_index_or kept' c None ≡ option_map change (slice_index_or kept c None) → AreOthers c kept kept'
@@ -243,7 +257,7 @@ changed change kept kept' banks banks' c p is new others own at =
     (subst (λ (o : Option RegisterBank). ForSome o (λ m. Follows m (bank_at banks' c))) (sym new)
     (mapped change (slice_index_or kept c None) (λ m. Follows m (bank_at banks' c)) own)) at
 
--- what is kept of a controller that takes entries, and of another one, whose registers were read
+-- if a controller takes entries, what is kept of it follows each write
 pub followed_further : (kept : List (Option RegisterBank)) (banks : List RegisterBank) (c : ℕ)
     → is_running (bank_at banks c).readiness ≡ true → AreFollowed kept banks
     → ForSome (slice_index_or kept c None) (λ m. FollowsWritten m (bank_at banks c))
@@ -252,11 +266,13 @@ followed_further kept banks c on at m there offset x still = ap (λ p. with_regi
 module _ (kept read : List (Option RegisterBank)) (banks : List RegisterBank) (c : ℕ)
     (as_is : read ≡ slice_set kept c (Some (as_read (bank_at banks c))))
     (off : is_running (bank_at banks c).readiness ≡ false) where
+  -- after the registers were read, what is kept of the controller follows each write
   pub read_further : ForSome (slice_index_or read c None) (λ m. FollowsWritten m (bank_at banks c))
   read_further m there offset x on =
       let same = set_is kept c (as_read (bank_at banks c)) m (sym (ap (λ y. slice_index_or y c None) as_is) ∙ there) in
       ap (λ p. with_register_at p offset x) (sym same) ∙ written_anew (bank_at banks c) x off (register_at offset) on
 
+-- after a write of controller c, what is kept of all controllers follows them
 pub written : (kept kept' : List (Option RegisterBank)) (banks banks' : List RegisterBank) (c offset x : ℕ)
     → c < length banks → banks' ≡ slice_set banks c (with_register_at (bank_at banks c) offset x)
     → slice_index_or kept' c None ≡ option_map (λ p. with_register_at p offset x) (slice_index_or kept c None)
@@ -273,16 +289,18 @@ written kept kept' banks banks' c offset x has is new others further at =
 module _ (page_size c most count : ℕ) (b b' : BusValue) (bytes bytes' : List ℕ)
     (turn : Turn page_size c most count b bytes b' bytes') (kept : List (Option RegisterBank))
     (at : AreFollowed kept b.banks) where
+  -- a turn took entries of controller c as they are kept, and what is kept of it still follows it
   own : ForSome (slice_index_or kept c None) (λ m. Turned count (length bytes) m (bank_at b'.banks c))
   own m there =
       turned_by (bank_at b.banks c).readiness page_size c most count m (site b.state (bank_at b.banks c) bytes)
       (site b'.state (bank_at b'.banks c) bytes') refl turn.own (at c m there)
 
-  -- the entries that a turn took
+  -- the entries that a turn took of a controller were waiting in its rings
   pub turn_takes : length bytes' ≡ length bytes
       → ForSome (slice_index_or kept c None) (λ m. AreTakenBy count (length bytes') m.readiness)
   turn_takes len m there = subst (λ n. AreTakenBy count n m.readiness) (sym len) (own m there).taken
 
+  -- after a turn of controller c, what is kept of all controllers follows them
   pub turned_on : (kept' : List (Option RegisterBank))
       → slice_index_or kept' c None ≡ option_map (turned count) (slice_index_or kept c None)
       → AreOthers c kept kept' → AreFollowed kept' b'.banks

@@ -8,7 +8,7 @@ use Rattle.nv_register.specs.Register.{register_at}
 use Rattle.nv_register.specs.declared.register.Register.{Register}
 use Rattle.nv_register.specs.declared.register.Register.TheVariants as register
 use Rattle.nv_trace.specs.declared.posted.Posted.{Posted}
-use Rattle.nv_trace.specs.declared.taken.Taken.{Taken}
+use Rattle.nv_trace.specs.declared.taken.TakenEntry.{TakenEntry}
 use Rattle.nv_trace.specs.declared.written.Written.{Written}
 
 -- a number in hexadecimal digits
@@ -17,6 +17,7 @@ hex n = digits 16 false n
 
 -- ---- a register write
 
+-- the name of each register
 abbrev pub register_name : Register → List ℕ
 register_name register.CapLow = codes "CAP.low"
 register_name register.CapHigh = codes "CAP.high"
@@ -42,6 +43,7 @@ written_text w = codes "nvme" ++ (decimal w.ctrl ++ (codes " write "
 
 -- ---- an entry
 
+-- the name of a command by its opcode
 abbrev pub command_name : ℕ → List ℕ
 command_name opcode =
     if opcode == 0x02 then codes "Get Log Page"
@@ -59,7 +61,7 @@ field_text name value =
     if value == 0 then [] else codes " " ++ (name ++ (codes "=0x" ++ hex value))
 
 -- "nvme0 taken Identify (0x06) cid=0x0 nsid=0x0 prp1=0x4000 prp2=0x0 cdw10=0x2"
-abbrev pub taken_text : Taken → List ℕ
+abbrev pub taken_text : TakenEntry → List ℕ
 taken_text t =
     let e = t.entry in
     codes "nvme" ++ (decimal t.ctrl ++ (codes " taken "
@@ -74,6 +76,7 @@ taken_text t =
 
 -- ---- a completion
 
+-- whether a command succeeded or was refused
 abbrev pub meaning : Status → List ℕ
 meaning s = if (s.sct == 0) && (s.sc == 0) then codes "success" else codes "refused"
 

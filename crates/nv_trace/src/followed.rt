@@ -8,7 +8,7 @@ ghost use Rattle.nv_trace.specs.Followed.{is_running};
 ghost use Rattle.nv_trace.specs.inner.Followed.{IsTaken, as_read, rings_one};
 
 use nv_bus::Bus;
-use nv_host::HostMemory;
+use nv_host::paged::PagedMemory;
 use nv_layout::{Cqe, Sqe};
 use nv_register::{AdminQueueAttributes, RegisterBank, Rings, offset};
 
@@ -54,7 +54,7 @@ pub(crate) fn registers_of<B: Bus>(bus: &B, ctrl: u16) -> RegisterBank
 
 /// Returns the next entry that a controller with these rings took, and its completion, and moves on
 /// to those after them.
-pub(crate) fn next_exchange<M: HostMemory>(rings: &mut Rings, mem: &M) -> Exchange
+pub(crate) fn next_exchange<M: PagedMemory>(rings: &mut Rings, mem: &M) -> Exchange
     requires { IsTaken (length (M.bytes mem.now)) rings.old }
     ensures entry { result.entry ≡ next_submission (M.bytes mem.now) rings.old.submission }
     ensures completion { result.completion

@@ -8,7 +8,7 @@ use std::fmt;
 
 /// An entry of a controller's submission queue.
 #[derive(Clone, Copy)]
-pub(crate) struct Taken {
+pub(crate) struct TakenEntry {
     pub(crate) ctrl: u16,
     pub(crate) entry: Sqe,
 }
@@ -31,17 +31,17 @@ fn command_of(opcode: u8) -> &'static str
 
 /// A field with its name.
 #[derive(Clone, Copy)]
-struct Field(&'static str, u64);
+struct EntryField(&'static str, u64);
 
 /// Writes a field such as ` cdw10=0x2`, or nothing if it is 0.
-impl fmt::Display for Field {
+impl fmt::Display for EntryField {
     ghost use Rattle.std.specs.Prelude.{Some};
     ghost use Rattle.nv_trace.specs.Lines.{field_text};
 
     ghost output = { λ field. Some (field_text field.0.now field.1) };
 
     fn fmt<W: fmt::Write>(&self, f: &mut fmt::Formatter<W>) -> fmt::Result {
-        let Field(name, value) = *self;
+        let EntryField(name, value) = *self;
         if value == 0 {
             return Ok(());
         }
@@ -51,14 +51,14 @@ impl fmt::Display for Field {
 
 /// Writes a line such as `nvme0 taken Identify (0x06) cid=0x0 nsid=0x0 prp1=0x4000 prp2=0x0
 /// cdw10=0x2`. Other fields are left out if they are 0.
-impl fmt::Display for Taken {
+impl fmt::Display for TakenEntry {
     ghost use Rattle.std.specs.Prelude.{Some};
     ghost use Rattle.nv_trace.specs.Lines.{taken_text};
 
     ghost output = { λ taken. Some (taken_text taken) };
 
     fn fmt<W: fmt::Write>(&self, f: &mut fmt::Formatter<W>) -> fmt::Result {
-        let Taken { ctrl, entry } = *self;
+        let TakenEntry { ctrl, entry } = *self;
         let command = command_of(entry.opcode);
         write!(
             f,
@@ -69,15 +69,15 @@ impl fmt::Display for Taken {
             entry.nsid,
             entry.prp1,
             entry.prp2,
-            Field("fuse", u64::from(entry.fuse)),
-            Field("psdt", u64::from(entry.psdt)),
-            Field("mptr", entry.mptr),
-            Field("cdw10", u64::from(entry.cdw10)),
-            Field("cdw11", u64::from(entry.cdw11)),
-            Field("cdw12", u64::from(entry.cdw12)),
-            Field("cdw13", u64::from(entry.cdw13)),
-            Field("cdw14", u64::from(entry.cdw14)),
-            Field("cdw15", u64::from(entry.cdw15))
+            EntryField("fuse", u64::from(entry.fuse)),
+            EntryField("psdt", u64::from(entry.psdt)),
+            EntryField("mptr", entry.mptr),
+            EntryField("cdw10", u64::from(entry.cdw10)),
+            EntryField("cdw11", u64::from(entry.cdw11)),
+            EntryField("cdw12", u64::from(entry.cdw12)),
+            EntryField("cdw13", u64::from(entry.cdw13)),
+            EntryField("cdw14", u64::from(entry.cdw14)),
+            EntryField("cdw15", u64::from(entry.cdw15))
         )
     }
 }

@@ -5,7 +5,7 @@ ghost use Rattle.std.specs.Prelude.{◌≡◌, ◌≤◌, None, false};
 use crate::line_text::LineText;
 use crate::marked::Marked;
 use crate::posted::Posted;
-use crate::taken::Taken;
+use crate::taken::TakenEntry;
 use crate::voice::Voice;
 use crate::written::Written;
 use nv_layout::{Cqe, Sqe};
@@ -96,12 +96,12 @@ fn says_entries(rt: HostRuntime) {
     let entry = Sqe::get(&bytes);
     let text = "nvme0 taken Namespace Attachment (0x15) cid=0x1234 nsid=0x3 prp1=0x4000 prp2=0x0 \
         cdw10=0x1";
-    assert!(rt; is_line(&Taken { ctrl: 0, entry }, text));
+    assert!(rt; is_line(&TakenEntry { ctrl: 0, entry }, text));
     let entry = Sqe::get(&[0xff; 64]);
     let text = "nvme15 taken unknown (0xff) cid=0xffff nsid=0xffffffff prp1=0xffffffffffffffff \
         prp2=0xffffffffffffffff fuse=0x3 psdt=0x3 mptr=0xffffffffffffffff cdw10=0xffffffff \
         cdw11=0xffffffff cdw12=0xffffffff cdw13=0xffffffff cdw14=0xffffffff cdw15=0xffffffff";
-    assert!(rt; is_line(&Taken { ctrl: 15, entry }, text));
+    assert!(rt; is_line(&TakenEntry { ctrl: 15, entry }, text));
 }
 
 #[test]

@@ -10,11 +10,11 @@ ghost use Rattle.nv_trace.specs.inner.Followed.{as_read, rings_after, turned};
 
 use crate::followed::{Exchange, is_running, next_exchange, registers_of};
 use crate::posted::Posted;
-use crate::taken::Taken;
+use crate::taken::TakenEntry;
 use crate::voice::Voice;
 use crate::written::Written;
 use nv_bus::Bus;
-use nv_host::HostMemory;
+use nv_host::paged::PagedMemory;
 use nv_register::{Readiness, RegisterBank, Rings};
 use nv_stream::Sink;
 use std::array;
@@ -33,7 +33,7 @@ pub(crate) struct Trace<S: Sink> {
 
 /// Writes the lines of the next `count` entries that a controller with these rings took, and of
 /// their completions, and moves on to those after them.
-fn say_all<M: HostMemory, S: Sink>(
+fn say_all<M: PagedMemory, S: Sink>(
     voice: &mut Voice<S>,
     ctrl: u16,
     rings: &mut Rings,
@@ -45,7 +45,7 @@ fn say_all<M: HostMemory, S: Sink>(
 {
     for _ in 0..count {
         let Exchange { entry, completion } = next_exchange(rings, mem);
-        voice.say(&Taken { ctrl, entry });
+        voice.say(&TakenEntry { ctrl, entry });
         voice.say(&Posted { ctrl, completion });
     }
 }
@@ -121,7 +121,7 @@ impl<S: Sink> Trace<S> {
 
     /// Writes the lines of the entries that a turn took, and of their completions.
     #[tactic(auto, using(crate::proofs::FollowedLaws::elements))]
-    pub(crate) fn turned<M: HostMemory>(&mut self, ctrl: u16, mem: &M, count: u16)
+    pub(crate) fn turned<M: PagedMemory>(&mut self, ctrl: u16, mem: &M, count: u16)
         requires { ForSome (slice_index_or self.old.banks ctrl None)
             (λ p. AreTakenBy count (length (M.bytes mem.now)) p.readiness) }
         ensures own { slice_index_or self.new.banks ctrl None

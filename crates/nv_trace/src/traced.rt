@@ -5,7 +5,7 @@ ghost use Rattle.nv_trace.specs.Followed.{AreFollowed};
 
 use crate::trace::Trace;
 use nv_bus::Bus;
-use nv_host::HostMemory;
+use nv_host::paged::PagedMemory;
 use nv_stream::Sink;
 
 /// A bus that writes lines to a sink: one for each register write, for each entry that a turn took
@@ -61,7 +61,7 @@ impl<B: Bus, S: Sink> Bus for Traced<B, S> {
         self.trace.wrote(ctrl, offset, dword);
     }
 
-    fn turn<M: HostMemory>(&mut self, ctrl: u16, mem: &mut M, most: u16) -> u16 {
+    fn turn<M: PagedMemory>(&mut self, ctrl: u16, mem: &mut M, most: u16) -> u16 {
         let count = self.bus.turn(ctrl, mem, most);
         self.trace.turned(ctrl, mem, count);
         count

@@ -1,7 +1,9 @@
 //! Reads operations from standard input, one per line, and answers each at once on standard output.
+//!
+//! `nv_benches` has examples of benches in Rattle instead, which call the crates directly.
 #![tactic(auto)]
 
-use nv_operations::Session;
+use nv_operations::Bench;
 use nv_stream::Retrying;
 use std::alloc::{AllocError, Global};
 use std::io::{self, BufRead, BufReader, ErrorKind, Write};
@@ -10,7 +12,7 @@ use thiserror::Error;
 
 /// Why the program stopped before the end of its input.
 #[derive(Clone, Copy, Debug, PartialEq, Eq, Error)]
-enum Stop {
+enum BenchStop {
     #[error("read fault")]
     Read,
     #[error("write fault")]
@@ -19,31 +21,31 @@ enum Stop {
     Memory,
 }
 
-impl Stop {
+impl BenchStop {
     /// Returns the exit status.
     fn status(self) -> u8 {
         match self {
-            Stop::Read => 4,
-            Stop::Write => 5,
-            Stop::Memory => 6,
+            BenchStop::Read => 4,
+            BenchStop::Write => 5,
+            BenchStop::Memory => 6,
         }
     }
 }
 
-impl From<AllocError> for Stop {
-    fn from(_: AllocError) -> Stop {
-        Stop::Memory
+impl From<AllocError> for BenchStop {
+    fn from(_: AllocError) -> BenchStop {
+        BenchStop::Memory
     }
 }
 
 /// Reads the next line, with its newline if it has one. Returns whether there was a line.
-fn read_line<R: BufRead>(input: &mut R, line: &mut Vec<u8>) -> Result<bool, Stop> {
+fn read_line<R: BufRead>(input: &mut R, line: &mut Vec<u8>) -> Result<bool, BenchStop> {
     line.clear();
     match input.read_until(b'\n', line) {
         Ok(count) => Ok(count > 0),
         Err(error) => match error.kind() {
-            ErrorKind::OutOfMemory => Err(Stop::Memory),
-            _ => Err(Stop::Read),
+            ErrorKind::OutOfMemory => Err(BenchStop::Memory),
+            _ => Err(BenchStop::Read),
         },
     }
 }
@@ -61,8 +63,8 @@ fn answer_lines<R: BufRead, W: Write>(
     alloc: Global,
     input: &mut R,
     out: &mut W,
-) -> Result<(), Stop> {
-    let mut session = Session::new(alloc)?;
+) -> Result<(), BenchStop> {
+    let mut session = Bench::new(alloc)?;
     let mut line = Vec::new(alloc);
     for _ in 0..u64::MAX {
         if !read_line(input, &mut line)? {
@@ -70,7 +72,7 @@ fn answer_lines<R: BufRead, W: Write>(
         }
         if let Some(answer) = session.answer(alloc, without_newline(line.as_slice()))? {
             if out.write_all(answer.as_bytes()).is_err() {
-                return Err(Stop::Write);
+                return Err(BenchStop::Write);
             }
         }
     }
@@ -78,9 +80,9 @@ fn answer_lines<R: BufRead, W: Write>(
 }
 
 /// Answers the lines on standard input.
-fn answer_input(rt: &HostRuntime) -> Result<(), Stop> {
+fn answer_input(rt: &HostRuntime) -> Result<(), BenchStop> {
     let Ok(mut input) = BufReader::new(rt.alloc(), rt.reader()) else {
-        return Err(Stop::Memory);
+        return Err(BenchStop::Memory);
     };
     let mut out = Retrying::new(io::writer(rt));
     answer_lines(rt.alloc(), &mut input, &mut out)

@@ -1,22 +1,30 @@
--- Phase tags don't matter for the counts of a controller.
-use Rattle.std.proofs.Common.{◌≡◌, ◌∙◌, ℕ, ◌≤◌, zero, suc, List, [], ◌∷◌, ap, length, map, refl, sym}
+-- The controllers of a machine are those of its subsystem.
+use Rattle.std.proofs.Common.{◌≡◌, ◌<◌, ◌≤◌, ℕ, ap, arith, length, sym}
+use Rattle.std.proofs.lemmas.List.{length-map}
 use Rattle.std.proofs.lemmas.Option.{slice_get_past}
 use Rattle.std.specs.Option.{option_map_or}
-use Rattle.std.specs.Prelude.{slice_get}
+use Rattle.nv_bus.specs.Bus.{IsBus}
+use Rattle.nv_controller.specs.Machine.{MachineValue, bus_of}
 use Rattle.nv_model.specs.LogEntry.{counts_of}
 use Rattle.nv_model.specs.State.{Controller, State}
-use Rattle.nv_subsystem.specs.Tagged.{untagged, untagged_log}
+use Rattle.nv_subsystem.specs.Tagged.{untagged_log}
 
-counted : (xs : List Controller) (c : ℕ)
-    → ◌≡◌ {A = ℕ × ℕ} (option_map_or (λ x. (x.refusals, x.commands)) (slice_get (map untagged_log xs) c) (0, 0))
-    (option_map_or (λ x. (x.refusals, x.commands)) (slice_get xs c) (0, 0))
-counted [] c = refl
-counted (x ∷ xs) zero = refl
-counted (x ∷ xs) (suc c) = counted xs c
+-- a machine that is a lawful bus has registers for each controller of its subsystem
+pub controllers_of : (m : MachineValue) → IsBus (bus_of m) → length m.banks ≡ length m.state.controllers
+controllers_of m bus = omega (arith, bus.banks, length-map m.state.controllers untagged_log)
 
-pub counts_through : (s t : State) (c : ℕ) → untagged s ≡ t → counts_of s c ≡ counts_of t c
-counts_through s t c same = sym (counted s.controllers c) ∙ ap (λ u. counts_of u c) same
+-- a controller with registers in a machine that is a lawful bus is one of its subsystem
+pub controller_within : (s : State) (m : MachineValue) (c : ℕ) → s ≡ m.state → IsBus (bus_of m) → c < length m.banks
+    → c < length s.controllers
+controller_within s m c is bus within =
+    omega (arith, controllers_of m bus, ap (λ (t : State). length t.controllers) is)
 
-pub no_counts : (t : State) (c : ℕ) → length t.controllers ≤ c → ◌≡◌ {A = ℕ × ℕ} (0, 0) (counts_of t c)
-no_counts t c past =
-    sym (ap (λ x. option_map_or (λ x. (x.refusals, x.commands)) x (0, 0)) (slice_get_past t.controllers c past))
+-- a controller that doesn't exist has the counts 0 and 0
+pub no_counts : (m : MachineValue) (c : ℕ) → IsBus (bus_of m) → length m.banks ≤ c
+    → ◌≡◌ {A = ℕ × ℕ} (0, 0) (counts_of m.state c)
+no_counts m c bus past =
+    let more : length m.state.controllers ≤ c = omega (arith, controllers_of m bus) in
+    sym (ap (λ x. option_map_or (λ (x : Controller). (x.refusals, x.commands)) x (0, 0))
+    (slice_get_past m.state.controllers c more))
+
+pub ruleset counted = (controller_within, no_counts)

@@ -1,7 +1,7 @@
 -- How opening a file follows from reading it.
 use Rattle.std.proofs.Common.{◌≡◌, ◌∙◌, ◌⊎◌, ap, inl, inr, refl, sym, subst, ℕ, List, [], length}
 use Rattle.std.specs.Prelude.{pos, Option, Some, Result, Ok}
-use Rattle.nv_bus.specs.Bus.{BusValue}
+use Rattle.nv_controller.specs.Machine.{MachineValue}
 use Rattle.nv_file.specs.FaultText.{fault_text}
 use Rattle.nv_file.specs.declared.error.SubsystemError.{SubsystemError}
 use Rattle.nv_file.specs.declared.error.SubsystemError.TheVariants as fault
@@ -12,30 +12,36 @@ use Rattle.nvme_controller.specs.inner.FaultText.{IsFaultOf}
 
 -- ---- a machine
 
-pub opened : (file : Result State SubsystemError) (s : State) (m : Option BusValue) → file ≡ Ok s
+-- opening a file that holds a subsystem leaves a machine with it and returns 0
+pub opened : (file : Result State SubsystemError) (s : State) (m : Option MachineValue) → file ≡ Ok s
     → Opens file (pos 0) m (Some (machine_of s))
 opened file s m is = subst (λ f. Opens f (pos 0) m (Some (machine_of s))) (sym is) (inr (refl, refl))
 
+-- a file that holds a subsystem has an empty text for its fault
 pub no_text : (file : Result State SubsystemError) (s : State) (bytes : List ℕ) → file ≡ Ok s
     → bytes ≡ c_text (length bytes) [] → Tells file (pos 0) bytes
 no_text file s bytes is empty = subst (λ f. Tells f (pos 0) bytes) (sym is) (inr (refl, empty))
 
 -- ---- a fault
 
+-- lack of memory may be the fault of any file
 pub no_memory : (file : Result State SubsystemError) (e : SubsystemError) → e ≡ fault.Memory → IsFaultOf file e
 no_memory file e is = inl is
 
 pub ruleset opens = (opened, no_text, no_memory)
 
-pub fault_opens : (file : Result State SubsystemError) (e : SubsystemError) (m : Option BusValue) → IsFaultOf file e
+-- opening a file with a fault returns the fault's number and leaves what was held
+pub fault_opens : (file : Result State SubsystemError) (e : SubsystemError) (m : Option MachineValue) → IsFaultOf file e
     → Opens file (number_of e) m m
 fault_opens file e m (inl is) = subst (λ f. Opens file (number_of f) m m) (sym is) (inl (refl, refl))
 fault_opens file e m (inr is) = subst (λ f. Opens f (number_of e) m m) (sym is) (inr (refl, refl))
 
+-- a text that is cut to the length before is cut to the length after, if they are equal
 same_length : (e : SubsystemError) (old new : List ℕ) → length new ≡ length old
     → new ≡ c_text (length old) (fault_text e) → new ≡ c_text (length new) (fault_text e)
 same_length e old new same is = is ∙ ap (λ n. c_text n (fault_text e)) (sym same)
 
+-- a fault of a file has the text of the fault
 pub fault_told : (file : Result State SubsystemError) (e : SubsystemError) (old new : List ℕ) → IsFaultOf file e
     → length new ≡ length old → new ≡ c_text (length old) (fault_text e) → Tells file (number_of e) new
 fault_told file e old new (inl is) same text =
@@ -43,7 +49,7 @@ fault_told file e old new (inl is) same text =
 fault_told file e old new (inr is) same text =
     subst (λ f. Tells f (number_of e) new) (sym is) (inr (refl, same_length e old new same text))
 
--- a fault, or no memory for its text
+-- if e is a fault of a file, so is what is reported for it: e, or lack of memory
 pub still_a_fault : (file : Result State SubsystemError) (e f : SubsystemError) → IsFaultOf file e
     → (f ≡ e) ⊎ (f ≡ fault.Memory) → IsFaultOf file f
 still_a_fault file e f is (inl same) = subst (λ x. IsFaultOf file x) (sym same) is

@@ -5,6 +5,7 @@ use Rattle.std.proofs.lemmas.Bool.{cases_lt}
 use Rattle.std.proofs.lemmas.List.{take_all}
 use Rattle.nvme_controller.specs.FaultText.{c_text}
 
+-- as many elements as a text has, up to `room`, are its first `room` elements
 cut : (text : List ℕ) (room : ℕ) → take (min (length text) room) text ≡ take room text
 cut text room =
     elim (cases_lt room (length text)) [
@@ -13,6 +14,7 @@ cut text room =
           ∙ sym (take_all room text above)
     ]
 
+-- a text that is cut to one byte less than its room, with zeros after it, is a text of C
 pub cut_to : (text : List ℕ) (room count : ℕ) → count ≡ min (length text) (room - 1)
     → take count text ++ replicate (room - count) 0 ≡ c_text room text
 cut_to text room count is =

@@ -2,4 +2,5 @@ pub mod Calls
 pub mod FaultText
 pub mod Held
 pub mod Open
+pub mod StatusName
 pub mod inner

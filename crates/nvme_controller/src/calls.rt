@@ -1,7 +1,8 @@
 //! The calls of a program in C. Each takes the machine out of its handle, and puts it back.
 ghost use Rattle.std.specs.Prelude.{◌≡◌, ◌<◌, IfErr, IfOk, IfSome, IsTrue, None, Option, Some};
 ghost use Rattle.std.specs.Prelude.{ℕ, [], List, length, pos};
-ghost use Rattle.nv_bus.specs.Bus.{BusValue, IsBus};
+ghost use Rattle.nv_bus.specs.Bus.{IsBus};
+ghost use Rattle.nv_controller.specs.Machine.{MachineValue, bus_of};
 ghost use Rattle.nv_file.specs.Demo.{demo_text};
 ghost use Rattle.nv_host.specs.Pages.{are_pages};
 ghost use Rattle.nv_model.specs.LogEntry.{counts_of, log_entry_of};
@@ -26,9 +27,9 @@ const ABSENT: u32 = 0xffff_ffff;
 /// Creates the machine of a subsystem file, or returns the file's first fault.
 #[tactic(auto, using(crate::proofs::OpenLaws::opens))]
 fn machine_of(alloc: Global, file: &[u8]) -> Result<Box<Machine>, SubsystemError>
-    ensures bus { IfOk result (λ b. IsBus b.value) }
+    ensures bus { IfOk result (λ b. IsBus (bus_of b.value)) }
     ensures value { IfOk result
-        (λ b. (m : Option BusValue) → Opens (subsystem file.now) (pos 0) m (Some b.value)) }
+        (λ b. (m : Option MachineValue) → Opens (subsystem file.now) (pos 0) m (Some b.value)) }
     ensures text { IfOk result (λ _. (bytes : List ℕ) → bytes ≡ c_text (length bytes) []
         → Tells (subsystem file.now) (pos 0) bytes) }
     ensures fault { IfErr result (λ e. IsFaultOf (subsystem file.now) e) }
@@ -142,9 +143,9 @@ pub extern "C" fn nvme_handle_read32(
 
 /// Writes the dword at an offset of a controller's registers, if there is such a controller.
 fn write(machine: &mut Machine, ctrl: u16, offset: u32, value: u32)
-    requires { IsBus machine.old }
+    requires { IsBus (bus_of machine.old) }
     ensures written { Written ctrl offset value machine.old machine.new }
-    ensures bus { IsBus machine.new }
+    ensures bus { IsBus (bus_of machine.new) }
 {
     if ctrl < machine.controllers() {
         machine.write32(ctrl, offset, value);
@@ -171,7 +172,7 @@ pub extern "C" fn nvme_handle_write32(
 
 /// The number of entries that a turn took, and the bytes of the host's memory, which are returned.
 #[derive(Drop)]
-struct Taken<'a> {
+struct TurnTaken<'a> {
     count: u16,
     memory: &'a mut [u8],
 }
@@ -183,20 +184,20 @@ fn turn<'a, L: Loan>(
     memory: &'a mut [u8],
     page_size: u32,
     most: u16,
-) -> Taken<'a>
-    requires bus { IsBus machine.old }
+) -> TurnTaken<'a>
+    requires bus { IsBus (bus_of machine.old) }
     requires ctrl { ctrl < length machine.old.banks }
     requires pages { IsTrue (are_pages page_size (length memory.old)) }
     requires loan { memory.ghost_name ≡ L.reference }
     ensures same_reference { result.memory.ghost_name ≡ memory.entry.ghost_name }
     ensures turn { BytesTurn page_size ctrl most result.count
         machine.old memory.old machine.new result.memory.now }
-    ensures bus { IsBus machine.new }
+    ensures bus { IsBus (bus_of machine.new) }
 {
     let mut lent: LentMemory<'a, L> = LentMemory::new(memory, page_size);
     let count = machine.turn(ctrl, &mut lent, most);
     let LentBytes { bytes } = lent.into_bytes();
-    Taken {
+    TurnTaken {
         count,
         memory: bytes,
     }
@@ -209,14 +210,14 @@ fn lent_turn<'a>(
     memory: &'a mut [u8],
     page_size: u32,
     most: u16,
-) -> Taken<'a>
-    requires bus { IsBus machine.old }
+) -> TurnTaken<'a>
+    requires bus { IsBus (bus_of machine.old) }
     requires ctrl { ctrl < length machine.old.banks }
     requires pages { IsTrue (are_pages page_size (length memory.old)) }
     ensures same_reference { result.memory.ghost_name ≡ memory.entry.ghost_name }
     ensures turn { BytesTurn page_size ctrl most result.count
         machine.old memory.old machine.new result.memory.now }
-    ensures bus { IsBus machine.new }
+    ensures bus { IsBus (bus_of machine.new) }
 {
     turn::<Brand>(machine, ctrl, memory, page_size, most)
 }
@@ -224,10 +225,10 @@ fn lent_turn<'a>(
 /// Gives a controller a turn over these bytes, and returns how many entries it took. Nothing
 /// changes if there is no such controller, or the bytes aren't whole pages.
 fn turn_over(machine: &mut Machine, ctrl: u16, memory: &mut [u8], page_size: u32, most: u16) -> u16
-    requires { IsBus machine.old }
+    requires { IsBus (bus_of machine.old) }
     ensures turned { Turned ctrl page_size most result
         machine.old memory.old machine.new memory.new }
-    ensures bus { IsBus machine.new }
+    ensures bus { IsBus (bus_of machine.new) }
 {
     if ctrl < machine.controllers() && are_pages(page_size, memory.len()) {
         lent_turn(machine, ctrl, memory, page_size, most).count
@@ -260,9 +261,9 @@ pub extern "C" fn nvme_handle_turn(
 
 /// Returns how many commands a controller has refused, and how many it has taken: 0 and 0 if there
 /// is no such controller.
-#[tactic(auto, using(crate::proofs::CountLaws::counts_through, crate::proofs::CountLaws::no_counts))]
+#[tactic(auto, using(crate::proofs::CountLaws::counted))]
 fn counts(machine: &Machine, ctrl: u16) -> (u64, u64)
-    requires { IsBus machine.now }
+    requires { IsBus (bus_of machine.now) }
     ensures { result ≡ counts_of machine.now.state ctrl }
 {
     if ctrl < machine.controllers() {
@@ -299,7 +300,7 @@ pub extern "C" fn nvme_handle_counts(
 /// or 0 if there is no such entry.
 #[tactic(auto, using(crate::proofs::LogLaws::entries))]
 fn put_entry(machine: &Machine, ctrl: u16, index: usize, entry: &mut [u8; 64]) -> i32
-    requires { IsBus machine.now }
+    requires { IsBus (bus_of machine.now) }
     ensures { EntryTold (log_entry_of machine.now.state ctrl index) result entry.old entry.new }
 {
     if ctrl >= machine.controllers() {

@@ -1,6 +1,6 @@
 //! The handle by which a program in C holds a machine.
 ghost use Rattle.std.specs.Prelude.{◌≡◌, None, Option, Some};
-ghost use Rattle.nv_bus.specs.Bus.{BusValue};
+ghost use Rattle.nv_controller.specs.Machine.{MachineValue};
 ghost use Rattle.nvme_controller.specs.Held.{held_code, holds};
 ghost use Rattle.nvme_controller.specs.Open.{IsOpen};
 
@@ -16,7 +16,7 @@ use std::{mem, ptr};
 pub struct Handle {
     at: *mut u8,
     alloc: Global,
-    pub ghost machine: { Option BusValue } by { held_code },
+    pub ghost machine: { Option MachineValue } by { held_code },
 }
 
 impl Model for Handle {

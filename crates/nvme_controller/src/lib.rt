@@ -1,6 +1,8 @@
 //! The controllers of an NVM subsystem for programs in C. A program holds a machine by a
 //! [`Handle`], and each of its calls is a call of `nv_controller`, with the clauses of that call.
 //!
+//! `nv_controller` is the model itself. This crate only gives it an interface for C.
+//!
 //! `library/nvme_controller.h` declares the calls for a program in C.
 #![tactic(auto)]
 
@@ -8,5 +10,6 @@ mod calls;
 mod fault;
 mod handle;
 mod parts;
+mod status;
 
 pub use handle::Handle;

@@ -23,6 +23,7 @@ pub record Side : Type 0 where
   pub now : ℕ
   pub bytes : List ℕ
 
+-- the side with these values
 abbrev pub side : BusValue → QueuePairFields → ℕ → List ℕ → Side
 side bus pair now bytes = record { bus = bus; pair = pair; now = now; bytes = bytes }
 

@@ -1,10 +1,11 @@
 -- How many commands of a list are executed at a time: what a turn takes, and when the head doorbell is rung.
-use Rattle.std.specs.Prelude.{◌≡◌, ℕ, ◌+◌, ◌-◌, ◌*◌, ◌<◌, false, min, slice_set, true}
+use Rattle.std.specs.Prelude.{◌≡◌, ℕ, ◌+◌, ◌-◌, ◌*◌, ◌<◌, List, false, length, min, slice_set, true}
 use Rattle.nv_queue.specs.Numbers.{slot_of}
 use Rattle.nv_queue.specs.Rings.{told_all}
 use Rattle.nv_register.specs.RegisterBank.{with_register_at}
 use Rattle.nv_bus.specs.Bus.{BusValue, IsBus, bank_at}
-use Rattle.nv_driver.specs.UnderWay.{Run}
+use Rattle.nv_driver.specs.Schedule.{Event, Follows, World}
+use Rattle.nv_driver.specs.UnderWay.{IsDue, Run, first_world, setting_of}
 use Rattle.nv_driver.specs.declared.batch.Batch.{Batch}
 use Rattle.nv_driver.specs.declared.queue_pair.QueuePair.{QueuePair as QueuePairFields}
 
@@ -12,12 +13,12 @@ use Rattle.nv_driver.specs.declared.queue_pair.QueuePair.{QueuePair as QueuePair
 -- free slot for their completions
 abbrev pub taken_by_turn : Run → Batch → ℕ
 taken_by_turn r b =
-    min b.geometry.pace
+    min r.geometry.pace
     (min (b.sent - b.collected) (r.pair.submission.depth - 1 - (b.collected - b.told)))
 
 -- fewer answers than the pace were collected since the head doorbell was rung
-abbrev pub IsToldInTime : Batch → Type 0
-IsToldInTime b = b.collected < b.told + b.geometry.pace
+abbrev pub IsToldInTime : Run → Batch → Type 0
+IsToldInTime r b = b.collected < b.told + r.geometry.pace
 
 -- between two counts of reported answers, the head doorbell was rung each time that as many as the
 -- pace were collected
@@ -33,3 +34,19 @@ pub record IsTold (c : ℕ) (l : QueuePairFields) (m : BusValue) (l' : QueuePair
   pub told : l.completion.untold ≡ true → m'.banks ≡ slice_set m.banks c
       (with_register_at (bank_at m.banks c) 0x1004 (slot_of l.completion.depth l.completion.collected))
   pub silent : l.completion.untold ≡ false → m'.banks ≡ m.banks
+
+-- these are the memory and the controller of a world
+pub record IsSeenAs (w : World) (c : ℕ) (bus : BusValue) (bytes : List ℕ) : Type 0 where
+  pub mem : w.mem ≡ bytes
+  pub state : w.state ≡ bus.state
+  pub bank : w.bank ≡ bank_at bus.banks c
+
+-- the bus and the memory are those after events each of which was due, up to the last answer, which is
+-- reported
+pub record IsPaced (r : Run) (bus : BusValue) (bytes : List ℕ) : Type 0 where
+  pub events : List Event
+  pub last : World
+  pub ran : Follows (IsDue r) (setting_of r) events (first_world r) last
+  pub collected : length last.answers ≡ length r.commands
+  pub told : last.told ≡ length r.commands
+  pub seen : IsSeenAs last r.controller bus bytes

@@ -1,7 +1,8 @@
 -- A request that a driver submitted, and where its data lies: what no public contract reaches.
 use Rattle.std.specs.Prelude.{◌≡◌, ℕ, ◌+◌, ◌*◌, ◌<◌, ◌≤◌, List, ◌∷◌, length}
+use Rattle.std.specs.List.{range_with_len}
 use Rattle.nv_host.specs.Pages.{IsPageSize}
-use Rattle.nv_prp.specs.Buffer.{IsBuffer, IsListPlace, buffer_places}
+use Rattle.nv_prp.specs.Buffer.{IsBuffer, IsListPlace}
 use Rattle.nv_prp.specs.Place.{AreDistinct}
 use Rattle.nv_queue.specs.Numbers.{IsSlotBetween, next, slot_of}
 use Rattle.nv_queue.specs.Rings.{IsSubmitFull, submitted_one}
@@ -9,16 +10,18 @@ use Rattle.nv_queue.specs.Slots.{IsAwaitedThere, awaited_completion, with_submis
 use Rattle.nv_bus.specs.Call.{length_of}
 use Rattle.nv_model.specs.Ranges.{serial_count}
 use Rattle.nv_model.specs.Step.{next_serial}
+use Rattle.nv_driver.specs.Layout.{data_count}
 use Rattle.nv_driver.specs.Request.{Asked, Request}
-use Rattle.nv_driver.specs.inner.Schedule.{IsListedAtPlace}
+use Rattle.nv_driver.specs.Pointer.{IsListedAtPlace}
 use Rattle.nv_driver.specs.Schedule.{IsPrepared, entry}
-use Rattle.nv_driver.specs.declared.submitting.DataPlace.{DataPlace}
 use Rattle.nv_driver.specs.declared.geometry.Geometry.{Geometry}
+use Rattle.nv_driver.specs.declared.submitting.DataPlace.{DataPlace}
 use Rattle.nv_driver.specs.declared.submitting.Outgoing.{Outgoing}
 use Rattle.nv_driver.specs.declared.queue_pair.QueuePair.{QueuePair as QueuePairFields}
 use Rattle.nv_driver.specs.HostData.{sent_by}
-use Rattle.nv_driver.specs.Submitting.{RequestPlace, place_from, sent_at}
+use Rattle.nv_driver.specs.Submitting.{RequestPlace, sent_at}
 
+-- the place of a request's data that a driver uses
 abbrev pub place_of : DataPlace → RequestPlace
 place_of p = record {
   pages = p.buffer.pages.now;
@@ -28,10 +31,15 @@ place_of p = record {
   list_offset = p.list.offset;
 }
 
--- the places of `len` bytes in consecutive pages from this one on
-abbrev pub places_from : Geometry → (first len : ℕ) → List ℕ
-places_from g first len =
-    let at = place_from g first len in buffer_places g.page_size at.pages at.offset len
+-- `len` bytes in consecutive pages from this one on: two for a list, and then those of the data
+abbrev pub place_from : Geometry → (first len : ℕ) → RequestPlace
+place_from g first len = record {
+  pages = range_with_len (first + 2) (data_count g len);
+  offset = g.offset;
+  first = first;
+  second = first + 1;
+  list_offset = g.list_offset;
+}
 
 -- a request that asks for this
 abbrev pub request_as : Outgoing → Asked → Request

@@ -1,4 +1,4 @@
--- What reading answers, by the checks of what is read and by what it holds.
+-- The result of reading, by the checks of what is read and by what it holds.
 use Rattle.std.specs.Prelude.{◌≡◌, ◌⊎◌, List, None, Some, IfSome, Result, Ok, Err}
 use Rattle.nv_file.specs.declared.error.SubsystemError.{SubsystemError}
 use Rattle.nv_file.specs.declared.error.SubsystemError.TheVariants.{Memory}
@@ -15,17 +15,17 @@ abbrev pub IsChecked : {X Y : Type 0} → (X → Y) → List Check → Y → Res
 IsChecked view checks value (Ok x) = (first_fault checks ≡ None) × (view x ≡ value)
 IsChecked view checks value (Err e) = first_fault checks ≡ Some e
 
--- nothing, or that fault
+-- nothing, or the fault of the first check that fails
 abbrev pub IsPassed : List Check → Result (Unit {0}) SubsystemError → Type 0
 IsPassed checks (Ok _) = first_fault checks ≡ None
 IsPassed checks (Err e) = first_fault checks ≡ Some e
 
--- the value or that fault, unless memory ran out
+-- the value or the fault of the first check that fails, unless memory ran out
 abbrev pub IsCheckedUnlessMemory : {X Y : Type 0} → (X → Y) → List Check → Y
     → Result X SubsystemError → Type 0
 IsCheckedUnlessMemory view checks value (Ok x) = (first_fault checks ≡ None) × (view x ≡ value)
 IsCheckedUnlessMemory view checks value (Err e) = (e ≡ Memory) ⊎ (first_fault checks ≡ Some e)
 
--- the first of these checks that fails is answered, whatever memory there is
+-- if one of these checks fails, the first one's fault is returned, regardless of memory
 abbrev pub IsToldFirst : {X : Type 0} → List Check → Result X SubsystemError → Type 0
 IsToldFirst checks result = IfSome (first_fault checks) (λ e. result ≡ Err e)

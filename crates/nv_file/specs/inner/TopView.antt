@@ -7,6 +7,7 @@ use Rattle.nv_file.specs.File.{nn_of}
 use Rattle.nv_file.specs.KeyChecks.{number_at, tables_at, text_at}
 use Rattle.nv_file.specs.inner.SectionView.{tables_view}
 
+-- the top table, with the members of the tables in it
 pub record Top : Type 0 where
   pub version : ℕ
   pub nn : ℕ
@@ -17,6 +18,7 @@ pub record Top : Type 0 where
   pub controllers : List Members
   pub namespaces : List Members
 
+-- the value of a top table in the code
 abbrev pub top_view : CodeTop → Top
 top_view t = record {
   version = t.version;
@@ -29,6 +31,7 @@ top_view t = record {
   namespaces = tables_view t.namespaces.items;
 }
 
+-- the top table that these members hold
 abbrev pub top_value : Members → Top
 top_value m = record {
   version = number_at key.Version 0 m;

@@ -8,15 +8,18 @@ use Rattle.nv_prp.specs.Transfer.{qword, room, second_page}
 abbrev pub used : ℕ → ℕ → ℕ → ℕ
 used space pages j = if nat_lt space j && nat_lt space (pages - 1) then j else j - 1
 
+-- the address of the Qword after those that were used before data page j
 abbrev pub cursor : ℕ → ℕ → ℕ → ℕ → ℕ → ℕ
 cursor space first second pages j =
     if nat_lt space j && nat_lt space (pages - 1)
     then second + 8 * (j - space)
     else first + 8 * (j - 1)
 
+-- how many Qwords of a transfer's list were used before data page j
 abbrev pub used_of : PrpTransfer → ℕ → ℕ
 used_of t j = used (room t) (data_pages t) j
 
+-- the address of the next Qword of a transfer's list, before data page j
 abbrev pub cursor_of : PrpTransfer → ℕ → ℕ
 cursor_of t j = cursor (room t) t.prp2 (second_page t) (data_pages t) j
 

@@ -6,6 +6,7 @@ use Rattle.nv_prp.specs.declared.pointer.DataPointer.{DataPointer}
 use Rattle.nv_prp.specs.declared.spans.Span.{Span}
 use Rattle.nv_prp.specs.Transfer.{PrpTransfer, transfer, spans_of}
 
+-- the transfer with the entries and the length of a data pointer
 abbrev pub transfer_of : ℕ → List ℕ → DataPointer → PrpTransfer
 transfer_of page_size bytes pointer = transfer page_size bytes pointer.prp1 pointer.prp2 pointer.len
 

@@ -7,8 +7,8 @@ use Rattle.nv_driver.specs.Answer.{Answer}
 use Rattle.nv_script.specs.Outcomes.{Order, exchange_of}
 use Rattle.nv_script.specs.Shown.{listing_told}
 use Rattle.nv_script.specs.declared.listing.Listing.{Listing}
-use Rattle.nv_script.specs.declared.performing.Stop.{Stop}
-use Rattle.nv_script.specs.declared.performing.Stop.TheVariants as stop
+use Rattle.nv_script.specs.declared.performing.NoText.{NoText}
+use Rattle.nv_script.specs.declared.performing.NoText.TheVariants as stop
 
 -- the subsystem, the serials, and what was listed
 pub record Standing : Type 0 where
@@ -26,6 +26,7 @@ asked w o =
       listing = listing_told o.controller w.listing o.act e.answer;
     }
 
+-- the standing after several orders
 abbrev pub asked_all : Standing → List Order → Standing
 asked_all w orders = fold asked w orders
 
@@ -56,14 +57,14 @@ pub record AreBegun (w : Standing) (orders : List Order) (state : State)
   pub next : serials ≡ (asked_all w done).serials
 
 -- a refusal that is returned is one of the answers
-abbrev pub IsHandedOn : Stop → List Answer → Type 0
+abbrev pub IsHandedOn : NoText → List Answer → Type 0
 IsHandedOn (stop.Refused status) answers = Contains answers (Err status)
 IsHandedOn stop.Memory answers = Unit {0}
 IsHandedOn stop.NoReady answers = ⊥
 
 -- all of some orders were carried out and their answers are listed, or one of them was refused so,
 -- or memory was refused among them
-abbrev pub ListLeaves : {A : Type 0} → Result A Stop → Standing → List Order → State → List ℕ
+abbrev pub ListLeaves : {A : Type 0} → Result A NoText → Standing → List Order → State → List ℕ
     → Listing → Type 0
 ListLeaves (Ok done) w orders state serials listing =
     IsListed (asked_all w orders) state serials listing

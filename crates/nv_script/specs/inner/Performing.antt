@@ -6,15 +6,15 @@ use Rattle.nv_line.specs.declared.request.Ask.{Ask}
 use Rattle.nv_line.specs.declared.request.Query.{Query}
 use Rattle.nv_line.specs.declared.request.Query.TheVariants as query
 use Rattle.nv_line.specs.declared.request.Request.{Request}
-use Rattle.nv_print.specs.declared.device.Device.{Device}
+use Rattle.nv_print.specs.declared.device.ListedDevice.{ListedDevice}
 use Rattle.nv_print.specs.declared.shown.Shown.{Shown}
 use Rattle.nv_print.specs.declared.shown.Shown.TheVariants as shown
 use Rattle.nv_script.specs.Outcomes.{Outcome, outcome_of}
 use Rattle.nv_script.specs.Orders.{orders_of}
 use Rattle.nv_script.specs.Results.{output_for}
 use Rattle.nv_script.specs.Shown.{shown_by, shown_of}
-use Rattle.nv_script.specs.declared.performing.Stop.{Stop}
-use Rattle.nv_script.specs.declared.performing.Stop.TheVariants as stop
+use Rattle.nv_script.specs.declared.performing.NoText.{NoText}
+use Rattle.nv_script.specs.declared.performing.NoText.TheVariants as stop
 
 -- these are the subsystem and the serials after an outcome
 pub record IsReached (o : Outcome) (state : State) (serials : List ℕ) : Type 0 where
@@ -22,38 +22,38 @@ pub record IsReached (o : Outcome) (state : State) (serials : List ℕ) : Type 0
   pub next : serials ≡ o.serials
 
 -- a query was refused, or memory was refused, after some of its orders; each controller was ready
-abbrev pub StopLeaves : Stop → Query → State → List ℕ → State → List ℕ → Type 0
-StopLeaves (stop.Refused status) q s serials state next =
+abbrev pub NoTextLeaves : NoText → Query → State → List ℕ → State → List ℕ → Type 0
+NoTextLeaves (stop.Refused status) q s serials state next =
     let o = outcome_of s serials (orders_of s q) in
     (o.refusal ≡ Some status) × IsReached o state next
-StopLeaves stop.Memory q s serials state next = (k : ℕ)
+NoTextLeaves stop.Memory q s serials state next = (k : ℕ)
     × IsReached (outcome_of s serials (take k (orders_of s q))) state next
-StopLeaves stop.NoReady q s serials state next = ⊥
+NoTextLeaves stop.NoReady q s serials state next = ⊥
 
 -- what the replies to all orders show, or why there is nothing to show
-abbrev pub QueryLeaves : Result (Option Shown) Stop → Query → State → List ℕ → State
+abbrev pub QueryLeaves : Result (Option Shown) NoText → Query → State → List ℕ → State
     → List ℕ → Type 0
 QueryLeaves (Ok shown) q s serials state next =
     let o = outcome_of s serials (orders_of s q) in
     (o.refusal ≡ None) × (shown ≡ shown_of (orders_of s q) q o.replies) × IsReached o state next
-QueryLeaves (Err stop) q s serials state next = StopLeaves stop q s serials state next
+QueryLeaves (Err stop) q s serials state next = NoTextLeaves stop q s serials state next
 
 -- what the last reply to an ask shows, or why there is none
-abbrev pub AskLeaves : Result Reply Stop → ℕ → Ask → State → List ℕ → State → List ℕ → Type 0
+abbrev pub AskLeaves : Result Reply NoText → ℕ → Ask → State → List ℕ → State → List ℕ → Type 0
 AskLeaves (Ok reply) c a s serials state next =
     QueryLeaves (Ok (shown_by a reply)) (query.One c a) s serials state next
-AskLeaves (Err stop) c a s serials state next = StopLeaves stop (query.One c a) s serials state next
+AskLeaves (Err stop) c a s serials state next = NoTextLeaves stop (query.One c a) s serials state next
 
 -- the devices that `list` shows, or why there are none
-abbrev pub ListedAll : Result (List Device) Stop → State → List ℕ → State → List ℕ → Type 0
+abbrev pub ListedAll : Result (List ListedDevice) NoText → State → List ℕ → State → List ℕ → Type 0
 ListedAll (Ok devices) s serials state next =
     QueryLeaves (Ok (Some (shown.Devices devices))) query.List s serials state next
-ListedAll (Err stop) s serials state next = StopLeaves stop query.List s serials state next
+ListedAll (Err stop) s serials state next = NoTextLeaves stop query.List s serials state next
 
 -- its text, or why there is none
-abbrev pub RequestLeaves : {Z : Type 0} → Result (Vec ℕ Z) Stop → Request
+abbrev pub RequestLeaves : {Z : Type 0} → Result (Vec ℕ Z) NoText → Request
     → State → List ℕ → State → List ℕ → Type 0
 RequestLeaves (Ok text) r s serials state next =
     let o = outcome_of s serials (orders_of s r.query) in
     (o.refusal ≡ None) × (text.items ≡ output_for s r o.replies) × IsReached o state next
-RequestLeaves (Err stop) r s serials state next = StopLeaves stop r.query s serials state next
+RequestLeaves (Err stop) r s serials state next = NoTextLeaves stop r.query s serials state next

@@ -3,6 +3,7 @@ use Rattle.nv_model.specs.Codes.{identity_view}
 use Rattle.nv_model.specs.State.{Controller}
 use Rattle.nv_subsystem.specs.declared.controller.Controller as controllers
 
+-- the value of a controller in the code
 abbrev pub controller_view : controllers.Controller → Controller
 controller_view x = record {
   identity = identity_view x.identity;

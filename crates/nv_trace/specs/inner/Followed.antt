@@ -31,6 +31,7 @@ AreOthers c old new = (d : ℕ) → d ≢ c → slice_index_or new d None ≡ sl
 abbrev pub rings_one : Rings → Rings
 rings_one r = record r { submission = fetched_one r.submission; completion = posted_one r.completion }
 
+-- the rings after this number of entries
 abbrev pub rings_after : ℕ → Rings → Rings
 rings_after zero r = r
 rings_after (suc k) r = rings_after k (rings_one r)
@@ -47,6 +48,7 @@ abbrev pub AreTaken : ℕ → ℕ → Rings → Type 0
 AreTaken zero size r = Unit {0}
 AreTaken (suc k) size r = IsTaken size r × AreTaken k size (rings_one r)
 
+-- this number of entries was taken if the controller is ready, with or without a fatal status
 abbrev pub AreTakenBy : ℕ → ℕ → Readiness → Type 0
 AreTakenBy count size Off = Unit {0}
 AreTakenBy count size Failed = Unit {0}

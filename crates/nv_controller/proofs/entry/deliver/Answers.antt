@@ -4,6 +4,7 @@ use Rattle.nv_command.specs.Command.{transfer_by}
 use Rattle.nv_command.specs.Reply.{FitsRecord}
 use Rattle.nv_command.specs.declared.command.Command.{Command}
 use Rattle.nv_command.proofs.TravelLaws.{replies_fit}
+use Rattle.nv_command.specs.LogPage.{log_asked}
 use Rattle.nv_model.specs.Logs.{log_reply}
 use Rattle.nv_model.specs.Meaning.{reply_of}
 use Rattle.nv_prp.specs.Place.{places, written_at}
@@ -12,7 +13,7 @@ use Rattle.nv_controller.proofs.entry.deliver.Goals as goal
 
 pub deliver_log-requires-clause-short : goal.deliver_log-requires-clause-short
 deliver_log-requires-clause-short g c =
-    log_length (log_reply c.args.subsystem.now c.args.ctrl c.in-GetLog.asked.lid)
+    log_length (log_reply c.args.subsystem.now c.args.ctrl (log_asked c.in-GetLog.asked.lid))
     (subst (λ (k : Command). FitsRecord (reply_of c.args.subsystem.now c.args.ctrl k)) c.in-GetLog.is c.requires.fits)
 
 pub write_out-requires-clause-len : goal.write_out-requires-clause-len
@@ -29,7 +30,7 @@ write_out-requires-clause-limit g c = omega (arith, write_out-requires-clause-le
 pub returns-in_default-transfer : goal.returns-in_default-transfer
 returns-in_default-transfer g c =
     let k = c.args.command.now in
-    let bytes = g.M.HostMemory.bytes c.args.mem.now in
+    let bytes = g.M.PagedMemory.bytes c.args.mem.now in
     let at = places c.args.entry_data.now.spans in
     let none = replies_fit k _ c.requires.is_reply c.requires.fits
     ∙ none_sent (transfer_by k) (λ n is. c.in_default-transfer.not-ToHost n (c.requires.transfer ∙ is)) in
@@ -41,7 +42,7 @@ returns-in_default-transfer g c =
 
 pub returns-else-put_page-clause-bytes : goal.returns-else-put_page-clause-bytes
 returns-else-put_page-clause-bytes g c =
-    let bytes = g.M.HostMemory.bytes c.args.mem.now in
+    let bytes = g.M.PagedMemory.bytes c.args.mem.now in
     let at = places c.args.entry_data.now.spans in
     let page = page_data c.args.command.now _ c.in_default.not-GetLog in
     nothing_written bytes at ∙ ap (written_at bytes at) (sym (page ∙ c.if-put_page.ensures))

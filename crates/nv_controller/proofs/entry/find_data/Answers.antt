@@ -7,7 +7,7 @@ use Rattle.nv_controller.proofs.entry.find_data.Goals as goal
 
 pub returns-in-NoData-clause-found : goal.returns-in-NoData-clause-found
 returns-in-NoData-clause-found g c =
-    no_places (g.M.HostMemory.page_len c.args.mem.now) (g.M.HostMemory.bytes c.args.mem.now)
+    no_places (g.M.PagedMemory.page_len c.args.mem.now) (g.M.PagedMemory.bytes c.args.mem.now)
     c.args.entry.now _ _ c.in-NoData.is (ap places c.clear.ensures ∙ places-nil)
 
 pub returns-in-NoData-clause-inside : goal.returns-in-NoData-clause-inside
@@ -24,7 +24,7 @@ pub returns-in-Ok-clause-found : goal.returns-in-Ok-clause-found
 returns-in-Ok-clause-found g c =
     let found = legal_places _ (places c.walk.new.spans) (c.in-Ok.ensures.legal.0 refl) c.in-Ok.ensures.places in
     let at = λ (m : Transfer).
-    data_places (g.M.HostMemory.page_len c.args.mem.now) (g.M.HostMemory.bytes c.args.mem.now) c.args.entry.now m in
+    data_places (g.M.PagedMemory.page_len c.args.mem.now) (g.M.PagedMemory.bytes c.args.mem.now) c.args.entry.now m in
     elim c.in-ToHost.is [
       | inl is ↦ ap at is ∙ found
       | inr is ↦ ap at is ∙ found

@@ -1,17 +1,17 @@
-use Rattle.std.proofs.Common.{◌∙◌, ap, rules, sym}
+use Rattle.std.proofs.Common.{ap, rules, sym}
 use Rattle.nv_bus.specs.Entry.{completion_of, scene}
 use Rattle.nv_subsystem.proofs.TaggedLaws.{limit_untagged}
 use Rattle.nv_subsystem.specs.Tagged.{untagged}
-use Rattle.nv_controller.proofs.EntryLaws.{tagged_next, taken_one}
+use Rattle.nv_controller.proofs.EntryLaws.{tagged_one, taken_one}
 use Rattle.nv_controller.proofs.entry.take_one.Goals as goal
 
 pub returns-clause-one : goal.returns-clause-one
 returns-clause-one g c =
     taken_one c.args.ctrl
-    (scene (untagged c.args.subsystem.now) c.args.rings.now (g.M.HostMemory.bytes c.args.mem.now)) _
-    c.unwrap-entry.result (g.M.HostMemory.page_len c.args.mem.now) _
+    (scene (untagged c.args.subsystem.now) c.args.rings.now (g.M.PagedMemory.bytes c.args.mem.now)) _
+    c.unwrap-entry.result (g.M.PagedMemory.page_len c.args.mem.now) _
     (completion_of c.unwrap-entry.result.cid c.head.result c.answer_entry-told.result)
-    (g.M.HostMemory.bytes c.answer_entry-told.new.mem) _
+    (g.M.PagedMemory.bytes c.answer_entry-told.new.mem) _
     (search rules) (search rules) (sym (limit_untagged c.args.subsystem.now c.args.ctrl))
     c.answer_entry-told.ensures.state c.answer_entry-told.ensures.moved
     (search rules) (search rules)
@@ -20,8 +20,13 @@ returns-clause-one g c =
 
 pub returns-clause-tagged : goal.returns-clause-tagged
 returns-clause-tagged g c =
-    c.answer_entry-told.ensures.tagged
-    ∙ tagged_next c.args.ctrl
-    (scene c.args.subsystem.now c.args.rings.now (g.M.HostMemory.bytes c.args.mem.now))
-    c.unwrap-entry.result (g.M.HostMemory.page_len c.args.mem.now) _
-    (search rules) (search rules) (search rules)
+    tagged_one c.args.ctrl
+    (scene c.args.subsystem.now c.args.rings.now (g.M.PagedMemory.bytes c.args.mem.now)) _
+    c.unwrap-entry.result (g.M.PagedMemory.page_len c.args.mem.now) _ _
+    (completion_of c.unwrap-entry.result.cid c.head.result c.answer_entry-told.result)
+    (g.M.PagedMemory.bytes c.answer_entry-told.new.mem) _
+    (search rules) (search rules) (sym (limit_untagged c.args.subsystem.now c.args.ctrl)) (search rules)
+    c.answer_entry-told.ensures.tagged c.answer_entry-told.ensures.bytes
+    (search rules) (search rules)
+    (ap (completion_of _ _) c.answer_entry-told.ensures.told)
+    (search rules)

@@ -1,12 +1,13 @@
-use Rattle.std.proofs.Common.{◌∙◌, ap, arith, rules, subst, sym}
-use Rattle.nv_driver.proofs.Words.{Batch, Geometry, HasAnswers, Run}
+use Rattle.std.proofs.Common.{◌∙◌, ap, arith, length, rules, subst, sym}
+use Rattle.nv_driver.proofs.Words.{Batch, HasAnswers, Run}
+use Rattle.nv_driver.specs.inner.Pace.{IsPaced}
 use Rattle.nv_driver.proofs.RoundLaws.{all_collected, answers_all, begins_all, ends_all, comes_further}
 use Rattle.nv_driver.proofs.batch.exchange_all.Goals as goal
 
 pub loop-batch-init : goal.loop-batch-init
 loop-batch-init g c =
     let asked = c.requires.1.1 in
-    let begun = begins_all asked.0 asked.1.0 asked.1.1.0 asked.1.1.1 in
+    let begun = begins_all asked.0 (search rules) asked.1.0 asked.1.1.0 asked.1.1.1 in
     record { under_way = begun.0; answers = begun.1; near = omega (arith, asked.1.0.geometry.pace) }
 
 pub turn-requires : goal.turn-requires
@@ -16,8 +17,7 @@ turn-requires g c κs within =
     let collected = ap (λ (b : Batch). b.collected) s.batch in
     let sent = ap (λ (b : Batch). b.sent) s.batch in
     let told = ap (λ (b : Batch). b.told) s.batch in
-    let pace = ap (λ (b : Batch). b.geometry.pace) s.batch in
-    let window = ap (λ (q : Geometry). q.window) i.under_way.geometry in (
+    let many = ap (λ (r : Run). length r.commands) c.requires.1.1.0 in (
       search rules,
       (
         search rules,
@@ -28,8 +28,11 @@ turn-requires g c κs within =
             (
               subst (λ n. HasAnswers g.run n c.loop-batch.answers) (sym collected) i.answers,
               (
-                omega (arith, c.loop-batch-test.true, sent, collected, window, i.under_way.begun.geometry.window.0),
-                omega (arith, i.near, told, collected, pace),
+                omega (arith, c.loop-batch-test.true, collected, many),
+                (
+                  omega (arith, sent, collected, many),
+                  omega (arith, i.near, told, collected),
+                ),
               ),
             ),
           ),
@@ -57,6 +60,13 @@ pub returns-clause-state : goal.returns-clause-state
 returns-clause-state g c = let i = c.loop-batch.invariant in
     (ends_all c.requires.1.1.0 i.under_way (omega (arith, c.loop-batch-test.false)) c.tell.ensures
     c.requires.1.1.1.0.page_size).state
+
+pub returns-clause-paced : goal.returns-clause-paced
+returns-clause-paced g c = let i = c.loop-batch.invariant in
+    subst (λ x. IsPaced x (g.B.Bus.meaning c.tell.new.bus) (g.M.HostMemory.bytes c.loop-batch.host.mem))
+    (sym c.requires.1.1.0)
+    (ends_all c.requires.1.1.0 i.under_way (omega (arith, c.loop-batch-test.false)) c.tell.ensures
+    c.requires.1.1.1.0.page_size).paced
 
 pub returns-clause-left : goal.returns-clause-left
 returns-clause-left g c = let i = c.loop-batch.invariant in

@@ -2,6 +2,7 @@ use Rattle.std.proofs.Common.{◌∙◌, ap, arith, refl, subst}
 use Rattle.nv_register.specs.Readiness.{is_ready}
 use Rattle.nv_driver.proofs.Words.{Geometry, IsGeometry, RegisterBank, mps_of, pair_of}
 use Rattle.nv_driver.proofs.RegisterLaws.{enabled_banks, has_queues, is_off, not_stopped, started, stopped}
+use Rattle.nv_driver.proofs.BringingUpLaws.{configures}
 use Rattle.nv_driver.proofs.ResetLaws.{zeroed_length, zeroed_others}
 use Rattle.nv_driver.proofs.enabling.enable.Goals as goal
 
@@ -38,3 +39,16 @@ returns-clause-others g c = zeroed_others _ _ c.requires.quiet c.requires.laid c
 
 pub returns-clause-len : goal.returns-clause-len
 returns-clause-len g c = zeroed_length _ _ c.requires.quiet c.requires.laid c.zero.ensures.bytes
+
+pub returns-clause-steps : goal.returns-clause-steps
+returns-clause-steps g c =
+    let is = c.geometry.view_is in
+    let m = c.mps.ensures.value ∙ ap (λ (q : Geometry). mps_of q.page_size) is in (
+      _,
+      _,
+      c.configure.ensures.steps,
+      c.zero.ensures.zeroed,
+      c.set_queues.ensures.steps,
+      configures g.B.Bus.was_written g.B.Bus.was_read c.args.ctrl _ _ _ _ (omega (arith, m, c.mps.ensures.few))
+          c.configure-2.ensures.steps,
+    )

@@ -2,6 +2,7 @@ use Rattle.std.proofs.Common.{◌∙◌, arith, length, rules, subst, sym}
 use Rattle.nv_driver.specs.Quiet.{IsQuiet}
 use Rattle.nv_driver.proofs.MemoryLaws.{laid_in, pair_count, pair_is, settled_at_first, tags_more}
 use Rattle.nv_driver.proofs.RegisterLaws.{above_set, all_enabled, below_set}
+use Rattle.nv_driver.proofs.BringingUpLaws.{one_more}
 use Rattle.nv_driver.proofs.ResetLaws.{states_all, states_more}
 use Rattle.nv_driver.proofs.enabling.enable_all.Goals as goal
 
@@ -39,6 +40,8 @@ loop-ctrl-preserved g c =
       tags = tags_more c.args.geometry _ ctrl _ _ i.laid (omega arith) is e.others e.tags i.tags;
       laid = rw (e.len) (i.laid);
       size = e.len ∙ i.size;
+      steps = one_more g.B.Bus.was_written g.B.Bus.was_read c.args.geometry ctrl c.args.bus.now c.loop-ctrl.bus
+          c.enable.new.bus i.steps (e.steps.0, e.steps.1, e.steps.2, e.steps.4, e.steps.5);
       page = e.page ∙ i.page;
     }
 

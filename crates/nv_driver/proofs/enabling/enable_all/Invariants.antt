@@ -1,6 +1,7 @@
 use Rattle.std.proofs.Common.{◌≡◌, ℕ, ◌<◌, ◌≤◌, All, length}
 use Rattle.nv_model.proofs.ResetLaws.{reset_first}
 use Rattle.nv_driver.proofs.Words.{HoldsTags, IsBus, IsLaid, bank_at, enabled_in, idle_bank, mps_of, pair_of, pairs_of}
+use Rattle.nv_driver.specs.BringingUp.{EnablesFirst}
 use Rattle.nv_driver.proofs.enabling.enable_all.Given as goal
 
 -- the controllers below are enabled with zeroed completion rings, and the others have not changed
@@ -17,5 +18,6 @@ invariant-loop-ctrl g l = record {
   laid : All (IsLaid l.geometry.page_size (length (g.M.HostMemory.bytes l.mem)))
       (pairs_of l.geometry (length (g.B.Bus.meaning l.fn.bus).banks));
   size : length (g.M.HostMemory.bytes l.mem) ≡ length (g.M.HostMemory.bytes l.fn.mem);
+  steps : EnablesFirst g.B.Bus.was_written g.B.Bus.was_read l.geometry l.ctrl l.fn.bus l.bus;
   page : g.M.HostMemory.page_len l.mem ≡ g.M.HostMemory.page_len l.fn.mem;
 }

@@ -2,6 +2,7 @@ use Rattle.std.proofs.Common.{◌∙◌, ap, arith, refl, subst}
 use Rattle.nv_register.specs.Readiness.{is_ready}
 use Rattle.nv_driver.proofs.Words.{Geometry, IsGeometry, RegisterBank, mps_of, pair_of}
 use Rattle.nv_driver.proofs.RegisterLaws.{enabled_banks, is_off, not_stopped, started, stopped}
+use Rattle.nv_driver.proofs.BringingUpLaws.{configures}
 use Rattle.nv_driver.proofs.ResetLaws.{kept_again, left_again, resets, zeroed_length, zeroed_others}
 use Rattle.nv_driver.proofs.enabling.reset.Goals as goal
 
@@ -36,3 +37,13 @@ returns-clause-left g c =
     (zeroed_others _ _ r.quiet r.laid zeroed _) (c.configure-2.ensures.bus (c.configure.ensures.bus r.bus))
     (enabled_banks _ _ _ c.args.ctrl _ r.controller off (kept_again r c.requires.placed _ off) c.args.geometry _
     (subst IsGeometry is c.geometry.invariant) refl (omega (arith, m, c.mps.ensures.few)) _ c.configure-2.ensures.banks)
+
+pub returns-clause-steps : goal.returns-clause-steps
+returns-clause-steps g c =
+    let is = c.geometry.view_is in
+    let m = c.mps.ensures.value ∙ ap (λ (q : Geometry). mps_of q.page_size) is in (
+      _,
+      c.configure.ensures.steps,
+      configures g.B.Bus.was_written g.B.Bus.was_read c.args.ctrl _ _ _ _ (omega (arith, m, c.mps.ensures.few))
+          c.configure-2.ensures.steps,
+    )

@@ -1,6 +1,7 @@
 use Rattle.std.proofs.Common.{ap, arith}
 use Rattle.nv_driver.proofs.Words.{Geometry, pair_of}
 use Rattle.nv_driver.proofs.RegisterLaws.{queues_written}
+use Rattle.nv_driver.proofs.BringingUpLaws.{sets_queues}
 use Rattle.nv_driver.proofs.enabling.set_queues.Goals as goal
 
 pub returns-clause-banks : goal.returns-clause-banks
@@ -10,3 +11,11 @@ returns-clause-banks g c =
     (omega arith) (omega arith) (omega arith) (omega arith) (omega arith)
     c.write32.ensures.banks c.write32-2.ensures.banks c.write32-3.ensures.banks
     c.write32-4.ensures.banks c.write32-5.ensures.banks
+
+pub returns-clause-steps : goal.returns-clause-steps
+returns-clause-steps g c =
+    let depth = ap (λ (q : Geometry). q.depth) c.geometry.view_is in
+    sets_queues g.B.Bus.was_written c.args.ctrl (pair_of c.args.geometry c.args.ctrl) _ _ _ _ _
+    (omega arith) (omega arith) (omega arith) (omega arith) (omega arith)
+    c.write32.ensures.written c.write32-2.ensures.written c.write32-3.ensures.written
+    c.write32-4.ensures.written c.write32-5.ensures.written

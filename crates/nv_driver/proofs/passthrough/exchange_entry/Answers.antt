@@ -1,7 +1,8 @@
-use Rattle.std.proofs.Common.{◌∙◌, ℕ, ◌≤◌, List, ap, arith, length, sym}
+use Rattle.std.proofs.Common.{◌∙◌, ℕ, ◌+◌, ◌≤◌, ◌^◌, List, ap, arith, length, subst, sym}
 use Rattle.nv_prp.specs.Buffer.{buffer_places}
 use Rattle.nv_driver.proofs.Words.{RequestPlace, bytes_from_host, greatest_limit, length_of, padded, place_from}
 use Rattle.nv_driver.proofs.Words.{received_from, transfer_for}
+use Rattle.nv_driver.specs.Layout.{data_count}
 use Rattle.nv_driver.specs.inner.Alone.{came_with}
 use Rattle.nv_driver.proofs.ExchangeLaws.{begun_by, exchanged, has_slot, its_place, took}
 use Rattle.nv_driver.proofs.OnWayLaws.{can_collect}
@@ -14,8 +15,12 @@ pub new-place-requires : goal.new-place-requires
 new-place-requires g c =
     let len : c.bytes-len.result ≤ greatest_limit =
     omega (arith, c.of_entry-request.ensures.few, c.bytes-len.ensures) in
-    let few = few_of_entry c.args.target.geometry c.bytes-len.result c.requires.ready.geometry len in
-    record { limit = len; numbered = omega (arith, few.0, c.requires.numbered) }
+    let few = few_of_entry c.args.pair.now.geometry c.bytes-len.result c.requires.ready.geometry len in
+    record {
+      limit = len;
+      numbered = subst (λ q. c.args.passed.now.first_page + data_count q c.bytes-len.result + 2 ≤ 2 ^ 32)
+          (sym c.geometry-geometry.ensures) (omega (arith, few.0, c.requires.numbered));
+    }
 
 pub submit-tail-requires-clause-sent : goal.submit-tail-requires-clause-sent
 submit-tail-requires-clause-sent g c =
@@ -28,7 +33,8 @@ pub submit-tail-requires-clause-place : goal.submit-tail-requires-clause-place
 submit-tail-requires-clause-place g c =
     let q = c.of_entry-request.ensures in
     its_place c.of_entry-request.result c.requires.ready c.requires.fits c.requires.inside c.requires.behind q.entry
-    q.transfer q.few c.bytes-len.ensures c.new-place.ensures
+    q.transfer q.few c.bytes-len.ensures c.geometry-geometry.ensures
+    c.new-place.ensures
 
 pub submit-tail-requires-clause-slot : goal.submit-tail-requires-clause-slot
 submit-tail-requires-clause-slot g c = has_slot c.requires.ready
@@ -37,7 +43,8 @@ pub next_completion-completion-requires : goal.next_completion-completion-requir
 next_completion-completion-requires g c =
     let q = c.of_entry-request.ensures in
     let begun = begun_by c.of_entry-request.result c.requires.ready c.requires.fits c.requires.inside c.requires.behind
-    q.entry q.transfer q.few c.bytes-len.ensures c.new-place.ensures q.sends c.submit-tail.ensures in
+    q.entry q.transfer q.few c.bytes-len.ensures c.geometry-geometry.ensures
+    c.new-place.ensures q.sends c.submit-tail.ensures in
     let w = c.write32.ensures in
     let t = c.turn.ensures in
     let u = took begun c.from.ensures w.state w.banks w.bus t.turn t.bus t.len t.page in
@@ -47,19 +54,22 @@ pub receive-requires-clause-buffer : goal.receive-requires-clause-buffer
 receive-requires-clause-buffer g c =
     let q = c.of_entry-request.ensures in
     let begun = begun_by c.of_entry-request.result c.requires.ready c.requires.fits c.requires.inside c.requires.behind
-    q.entry q.transfer q.few c.bytes-len.ensures c.new-place.ensures q.sends c.submit-tail.ensures in
+    q.entry q.transfer q.few c.bytes-len.ensures c.geometry-geometry.ensures
+    c.new-place.ensures q.sends c.submit-tail.ensures in
     let w = c.write32.ensures in
     let t = c.turn.ensures in
     let u = took begun c.from.ensures w.state w.banks w.bus t.turn t.bus t.len t.page in
     let place = its_place c.of_entry-request.result c.requires.ready c.requires.fits c.requires.inside c.requires.behind
-    q.entry q.transfer q.few c.bytes-len.ensures c.new-place.ensures in
+    q.entry q.transfer q.few c.bytes-len.ensures c.geometry-geometry.ensures
+    c.new-place.ensures in
     buffer_later u.size (u.page_size ∙ sym c.requires.ready.page_size) place.buffer
 
 pub returns : goal.returns
 returns g c =
     let q = c.of_entry-request.ensures in
     let begun = begun_by c.of_entry-request.result c.requires.ready c.requires.fits c.requires.inside c.requires.behind
-    q.entry q.transfer q.few c.bytes-len.ensures c.new-place.ensures q.sends c.submit-tail.ensures in
+    q.entry q.transfer q.few c.bytes-len.ensures c.geometry-geometry.ensures
+    c.new-place.ensures q.sends c.submit-tail.ensures in
     let w = c.write32.ensures in
     let t = c.turn.ensures in
     let u = took begun c.from.ensures w.state w.banks w.bus t.turn t.bus t.len t.page in
@@ -75,5 +85,7 @@ returns g c =
     ∙ ap (λ (at : RequestPlace). padded n (came_with status (received_from
     (transfer_for c.args.passed.now.entry.now) after
     (buffer_places size at.pages at.offset (length_of (transfer_for c.args.passed.now.entry.now))))))
-    (c.new-place.ensures ∙ ap (place_from c.args.target.geometry c.args.passed.now.first_page)
+    (c.new-place.ensures
+    ∙ ap (λ q. place_from q c.args.passed.now.first_page c.bytes-len.result) c.geometry-geometry.ensures
+    ∙ ap (place_from c.args.pair.now.geometry c.args.passed.now.first_page)
     (c.bytes-len.ensures ∙ ap length_of q.transfer)))

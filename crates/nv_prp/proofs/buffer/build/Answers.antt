@@ -67,8 +67,8 @@ pub returns-in_default-clause-stays : goal.returns-in_default-clause-stays
 returns-in_default-clause-stays g c =
     let buffer = c.args.buffer.now in
     let list = c.args.list.now in
-    let size = g.M.HostMemory.page_len c.args.mem.now in
-    let after = g.M.HostMemory.bytes c.write_list.new.mem in
+    let size = g.M.PagedMemory.page_len c.args.mem.now in
+    let after = g.M.PagedMemory.bytes c.write_list.new.mem in
     let t = transfer size after (c.page_address.result + c.from.result) c.write_list.result c.args.len in
     let is = c.page_address.ensures.size in
     let many : 2 < data_pages t =

@@ -41,12 +41,12 @@ loop-page-preserved g c =
 
 pub returns-then-has_second_page-clause-names : goal.returns-then-has_second_page-clause-names
 returns-then-has_second_page-clause-names g c =
-    let size = g.M.HostMemory.page_len c.args.mem.now in
+    let size = g.M.PagedMemory.page_len c.args.mem.now in
     let now = c.loop-page.invariant in
     let start = c.page_address.result + c.from.result in
     let room = c.qwords_in_page.result in
     let more = c.if-has_second_page.ensures in
-    subst (λ r. NamesPages (g.M.HostMemory.bytes c.store_qword-then-has_second_page.new.mem) size r start
+    subst (λ r. NamesPages (g.M.PagedMemory.bytes c.store_qword-then-has_second_page.new.mem) size r start
     (c.args.list.now.second * size) c.args.pages.now c.args.count) c.qwords_in_page.ensures.value
     (chain_names _ _ size room start _ _ c.args.pages.now c.args.count _ _ now.lies c.requires.few more
     (ap (λ n. start + 8 * n) c.from-then-has_second_page.ensures) (omega arith) now.named
@@ -55,8 +55,8 @@ returns-then-has_second_page-clause-names g c =
 
 pub returns-then-has_second_page-clause-others : goal.returns-then-has_second_page-clause-others
 returns-then-has_second_page-clause-others g c =
-    let bytes = g.M.HostMemory.bytes in
-    let size = g.M.HostMemory.page_len c.args.mem.now in
+    let bytes = g.M.PagedMemory.bytes in
+    let size = g.M.PagedMemory.page_len c.args.mem.now in
     let now = c.loop-page.invariant in
     let start = c.page_address.result + c.from.result in
     subst (λ r. KeepsOutsideList r start (c.args.list.now.second * size) c.args.count (bytes c.args.mem.now)

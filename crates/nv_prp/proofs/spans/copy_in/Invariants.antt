@@ -6,6 +6,6 @@ use Rattle.nv_prp.proofs.spans.copy_in.Given as goal
 abbrev pub invariant-loop-span : goal.invariant-loop-span
 invariant-loop-span g l = record {
   left : l.at + length (places (drop l.span-index l.spans)) ≡ length l.out;
-  read : take l.at l.out ++ read_at (g.M.HostMemory.bytes l.mem) (places (drop l.span-index l.spans))
-      ≡ read_at (g.M.HostMemory.bytes l.mem) (places l.spans);
+  read : take l.at l.out ++ read_at (g.M.PagedMemory.bytes l.mem) (places (drop l.span-index l.spans))
+      ≡ read_at (g.M.PagedMemory.bytes l.mem) (places l.spans);
 }

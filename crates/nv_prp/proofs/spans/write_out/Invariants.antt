@@ -6,9 +6,9 @@ use Rattle.nv_prp.proofs.spans.write_out.Given as goal
 abbrev pub invariant-loop-span : goal.invariant-loop-span
 invariant-loop-span g l = record {
   left : l.at + length (places (drop l.span-index l.spans)) ≡ length (g.P.Payload.bytes l.payload);
-  bytes : written_at (g.M.HostMemory.bytes l.mem) (places (drop l.span-index l.spans))
+  bytes : written_at (g.M.PagedMemory.bytes l.mem) (places (drop l.span-index l.spans))
       (drop l.at (g.P.Payload.bytes l.payload))
-      ≡ written_at (g.M.HostMemory.bytes l.initial.mem) (places l.spans) (g.P.Payload.bytes l.payload);
-  len : length (g.M.HostMemory.bytes l.mem) ≡ length (g.M.HostMemory.bytes l.initial.mem);
-  page : g.M.HostMemory.page_len l.mem ≡ g.M.HostMemory.page_len l.initial.mem;
+      ≡ written_at (g.M.PagedMemory.bytes l.initial.mem) (places l.spans) (g.P.Payload.bytes l.payload);
+  len : length (g.M.PagedMemory.bytes l.mem) ≡ length (g.M.PagedMemory.bytes l.initial.mem);
+  page : g.M.PagedMemory.page_len l.mem ≡ g.M.PagedMemory.page_len l.initial.mem;
 }

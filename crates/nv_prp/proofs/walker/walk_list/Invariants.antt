@@ -8,7 +8,7 @@ use Rattle.nv_prp.proofs.walker.walk_list.Given as goal
 -- the Qwords so far have no fault, and the spans are those of the data pages whose addresses they hold
 abbrev pub invariant-loop-page : goal.invariant-loop-page
 invariant-loop-page g l =
-    let t = transfer_of (g.M.HostMemory.page_len l.mem) (g.M.HostMemory.bytes l.mem) l.pointer in
+    let t = transfer_of (g.M.PagedMemory.page_len l.mem) (g.M.PagedMemory.bytes l.mem) l.pointer in
     record {
       list : IsList t;
       comes : Comes t l.page l.next;

@@ -5,7 +5,7 @@ use Rattle.nv_trace.proofs.trace.say_all.Goals as goal
 
 pub loop-preserved : goal.loop-preserved
 loop-preserved g c =
-    let size = length (g.M.HostMemory.bytes c.args.mem.now) in
+    let size = length (g.M.PagedMemory.bytes c.args.mem.now) in
     let left = c.args.count - (c.loop.counter + 1) in
     let more : c.args.count - c.loop.counter ≡ suc left = omega arith in
     let taken = subst (λ n. AreTaken n size c.loop.rings) more c.loop.invariant.0 in

@@ -4,5 +4,5 @@ use Rattle.nv_trace.proofs.trace.say_all.Given as goal
 
 abbrev pub invariant-loop : goal.invariant-loop
 invariant-loop g l =
-    AreTaken (l.fn.count - l.counter) (length (g.M.HostMemory.bytes l.mem)) l.rings
+    AreTaken (l.fn.count - l.counter) (length (g.M.PagedMemory.bytes l.mem)) l.rings
     × (rings_after (l.fn.count - l.counter) l.rings ≡ rings_after l.fn.count l.initial.rings)

@@ -1,67 +1,125 @@
-use Rattle.std.proofs.Common.{rules, ◌∙◌, ◌+◌, ◌≤◌, Ok, ap, arith, refl, sym}
-use Rattle.nv_driver.proofs.Words.{Batch, Geometry, length_of, setting_of, slot}
-use Rattle.nv_driver.specs.Layout.{most_bytes}
+use Rattle.std.proofs.Common.{rules, ◌≡◌, ◌∙◌, ◌+◌, ◌≤◌, List, Ok, ap, arith, length, refl, subst, sym}
+use Rattle.nv_driver.proofs.Words.{Batch, Command, Geometry, IsPlaceFor, IsSubmittedAt, length_of, request_of}
+use Rattle.nv_driver.proofs.Words.{setting_of, slot}
+use Rattle.nv_driver.specs.CommandPages.{all_pages, without}
+use Rattle.nv_driver.specs.Layout.{data_count, pages_of_command}
+use Rattle.nv_driver.specs.Submitting.{place_in}
+use Rattle.nv_driver.proofs.CommandPageLaws.{all_count, place_of_set}
 use Rattle.nv_driver.proofs.OnWayLaws.{has_bank}
 use Rattle.nv_driver.proofs.RoundLaws.{rings}
-use Rattle.nv_driver.proofs.ShareLaws.{share_fits, share_numbered}
 use Rattle.nv_driver.proofs.SubmittingLaws.{requests_same, submitted_as}
-use Rattle.nv_driver.proofs.UnderWayLaws.{few_at, free_slot, share_is, shares_here, submits_at, tail_after}
+use Rattle.nv_driver.proofs.UnderWayLaws.{IsSentIn, few_at, free_slot, geometry_is, set_has, still_inside, submits_at}
+use Rattle.nv_driver.proofs.UnderWayLaws.{tail_after}
 use Rattle.nv_driver.proofs.batch.Batch.send.Goals as goal
 
 pub overflow_cast-len : goal.overflow_cast-len
 overflow_cast-len g c =
-    let first = c.requires.1.1.1 in
+    let first = c.requires.1.1.1.0 in
     let few = few_at _ first.can c.requires.1.1.0 c.index-commands-number.is (omega arith)
     c.transfer.ensures in omega (arith, few, c.bytes-len.ensures)
 
-pub new-place-requires : goal.new-place-requires
-new-place-requires g c =
-    let first = c.requires.1.1.1 in
-    let u = c.loop-number.invariant.under_way in
+pub data_count-requires : goal.data_count-requires
+data_count-requires g c =
+    let first = c.requires.1.1.1.0 in
     let few = few_at _ first.can c.requires.1.1.0 c.index-commands-number.is (omega arith)
-    c.transfer.ensures in
-    let len : c.bytes-len.result ≤ most_bytes = omega (arith, few, c.bytes-len.ensures) in
-    let has = shares_here u first.geometry c.loop-number.number in record {
-      limit = omega (arith, len);
-      numbered = omega (arith, share_numbered has c.bytes-len.result len, c.first_page.ensures);
-    }
+    c.transfer.ensures in omega (arith, few, c.bytes-len.ensures)
+
+pub take-pages-requires : goal.take-pages-requires
+take-pages-requires g c =
+    let i = c.loop-number.invariant in
+    let first = c.requires.1.1.1.0 in
+    let same = c.geometry-geometry.ensures ∙ geometry_is first in
+    let window = ap (λ (q : Geometry). q.window) (c.geometry.view_is ∙ same) in
+    let sent = ap (λ (b : Batch). b.sent) i.batch in
+    let collected = ap (λ (b : Batch). b.collected) i.batch in
+    let few = subst (λ n. c.data_count.result + 2 ≤ pages_of_command n) (ap (λ (q : Geometry). q.page_size) same)
+    c.data_count.ensures.few in
+    record { few = c.data_count.ensures.seven; enough = omega (arith, few, set_has i.under_way (omega arith)) }
+
+pub place-place-requires : goal.place-place-requires
+place-place-requires g c =
+    let e = c.take-pages.ensures in
+    record { few = omega (arith, e.count, c.data_count.ensures.seven); list = omega (arith, e.count) }
 
 pub submit-next-requires : goal.submit-next-requires
 submit-next-requires g c =
     let i = c.loop-number.invariant in
-    let first = c.requires.1.1.1 in
+    let u = i.under_way in
+    let first = c.requires.1.1.1.0 in
     let few = few_at _ first.can c.requires.1.1.0 c.index-commands-number.is (omega arith)
     c.transfer.ensures in
-    let has = shares_here i.under_way first.geometry c.loop-number.number in
-    let window = ap (λ (q : Geometry). q.window) (c.geometry.view_is ∙ first.geometry) in
+    let same = c.geometry-geometry.ensures ∙ geometry_is first in
+    let window = ap (λ (q : Geometry). q.window) (c.geometry.view_is ∙ same) in
     let sent = ap (λ (b : Batch). b.sent) i.batch in
     let collected = ap (λ (b : Batch). b.collected) i.batch in
+    let e = c.take-pages.ensures in
+    let o = c.take-pages.result in
+    let len = length_of c.transfer.result in
+    let long = all_count o e.seven (omega (arith, e.count, c.data_count.ensures.seven)) in
+    let many : length (all_pages o) ≡ data_count g.run.geometry len + 2 =
+    long ∙ e.count ∙ ap (λ n. n + 2) (c.data_count.ensures.pages
+    ∙ ap (λ (q : Geometry). data_count q c.bytes-len.result) same
+    ∙ ap (data_count g.run.geometry) c.bytes-len.ensures) in
+    let place = place_of_set g.run.geometry c.loop-number.pair.pages (all_pages o)
+    (g.M.HostMemory.bytes c.loop-number.host.mem) (g.M.HostMemory.page_len c.loop-number.host.mem) len
+    u.begun.geometry u.page_size (still_inside u) e.taken.own e.taken.distinct many in
+    let slot = free_slot u (omega arith) in
     record {
       few = omega (arith, few);
       sent = search rules;
-      place = rw (c.new-place.ensures, c.first_page.ensures, c.bytes-len.ensures)
-          (share_fits has (length_of c.transfer.result) few);
-      slot = free_slot i.under_way (omega arith);
+      place = subst (λ p. IsPlaceFor (g.M.HostMemory.bytes c.loop-number.host.mem)
+          (g.M.HostMemory.page_len c.loop-number.host.mem) p len)
+          (sym (c.place-place.ensures.place ∙ ap (λ (q : Geometry). place_in q (all_pages o)) same)) place;
+      slot = record { serial = slot.serial; ring = slot.ring; free = slot.free };
     }
 
 pub loop-number-preserved : goal.loop-number-preserved
 loop-number-preserved g c =
     let i = c.loop-number.invariant in
-    let first = c.requires.1.1.1 in
-    let number = c.loop-number.number in
-    let window = ap (λ (q : Geometry). q.window) (c.geometry.view_is ∙ first.geometry) in
+    let u = i.under_way in
+    let first = c.requires.1.1.1.0 in
+    let same = c.geometry-geometry.ensures ∙ geometry_is first in
+    let window = ap (λ (q : Geometry). q.window) (c.geometry.view_is ∙ same) in
     let sent = ap (λ (b : Batch). b.sent) i.batch in
     let collected = ap (λ (b : Batch). b.collected) i.batch in
-    let has = shares_here i.under_way first.geometry number in
-    let at = rw (c.first_page.ensures, c.bytes-len.ensures, c.transfer.ensures) at c.new-place.ensures in
-    let next = submitted_as has.page_size at (requests_same c.entry.ensures.entry c.transfer.ensures refl)
-    (c.submit-next.ensures (Ok c.index-commands-number.result)) in
+    let told = ap (λ (b : Batch). b.told) i.batch in
+    let e = c.take-pages.ensures in
+    let n = c.data_count.ensures in
+    let o = c.take-pages.result in
+    let l = c.loop-number.pair in
+    let k = c.index-commands-number.result in
+    let few = subst (λ m. c.data_count.result + 2 ≤ pages_of_command m) (ap (λ (q : Geometry). q.page_size) same)
+    n.few in
+    let at = c.place-place.ensures.place ∙ ap (λ (q : Geometry). place_in q (all_pages o)) same in
+    let next = submitted_as u.page_size at (requests_same c.entry.ensures.entry c.transfer.ensures refl)
+    (c.submit-next.ensures (Ok k)) in
+    let one : IsSubmittedAt g.run.geometry.page_size (place_in g.run.geometry (all_pages o)) (request_of k)
+    (record l { pages = without l.pages (all_pages o) }) c.submit-next.new.pair
+    (g.M.HostMemory.bytes c.loop-number.host.mem) (g.M.HostMemory.bytes c.submit-next.new.mem)
+    (g.M.HostMemory.page_len c.submit-next.new.mem) c.submit-next.result =
+    subst (λ s. IsSubmittedAt g.run.geometry.page_size (place_in g.run.geometry (all_pages o)) (request_of k)
+    (record l { pages = s }) c.submit-next.new.pair
+    (g.M.HostMemory.bytes c.loop-number.host.mem) (g.M.HostMemory.bytes c.submit-next.new.mem)
+    (g.M.HostMemory.page_len c.submit-next.new.mem) c.submit-next.result) e.set next in
+    let sub : IsSentIn g.run.geometry k o l c.submit-next.new.pair
+    (g.M.HostMemory.bytes c.loop-number.host.mem) (g.M.HostMemory.bytes c.submit-next.new.mem)
+    (g.M.HostMemory.page_len c.submit-next.new.mem) c.submit-next.result = record {
+      many = e.count ∙ ap (λ m. m + 2) (n.pages ∙ ap (λ (q : Geometry). data_count q c.bytes-len.result) same
+          ∙ ap (data_count g.run.geometry) (c.bytes-len.ensures ∙ ap length_of c.transfer.ensures));
+      seven = e.seven;
+      few = omega (arith, e.count, n.seven);
+      fits = omega (arith, e.count, few);
+      taken = e.taken;
+      lowest = e.lowest;
+      one = one;
+    } in
     record {
-      under_way = submits_at i.under_way _ sent (omega arith) (share_is i.under_way first.geometry number)
-          next c.requires.1.1.0 c.index-commands-number.is (omega arith);
+      under_way = submits_at u _ sent (omega arith) (sym collected)
+          (omega (arith, c.requires.1.1.1.1, sent, collected, told)) refl sub c.requires.1.1.0
+          c.index-commands-number.is (omega arith);
       batch = ap (λ (b : Batch). record b { sent = b.sent + 1 }) i.batch;
       from = omega arith;
-      tail = tail_after i.under_way sent next.tail;
+      tail = (tail_after u sent next.tail, omega (arith, i.from));
     }
 
 pub write32-requires : goal.write32-requires
@@ -73,5 +131,13 @@ returns-in-Some-clause-under_way g c =
     let w = c.write32.ensures in
     let sent = ap (λ (b : Batch). b.sent) i.batch in
     let collected = ap (λ (b : Batch). b.collected) i.batch in
+    let told = ap (λ (b : Batch). b.told) i.batch in
+    let some = rw (c.in-Some.is) at i.tail in
+    let first = c.requires.1.1.1.0 in
+    let window = ap (λ (q : Geometry). q.window)
+    (c.geometry.view_is ∙ c.geometry-geometry.ensures ∙ geometry_is first) in
+    let many = ap (λ (xs : List Command). length xs) c.requires.1.1.0 in
     rw (← collected) at (rings i.under_way c.from-in-Some.ensures
-    ((rw (c.in-Some.is) at i.tail) ∙ ap (slot (setting_of g.run)) (sym sent)) w.state w.banks w.bus)
+    (some.0 ∙ ap (slot (setting_of g.run)) (sym sent)) w.state w.banks w.bus (sym collected)
+    (omega (arith, c.requires.1.1.1.1, collected, told)) (omega (arith, sent, collected, window, many))
+    (omega (arith, sent, some.1)))

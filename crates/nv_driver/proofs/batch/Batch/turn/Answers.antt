@@ -1,12 +1,33 @@
-use Rattle.std.proofs.Common.{◌≡◌, ◌∙◌, ℕ, ◌+◌, ◌-◌, ◌*◌, ◌<◌, ◌≤◌, ap, arith, refl}
-use Rattle.nv_driver.proofs.Words.{Batch, Geometry}
+use Rattle.std.proofs.Common.{[], ◌≡◌, ◌∙◌, ℕ, ◌+◌, ◌-◌, ◌*◌, ◌%◌, ◌<◌, ◌≤◌, List, ap, arith, get_or, inl, inr, length}
+use Rattle.std.proofs.Common.{length-take, refl, sym}
+use Rattle.std.proofs.lemmas.List.{get_or_default}
+use Rattle.nv_host.specs.PageSets.{Pages}
+use Rattle.nv_driver.proofs.Words.{Batch, Geometry, QueuePairFields, Sent, mod_below}
+use Rattle.nv_driver.specs.CommandPages.{all_pages}
+use Rattle.nv_driver.specs.Submitting.{place_in}
+use Rattle.nv_driver.specs.UnderWay.{IsHeld, IsToReport}
+use Rattle.nv_driver.specs.declared.command_pages.CommandPages.{CommandPages}
 use Rattle.nv_driver.specs.inner.Pace.{IsToldByPace}
 use Rattle.nv_driver.proofs.OnWayLaws.{can_collect}
-use Rattle.nv_driver.proofs.RoundLaws.{answer_sends, answers_more, awaits, collects, none_free, number_inside, tells_on}
-use Rattle.nv_driver.proofs.RoundLaws.{turns_on}
-use Rattle.nv_driver.proofs.UnderWayLaws.{share_is, shares_here}
+use Rattle.nv_driver.proofs.RoundLaws.{answer_buffer, answer_sends, answers_more, awaits, can_give, collects}
+use Rattle.nv_driver.proofs.RoundLaws.{held_one, none_free, number_inside, tells_on, turns_on}
+use Rattle.nv_driver.proofs.UnderWayLaws.{geometry_is, world}
 use Rattle.nv_driver.proofs.batch.Batch.turn.Goals.{then-self-pace, else-self-pace}
 use Rattle.nv_driver.proofs.batch.Batch.turn.Goals as goal
+
+-- pages that stand for those of a slot outside the window
+abbrev no_pages : CommandPages
+no_pages = record { numbers = []; count = 0 }
+
+-- the slot of a number in the window, whatever stands outside the window
+slot_is : (places : List CommandPages) (n : ℕ) (e : CommandPages) → length places ≡ 16
+    → get_or places (n % 16) e ≡ get_or places (n % 16) (get_or places (n % 16) e)
+slot_is places n e room = get_or_default places (n % 16) e (get_or places (n % 16) e)
+    (omega (arith, room, mod_below n 16 (omega arith)))
+
+-- a command has at least the two pages for a list
+at_least : {o : CommandPages} {x : Sent} → IsHeld o x → 2 ≤ o.count
+at_least {o} {x} h = omega (arith, ap (λ (xs : List ℕ). length xs) h.pages, length-take o.count o.numbers)
 
 -- the head doorbell is rung once more
 told_once : {pace limit old new : ℕ} (times before : ℕ) → old ≡ before + times * pace → new - old ≡ limit → limit ≡ pace
@@ -19,21 +40,22 @@ returns-then-posted-eq0 g c =
     let u = c.requires.1.1.1.0 in
     let rest = c.requires.1.1.1.1 in
     let e = c.turn-posted.ensures in
-    let pace = ap (λ (q : Geometry). q.pace) c.geometry.view_is in
+    let pace = ap (λ (q : Geometry). q.pace) (c.geometry.view_is ∙ c.geometry-geometry.ensures ∙ geometry_is u) in
     let some = u.begun.geometry.pace in
-    let run_pace = ap (λ (q : Geometry). q.pace) u.geometry in
-    let h = turns_on u e.turn pace e.bus e.len e.page in
+    let h = turns_on u e.turn pace e.bus e.len e.page refl rest.1.1.1 rest.1.1.0 refl rest.1.0 refl in
     let deep = u.begun.laid.deep in
     let none : c.turn-posted.result ≡ 0 = omega arith in
     let same : c.args.self.now.collected + c.turn-posted.result ≡ c.args.self.now.collected = omega (arith, none) in
-    let free = none_free _ _ _ _ _ _ h.1 none (omega (arith, some, run_pace)) (omega (arith, rest.1.0)) deep.0 in
+    let free = none_free _ _ _ _ _ _ h.1 none (omega (arith, some))
+    (omega (arith, rest.1.0, rest.1.1.0, u.begun.geometry.window.0)) deep.0 in
+    let due : IsToReport g.run (world h.0) = inr (h.0.collected ∙ sym same, inl (omega (arith, free.1, none))) in
     record {
-      under_way = rw same at (tells_on h.0 c.tell.ensures);
+      under_way = rw same at (tells_on h.0 c.tell.ensures due);
       answers = rest.0;
-      near = omega (arith, some, run_pace);
+      near = omega (arith, some);
       count = omega (arith, h.1, none);
       paced = λ more. absurd (omega arith);
-      none = λ _. (free, refl);
+      none = λ _. (free.0, refl);
     }
 
 pub loop-init : goal.loop-init
@@ -41,14 +63,14 @@ loop-init g c =
     let u = c.requires.1.1.1.0 in
     let rest = c.requires.1.1.1.1 in
     let e = c.turn-posted.ensures in
-    let pace = ap (λ (q : Geometry). q.pace) c.geometry.view_is in
-    let h = turns_on u e.turn pace e.bus e.len e.page in
+    let pace = ap (λ (q : Geometry). q.pace) (c.geometry.view_is ∙ c.geometry-geometry.ensures ∙ geometry_is u) in
+    let h = turns_on u e.turn pace e.bus e.len e.page refl rest.1.1.1 rest.1.1.0 refl rest.1.0 refl in
     record {
       under_way = h.0;
       answers = rest.0;
       batch = refl;
       collected = omega arith;
-      near = rest.1.1;
+      near = rest.1.1.1;
       paced = (0, omega arith);
       count = h.1;
     }
@@ -68,18 +90,39 @@ bounds-commands-number g c =
     let i = c.loop.invariant in
     rw (c.requires.1.1.0) (number_inside i.under_way (omega (arith, i.collected, c.loop-test.true)))
 
+pub give-requires : goal.give-requires
+give-requires g c =
+    let i = c.loop.invariant in
+    let u = i.under_way in
+    let n = c.loop.self.collected in
+    let more : n < c.args.self.now.collected + c.turn-posted.result = omega (arith, i.collected, c.loop-test.true) in
+    let can = can_give u more (slot_is c.loop.host.taken n no_pages u.room)
+    (ap (λ (q : QueuePairFields). q.pages) c.next_completion-completion.ensures.pair) in
+    record { few = can.few; own = can.own; none = can.none; distinct = can.distinct }
+
+pub place-place-requires : goal.place-place-requires
+place-place-requires g c =
+    let i = c.loop.invariant in
+    let u = i.under_way in
+    let n = c.loop.self.collected in
+    let more : n < c.args.self.now.collected + c.turn-posted.result = omega (arith, i.collected, c.loop-test.true) in
+    let held = held_one u more (slot_is c.loop.host.taken n no_pages u.room) in
+    record { few = held.few; list = at_least held }
+
 pub receive-requires : goal.receive-requires
 receive-requires g c =
     let i = c.loop.invariant in
     let u = i.under_way in
-    let more : c.loop.self.collected < c.args.self.now.collected + c.turn-posted.result =
-    omega (arith, i.collected, c.loop-test.true) in
+    let n = c.loop.self.collected in
+    let more : n < c.args.self.now.collected + c.turn-posted.result = omega (arith, i.collected, c.loop-test.true) in
     let first = c.next_completion-completion.ensures in
-    let next = collects u more first.value first.pair in
-    let number = c.loop.self.collected in
+    let same = c.geometry-geometry.ensures ∙ geometry_is c.requires.1.1.1.0 in
+    let o = get_or c.loop.host.taken (n % 16) no_pages in
+    let its = c.place-place.ensures.place ∙ ap (λ (q : Geometry). place_in q (all_pages o)) same in
     record {
       sends = answer_sends u more first.value c.requires.1.1.0 c.index-commands-number.is;
-      share = shares_here next u.geometry number;
+      buffer = answer_buffer u more first.value c.requires.1.1.0 c.index-commands-number.is
+          (slot_is c.loop.host.taken n no_pages u.room) its u.page_size refl;
     }
 
 pub loop-preserved : goal.loop-preserved
@@ -92,24 +135,32 @@ loop-preserved g c =
     let first = c.next_completion-completion.ensures in
     let one = c.receive.ensures in
     let some = u.begun.geometry.pace in
-    let run_pace = ap (λ (q : Geometry). q.pace) u.geometry in
-    let first_pace = ap (λ (q : Geometry). q.pace) c.requires.1.1.1.0.geometry in
-    let limit = c.from-pace.ensures ∙ ap (λ (q : Geometry). q.pace) c.geometry.view_is in
-    let here = collects u more first.value first.pair in
-    let next = rw (← one.mem) at here in
-    let answers = answers_more u more first.value c.requires.1.1.0 c.index-commands-number.is
-    (share_is here u.geometry n) i.answers one.answer in
+    let same = geometry_is c.requires.1.1.1.0 in
+    let limit = c.from-pace.ensures
+    ∙ ap (λ (q : Geometry). q.pace) (c.geometry.view_is ∙ c.geometry-geometry.ensures ∙ same) in
+    let o = get_or c.loop.host.taken (n % 16) no_pages in
+    let mine = slot_is c.loop.host.taken n no_pages u.room in
+    let its = c.place-place.ensures.place
+    ∙ ap (λ (q : Geometry). place_in q (all_pages o)) (c.geometry-geometry.ensures ∙ same) in
+    let pair = c.next_completion-completion.new.self in
+    let here = collects u more first.value mine first.pair
+    (ap (λ (s : Pages). record pair { pages = s }) c.give.ensures) i.near in
+    let next = rw (← one.mem, ← one.taken) at here in
+    let answers = answers_more u more first.value c.requires.1.1.0 c.index-commands-number.is mine its u.page_size
+    i.answers one.answer in
     elim c.if-self-pace.branch [
       | then-self-pace w ↦
           let t = w.tell-then-self-pace.ensures in
-          let told = tells_on next t in
+          let due : n + 1 ≡ c.loop.self.told + g.run.geometry.pace =
+          omega (arith, w.if-self-pace.true, limit, some) in
+          let told = tells_on next t (inl (next.collected ∙ due)) in
           rw (w.self-is, w.pair-is, w.bus-is) (record {
             under_way = told;
             answers = answers;
             batch = ap (λ (b : Batch). record b { collected = n + 1; told = n + 1 }) i.batch;
             collected = omega (arith, i.collected);
-            near = omega (arith, some, run_pace);
-            paced = told_once _ _ i.paced.1 w.if-self-pace.true limit (omega (arith, some, first_pace));
+            near = omega (arith, some);
+            paced = told_once _ _ i.paced.1 w.if-self-pace.true limit (omega (arith, some));
             count = i.count;
           })
       | else-self-pace w ↦
@@ -118,7 +169,7 @@ loop-preserved g c =
             answers = answers;
             batch = ap (λ (b : Batch). record b { collected = n + 1 }) i.batch;
             collected = omega (arith, i.collected);
-            near = omega (arith, w.if-self-pace.false, limit, first_pace, run_pace, i.near);
+            near = omega (arith, w.if-self-pace.false, limit, i.near);
             paced = i.paced;
             count = i.count;
           })

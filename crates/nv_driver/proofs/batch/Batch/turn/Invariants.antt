@@ -6,11 +6,11 @@ use Rattle.nv_driver.proofs.batch.Batch.turn.Given as goal
 abbrev pub invariant-loop : goal.invariant-loop
 invariant-loop g l = record {
   under_way : IsUnderWay g.run l.self.sent (l.fn.self.collected + l.posted) l.self (g.B.Bus.meaning l.bus) l.pair
-      (g.M.HostMemory.page_len l.host.mem) (g.M.HostMemory.bytes l.host.mem);
+      (g.M.HostMemory.page_len l.host.mem) (g.M.HostMemory.bytes l.host.mem) l.host.taken;
   answers : HasAnswers g.run l.self.collected l.answers;
   batch : l.self ≡ record l.fn.self { collected = l.self.collected; told = l.self.told };
   collected : l.self.collected ≡ l.fn.self.collected + l.counter;
-  near : IsToldInTime l.self;
-  paced : IsToldByPace l.fn.self.geometry.pace l.fn.self.told l.self.told;
+  near : IsToldInTime g.run l.self;
+  paced : IsToldByPace g.run.geometry.pace l.fn.self.told l.self.told;
   count : l.posted ≡ taken_by_turn g.run l.fn.self;
 }

@@ -3,4 +3,4 @@ use Rattle.nv_driver.proofs.driver.Driver.admin_all.Given as goal
 
 abbrev pub ghost-exchange_all : goal.ghost-exchange_all
 ghost-exchange_all g a =
-    run_of a.target.geometry a.target.ctrl (g.B.Bus.meaning a.bus.now) a.pair.now a.host.now.mem.bytes a.commands.now
+    run_of a.pair.now.geometry a.ctrl (g.B.Bus.meaning a.bus.now) a.pair.now a.host.now.mem.bytes a.commands.now

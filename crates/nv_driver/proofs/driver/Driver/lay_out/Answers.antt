@@ -1,5 +1,6 @@
 use Rattle.std.proofs.Common.{◌≡◌, ◌∙◌, ◌+◌, ap, arith, length, rules, subst, sym}
 use Rattle.nv_driver.proofs.Words.{Geometry, IsGeometry, driver_with, if◌then◌else◌, pages_of_entry, pairs_of}
+use Rattle.nv_driver.specs.BringingUp.{EnablesFirst}
 use Rattle.nv_driver.specs.Registers.{banks_of, idle_banks}
 use Rattle.nv_driver.proofs.MemoryLaws.{driver_at_first, has_pairs}
 use Rattle.nv_driver.proofs.driver.Driver.lay_out.Goals as goal
@@ -49,4 +50,6 @@ returns g c =
         ready = search rules;
         untouched = tt;
       };
+      steps = subst (λ (q : Geometry). EnablesFirst g.B.Bus.was_written g.B.Bus.was_read q controllers
+          c.args.bus.now c.enable_all.new.bus) same e.steps;
     }

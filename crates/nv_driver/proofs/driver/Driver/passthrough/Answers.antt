@@ -1,13 +1,14 @@
 use Rattle.std.proofs.Common.{◌∙◌, refl, subst, sym}
 use Rattle.nv_driver.proofs.Words.{HasEntryPages, after_some}
 use Rattle.nv_driver.specs.Alone.{IsReceived, asked_in, entry_step}
-use Rattle.nv_driver.proofs.AdminLaws.{after_first, driver_after, linked_after, ready_at, serial_is, value_after}
+use Rattle.nv_driver.proofs.AdminLaws.{after_first, driver_after, left_at, linked_after, ready_by, serial_is}
+use Rattle.nv_driver.proofs.AdminLaws.{value_after}
 use Rattle.nv_driver.proofs.PassthroughLaws.{behind_last, ends_before, has_room, room_stays}
 use Rattle.nv_driver.proofs.driver.Driver.passthrough.Goals as goal
 
 pub exchange_entry-requires-clause-ready : goal.exchange_entry-requires-clause-ready
 exchange_entry-requires-clause-ready g c =
-    ready_at c.self.invariant c.self.view_is c.requires.ctrl c.index_mut-pair.ensures.value c.requires.linked
+    ready_by c.self.invariant c.self.view_is c.requires.ctrl c.index_mut-pair.ensures.value c.requires.linked
 
 pub exchange_entry-requires-clause-behind : goal.exchange_entry-requires-clause-behind
 exchange_entry-requires-clause-behind g c =
@@ -16,17 +17,21 @@ exchange_entry-requires-clause-behind g c =
 
 pub exchange_entry-requires-clause-inside : goal.exchange_entry-requires-clause-inside
 exchange_entry-requires-clause-inside g c =
-    (has_room c.self.invariant c.self.view_is c.controllers.ensures c.pages.ensures.pages c.requires.room).0
+    (has_room c.self.invariant c.self.view_is c.controllers.ensures c.pages.ensures.pages c.requires.ctrl
+    c.index_mut-pair.ensures.value c.requires.room).0
 
 pub exchange_entry-requires-clause-numbered : goal.exchange_entry-requires-clause-numbered
 exchange_entry-requires-clause-numbered g c =
-    (has_room c.self.invariant c.self.view_is c.controllers.ensures c.pages.ensures.pages c.requires.room).1
+    (has_room c.self.invariant c.self.view_is c.controllers.ensures c.pages.ensures.pages c.requires.ctrl
+    c.index_mut-pair.ensures.value c.requires.room).1
 
 pub invariant_of-self : goal.invariant_of-self
 invariant_of-self g c =
     driver_after c.self.invariant c.self.view_is c.requires.ctrl c.index_mut-pair.ensures.value
-    c.exchange_entry.ensures.left
-    (ends_before c.self.invariant c.self.view_is c.controllers.ensures c.pages.ensures.pages)
+    (left_at c.self.invariant c.self.view_is c.requires.ctrl c.index_mut-pair.ensures.value
+    c.exchange_entry.ensures.left)
+    (ends_before c.self.invariant c.self.view_is c.controllers.ensures c.pages.ensures.pages c.requires.ctrl
+    c.index_mut-pair.ensures.value)
 
 pub returns-clause-out : goal.returns-clause-out
 returns-clause-out g c =
@@ -39,12 +44,14 @@ returns-clause-out g c =
 pub returns-clause-driver : goal.returns-clause-driver
 returns-clause-driver g c =
     value_after c.self.invariant c.self.view_is c.requires.ctrl c.index_mut-pair.ensures.value
-    c.exchange_entry.ensures.left (after_some 1) refl ∙ after_first c.args.self.now c.args.ctrl
+    (left_at c.self.invariant c.self.view_is c.requires.ctrl c.index_mut-pair.ensures.value
+    c.exchange_entry.ensures.left) (after_some 1) refl ∙ after_first c.args.self.now c.args.ctrl
 
 pub returns-clause-linked : goal.returns-clause-linked
 returns-clause-linked g c =
     linked_after c.self.invariant c.self.view_is c.requires.ctrl c.index_mut-pair.ensures.value
-    c.exchange_entry.ensures.left c.requires.linked
+    (left_at c.self.invariant c.self.view_is c.requires.ctrl c.index_mut-pair.ensures.value
+    c.exchange_entry.ensures.left) c.requires.linked
 
 pub returns-clause-entries : goal.returns-clause-entries
 returns-clause-entries g c =

@@ -7,7 +7,7 @@ use Rattle.nv_prp.proofs.buffer.Buffer.spans.Goals as goal
 
 pub loop-done-preserved : goal.loop-done-preserved
 loop-done-preserved g c =
-    let size = g.M.HostMemory.page_len c.args.mem.now in
+    let size = g.M.PagedMemory.page_len c.args.mem.now in
     let pages = c.args.self.now.pages.now in
     let start = c.args.self.now.offset in
     let done = c.loop-done.done in
@@ -17,7 +17,7 @@ loop-done-preserved g c =
     let len : s.len ≡ min (c.args.len - done) (size - (start + done) % size) = grind arith in
     let left = c.args.len - done in
     let all : c.args.len ≡ done + left = omega (arith, i.within) in
-    let bytes = g.M.HostMemory.bytes c.args.mem.now in
+    let bytes = g.M.PagedMemory.bytes c.args.mem.now in
     let buffer = subst (IsBuffer bytes size pages start) all c.requires.buffer in
     let rest = rest_inside bytes pages size start done left (omega (arith, c.loop-done-test.true)) buffer in
     record {

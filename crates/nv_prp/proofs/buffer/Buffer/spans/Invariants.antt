@@ -7,9 +7,9 @@ use Rattle.nv_prp.proofs.buffer.Buffer.spans.Given as goal
 abbrev pub invariant-loop-done : goal.invariant-loop-done
 invariant-loop-done g l = record {
   within : l.done ≤ l.len;
-  places : places l.spans ≡ buffer_places (g.M.HostMemory.page_len l.mem) l.self.pages.now l.self.offset l.done;
-  inside : LieIn (length (g.M.HostMemory.bytes l.mem)) l.spans;
-  few : l.done < l.len → length l.spans ≤ (l.self.offset + l.done) / g.M.HostMemory.page_len l.mem;
+  places : places l.spans ≡ buffer_places (g.M.PagedMemory.page_len l.mem) l.self.pages.now l.self.offset l.done;
+  inside : LieIn (length (g.M.PagedMemory.bytes l.mem)) l.spans;
+  few : l.done < l.len → length l.spans ≤ (l.self.offset + l.done) / g.M.PagedMemory.page_len l.mem;
 }
 
 abbrev pub decreases-loop-done : goal.decreases-loop-done

@@ -3,16 +3,16 @@ use Rattle.nv_trace.proofs.traced.TracedBus.turn.Goals as goal
 
 pub turned-requires : goal.turned-requires
 turned-requires g c =
-    turn_takes (g.M.HostMemory.page_len c.args.mem.now) c.args.ctrl c.args.most c.turn-count.result
+    turn_takes (g.M.PagedMemory.page_len c.args.mem.now) c.args.ctrl c.args.most c.turn-count.result
     (g.B.Bus.meaning c.args.self.now.bus) (g.B.Bus.meaning c.turn-count.new.self)
-    (g.M.HostMemory.bytes c.args.mem.now) (g.M.HostMemory.bytes c.turn-count.new.mem) c.turn-count.ensures.turn
+    (g.M.PagedMemory.bytes c.args.mem.now) (g.M.PagedMemory.bytes c.turn-count.new.mem) c.turn-count.ensures.turn
     c.args.self.now.trace.banks c.args.self.now.followed c.turn-count.ensures.len
 
 pub invariant_of-self : goal.invariant_of-self
 invariant_of-self g c = record {
-  followed = turned_on (g.M.HostMemory.page_len c.args.mem.now) c.args.ctrl c.args.most c.turn-count.result
+  followed = turned_on (g.M.PagedMemory.page_len c.args.mem.now) c.args.ctrl c.args.most c.turn-count.result
       (g.B.Bus.meaning c.args.self.now.bus) (g.B.Bus.meaning c.turn-count.new.self)
-      (g.M.HostMemory.bytes c.args.mem.now) (g.M.HostMemory.bytes c.turn-count.new.mem) c.turn-count.ensures.turn
+      (g.M.PagedMemory.bytes c.args.mem.now) (g.M.PagedMemory.bytes c.turn-count.new.mem) c.turn-count.ensures.turn
       c.args.self.now.trace.banks c.args.self.now.followed c.turned.new.self.banks c.turned.ensures.own
       c.turned.ensures.others;
 }

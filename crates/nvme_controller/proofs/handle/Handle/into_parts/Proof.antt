@@ -26,7 +26,7 @@ use denote.Triple.Table.{entered}
 use denote.Triple.Walked.{says, needs, Stays, stay_dropped, walk_of, ends_at, Goes-dropped, walk_Meets}
 use Rattle.std_alloc.proofs.BoxSteps.Form.{D, B, word, box_typed}
 use Rattle.std_alloc.proofs.BoxSteps.Steps.{box_out, box_in}
-use Rattle.nv_bus.specs.Bus.{BusValue}
+use Rattle.nv_controller.specs.Machine.{MachineValue}
 use Rattle.nvme_controller.specs.Held.{holds}
 use Rattle.nvme_controller.specs.Open.{IsOpen}
 use Rattle.nvme_controller.proofs.AsBox.{E, FromHandle as From}
@@ -41,7 +41,7 @@ stayed = (stay_dropped From yes, tt)
 module _ {M : Type 1} {𝓤 : Ura M} (𝓛 : Logic 𝓤) (at_mem : Memory → SProp 𝓤) (run : Routine → Fun 𝓤) (𝓣 : Tables 𝓤 𝓛.H) where
   open 𝓛 use {H}
 
-  walk : (z : (walk_of 𝓛 F.ended stayed (F.clauses 𝓛 at_mem run)).Ghost) (o : Option BusValue) → z.0.3.0.machine ≡ o → IsOpen o
+  walk : (z : (walk_of 𝓛 F.ended stayed (F.clauses 𝓛 at_mem run)).Ghost) (o : Option MachineValue) → z.0.3.0.machine ≡ o → IsOpen o
       → ent 𝓤 (on_entry 𝓛 F.signature z.0.0 z.0.1 z.0.3 z.0.4) (WpFn 𝓤 H 𝓣.C 𝓣.Λ code.function (z.0.4.0 ++ []) ((walk_of 𝓛 F.ended stayed (F.clauses 𝓛 at_mem run)).post z))
   walk z None is has = absurd has
   walk z (Some m) is has =
@@ -52,7 +52,7 @@ module _ {M : Type 1} {𝓤 : Ura M} (𝓛 : Logic 𝓤) (at_mem : Memory → SP
       let made : To.Denot = record { ptr = v.ptr; alloc = v.alloc; value = v.value } in
       qed 𝓛 ((‵ ftrue ⊛ ‵ (fsep ((type_at From tt).own_val h z.0.4.0) ftrue)) ∷ []) ∵ split ! $ drop ! $ fsplit ! $ fsplit ! $
       -- [the fields; the machine; nothing]
-      move ! (1 ∷ []) $ rewrite ! 0 (λ (p : Option BusValue). ‵ (holds h.alloc h.at p)) is refl $ move ! (1 ∷ []) $ fjoin ! $
+      move ! (1 ∷ []) $ rewrite ! 0 (λ (p : Option MachineValue). ‵ (holds h.alloc h.at p)) is refl $ move ! (1 ∷ []) $ fjoin ! $
       use1 𝓛 (‵ ((B E).own_val v z.0.4.0)) (id⊢ 𝓤 _) $
       box_out E ! v z.0.4.0 (λ b o hv e ws fa. box_in E ! v b o v.value e refl $ use1 𝓛 (‵ (To.own_val made (word E hv b o ∷ []))) (id⊢ 𝓤 _) $ move ! (1 ∷ []) $ drop ! $
       let w = word E hv b o in

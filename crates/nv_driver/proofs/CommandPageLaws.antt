@@ -1,0 +1,63 @@
+-- The pages of a command, as `build` requires them.
+use Rattle.std.proofs.Common.{◌≡◌, ◌≢◌, ◌∙◌, ℕ, ◌+◌, ◌*◌, ◌<◌, ◌≤◌, All, AllPairs, List, [], ◌∷◌, ap, arith, drop}
+use Rattle.std.proofs.Common.{get_or, length, length-drop, length-take, refl, subst, suc, sym}
+use Rattle.std.specs.Prelude.{slice_index}
+use Rattle.nv_host.specs.Pages.{HasPage}
+use Rattle.nv_host.specs.PageSets.{IsOf, Pages}
+use Rattle.nv_driver.proofs.Words.{AreDistinct, Geometry, IsGeometry, IsPlaceFor, Sent, mul-le-mul_right, own_pages}
+use Rattle.nv_driver.specs.CommandPages.{AreTaken, all_pages}
+use Rattle.nv_driver.specs.declared.command_pages.CommandPages.{CommandPages}
+use Rattle.nv_driver.specs.Layout.{data_count}
+use Rattle.nv_driver.specs.Submitting.{place_in}
+use Rattle.nv_driver.specs.UnderWay.{IsKept, Run}
+use Rattle.nv_driver.proofs.ShareLaws.{data_fits}
+
+-- how many pages a command has
+pub all_count : (o : CommandPages) → length o.numbers ≡ 7 → o.count ≤ 7 → length (all_pages o) ≡ o.count
+all_count o seven few = let h = length-take o.count o.numbers in omega (arith, h, few, seven)
+
+-- the first two, and the rest
+pub first_two : (pages : List ℕ) → 2 ≤ length pages
+    → slice_index pages 0 ∷ slice_index pages 1 ∷ drop 2 pages ≡ pages
+first_two [] h = absurd (omega arith)
+first_two (a ∷ []) h = absurd (omega arith)
+first_two (a ∷ b ∷ rest) h = refl
+
+-- the pages of a command that was sent
+pub own_is : {r : Run} {x : Sent} (k : IsKept r x) → own_pages x ≡ k.pages
+own_is k = ap own_pages k.sent ∙ first_two k.pages (omega (arith, k.many))
+
+-- a page of a set lies in a memory that has all pages of the set
+pub of_set : (s : Pages) (bytes : List ℕ) (page_size page : ℕ)
+    → (s.first + s.count) * page_size ≤ length bytes → IsOf s.first s.count page
+    → HasPage bytes page_size page
+of_set s bytes page_size page inside own =
+    let most : page + 1 ≤ s.first + s.count = omega (arith, own.1) in omega (arith, mul-le-mul_right page_size most)
+
+-- data and a list fit in pages of a set that lies in the memory
+pub place_of_set : (g : Geometry) (s : Pages) (pages bytes : List ℕ) (page_size len : ℕ) → IsGeometry g
+    → page_size ≡ g.page_size → (s.first + s.count) * g.page_size ≤ length bytes
+    → All (λ p. IsOf s.first s.count p) pages → AreDistinct pages → length pages ≡ data_count g len + 2
+    → IsPlaceFor bytes page_size (place_in g pages) len
+place_of_set g s pages bytes page_size len is page inside own distinct many =
+    let two = sym (first_two pages (omega (arith, many))) in
+    let all : All (λ p. HasPage bytes g.page_size p) pages =
+    λ i d h. of_set s bytes g.page_size (get_or pages i d) inside (own i d h) in
+    let has = subst (All (λ p. HasPage bytes g.page_size p)) two all in
+    let few : length (drop 2 pages) ≡ data_count g len = omega (arith, length-drop 2 pages, many) in
+    rw page (record {
+      is_size = is.page_size;
+      buffer = record {
+        below = is.offset.1;
+        aligned = is.offset.0;
+        enough = rw few (data_fits g len len is (omega arith)).0;
+        inside = λ i d h. has (suc (suc i)) d (omega arith);
+      };
+      list = record {
+        below = is.list_offset.1;
+        aligned = is.list_offset.0;
+        has_first = has 0 0 (omega arith);
+        has_second = has 1 0 (omega arith);
+      };
+      distinct = subst AreDistinct two distinct;
+    })

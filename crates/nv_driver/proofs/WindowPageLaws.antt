@@ -1,0 +1,167 @@
+-- The pages of several outstanding commands.
+use Rattle.std.proofs.Common.{◌≡◌, ◌≢◌, ◌∙◌, ℕ, zero, suc, ◌+◌, ◌*◌, ◌<◌, ◌≤◌, ◌&&◌, ◌||◌, not, All}
+use Rattle.std.proofs.Common.{AllPairs, Bool, true, false, List, [], ◌∷◌}
+use Rattle.std.proofs.Common.{◌++◌, add-one, ap, append-nil, append_assoc, arith, get_or, length}
+use Rattle.std.proofs.Common.{length-append, nat_eq, refl, subst, sym, take}
+use Rattle.std.proofs.Math.Seq.{take-length}
+use Rattle.std.proofs.lemmas.Bool.{both_ways, or_parts}
+use Rattle.std.proofs.lemmas.Bool.Decides.{nat_tests}
+use Rattle.std.proofs.lemmas.List.Kept.{AllPairs-cons}
+use Rattle.std.proofs.lemmas.List.{get_or-append-add, get_or_append_left, get_or_default, take_more}
+use Rattle.std.proofs.lemmas.List.Elements.{All-append}
+use Rattle.std.proofs.lemmas.List.Folds.{list_any-append}
+use Rattle.std.specs.FinSet as set
+use Rattle.nv_host.specs.PageSets.{IsOf, Pages}
+use Rattle.nv_driver.specs.CommandPages.{AreTaken, without}
+use Rattle.nv_driver.specs.inner.CommandPages.{with_pages}
+use Rattle.nv_driver.specs.Schedule.{Sent, own_pages}
+use Rattle.nv_driver.specs.UnderWay.{pages_of_all}
+use Rattle.nv_driver.proofs.PageSetLaws.{Taking, difference_in, in_all, is_in, left_in, not_before, not_in, same_pages}
+use Rattle.nv_driver.proofs.PageSetLaws.{taking_more, taking_none, union_in, without_none}
+
+-- ---- lists of pages, one after another
+
+is_in-append : (ps qs : List ℕ) (q : ℕ) → is_in (ps ++ qs) q ≡ (is_in ps q || is_in qs q)
+is_in-append ps qs q = list_any-append (λ y. nat_eq y q) ps qs
+
+-- what holds for all pages holds for those of a part
+all_left : (P : ℕ → Type 0) (ps qs : List ℕ) → All P (ps ++ qs) → All P ps
+all_left P ps qs each i d h =
+    subst P (get_or_append_left ps qs d i h) (each i d (omega (arith, length-append ps qs)))
+
+all_right : (P : ℕ → Type 0) (ps qs : List ℕ) → All P (ps ++ qs) → All P qs
+all_right P ps qs each i d h =
+    subst P (get_or-append-add ps qs i d) (each (length ps + i) d (omega (arith, length-append ps qs)))
+
+pairs_left : (ps qs : List ℕ) → AllPairs (λ p q. p ≢ q) (ps ++ qs) → AllPairs (λ p q. p ≢ q) ps
+pairs_left ps qs each i j d before h = λ same.
+    each i j d before (omega (arith, length-append ps qs))
+    (get_or_append_left ps qs d i (omega arith) ∙ same ∙ sym (get_or_append_left ps qs d j h))
+
+pairs_right : (ps qs : List ℕ) → AllPairs (λ p q. p ≢ q) (ps ++ qs) → AllPairs (λ p q. p ≢ q) qs
+pairs_right ps qs each i j d before h = λ same.
+    each (length ps + i) (length ps + j) d (omega arith) (omega (arith, length-append ps qs))
+    (get_or-append-add ps qs i d ∙ same ∙ sym (get_or-append-add ps qs j d))
+
+-- a page of the first part is not in the second
+apart_in : (ps qs : List ℕ) → AllPairs (λ p q. p ≢ q) (ps ++ qs) → (q : ℕ) → is_in ps q ≡ true → is_in qs q ≡ false
+apart_in ps qs each q there =
+    in_all (λ p. is_in qs p ≡ false) ps q
+    (λ i d h. not_in qs (get_or ps i d) (λ j e k same.
+    each i (length ps + j) d (omega arith) (omega (arith, length-append ps qs))
+    (get_or_append_left ps qs d i h ∙ sym same ∙ get_or_default qs j e d k ∙ sym (get_or-append-add ps qs j d)))) there
+
+-- two parts with distinct pages that have no page in common
+pairs_append : (ps qs : List ℕ) → AllPairs (λ p q. p ≢ q) ps → AllPairs (λ p q. p ≢ q) qs
+    → All (λ q. is_in ps q ≡ false) qs
+    → AllPairs (λ p q. p ≢ q) (ps ++ qs)
+pairs_append [] qs first second none = second
+pairs_append (x ∷ ps) qs first second none =
+    AllPairs-cons (λ p q. p ≢ q) x (ps ++ qs)
+    (All-append (λ q. x ≢ q) ps qs (λ i d h. first 0 (suc i) d (omega arith) (omega arith))
+    (λ i d h same. both_ways _ (none i d h) (grind (arith, nat_tests, same))))
+    (pairs_append ps qs (λ i j d before h. first (suc i) (suc j) d (omega arith) (omega arith)) second
+    (λ i d h. (or_parts _ _ (none i d h)).1))
+
+-- ---- pages taken out of a set
+
+-- how many pages are left
+pub taken_len : (s : Pages) (ps : List ℕ) → AreTaken s ps
+    → set.len (without s ps).members + length ps ≡ set.len s.members
+taken_len s ps t =
+    let all = (so_far (length ps) (omega arith)).len in
+    subst (λ qs. set.len (without s qs).members + length qs ≡ set.len s.members) (take-length ps) all
+  where
+    so_far : (n : ℕ) → n ≤ length ps → Taking s (without s (take n ps)) (take n ps)
+    so_far zero h = subst (λ x. Taking s x []) (taking_none s).left (taking_none s)
+    so_far (suc n) h =
+        let qs = take n ps in
+        let p = get_or ps n 0 in
+        let below : n < length ps = omega arith in
+        let there : set.contains (without s qs).members p ≡ true =
+        grind (arith, difference_in s.members qs p, t.had n 0 below, not_before ps n below t.distinct) in
+        let more = taking_more s (without s qs) _ qs p (so_far n (omega arith)) there (t.own n 0 below) refl in
+        rw (← add-one n, take_more ps n 0 below) (subst (λ x. Taking s x (qs ++ p ∷ [])) more.left more)
+
+-- more pages are taken
+pub taken_also : (s : Pages) (ps qs : List ℕ) → AreTaken s ps → AreTaken (without s ps) qs → AreTaken s (ps ++ qs)
+taken_also s ps qs first second = record {
+  own = All-append (λ p. IsOf s.first s.count p) ps qs first.own second.own;
+  had = All-append (λ p. set.contains s.members p ≡ true) ps qs first.had
+      (λ i d h. (left_in s ps _ (second.had i d h)).0);
+  distinct = pairs_append ps qs first.distinct second.distinct (λ i d h. (left_in s ps _ (second.had i d h)).1);
+}
+
+pub without_also : (s : Pages) (ps qs : List ℕ) → without (without s ps) qs ≡ without s (ps ++ qs)
+without_also s ps qs = same_pages s _ _ (λ q. grind (arith, difference_in, is_in-append))
+
+-- a page that is taken was not taken before
+pub fresh : (s : Pages) (ps qs : List ℕ) → AreTaken (without s ps) qs → (i d : ℕ) → i < length qs
+    → is_in ps (get_or qs i d) ≡ false
+fresh s ps qs second i d h = (left_in s ps (get_or qs i d) (second.had i d h)).1
+
+pub taken_first : (s : Pages) (qs ps : List ℕ) → AreTaken s (qs ++ ps) → AreTaken s qs
+taken_first s qs ps t = record {
+  own = all_left (λ p. IsOf s.first s.count p) qs ps t.own;
+  had = all_left (λ p. set.contains s.members p ≡ true) qs ps t.had;
+  distinct = pairs_left qs ps t.distinct;
+}
+
+pub taken_rest : (s : Pages) (qs ps : List ℕ) → AreTaken s (qs ++ ps) → AreTaken s ps
+taken_rest s qs ps t = record {
+  own = all_right (λ p. IsOf s.first s.count p) qs ps t.own;
+  had = all_right (λ p. set.contains s.members p ≡ true) qs ps t.had;
+  distinct = pairs_right qs ps t.distinct;
+}
+
+pub gone : (s : Pages) (qs ps : List ℕ) (i d : ℕ) → i < length qs
+    → set.contains (without s (qs ++ ps)).members (get_or qs i d) ≡ false
+gone s qs ps i d h = all_left (λ p. set.contains (without s (qs ++ ps)).members p ≡ false) qs ps (without_none s
+    (qs ++ ps)) i d h
+
+-- the first pages are given back
+pub given_back : (s : Pages) (qs ps : List ℕ) → AreTaken s (qs ++ ps)
+    → with_pages (without s (qs ++ ps)) qs ≡ without s ps
+given_back s qs ps t = same_pages s _ _ (λ q. by_parts q (difference_in s.members (qs ++ ps) q)
+    (difference_in s.members ps q)
+    (union_in (set.difference s.members (set.from_list (qs ++ ps))) qs q))
+  where
+    had : (q : ℕ) → is_in qs q ≡ true → (set.contains s.members q ≡ true) × (is_in ps q ≡ false)
+    had q e = (
+      in_all (λ p. set.contains s.members p ≡ true) qs q (taken_first s qs ps t).had e,
+      apart_in qs ps
+          t.distinct q e,
+    )
+
+    by_parts : (q : ℕ) {a b c : Bool} → a ≡ (set.contains s.members q && not (is_in (qs ++ ps) q))
+        → b ≡ (set.contains s.members q && not (is_in ps q)) → c ≡ (a || is_in qs q) → c ≡ b
+    by_parts q e f g = grind (arith, is_in-append qs ps q, had q, e, f, g)
+
+-- none is taken
+pub taken_none : (s : Pages) → AreTaken s [] × (without s [] ≡ s)
+taken_none s = let none = taking_none s in (none.taken, sym none.left)
+
+-- ---- the pages of commands
+
+pub pages-append : (xs : List Sent) (x : Sent) → pages_of_all (xs ++ x ∷ []) ≡ pages_of_all xs ++ own_pages x
+pages-append [] x = append-nil (own_pages x)
+pages-append (y ∷ xs) x = ap (λ rest. own_pages y ++ rest) (pages-append xs x)
+    ∙ sym (append_assoc (own_pages y) (pages_of_all xs) (own_pages x))
+
+-- a page of one of the commands is one of all their pages
+pub page_of_one : (xs : List Sent) (n : ℕ) (d : Sent) (q : ℕ) → n < length xs
+    → is_in (own_pages (get_or xs n d)) q ≡ true → is_in (pages_of_all xs) q ≡ true
+page_of_one [] n d q h e = absurd (omega arith)
+page_of_one (x ∷ xs) zero d q h e = grind (arith, is_in-append (own_pages x) (pages_of_all xs) q, e)
+page_of_one (x ∷ xs) (suc n) d q h e =
+    grind (arith, is_in-append (own_pages x) (pages_of_all xs) q, page_of_one xs n d q (omega arith) e)
+
+-- commands with at most this number of pages
+pub few_pages : (m : ℕ) (xs : List Sent) → ((n : ℕ) (d : Sent) → n < length xs
+    → length (own_pages (get_or xs n d)) ≤ m) → length (pages_of_all xs) ≤ length xs * m
+few_pages m [] few = omega arith
+few_pages m (x ∷ xs) few =
+    let more = length-append (own_pages x) (pages_of_all xs) in
+    let first = few 0 x (omega arith) in
+    let rest = few_pages m xs (λ n d h. few (suc n) d (omega arith)) in
+    omega (arith, more, first, rest)

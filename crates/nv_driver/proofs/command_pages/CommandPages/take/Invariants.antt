@@ -1,0 +1,11 @@
+use Rattle.std.proofs.Common.{◌≡◌, length, take}
+use Rattle.nv_driver.specs.CommandPages.{AreLowest}
+use Rattle.nv_driver.proofs.PageSetLaws.{Taking}
+use Rattle.nv_driver.proofs.command_pages.CommandPages.take.Given as goal
+
+abbrev pub invariant-loop-at : goal.invariant-loop-at
+invariant-loop-at l = record {
+  taking : Taking l.fn.free l.free (take l.at l.numbers);
+  lowest : AreLowest l.fn.free (take l.at l.numbers);
+  seven : length l.numbers ≡ 7;
+}

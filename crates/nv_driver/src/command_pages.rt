@@ -1,0 +1,72 @@
+//! The pages that one command has in the host's memory.
+
+ghost use Rattle.std.specs.Prelude.{◌≡◌, ◌≢◌, ◌≤◌, All, AllPairs, false, length};
+ghost use Rattle.std.specs.FinSet as set;
+ghost use Rattle.nv_host.specs.PageSets.{IsOf};
+ghost use Rattle.nv_driver.specs.CommandPages.{AreLowest, AreTaken, all_pages, without};
+ghost use Rattle.nv_driver.specs.inner.CommandPages.{with_pages};
+ghost use Rattle.nv_driver.specs.Submitting.{place_in};
+ghost use Rattle.nv_driver.specs.inner.Submitting.{place_of};
+
+use crate::checked_geometry::CheckedGeometry;
+use crate::submitting::DataPlace;
+use nv_host::{PageNo, PageSet};
+
+/// The greatest number of pages of one command: five for 16,384 bytes that begin inside a page of
+/// 4,096, and two for a list.
+pub(crate) const MOST_COMMAND_PAGES: usize = 7;
+
+/// The pages of a command: two for a list, and then those of its data.
+#[derive(Clone, Copy)]
+pub struct CommandPages {
+    pub numbers: [PageNo; MOST_COMMAND_PAGES],
+    pub count: usize,
+}
+
+impl CommandPages {
+    /// The pages of a command that has none.
+    pub(crate) const NONE: CommandPages = CommandPages {
+        numbers: [0; MOST_COMMAND_PAGES],
+        count: 0,
+    };
+
+    /// Takes the `count` lowest pages of a set, in order.
+    pub(crate) fn take(free: &mut PageSet, count: usize) -> CommandPages
+        requires few { count ≤ 7 }
+        requires enough { count ≤ set.len free.old.members }
+        ensures count { result.count ≡ count }
+        ensures seven { length result.numbers ≡ 7 }
+        ensures taken { AreTaken free.old (all_pages result) }
+        ensures lowest { AreLowest free.old (all_pages result) }
+        ensures set { free.new ≡ without free.old (all_pages result) }
+    {
+        let mut numbers = [0; MOST_COMMAND_PAGES];
+        for at in 0..count {
+            numbers[at] = free.take().unwrap();
+        }
+        CommandPages { numbers, count }
+    }
+
+    /// Returns the pages to their set, which must have none of them.
+    pub(crate) fn give(&self, free: &mut PageSet)
+        requires few { self.now.count ≤ 7 }
+        requires own { All (λ p. IsOf free.old.first free.old.count p) (all_pages self.now) }
+        requires none { All (λ p. set.contains free.old.members p ≡ false) (all_pages self.now) }
+        requires distinct { AllPairs (λ p q. p ≢ q) (all_pages self.now) }
+        ensures { free.new ≡ with_pages free.old (all_pages self.now) }
+    {
+        let pages = &self.numbers[..self.count];
+        for at in 0..pages.len() {
+            free.give(pages[at]);
+        }
+    }
+
+    /// Returns the place of a command's data and list.
+    pub(crate) fn place(&self, geometry: CheckedGeometry) -> DataPlace<'_>
+        requires few { self.now.count ≤ 7 }
+        requires list { 2 ≤ self.now.count }
+        ensures place { place_of result ≡ place_in geometry (all_pages self.now) }
+    {
+        DataPlace::within(geometry, &self.numbers[..self.count])
+    }
+}
