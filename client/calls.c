@@ -1,9 +1,10 @@
-/* The ioctls of nodes. A filter that the command's processes inherit (seccomp) hands each ioctl of NVMe and of block
-   devices to the launcher. It answers those of nodes from the memory of the process, as Linux does for its nodes, and
-   the kernel carries out all others. So static programs, and those that make system calls themselves, are answered too.
-   A result is that of the call, or an error's number as a negative one. None of this is proved. */
+/* The calls on nodes. A filter that the command's processes inherit (seccomp) hands the ioctls of NVMe and of block
+   devices to the launcher, and in a sandbox also calls that open files for writing or change their lengths. It answers
+   those on nodes and on files of /sys from the memory of the process, as Linux does, and lets the kernel carry out all
+   others. So static programs, and those that make system calls themselves, are answered too. A result is that of the
+   call, or an error's number as a negative one. None of this is proved. */
 #define _GNU_SOURCE
-#include "calls.h"
+#include "launcher.h"
 #include <errno.h>
 #include <fcntl.h>
 #include <limits.h>
@@ -13,11 +14,10 @@
 #include <linux/hdreg.h>
 #include <linux/nvme_ioctl.h>
 #include <linux/seccomp.h>
-#include <pthread.h>
 #include <stdio.h>
 #include <stdlib.h>
 #include <string.h>
-#include <sys/ioctl.h>
+#include <sys/fsuid.h>
 #include <sys/prctl.h>
 #include <sys/stat.h>
 #include <sys/syscall.h>
@@ -29,154 +29,207 @@
 #define SECCOMP_FILTER_FLAG_WAIT_KILLABLE_RECV (1UL << 5)
 #endif
 
-enum { MOST_STRUCT = 512, KEPT = 16 };
+/* The room for a message of the kernel, which is longer in later versions. */
+enum { MOST_STRUCT = 512 };
 
 /* The two lowest bits of an opcode give the direction of its data. */
 enum { TO_DEVICE = 1, FROM_DEVICE = 2 };
 
-static uid_t user; /* of the launcher, and its group */
-static gid_t group;
-static int calls = -1; /* where the filter's calls come from */
-static int may_repeat; /* whether a signal may have a call made again after it was carried out */
-static dev_t nodes_device;
+/* The result of a call that the kernel carries out. */
+enum { NOT_OURS = -10000 };
+
+int calls = -1; /* where the filter's calls come from */
+
+/* ---- the filter */
+
+/* Calls of programs of 64 bits that are handed over: those that open a file or change its length, by the arguments that
+   say where it is (-1 for none) and by which flags (of which it must have one of CHANGES, if the filter can see them);
+   and those that are refused for a node, by the argument that is its descriptor, with the error that Linux has. */
+enum { CHANGES = O_WRONLY | O_RDWR | O_TRUNC | O_DIRECT };
+static const struct {
+    int number, file, path, flags, error;
+} rows[] = {{SYS_open, -1, 0, 1, 0},
+            {SYS_openat, 0, 1, 2, 0},
+            {SYS_openat2, 0, 1, -1, 0},
+            {SYS_creat, -1, 0, -1, 0},
+            {SYS_truncate, -1, 0, -1, 0},
+            {SYS_ftruncate, 0, -1, -1, -EINVAL},
+            {SYS_sendfile, 0, -1, -1, -EINVAL},
+            {SYS_splice, 2, -1, -1, -EINVAL},
+            {SYS_fallocate, 0, -1, -1, -ENODEV},
+            {SYS_copy_file_range, 2, -1, -1, -EXDEV}};
+enum { ROWS = sizeof rows / sizeof *rows, OLD_IOCTL = 54, TAKE_FILE = 438, X32_BIT = 0x40000000 };
+
+static struct sock_filter filter[256];
+static unsigned short filter_length;
+
+static void emit(unsigned code, uint32_t value, int if_not) {
+    filter[filter_length++] = (struct sock_filter){.code = (uint16_t)code, .jf = (uint8_t)if_not, .k = value};
+}
+
+static void load(size_t at) { emit(BPF_LD | BPF_W | BPF_ABS, (uint32_t)at, 0); }
+
+static void when(uint32_t value, uint32_t action) {
+    emit(BPF_JMP | BPF_JEQ | BPF_K, value, 1);
+    emit(BPF_RET | BPF_K, action, 0);
+}
+
+/* Adds the calls of programs of 64 or of 32 bits. No process can type into the caller's terminal (TIOCSTI, and the
+   selection of TIOCLINUX), or take an open file from a process outside, which the peer of a socket can name. (Of a
+   request the kernel looks at 32 bits.) */
+static void add_calls(int is_old) {
+    load(offsetof(struct seccomp_data, nr));
+    emit(BPF_JMP | BPF_JGE | BPF_K, X32_BIT, 1);
+    emit(BPF_RET | BPF_K, SECCOMP_RET_ERRNO | ENOSYS, 0);
+    when(TAKE_FILE, SECCOMP_RET_ERRNO | EPERM);
+    for (unsigned at = 0; has_sandbox && !is_old && at < ROWS; at++)
+        if (rows[at].flags < 0)
+            when((uint32_t)rows[at].number, SECCOMP_RET_USER_NOTIF);
+        else {
+            emit(BPF_JMP | BPF_JEQ | BPF_K, (uint32_t)rows[at].number, 4);
+            load(offsetof(struct seccomp_data, args) + 8 * (size_t)rows[at].flags);
+            emit(BPF_JMP | BPF_JSET | BPF_K, CHANGES, 1);
+            emit(BPF_RET | BPF_K, SECCOMP_RET_USER_NOTIF, 0);
+            emit(BPF_RET | BPF_K, SECCOMP_RET_ALLOW, 0);
+        }
+    emit(BPF_JMP | BPF_JEQ | BPF_K, is_old ? OLD_IOCTL : SYS_ioctl, 10);
+    load(offsetof(struct seccomp_data, args[1]));
+    when(TIOCSTI, SECCOMP_RET_ERRNO | EPERM);
+    when(TIOCLINUX, SECCOMP_RET_ERRNO | EPERM);
+    when(GEOMETRY_REQUEST, SECCOMP_RET_USER_NOTIF);
+    emit(BPF_ALU | BPF_AND | BPF_K, _IOC_TYPEMASK << _IOC_TYPESHIFT, 0);
+    when(NVME_TYPE << _IOC_TYPESHIFT, SECCOMP_RET_USER_NOTIF);
+    when(BLOCK_TYPE << _IOC_TYPESHIFT, SECCOMP_RET_USER_NOTIF);
+    emit(BPF_RET | BPF_K, SECCOMP_RET_ALLOW, 0);
+}
 
 void filter_calls(void) {
-    struct sock_filter filter[] = {
-        BPF_STMT(BPF_LD | BPF_W | BPF_ABS, offsetof(struct seccomp_data, nr)),
-        BPF_STMT(BPF_ALU | BPF_AND | BPF_K, ~(unsigned)X32_BIT),
-        BPF_JUMP(BPF_JMP | BPF_JEQ | BPF_K, LINUX_CALL, 2, 0),
-        BPF_JUMP(BPF_JMP | BPF_JEQ | BPF_K, X32_CALL, 1, 0),
-        BPF_JUMP(BPF_JMP | BPF_JEQ | BPF_K, OLD_CALL, 0, 5),
-        BPF_STMT(BPF_LD | BPF_W | BPF_ABS, offsetof(struct seccomp_data, args[1])),
-        BPF_JUMP(BPF_JMP | BPF_JEQ | BPF_K, GEOMETRY_REQUEST, 4, 0),
-        BPF_STMT(BPF_ALU | BPF_AND | BPF_K, _IOC_TYPEMASK << _IOC_TYPESHIFT),
-        BPF_JUMP(BPF_JMP | BPF_JEQ | BPF_K, NVME_TYPE << _IOC_TYPESHIFT, 2, 0),
-        BPF_JUMP(BPF_JMP | BPF_JEQ | BPF_K, BLOCK_TYPE << _IOC_TYPESHIFT, 1, 0),
-        BPF_STMT(BPF_RET | BPF_K, SECCOMP_RET_ALLOW),
-        BPF_STMT(BPF_RET | BPF_K, SECCOMP_RET_USER_NOTIF),
-    };
-    const struct sock_fprog program = {sizeof filter / sizeof *filter, filter};
     unsigned long flags = SECCOMP_FILTER_FLAG_NEW_LISTENER | SECCOMP_FILTER_FLAG_WAIT_KILLABLE_RECV;
-    struct stat about;
-    if (stat(folder, &about) < 0 || prctl(PR_SET_NO_NEW_PRIVS, 1, 0, 0, 0) < 0)
-        fail_by_errno(folder);
-    nodes_device = about.st_dev;
-    user = getuid();
-    group = getgid();
-    calls = (int)syscall(SYS_seccomp, SECCOMP_SET_MODE_FILTER, flags, &program);
-    may_repeat = SECCOMP_FILTER_FLAG_WAIT_KILLABLE_RECV == 0 || (calls < 0 && errno == EINVAL);
-    if (calls < 0 && may_repeat)
-        calls = (int)syscall(SYS_seccomp, SECCOMP_SET_MODE_FILTER, SECCOMP_FILTER_FLAG_NEW_LISTENER, &program);
-    if (calls < 0)
-        fail("ioctls can't be answered here (Linux 5.5 or later is needed): %s", strerror(errno));
+    load(offsetof(struct seccomp_data, arch));
+    unsigned short at = filter_length;
+    emit(BPF_JMP | BPF_JEQ | BPF_K, AUDIT_ARCH_X86_64, 0);
+    add_calls(0);
+    filter[at].jf = (uint8_t)(filter_length - at - 1);
+    add_calls(1);
+    const struct sock_fprog program = {filter_length, filter};
+    int file = prctl(PR_SET_NO_NEW_PRIVS, 1, 0, 0, 0) < 0
+                   ? -1
+                   : (int)syscall(SYS_seccomp, SECCOMP_SET_MODE_FILTER, flags, &program);
+    if (file < 0 || dup3(file, calls, O_CLOEXEC) < 0)
+        fail("calls can't be answered here (Linux 5.19 or later is needed): %s", strerror(errno));
+    close(file);
 }
 
-/* ---- the node and the memory of a call */
+/* ---- the process that made a call */
 
-/* Takes the identity of a process for what a thread does of it, because its memory and its files are open to nobody
-   else. (These calls change the one thread, and the right to do so stays.) */
-static void act_as(uid_t as_user, gid_t as_group) {
-    if (user != 0)
+static struct call own; /* the launcher itself */
+
+/* Takes the identity of a process, because its memory and its files are open to nobody else. (root alone can do so, and
+   its right to do so stays.) */
+static void act_as(const struct call *as) {
+    static uid_t now;
+    if (own.user != 0 || as->user == now)
         return;
-    syscall(SYS_setresgid, as_group, -1, -1);
-    syscall(SYS_setfsgid, as_group);
-    syscall(SYS_setresuid, as_user, -1, -1);
-    syscall(SYS_setfsuid, as_user);
+    now = as->user;
+    setresgid(as->group, (gid_t)-1, (gid_t)-1);
+    setfsgid(as->group);
+    setresuid(as->user, (uid_t)-1, (uid_t)-1);
+    setfsuid(as->user);
 }
 
-/* Returns whether the file of a call is a node, and stores which node it is. */
-static int find_node(struct call *call) {
-    char link[64], path[PATH_MAX], name[PATH_MAX], text[256];
-    struct stat about;
-    snprintf(link, sizeof link, "/proc/%d", call->process);
-    if (stat(link, &about) < 0)
-        return 0;
-    call->user = about.st_uid;
-    call->group = about.st_gid;
-    snprintf(link, sizeof link, "/proc/%d/fd/%d", call->process, call->file);
-    act_as(call->user, call->group);
-    int is_file = stat(link, &about) == 0 && S_ISREG(about.st_mode) && about.st_dev == nodes_device;
-    ssize_t named = is_file ? readlink(link, name, sizeof name - 1) : -1;
-    act_as(user, group);
-    if (!is_file)
-        return 0;
-    snprintf(path, sizeof path, "%s/nodes/%llu", folder, (unsigned long long)about.st_ino);
-    ssize_t length = readlink(path, text, sizeof text - 1);
-    text[length < 0 ? 0 : length] = name[named < 0 ? 0 : named] = '\0';
-    return read_node(text, name, &call->node);
-}
-
-/* Returns whether the file of a call may be written. */
-static int is_writable(const struct call *call) {
-    char path[64];
-    unsigned flags = O_RDONLY;
-    snprintf(path, sizeof path, "/proc/%d/fdinfo/%d", call->process, call->file);
-    act_as(call->user, call->group);
-    FILE *file = fopen(path, "re");
-    act_as(user, group);
-    if (file && fscanf(file, "pos: %*d flags: %o", &flags) != 1)
-        flags = O_RDONLY;
-    if (file)
-        fclose(file);
-    return (flags & O_ACCMODE) != O_RDONLY;
+static int copy(const struct call *call, uint64_t there, void *here, size_t size, __typeof__(process_vm_readv) *move) {
+    struct iovec ours = {here, size}, theirs = {(void *)(uintptr_t)there, size};
+    act_as(call);
+    ssize_t count = size == 0 ? 0 : move(call->process, &ours, 1, &theirs, 1, 0);
+    act_as(&own);
+    return count == (ssize_t)size ? 0 : -EFAULT;
 }
 
 int copy_in(const struct call *call, uint64_t from, void *into, size_t size) {
-    struct iovec here = {into, size}, there = {(void *)(uintptr_t)from, size};
-    act_as(call->user, call->group);
-    ssize_t count = size == 0 ? 0 : process_vm_readv(call->process, &here, 1, &there, 1, 0);
-    act_as(user, group);
-    return count == (ssize_t)size ? 0 : -EFAULT;
+    return copy(call, from, into, size, process_vm_readv);
 }
 
 int copy_out(const struct call *call, uint64_t into, const void *from, size_t size) {
-    struct iovec here = {(void *)from, size}, there = {(void *)(uintptr_t)into, size};
-    act_as(call->user, call->group);
-    ssize_t count = size == 0 ? 0 : process_vm_writev(call->process, &here, 1, &there, 1, 0);
-    act_as(user, group);
-    return count == (ssize_t)size ? 0 : -EFAULT;
+    return copy(call, into, (void *)from, size, process_vm_writev);
 }
 
-/* ---- what the ioctls do */
+/* Copies a text, and what is behind it to the end of its page. (The next page may not be there.) */
+static int copy_text(const struct call *call, uint64_t from, char into[PATH_MAX]) {
+    size_t part = PATH_MAX - from % PATH_MAX;
+    int result = copy_in(call, from, into, part);
+    if (result == 0 && !memchr(into, '\0', part))
+        result = copy_in(call, from + part, into + part, PATH_MAX - part);
+    return result == 0 && memchr(into, '\0', PATH_MAX) ? 0 : -EFAULT;
+}
 
-static int ask(const struct call *call, unsigned kind) {
-    struct request_header header = {.controller = htole16((uint16_t)call->node.controller),
-                                    .kind = htole16((uint16_t)kind)};
+/* Reads by which name a file was opened, with links followed. */
+static void read_link(const char *link, char name[PATH_MAX]) {
+    ssize_t length = readlink(link, name, PATH_MAX - 1);
+    name[length < 0 ? 0 : length] = '\0';
+}
+
+/* Whether the file of a call is a node, which is stored. Without a sandbox, its only mark is its name. (The mode of a
+   link to an open file says how it was opened.) */
+static int find_node(struct call *call) {
+    const char *before = has_sandbox ? "/dev/" : "/memfd:";
+    char link[64], name[PATH_MAX];
+    struct stat about, how, dev;
+    snprintf(link, sizeof link, "/proc/%d/fd/%d", call->process, call->file);
+    act_as(call);
+    int is_file = stat(link, &about) == 0 && S_ISREG(about.st_mode) && lstat(link, &how) == 0;
+    read_link(link, name);
+    act_as(&own);
+    if (!is_file || strncmp(name, before, strlen(before)) != 0 ||
+        (has_sandbox && (stat("/dev", &dev) < 0 || about.st_dev != dev.st_dev)))
+        return 0;
+    call->is_writable = (how.st_mode & S_IWUSR) != 0;
+    return read_name(name + strlen(before), &call->node);
+}
+
+/* Opens a file of the process again, as the process could. */
+static int open_again(const struct call *call, const char *link, int flags) {
+    act_as(call);
+    int file = open(link, flags | O_CLOEXEC), error = errno;
+    act_as(&own);
+    return file < 0 ? -error : file;
+}
+
+/* ---- ioctls of nodes */
+
+int put_result(const struct call *call, int is_wide, uint64_t result, int status) {
+    size_t place = is_wide ? offsetof(struct nvme_passthru_cmd64, result) : offsetof(struct nvme_passthru_cmd, result);
+    return copy_out(call, call->argument + place, &result, is_wide ? 8 : 4) < 0 ? -EFAULT : status;
+}
+
+static int ask(const struct call *call, uint16_t kind) {
+    struct request_header header = {.controller = (uint16_t)call->node.controller, .kind = kind};
     struct answer_header answer;
-    return carry_out(&header, NULL, &answer) < 0 ? -ENXIO : le16toh(answer.outcome) == ANSWERED ? 0 : -ENOENT;
+    return carry_out(&header, NULL, &answer) < 0 ? -ENXIO : 0;
 }
 
-/* Sends an entry unchanged. Returns the status, and stores dword 0 of the completion. */
-static int pass_through(const struct call *call, const struct nvme_passthru_cmd *given, void *data, uint32_t *dword_0) {
+/* Sends an entry unchanged. Returns the status, and stores dword 0 of the completion. (Data that is received is read
+   too, so that a bad address is told before the command is carried out.) */
+static int pass_through(const struct call *call, const struct nvme_passthru_cmd *given, void *data, uint64_t *dword_0) {
     int direction = given->opcode & (TO_DEVICE | FROM_DEVICE);
     uint32_t length = direction && given->addr ? given->data_len : 0;
-    struct request_header header = {.controller = htole16((uint16_t)call->node.controller), .length = htole32(length)};
+    struct request_header header = {.controller = (uint16_t)call->node.controller, .length = length};
     struct answer_header answer;
-    header.entry[0] = given->opcode;
-    header.entry[1] = given->flags;
-    put_dword(header.entry + 4, given->nsid);
-    put_dword(header.entry + 8, given->cdw2);
-    put_dword(header.entry + 12, given->cdw3);
     const uint32_t dwords[] = {given->cdw10, given->cdw11, given->cdw12, given->cdw13, given->cdw14, given->cdw15};
-    for (unsigned at = 0; at < 6; at++)
-        put_dword(header.entry + 40 + 4 * at, dwords[at]);
-    /* (data that is received is read too, so that a bad address is told before the command is carried out) */
+    header.entry[0] = given->opcode;
+    memcpy(header.entry + 4, &given->nsid, 3 * sizeof given->nsid);
+    memcpy(header.entry + 40, dwords, sizeof dwords);
     if (copy_in(call, given->addr, data, length) < 0)
         return -EFAULT;
-    if (carry_out(&header, data, &answer) < 0)
+    if (carry_out(&header, data, &answer) < 0 || answer.outcome != ANSWERED)
         return -ENXIO;
-    if (le16toh(answer.outcome) != ANSWERED)
-        return le16toh(answer.outcome) == NO_CONTROLLER ? -ENOENT : -EIO;
-    if (copy_out(call, given->addr, data, le32toh(answer.length)) < 0)
-        return -EFAULT;
-    *dword_0 = le32toh(answer.dword_0);
-    return le16toh(answer.status) & 0x7fff;
+    *dword_0 = answer.dword_0;
+    return copy_out(call, given->addr, data, answer.length) < 0 ? -EFAULT : answer.status & 0x7fff;
 }
 
 /* Executes a command. Its two forms differ only in the result, which comes after the other fields in both. */
 static int admin(const struct call *call) {
     struct nvme_passthru_cmd given;
-    uint32_t dword_0 = 0;
+    uint64_t dword_0 = 0;
     if (copy_in(call, call->argument, &given, sizeof given) < 0)
         return -EFAULT;
     if (given.flags || given.data_len > MOST_DATA)
@@ -184,164 +237,202 @@ static int admin(const struct call *call) {
     void *data = malloc(given.data_len + 1);
     int status = data ? pass_through(call, &given, data, &dword_0) : -ENOMEM;
     free(data);
-    uint64_t wide = dword_0;
-    int is_wide = call->request == NVME_IOCTL_ADMIN64_CMD;
-    size_t place = is_wide ? offsetof(struct nvme_passthru_cmd64, result) : offsetof(struct nvme_passthru_cmd, result);
-    if (status >= 0 && copy_out(call, call->argument + place, is_wide ? (void *)&wide : &dword_0, is_wide ? 8 : 4) < 0)
-        return -EFAULT;
-    return status;
-}
-
-/* Reports a number about a block device, in its size, as Linux does for a device with one queue. */
-static int tell_number(const struct call *call, uint32_t request) {
-    uint64_t block = 1ULL << call->node.power, size = call->node.blocks << call->node.power;
-    const uint32_t word = call->is_old ? 4 : 8;
-    const struct {
-        uint32_t request, bytes;
-        uint64_t value;
-    } numbers[] = {{BLKGETSIZE64, 8, size}, {BLKGETSIZE, word, size / 512}, {BLKSSZGET, 4, block},
-                   {BLKPBSZGET, 4, block},  {BLKIOMIN, 4, block},           {BLKIOOPT, 4, 0},
-                   {BLKALIGNOFF, 4, 0},     {BLKBSZGET, 4, block},          {BLKROGET, 4, 0},
-                   {BLKRAGET, word, 256},   {BLKFRAGET, word, 256},         {BLKSECTGET, 2, 256},
-                   {BLKROTATIONAL, 2, 0},   {BLKDISCARDZEROES, 4, 0}};
-    for (unsigned at = 0; at < sizeof numbers / sizeof *numbers; at++)
-        if (numbers[at].request == request)
-            return copy_out(call, call->argument, &numbers[at].value, numbers[at].bytes);
-    return -ENOTTY;
+    return status < 0 ? status : put_result(call, call->request == NVME_IOCTL_ADMIN64_CMD, dword_0, status);
 }
 
 /* Discards blocks, which are then zeros. */
-static int discard(const struct call *call) {
-    uint64_t size = call->node.blocks << call->node.power, mask = (1ULL << call->node.power) - 1, range[2];
-    char path[64];
-    if (!is_writable(call))
+static int discard(const struct call *call, uint64_t size, uint64_t block) {
+    int file = -1, punched = FALLOC_FL_PUNCH_HOLE | FALLOC_FL_KEEP_SIZE;
+    uint64_t range[2];
+    if (!call->is_writable)
         return -EBADF;
     if (copy_in(call, call->argument, range, sizeof range) < 0)
         return -EFAULT;
-    if ((range[0] | range[1]) & mask || range[1] == 0 || range[0] > size || range[1] > size - range[0])
+    if ((range[0] | range[1]) % block || range[1] == 0 || range[0] > size || range[1] > size - range[0])
         return -EINVAL;
-    snprintf(path, sizeof path, "/proc/%d/fd/%d", call->process, call->file);
-    act_as(call->user, call->group);
-    int file = open(path, O_RDWR | O_CLOEXEC), punched = FALLOC_FL_PUNCH_HOLE | FALLOC_FL_KEEP_SIZE;
-    act_as(user, group);
-    int result = file >= 0 && fallocate(file, punched, (off_t)range[0], (off_t)range[1]) == 0 ? 0 : -errno;
-    if (file >= 0)
-        close(file);
+    if ((file = open_data(&call->node)) < 0)
+        return -ENXIO;
+    int result = fallocate(file, punched, (off_t)range[0], (off_t)range[1]) < 0 ? -errno : 0;
+    close(file);
     return result;
 }
 
+/* Reports numbers about a block device, in their sizes, as Linux does for a device with one queue. */
 static int of_block_device(const struct call *call) {
+    const struct volume *volume = volume_of(&call->node);
+    const uint64_t block = 1ULL << volume->power, size = volume->blocks << volume->power;
+    const uint32_t word = call->is_old ? 4 : 8;
     /* (a few requests of 32-bit programs have the size of their words) */
-    uint32_t size = _IOC_SIZE(call->request), nr = _IOC_NR(call->request);
-    int is_sized = call->is_old && size == 4 && (nr == 112 || nr == 113 || nr == 114);
-    uint32_t request = is_sized ? call->request + (4u << _IOC_SIZESHIFT) : call->request;
-    uint64_t sectors = (call->node.blocks << call->node.power) / 512;
-    struct hd_geometry geometry = {.heads = 64, .sectors = 32, .cylinders = (unsigned short)(sectors >> 11)};
-    switch (request) {
-    case BLKDISCARD:
-    case BLKZEROOUT:
-        return discard(call);
-    case BLKBSZSET:
-    case BLKRRPART:
-    case BLKFLSBUF:
-    case BLKRASET:
-        return 0;
-    case HDIO_GETGEO:
-        return copy_out(call, call->argument, &geometry, call->is_old ? 8 : sizeof geometry);
-    default:
-        return tell_number(call, request);
-    }
+    uint32_t nr = _IOC_NR(call->request), is_sized = call->is_old && _IOC_SIZE(call->request) == 4;
+    uint32_t request = call->request + (is_sized && nr >= 112 && nr <= 114 ? 4u << _IOC_SIZESHIFT : 0);
+    const uint64_t geometry[2] = {64 | 32 << 8 | (size >> 20 & 0xffff) << 16};
+    const struct {
+        uint32_t request, bytes;
+        uint64_t value;
+    } numbers[] = {{BLKGETSIZE64, 8, size}, {BLKGETSIZE, word, size / 512},
+                   {BLKSSZGET, 4, block},   {BLKPBSZGET, 4, block},
+                   {BLKIOMIN, 4, block},    {BLKIOOPT, 4, 0},
+                   {BLKALIGNOFF, 4, 0},     {BLKBSZGET, 4, block},
+                   {BLKROGET, 4, 0},        {BLKRAGET, word, 256},
+                   {BLKFRAGET, word, 256},  {BLKSECTGET, 2, 256},
+                   {BLKROTATIONAL, 2, 0},   {BLKDISCARDZEROES, 4, 0},
+                   {BLKBSZSET, 0, 0},       {BLKRRPART, 0, 0},
+                   {BLKFLSBUF, 0, 0},       {BLKRASET, 0, 0}};
+    for (unsigned at = 0; at < sizeof numbers / sizeof *numbers; at++)
+        if (numbers[at].request == request)
+            return copy_out(call, call->argument, &numbers[at].value, numbers[at].bytes);
+    if (request == HDIO_GETGEO)
+        return copy_out(call, call->argument, geometry, 2 * word);
+    return request == BLKDISCARD || request == BLKZEROOUT ? discard(call, size, block) : -ENOTTY;
 }
 
-static int carry_out_call(struct call *call) {
+static int carry_out_ioctl(struct call *call) {
     char kind = call->node.kind;
-    if (call->request == NVME_IOCTL_ADMIN_CMD || call->request == NVME_IOCTL_ADMIN64_CMD)
-        return admin(call);
-    if (ask(call, KIND_ALIVE) < 0)
+    struct device *device = device_of(call->node.controller);
+    if (device->is_lost)
         return -ENXIO;
-    if (kind != 'c' && call->request == NVME_IOCTL_ID)
-        return (int)call->node.nsid;
-    if (kind == 'c' && call->request == NVME_IOCTL_RESCAN)
-        return ask(call, KIND_RESCAN);
-    if (kind == 'c' && call->request == NVME_IOCTL_RESET)
-        return ask(call, KIND_RESET);
-    if (kind != 'c' && (call->request == NVME_IOCTL_SUBMIT_IO || call->request == NVME_IOCTL_IO_CMD ||
-                        call->request == NVME_IOCTL_IO64_CMD))
-        return io(call);
-    return kind == 'b' ? of_block_device(call) : -ENOTTY;
-}
-
-/* ---- calls that are made again */
-
-/* What was answered to calls that a signal interrupted meanwhile. */
-static struct {
-    struct seccomp_data data;
-    pid_t process;
-    int result;
-} kept[KEPT];
-static pthread_mutex_t keeping = PTHREAD_MUTEX_INITIALIZER;
-
-static void keep(const struct seccomp_notif *got, int result) {
-    static unsigned next;
-    pthread_mutex_lock(&keeping);
-    kept[next % KEPT].data = got->data;
-    kept[next % KEPT].process = (pid_t)got->pid;
-    kept[next++ % KEPT].result = result;
-    pthread_mutex_unlock(&keeping);
-}
-
-static int is_kept(const struct seccomp_notif *got, int *result) {
-    int is_found = 0;
-    pthread_mutex_lock(&keeping);
-    for (unsigned at = 0; at < KEPT && !is_found; at++)
-        if (kept[at].process == (pid_t)got->pid && memcmp(&kept[at].data, &got->data, sizeof got->data) == 0) {
-            *result = kept[at].result;
-            kept[at].process = 0;
-            is_found = 1;
-        }
-    pthread_mutex_unlock(&keeping);
-    return is_found;
-}
-
-/* Answers a call, or lets the kernel carry it out. */
-static void answer_call(const struct seccomp_notif *got, struct seccomp_notif_resp *answer) {
-    struct call call = {.process = (pid_t)got->pid,
-                        .file = (int)got->data.args[0],
-                        .is_old = got->data.arch != AUDIT_ARCH_X86_64,
-                        .request = (uint32_t)got->data.args[1],
-                        .argument = got->data.args[2]};
-    uint64_t id = got->id;
-    int result = 0, is_done = may_repeat && is_kept(got, &result);
-    *answer = (struct seccomp_notif_resp){.id = id};
-    /* (a process that is gone by now may have left its number to another one) */
-    if (!is_done && (!find_node(&call) || ioctl(calls, SECCOMP_IOCTL_NOTIF_ID_VALID, &id) < 0)) {
-        answer->flags = SECCOMP_USER_NOTIF_FLAG_CONTINUE;
-        return;
+    switch (call->request) {
+    case NODE_REQUEST:
+        return copy_out(call, call->argument, &call->node, sizeof call->node);
+    case NVME_IOCTL_ADMIN_CMD:
+    case NVME_IOCTL_ADMIN64_CMD:
+        return admin(call);
+    case NVME_IOCTL_ID:
+        return kind == 'c' ? -ENOTTY : (int)call->node.nsid;
+    case NVME_IOCTL_RESCAN:
+        return kind == 'c' ? scan(device, call->node.controller, 1), 0 : -ENOTTY;
+    case NVME_IOCTL_RESET:
+        return kind == 'c' ? ask(call, KIND_RESET) : -ENOTTY;
+    case NVME_IOCTL_SUBMIT_IO:
+    case NVME_IOCTL_IO_CMD:
+    case NVME_IOCTL_IO64_CMD:
+        return kind == 'c' ? -ENOTTY : io(call);
+    default:
+        return kind == 'b' ? of_block_device(call) : -ENOTTY;
     }
-    if (!is_done)
-        result = carry_out_call(&call);
-    answer->error = result < 0 ? result : 0;
-    answer->val = result < 0 ? 0 : result;
 }
 
-void *answer_calls(void *unused) {
-    static union {
-        struct seccomp_notif got;
-        char room[MOST_STRUCT];
-    } empty;
+/* (the library asks by name where nodes aren't files) */
+static int answer_ioctl(struct call *call) {
+    struct node asked;
+    int is_name = call->request == NODE_REQUEST && call->file == -1 && !has_sandbox;
+    if (is_name && (copy_in(call, call->argument, &asked, sizeof asked) < 0 || !read_name(asked.name, &call->node)))
+        return -ENOENT;
+    return is_name || find_node(call) ? carry_out_ioctl(call) : NOT_OURS;
+}
+
+/* ---- calls that open a file */
+
+/* Does what a file of /sys is there for that was opened to be written. */
+static void control(const char *name) {
+    struct call call = {.process = 0};
+    char what[32];
+    if (strcmp(name, "/sys/bus/pci/rescan") == 0)
+        for (struct device *device = devices; device < devices + device_count; device++)
+            scan(device, device->first, device->count);
+    if (sscanf(name, "/sys/devices/%*[^/]/%*[^/]/nvme/nvme%u/%31s", &call.node.controller, what) != 2)
+        return;
+    if (strcmp(what, "reset_controller") == 0)
+        ask(&call, KIND_RESET);
+    else
+        scan(device_of(call.node.controller), call.node.controller, 1);
+}
+
+/* Answers a call that opens a file with these flags, or that changes its length: a file of /sys that isn't there for
+   writing can't be opened for it, even by root, and a node isn't truncated, or opened for direct access. */
+static int answer_open(const struct call *call, int directory, uint64_t path, int flags, int is_length) {
+    char text[PATH_MAX], place[PATH_MAX + 64], name[PATH_MAX];
+    int again = flags & ~(O_CREAT | O_EXCL | O_TRUNC | O_DIRECT | O_NOFOLLOW), result = NOT_OURS;
+    struct node node;
+    struct stat about, top;
+    if (copy_text(call, path, text) < 0 || (flags & (O_CREAT | O_EXCL)) == (O_CREAT | O_EXCL))
+        return NOT_OURS;
+    if (strncmp(text, "/proc/self/", 11) == 0)
+        snprintf(place, sizeof place, "/proc/%d/%s", call->process, text + 11);
+    else if (*text == '/' || directory == AT_FDCWD)
+        snprintf(place, sizeof place, "/proc/%d/%s/%s", call->process, *text == '/' ? "root" : "cwd", text);
+    else
+        snprintf(place, sizeof place, "/proc/%d/fd/%d/%s", call->process, directory, text);
+    int file = open_again(call, place, O_PATH | (flags & O_NOFOLLOW));
+    if (file < 0)
+        return NOT_OURS;
+    sprintf(place, "/proc/self/fd/%d", file);
+    read_link(place, name);
+    int is_sys = strncmp(name, "/sys/", 5) == 0;
+    int is_file = fstat(file, &about) == 0 && S_ISREG(about.st_mode) && stat(is_sys ? "/sys" : "/dev", &top) == 0 &&
+                  about.st_dev == top.st_dev;
+    if (is_file && is_sys && !(about.st_mode & 0222))
+        result = -EACCES;
+    else if (is_file && is_sys && !is_length && (result = open_again(call, place, again)) >= 0)
+        control(name);
+    else if (is_file && strncmp(name, "/dev/", 5) == 0 && read_name(name + 5, &node))
+        result = is_length ? -EINVAL : flags & (O_TRUNC | O_DIRECT) ? open_again(call, place, again) : NOT_OURS;
+    close(file);
+    return result;
+}
+
+static int answer_row(struct call *call, unsigned row, const __u64 *words, int *flags) {
+    int number = rows[row].number;
+    uint64_t how = number == SYS_creat || number == SYS_truncate ? O_WRONLY | O_CREAT | O_TRUNC : 0;
+    if (rows[row].path < 0) {
+        int is_hole = number == SYS_fallocate && words[1] & (FALLOC_FL_PUNCH_HOLE | FALLOC_FL_ZERO_RANGE);
+        call->file = (int)words[rows[row].file];
+        return !is_hole && find_node(call) ? rows[row].error : NOT_OURS;
+    }
+    if (number == SYS_openat2 && copy_in(call, words[2], &how, sizeof how) < 0)
+        return NOT_OURS;
+    *flags = rows[row].flags < 0 ? (int)how : (int)words[rows[row].flags];
+    return answer_open(call, rows[row].file < 0 ? AT_FDCWD : (int)words[rows[row].file], words[rows[row].path], *flags,
+                       number == SYS_truncate);
+}
+
+/* Answers a call. Its value may be a file, which the process gets a descriptor of. */
+void answer_call(void) {
     union {
+        struct seccomp_notif got;
         struct seccomp_notif_resp answer;
         char room[MOST_STRUCT];
-    } given = {.room = {0}};
-    for (;;) {
-        __typeof__(empty) call = empty;
-        if (ioctl(calls, SECCOMP_IOCTL_NOTIF_RECV, &call.got) < 0) {
-            if (errno == EINTR || errno == ENOENT)
-                continue;
-            return unused;
-        }
-        answer_call(&call.got, &given.answer);
-        if (ioctl(calls, SECCOMP_IOCTL_NOTIF_SEND, &given.answer) < 0 && may_repeat && given.answer.flags == 0)
-            keep(&call.got, given.answer.error ? given.answer.error : (int)given.answer.val);
+    } message = {.room = {0}};
+    if (ioctl(calls, SECCOMP_IOCTL_NOTIF_RECV, &message.got) < 0)
+        return;
+    const struct seccomp_notif got = message.got;
+    struct call call = {.process = (pid_t)got.pid,
+                        .file = (int)got.data.args[0],
+                        .is_old = got.data.arch != AUDIT_ARCH_X86_64,
+                        .request = (uint32_t)got.data.args[1],
+                        .argument = got.data.args[2]};
+    unsigned row = 0;
+    int flags = 0, result = NOT_OURS;
+    struct stat about;
+    char path[64];
+    while (row < ROWS && (call.is_old || rows[row].number != got.data.nr))
+        row++;
+    uint64_t id = got.id;
+    /* (a process that is gone by now may have left its number to another one) */
+    snprintf(path, sizeof path, "/proc/%d", call.process);
+    if (stat(path, &about) == 0 && ioctl(calls, SECCOMP_IOCTL_NOTIF_ID_VALID, &id) == 0) {
+        call.user = about.st_uid;
+        call.group = about.st_gid;
+        own = (struct call){.user = getuid(), .group = getgid()};
+        result = row == ROWS ? answer_ioctl(&call) : answer_row(&call, row, got.data.args, &flags);
     }
+    if (row < ROWS && result >= 0) {
+        struct seccomp_notif_addfd added = {.id = id,
+                                            .flags = SECCOMP_ADDFD_FLAG_SEND,
+                                            .srcfd = (uint32_t)result,
+                                            .newfd_flags = (uint32_t)flags & O_CLOEXEC};
+        int is_added = ioctl(calls, SECCOMP_IOCTL_NOTIF_ADDFD, &added) >= 0, error = errno;
+        close(result);
+        if (is_added)
+            return;
+        result = -error;
+    }
+    message.answer = (struct seccomp_notif_resp){.id = id};
+    if (result == NOT_OURS)
+        message.answer.flags = SECCOMP_USER_NOTIF_FLAG_CONTINUE;
+    else if (result < 0)
+        message.answer.error = result;
+    else
+        message.answer.val = result;
+    ioctl(calls, SECCOMP_IOCTL_NOTIF_SEND, &message.answer);
 }

@@ -1,13 +1,12 @@
 /* I/O commands by ioctl, over the data of a namespace, with the statuses of a drive. No controller is asked, and no
    proof speaks about them. */
 #define _GNU_SOURCE
-#include "calls.h"
+#include "launcher.h"
 #include <errno.h>
 #include <fcntl.h>
 #include <linux/nvme_ioctl.h>
 #include <stdlib.h>
 #include <string.h>
-#include <sys/ioctl.h>
 #include <unistd.h>
 
 enum { FLUSH = 0x00, WRITE = 0x01, READ = 0x02, COMPARE = 0x05, WRITE_ZEROES = 0x08, DATASET = 0x09, VERIFY = 0x0c };
@@ -29,21 +28,26 @@ enum { RANGE_BYTES = 16, MOST_RANGES = 256, DEALLOCATES = 4 };
 static uint64_t first_of(const unsigned char *range) { return number_at(range + 8, 8); }
 static uint64_t count_of(const unsigned char *range) { return number_at(range + 4, 4); }
 
-static int is_within(const struct node *node, uint64_t first, uint64_t count) {
-    return first <= node->blocks && count <= node->blocks - first;
+/* The file of the data that a command is about, and its blocks. */
+struct data {
+    int file;
+    const struct volume *volume;
+};
+
+static int is_within(const struct data *data, uint64_t first, uint64_t count) {
+    return first <= data->volume->blocks && count <= data->volume->blocks - first;
 }
 
-static int clear(const struct node *node, int file, uint64_t first, uint64_t count) {
-    int how = FALLOC_FL_PUNCH_HOLE | FALLOC_FL_KEEP_SIZE;
-    if (!is_within(node, first, count))
+static int clear(const struct data *data, uint64_t first, uint64_t count) {
+    int how = FALLOC_FL_PUNCH_HOLE | FALLOC_FL_KEEP_SIZE, power = (int)data->volume->power;
+    if (!is_within(data, first, count))
         return OUT_OF_RANGE;
-    return count == 0 || fallocate(file, how, (off_t)(first << node->power), (off_t)(count << node->power)) == 0
-               ? DONE
-               : -errno;
+    return count == 0 || fallocate(data->file, how, (off_t)(first << power), (off_t)(count << power)) == 0 ? DONE
+                                                                                                           : -errno;
 }
 
 /* Deallocates ranges of blocks, all or none. */
-static int deallocate(const struct call *call, int file, const struct nvme_passthru_cmd *given) {
+static int deallocate(const struct call *call, const struct data *data, const struct nvme_passthru_cmd *given) {
     unsigned char ranges[MOST_RANGES][RANGE_BYTES];
     uint32_t count = (given->cdw10 & 0xff) + 1;
     int status = DONE;
@@ -52,51 +56,51 @@ static int deallocate(const struct call *call, int file, const struct nvme_passt
     if (copy_in(call, given->addr, ranges, count * RANGE_BYTES) < 0)
         return -EFAULT;
     for (uint32_t at = 0; at < count; at++)
-        if (!is_within(&call->node, first_of(ranges[at]), count_of(ranges[at])))
+        if (!is_within(data, first_of(ranges[at]), count_of(ranges[at])))
             return OUT_OF_RANGE;
     for (uint32_t at = 0; at < count && status == DONE && given->cdw11 & DEALLOCATES; at++)
-        status = clear(&call->node, file, first_of(ranges[at]), count_of(ranges[at]));
+        status = clear(data, first_of(ranges[at]), count_of(ranges[at]));
     return status;
 }
 
 /* Reads, writes or compares blocks. */
-static int transfer(const struct call *call, int file, const struct nvme_passthru_cmd *given, uint64_t first,
-                    size_t size) {
-    unsigned char *data = malloc(2 * size);
-    off_t at = (off_t)(first << call->node.power);
-    int status = data ? DONE : -ENOMEM;
-    if (status == DONE && given->opcode != READ && copy_in(call, given->addr, data, size) < 0)
+static int transfer(const struct call *call, const struct data *data, const struct nvme_passthru_cmd *given,
+                    uint64_t first, size_t size) {
+    unsigned char *bytes = malloc(2 * size), *stored = bytes + size;
+    off_t at = (off_t)(first << data->volume->power);
+    int status = bytes ? DONE : -ENOMEM;
+    if (status == DONE && given->opcode != READ && copy_in(call, given->addr, bytes, size) < 0)
         status = -EFAULT;
-    if (status == DONE && given->opcode == WRITE && pwrite(file, data, size, at) != (ssize_t)size)
+    if (status == DONE && given->opcode == WRITE && pwrite(data->file, bytes, size, at) != (ssize_t)size)
         status = NO_CAPACITY;
-    if (status == DONE && given->opcode != WRITE && pread(file, data + size, size, at) != (ssize_t)size)
+    if (status == DONE && given->opcode != WRITE && pread(data->file, stored, size, at) != (ssize_t)size)
         status = INVALID_NAMESPACE;
-    if (status == DONE && given->opcode == COMPARE && memcmp(data, data + size, size) != 0)
+    if (status == DONE && given->opcode == COMPARE && memcmp(bytes, stored, size) != 0)
         status = DIFFERS;
-    if (status == DONE && given->opcode == READ && copy_out(call, given->addr, data + size, size) < 0)
+    if (status == DONE && given->opcode == READ && copy_out(call, given->addr, stored, size) < 0)
         status = -EFAULT;
-    free(data);
+    free(bytes);
     return status;
 }
 
-static int carry_out_io(const struct call *call, int file, const struct nvme_passthru_cmd *given) {
+static int carry_out_io(const struct call *call, const struct data *data, const struct nvme_passthru_cmd *given) {
     uint64_t first = (uint64_t)given->cdw11 << 32 | given->cdw10, count = (given->cdw12 & 0xffff) + 1;
-    uint64_t size = count << call->node.power;
+    uint64_t size = count << data->volume->power;
     switch (given->opcode) {
     case FLUSH:
         return DONE;
     case DATASET:
-        return deallocate(call, file, given);
+        return deallocate(call, data, given);
     case WRITE_ZEROES:
-        return clear(&call->node, file, first, count);
+        return clear(data, first, count);
     case VERIFY:
-        return is_within(&call->node, first, count) ? DONE : OUT_OF_RANGE;
+        return is_within(data, first, count) ? DONE : OUT_OF_RANGE;
     case READ:
     case WRITE:
     case COMPARE:
         if (size > MOST_DATA || given->data_len < size)
             return INVALID_FIELD;
-        return is_within(&call->node, first, count) ? transfer(call, file, given, first, size) : OUT_OF_RANGE;
+        return is_within(data, first, count) ? transfer(call, data, given, first, size) : OUT_OF_RANGE;
     default:
         return INVALID_OPCODE;
     }
@@ -112,7 +116,7 @@ static int read_user_io(const struct call *call, struct nvme_passthru_cmd *given
     *given = (struct nvme_passthru_cmd){.opcode = io.opcode,
                                         .nsid = call->node.nsid,
                                         .addr = io.addr,
-                                        .data_len = (io.nblocks + 1u) << call->node.power,
+                                        .data_len = (io.nblocks + 1u) << volume_of(&call->node)->power,
                                         .cdw10 = (uint32_t)io.slba,
                                         .cdw11 = (uint32_t)(io.slba >> 32),
                                         .cdw12 = io.nblocks};
@@ -121,18 +125,14 @@ static int read_user_io(const struct call *call, struct nvme_passthru_cmd *given
 
 int io(struct call *call) {
     struct nvme_passthru_cmd given;
-    int is_wide = call->request == NVME_IOCTL_IO64_CMD, is_user_io = call->request == NVME_IOCTL_SUBMIT_IO;
-    size_t place = is_wide ? offsetof(struct nvme_passthru_cmd64, result) : offsetof(struct nvme_passthru_cmd, result);
-    uint64_t none = 0;
-    int file = open_data(&call->node);
+    int is_user_io = call->request == NVME_IOCTL_SUBMIT_IO;
+    const struct data data = {open_data(&call->node), volume_of(&call->node)};
     int status = is_user_io ? read_user_io(call, &given) : copy_in(call, call->argument, &given, sizeof given);
     if (status == 0 && (given.flags || given.nsid != call->node.nsid))
         status = -EINVAL;
     if (status == 0)
-        status = file < 0 ? INVALID_NAMESPACE : carry_out_io(call, file, &given);
-    if (file >= 0)
-        close(file);
-    if (status >= 0 && !is_user_io && copy_out(call, call->argument + place, &none, is_wide ? 8 : 4) < 0)
-        return -EFAULT;
-    return status;
+        status = data.file < 0 ? INVALID_NAMESPACE : carry_out_io(call, &data, &given);
+    if (data.file >= 0)
+        close(data.file);
+    return status < 0 || is_user_io ? status : put_result(call, call->request == NVME_IOCTL_IO64_CMD, 0, status);
 }

@@ -1,20 +1,18 @@
-/* Preloaded into a command. It answers the command's calls of the C library on files that stand for nodes, as Linux
-   does for its nodes. A node's file is recognized by its device and inode (node.c). Its descriptor is the file's, so
-   the kernel follows it through dup, fork and exec, and reads and writes go to the file itself. Everything else goes to
-   the C library. No state is stored that a fork or a thread could break. None of this is proved. */
+/* Preloaded into a command. It makes the files that stand for nodes look like devices, and keeps itself in the programs
+   that the command runs. The launcher says which node a file is (NODE_REQUEST), so no state is stored that a fork or a
+   thread could break. A node's descriptor is its file's, so the kernel follows it through dup, fork and exec, and reads
+   and writes go to the file. Everything else goes to the C library. None of this is proved. */
 #define _GNU_SOURCE
-#include "library.h"
-#include <assert.h>
+#include "wire.h"
 #include <dirent.h>
+#include <dlfcn.h>
 #include <errno.h>
 #include <fcntl.h>
-#include <linux/fs.h>
+#include <limits.h>
+#include <spawn.h>
 #include <stdarg.h>
-#include <stdio.h>
-#include <stdlib.h>
-#include <string.h>
-#include <sys/ioctl.h>
-#include <sys/sendfile.h>
+#include <sys/mman.h>
+#include <sys/stat.h>
 #include <sys/sysmacros.h>
 #include <sys/uio.h>
 #include <unistd.h>
@@ -22,21 +20,78 @@
 /* (so calls whose names end with 64 do the same as the others) */
 static_assert(sizeof(struct stat) == sizeof(struct stat64) && O_LARGEFILE == 0, "files have 64-bit sizes");
 
-/* ---- calls that open: those whose names end with 2 have no mode; a node isn't created, truncated, or opened for
-   direct access, and a node whose device is gone isn't opened */
+/* The C library's own call. */
+#define NEXT(name)                                                                                                     \
+    ({                                                                                                                 \
+        static __typeof__(name) *next;                                                                                 \
+        if (!next)                                                                                                     \
+            next = (__typeof__(name) *)dlsym(RTLD_NEXT, #name);                                                        \
+        next;                                                                                                          \
+    })
 
-static int open_place(int directory, const char *given, int flags, mode_t mode) {
-    char room[PATH_MAX];
-    const char *path = find(directory, given, room);
+/* The calls that replace those of the C library are visible from outside. SAME gives a call a second name. */
+#define PUBLIC __attribute__((visibility("default")))
+#define SAME(name, as) __asm__(".globl " #name "\n.type " #name ", @function\n.set " #name ", " #as)
+
+static char library[PATH_MAX]; /* this library's own path */
+static dev_t nodes_device;     /* of /dev, where nodes are files */
+
+__attribute__((constructor)) static void begin(void) {
     struct stat about;
+    Dl_info info;
+    if (dladdr(&nodes_device, &info) && info.dli_fname && strlen(info.dli_fname) < sizeof library)
+        strcpy(library, info.dli_fname);
+    if (NEXT(fstatat)(AT_FDCWD, "/dev", &about, 0) == 0)
+        nodes_device = about.st_dev;
+}
+
+static int fails_by(int number) {
+    errno = number;
+    return -1;
+}
+
+/* ---- which files are nodes: each of these returns 1, 0, or -1 with ENXIO if the node's device is gone */
+
+static int ask(int file, struct node *node) {
+    int before = errno, result;
+    while ((result = NEXT(ioctl)(file, NODE_REQUEST, node)) < 0 && errno == EINTR)
+        continue;
+    if (result < 0 && errno == ENXIO)
+        return -1;
+    errno = before;
+    return result == 0;
+}
+
+/* (a file in /dev, or one that has no name any more) */
+static int is_node(int file, const struct stat *about, struct node *node) {
+    int may_be = S_ISREG(about->st_mode) && (about->st_dev == nodes_device || about->st_nlink == 0);
+    return may_be ? ask(file, node) : 0;
+}
+
+/* Without a sandbox, nodes are only names in /dev. */
+static int is_name(int directory, const char *path, struct node *node) {
+    struct stat about, dev;
+    char parent[PATH_MAX];
+    const char *name = !path ? "" : strrchr(path, '/') ? strrchr(path, '/') + 1 : path;
+    if ((strncmp(name, "nvme", 4) != 0 && strncmp(name, "ng", 2) != 0) || strlen(path) > PATH_MAX - 2)
+        return 0;
+    snprintf(parent, sizeof parent, "%.*s.", (int)(name - path), path);
+    snprintf(node->name, sizeof node->name, "%s", name);
+    int before = errno, is_in_dev = NEXT(fstatat)(directory, parent, &about, 0) == 0 &&
+                                    NEXT(fstatat)(AT_FDCWD, "/dev", &dev, 0) == 0 && about.st_dev == dev.st_dev &&
+                                    about.st_ino == dev.st_ino;
+    errno = before;
+    return is_in_dev ? ask(-1, node) : 0;
+}
+
+/* ---- calls that open: the names of nodes without a sandbox stand for empty files with these names */
+
+static int open_place(int directory, const char *path, int flags, mode_t mode) {
     struct node node;
-    if (folder[0] && flags & (O_TRUNC | O_DIRECT) && find_node(directory, path, 0, &about, &node) > 0)
-        flags &= ~(O_TRUNC | O_DIRECT);
-    int file = NEXT(openat)(directory, path, path == given ? flags : flags & ~(O_CREAT | O_EXCL), mode);
-    if (file < 0 || flags & O_PATH || !is_node(file, &node) || is_alive(&node) == 0)
-        return file;
-    close(file);
-    return fails_by(ENXIO);
+    int found = is_name(directory, path, &node);
+    if (found == 0)
+        return NEXT(openat)(directory, path, flags, mode);
+    return found < 0 ? -1 : memfd_create(node.name, flags & O_CLOEXEC ? MFD_CLOEXEC : 0);
 }
 
 /* Takes the mode after the flags, which is there only if a file may be created. */
@@ -59,99 +114,85 @@ PUBLIC int openat(int directory, const char *path, int flags, ...) {
     return open_place(directory, path, flags, mode);
 }
 
-int __open_2(const char *path, int flags);
-int __openat_2(int directory, const char *path, int flags);
 PUBLIC int __open_2(const char *path, int flags) { return open_place(AT_FDCWD, path, flags, 0); }
 PUBLIC int __openat_2(int directory, const char *path, int flags) { return open_place(directory, path, flags, 0); }
-PUBLIC int creat(const char *path, mode_t mode) { return open(path, O_WRONLY | O_CREAT | O_TRUNC, mode); }
 SAME(open64, open);
 SAME(openat64, openat);
 SAME(__open64_2, __open_2);
 SAME(__openat64_2, __openat_2);
-SAME(creat64, creat);
-
-/* (the C library would truncate the file of a node by itself) */
-PUBLIC FILE *fopen(const char *given, const char *mode) {
-    char room[PATH_MAX];
-    const char *path = find(AT_FDCWD, given, room);
-    struct stat about;
-    struct node node;
-    if (!folder[0] || find_node(AT_FDCWD, path, 0, &about, &node) <= 0)
-        return NEXT(fopen)(path, mode);
-    int file = open(path, (strchr(mode, '+') ? O_RDWR : *mode == 'r' ? O_RDONLY : O_WRONLY) | O_CLOEXEC);
-    return file < 0 ? NULL : fdopen(file, mode);
-}
-SAME(fopen64, fopen);
-
-PUBLIC FILE *freopen(const char *given, const char *mode, FILE *stream) {
-    char room[PATH_MAX];
-    const char *path = find(AT_FDCWD, given, room);
-    struct stat about;
-    struct node node;
-    int is_node_written = path && *mode == 'w' && folder[0] && find_node(AT_FDCWD, path, 0, &about, &node) > 0;
-    return NEXT(freopen)(path, is_node_written ? "r+" : mode, stream);
-}
-SAME(freopen64, freopen);
 
 /* ---- calls that describe a file */
 
-static unsigned major_of(const struct node *node) {
-    return node->kind == 'b' ? BLOCK_MAJOR : node->kind == 'g' ? GENERIC_MAJOR : CONTROLLER_MAJOR;
-}
-
-static int describe(const struct node *node, struct stat *about) {
+/* Describes a node, and returns what the call returns: `found` is 1 if there is one, and else its result. */
+static int describe(int found, const struct node *node, struct stat *about) {
+    if (found <= 0)
+        return found;
+    unsigned major = node->kind == 'b' ? BLOCK_MAJOR : node->kind == 'g' ? GENERIC_MAJOR : CONTROLLER_MAJOR;
     about->st_mode = (about->st_mode & 07777) | (node->kind == 'b' ? S_IFBLK : S_IFCHR);
-    about->st_rdev = makedev(major_of(node), minor_of(node->controller, node->nsid));
+    about->st_rdev = makedev(major, minor_of(node->controller, node->nsid));
     about->st_size = about->st_blocks = 0;
     about->st_nlink = 1;
-    return is_alive(node);
+    return 0;
 }
 
-PUBLIC int fstatat(int directory, const char *given, struct stat *about, int flags) {
-    char room[PATH_MAX];
-    const char *path = find(directory, given, room);
+PUBLIC int fstat(int file, struct stat *about) {
     struct node node;
-    int found =
-        folder[0] ? find_node(directory, path, flags, about, &node) : NEXT(fstatat)(directory, path, about, flags);
-    return found > 0 ? describe(&node, about) : found;
+    int result = NEXT(fstat)(file, about);
+    return result < 0 ? result : describe(is_node(file, about, &node), &node, about);
+}
+
+/* (the compiler would believe that a path is never NULL, as the C library's declarations say) */
+__attribute__((noipa)) static int describe_place(int directory, const char *path, struct stat *about, int flags) {
+    struct node node;
+    if (flags & AT_EMPTY_PATH && (!path || !*path) && directory != AT_FDCWD)
+        return fstat(directory, about);
+    int found = is_name(directory, path, &node);
+    if (found > 0)
+        *about = (struct stat){.st_mode = 0600};
+    if (found != 0)
+        return describe(found, &node, about);
+    int result = NEXT(fstatat)(directory, path, about, flags), follows = flags & AT_SYMLINK_NOFOLLOW ? O_NOFOLLOW : 0;
+    if (result == 0 && about->st_dev == nodes_device && about->st_mode == LOST_NODE)
+        return fails_by(ENXIO);
+    if (result < 0 || !S_ISREG(about->st_mode) || about->st_dev != nodes_device)
+        return result;
+    int file = NEXT(openat)(directory, path, O_PATH | O_CLOEXEC | follows);
+    result = file < 0 ? -1 : describe(is_node(file, about, &node), &node, about);
+    if (file >= 0)
+        close(file);
+    return result;
+}
+
+PUBLIC int fstatat(int directory, const char *path, struct stat *about, int flags) {
+    return describe_place(directory, path, about, flags);
 }
 
 PUBLIC int stat(const char *path, struct stat *about) { return fstatat(AT_FDCWD, path, about, 0); }
 PUBLIC int lstat(const char *path, struct stat *about) { return fstatat(AT_FDCWD, path, about, AT_SYMLINK_NOFOLLOW); }
 
-PUBLIC int fstat(int file, struct stat *about) {
-    struct node node;
-    int result = NEXT(fstat)(file, about);
-    return result == 0 && S_ISREG(about->st_mode) && is_node(file, &node) ? describe(&node, about) : result;
-}
-
-PUBLIC int statx(int directory, const char *given, int flags, unsigned mask, struct statx *about) {
-    char room[PATH_MAX];
-    const char *path = find(directory, given, room);
+PUBLIC int statx(int directory, const char *path, int flags, unsigned mask, struct statx *about) {
     struct stat basic;
-    struct node node;
     int result = NEXT(statx)(directory, path, flags, mask | STATX_TYPE, about);
-    if (result < 0 || !S_ISREG(about->stx_mode) || !folder[0] ||
-        find_node(directory, path, flags & ~AT_STATX_DONT_SYNC, &basic, &node) <= 0)
+    if (result < 0 ? errno != ENOENT : !S_ISREG(about->stx_mode) && !S_ISSOCK(about->stx_mode))
         return result;
-    result = describe(&node, &basic);
+    if (fstatat(directory, path, &basic, flags & (AT_EMPTY_PATH | AT_SYMLINK_NOFOLLOW)) < 0)
+        return -1;
+    if (result < 0)
+        *about = (struct statx){.stx_mask = STATX_BASIC_STATS};
+    if (!S_ISBLK(basic.st_mode) && !S_ISCHR(basic.st_mode))
+        return 0;
     about->stx_mode = (uint16_t)basic.st_mode;
     about->stx_rdev_major = major(basic.st_rdev);
     about->stx_rdev_minor = minor(basic.st_rdev);
     about->stx_size = about->stx_blocks = 0;
     about->stx_nlink = 1;
-    return result;
+    return 0;
 }
 
 /* Calls of programs that were built for older versions of the C library. */
-int __xstat(int version, const char *path, struct stat *about);
-int __lxstat(int version, const char *path, struct stat *about);
-int __fxstat(int version, int file, struct stat *about);
-int __fxstatat(int version, int directory, const char *path, struct stat *about, int flags);
 PUBLIC int __xstat(int version, const char *path, struct stat *about) { return (void)version, stat(path, about); }
 PUBLIC int __lxstat(int version, const char *path, struct stat *about) { return (void)version, lstat(path, about); }
 PUBLIC int __fxstat(int version, int file, struct stat *about) { return (void)version, fstat(file, about); }
-
 PUBLIC int __fxstatat(int version, int directory, const char *path, struct stat *about, int flags) {
     return (void)version, fstatat(directory, path, about, flags);
 }
@@ -164,21 +205,12 @@ SAME(__lxstat64, __lxstat);
 SAME(__fxstat64, __fxstat);
 SAME(__fxstatat64, __fxstatat);
 
-PUBLIC int faccessat(int directory, const char *given, int mode, int flags) {
-    char room[PATH_MAX];
-    const char *path = find(directory, given, room);
-    return NEXT(faccessat)(directory, path, mode, flags);
-}
-
-PUBLIC int access(const char *path, int mode) { return faccessat(AT_FDCWD, path, mode, 0); }
-PUBLIC int eaccess(const char *path, int mode) { return faccessat(AT_FDCWD, path, mode, AT_EACCESS); }
-SAME(euidaccess, eaccess);
-
 /* (the entry of a folder says that a node is a file, while `stat` says that it is a device) */
 PUBLIC struct dirent *readdir(DIR *directory) {
     struct dirent *entry = NEXT(readdir)(directory);
     struct stat about;
-    if (entry && entry->d_type == DT_REG && NEXT(fstat)(dirfd(directory), &about) == 0 && is_on_nodes(&about))
+    if (entry && entry->d_type == DT_REG && NEXT(fstat)(dirfd(directory), &about) == 0 &&
+        about.st_dev == nodes_device)
         entry->d_type = DT_UNKNOWN;
     return entry;
 }
@@ -187,124 +219,161 @@ SAME(readdir64, readdir);
 /* ---- calls that write: a namespace's block device doesn't grow, so a write stops at its end, and a write after the
    end finds no space; a character device takes no bytes */
 
-/* Returns how many of `count` bytes can be written at a place, or -1 with errno if none can. (The place -1 is the
-   file's offset.) */
-static ssize_t room_at(int file, off_t at, size_t count) {
-    struct stat about;
+/* Returns the kind of a node, 0 if a file is none, or -1 if its device is gone. (The number of the last block device's
+   file is stored. No other file gets it.) */
+static int kind_of(int file, struct stat *about) {
+    static _Atomic ino_t known;
     struct node node;
-    if (!folder[0] || !is_node(file, &node))
-        return count > SSIZE_MAX ? SSIZE_MAX : (ssize_t)count;
-    if (node.kind != 'b')
-        return fails_by(EINVAL);
-    if (NEXT(fstat)(file, &about) < 0 || (at < 0 && (at = lseek(file, 0, SEEK_CUR)) < 0))
+    if (NEXT(fstat)(file, about) < 0)
+        return 0;
+    if (S_ISREG(about->st_mode) && about->st_dev == nodes_device && about->st_ino == known)
+        return 'b';
+    int found = is_node(file, about, &node);
+    if (found > 0 && node.kind == 'b' && about->st_dev == nodes_device)
+        known = about->st_ino;
+    return found > 0 ? node.kind : found;
+}
+
+/* Writes to a node: the first piece, which is enough, because a write may be short. (The place -1 is the offset.) */
+static ssize_t write_node(int kind, int file, off_t size, const struct iovec *pieces, int count, off_t at, int flags) {
+    if (kind < 0)
         return -1;
-    if (fcntl(file, F_GETFL) & O_APPEND)
-        at = about.st_size;
-    if (count > 0 && at >= about.st_size)
+    if (kind != 'b')
+        return fails_by(EINVAL);
+    while (count > 1 && pieces->iov_len == 0)
+        pieces++, count--;
+    struct iovec piece = *pieces;
+    off_t from = fcntl(file, F_GETFL) & O_APPEND ? size : at < 0 ? lseek(file, 0, SEEK_CUR) : at;
+    if (piece.iov_len > 0 && from >= size)
         return fails_by(ENOSPC);
-    return (off_t)count > about.st_size - at ? (ssize_t)(about.st_size - at) : (ssize_t)count;
+    if ((off_t)piece.iov_len > size - from)
+        piece.iov_len = (size_t)(size - from);
+    return NEXT(pwritev2)(file, &piece, 1, at, flags);
 }
 
-PUBLIC ssize_t write(int file, const void *from, size_t count) {
-    ssize_t room = room_at(file, -1, count);
-    return room < 0 ? -1 : NEXT(write)(file, from, (size_t)room);
-}
+/* A call that writes these pieces, of which there is at least one. */
+#define WRITES(name, parameters, pieces, count, at, flags, ...) \
+    PUBLIC ssize_t name parameters { \
+        struct stat about; \
+        int kind = (count) < 1 || (at) < -1 ? 0 : kind_of(file, &about); \
+        return kind == 0 ? NEXT(name)(__VA_ARGS__) \
+                         : write_node(kind, file, about.st_size, pieces, count, at, flags); \
+    }
+#define PIECE &(struct iovec){(void *)from, size}
 
-PUBLIC ssize_t pwrite(int file, const void *from, size_t count, off_t at) {
-    ssize_t room = at < 0 ? (ssize_t)count : room_at(file, at, count);
-    return room < 0 ? -1 : NEXT(pwrite)(file, from, (size_t)room, at);
-}
-
-/* (a node takes the first piece, which is enough, because a write may be short) */
-PUBLIC ssize_t writev(int file, const struct iovec *pieces, int count) {
-    struct stat about;
-    if (count < 1 || !folder[0] || !is_block_node(file, &about))
-        return NEXT(writev)(file, pieces, count);
-    while (count > 1 && pieces->iov_len == 0)
-        pieces++, count--;
-    return write(file, pieces->iov_base, pieces->iov_len);
-}
-
-PUBLIC ssize_t pwritev(int file, const struct iovec *pieces, int count, off_t at) {
-    struct stat about;
-    if (count < 1 || !folder[0] || !is_block_node(file, &about))
-        return NEXT(pwritev)(file, pieces, count, at);
-    while (count > 1 && pieces->iov_len == 0)
-        pieces++, count--;
-    return pwrite(file, pieces->iov_base, pieces->iov_len, at);
-}
-
-PUBLIC ssize_t pwritev2(int file, const struct iovec *pieces, int count, off_t at, int flags) {
-    struct stat about;
-    if (!folder[0] || !is_block_node(file, &about))
-        return NEXT(pwritev2)(file, pieces, count, at, flags);
-    return at < 0 ? writev(file, pieces, count) : pwritev(file, pieces, count, at);
-}
-
-/* (a caller of this call writes instead if it can't be done) */
-PUBLIC ssize_t copy_file_range(int from, off_t *at, int to, off_t *into, size_t count, unsigned flags) {
-    struct stat about;
-    return folder[0] && is_block_node(to, &about) ? fails_by(EXDEV)
-                                                  : NEXT(copy_file_range)(from, at, to, into, count, flags);
-}
-
-PUBLIC ssize_t sendfile(int to, int from, off_t *at, size_t count) {
-    struct stat about;
-    return folder[0] && is_block_node(to, &about) ? fails_by(EINVAL) : NEXT(sendfile)(to, from, at, count);
-}
-
-PUBLIC ssize_t splice(int from, off_t *at, int to, off_t *into, size_t count, unsigned flags) {
-    struct stat about;
-    return folder[0] && is_block_node(to, &about) ? fails_by(EINVAL) : NEXT(splice)(from, at, to, into, count, flags);
-}
-
-PUBLIC int posix_fallocate(int file, off_t from, off_t length) {
-    struct node node;
-    return folder[0] && is_node(file, &node) ? ENODEV : NEXT(posix_fallocate)(file, from, length);
-}
-
-PUBLIC int ftruncate(int file, off_t length) {
-    struct node node;
-    return folder[0] && is_node(file, &node) ? fails_by(EINVAL) : NEXT(ftruncate)(file, length);
-}
-
-PUBLIC int truncate(const char *given, off_t length) {
-    char room[PATH_MAX];
-    const char *path = find(AT_FDCWD, given, room);
-    struct stat about;
-    struct node node;
-    return folder[0] && find_node(AT_FDCWD, path, 0, &about, &node) > 0 ? fails_by(EINVAL)
-                                                                        : NEXT(truncate)(path, length);
-}
-
-PUBLIC int fallocate(int file, int mode, off_t from, off_t length) {
-    struct stat about;
-    if (folder[0] && is_block_node(file, &about) && !(mode & FALLOC_FL_PUNCH_HOLE))
-        return fails_by(EOPNOTSUPP);
-    return NEXT(fallocate)(file, mode, from, length);
-}
+WRITES(write, (int file, const void *from, size_t size), PIECE, 1, -1, 0, file, from, size)
+WRITES(pwrite, (int file, const void *from, size_t size, off_t at), PIECE, 1, at < 0 ? -2 : at, 0, file, from, size, at)
+WRITES(writev, (int file, const struct iovec *pieces, int count), pieces, count, -1, 0, file, pieces, count)
+WRITES(pwritev, (int file, const struct iovec *pieces, int count, off_t at), pieces, count, at < 0 ? -2 : at, 0, file,
+       pieces, count, at)
+WRITES(pwritev2, (int file, const struct iovec *pieces, int count, off_t at, int flags), pieces, count, at, flags, file,
+       pieces, count, at, flags)
 SAME(pwrite64, pwrite);
 SAME(pwritev64, pwritev);
 SAME(pwritev64v2, pwritev2);
-SAME(posix_fallocate64, posix_fallocate);
-SAME(sendfile64, sendfile);
-SAME(ftruncate64, ftruncate);
-SAME(truncate64, truncate);
-SAME(fallocate64, fallocate);
 
-/* The launcher answers the ioctls of nodes. If a signal came before it took one, nothing was done. Linux wouldn't
-   interrupt it, so it is made again. Others would be answered as those of a file. */
+/* The launcher answers the ioctls of nodes (calls.c). If a signal came before it took one, nothing was done. Linux
+   wouldn't interrupt it, so it is made again. Others would be answered as those of a file. */
 PUBLIC int ioctl(int file, unsigned long request, ...) {
-    struct node node;
+    unsigned type = request >> 8 & 0xff;
+    int is_answered = type == NVME_TYPE || type == BLOCK_TYPE || (uint32_t)request == GEOMETRY_REQUEST, result;
+    struct stat about;
     va_list rest;
-    int result;
     va_start(rest, request);
     void *argument = va_arg(rest, void *);
     va_end(rest);
-    if (!is_answered((uint32_t)request) && folder[0] && is_node(file, &node))
+    if (!is_answered && kind_of(file, &about) > 0)
         return fails_by(ENOTTY);
-    do {
-        result = NEXT(ioctl)(file, request, argument);
-    } while (result < 0 && errno == EINTR && is_answered((uint32_t)request));
+    while ((result = NEXT(ioctl)(file, request, argument)) < 0 && errno == EINTR && is_answered)
+        continue;
     return result;
 }
+
+/* ---- calls that run programs: if the environment was replaced or emptied, the library is added to it again. All of it
+   is on the stack, so a child that shares its parent's memory doesn't change that memory. */
+
+#define PRELOAD "LD_PRELOAD="
+
+static const char *value_of(char *const *environment) {
+    for (; environment && *environment; environment++)
+        if (strncmp(*environment, PRELOAD, strlen(PRELOAD)) == 0)
+            return *environment + strlen(PRELOAD);
+    return "";
+}
+
+static size_t count_of(char *const *texts) {
+    size_t count = 0;
+    while (texts && texts[count])
+        count++;
+    return count;
+}
+
+/* Copies an environment, with the library before all other preloaded libraries. Its text is after the pointers. */
+static void keep(char *const *from, char **kept) {
+    const char *before = value_of(from);
+    char *preload = (char *)(kept + count_of(from) + 2);
+    int is_there = !library[0] || strstr(before, library);
+    sprintf(preload, PRELOAD "%s%s%s", is_there ? "" : library, is_there || !*before ? "" : ":", before);
+    for (; from && *from; from++)
+        if (strncmp(*from, PRELOAD, strlen(PRELOAD)) != 0)
+            *kept++ = *from;
+    *kept++ = preload;
+    *kept = NULL;
+}
+
+#define KEEP(kept, from) \
+    char *kept[count_of(from) + 3 + (sizeof PRELOAD + sizeof library + strlen(value_of(from))) / sizeof(char *)]; \
+    keep(from, kept)
+
+/* A call that goes to the C library with an environment that is kept. */
+#define KEEPS(name, parameters, ...) \
+    PUBLIC int name parameters { \
+        KEEP(kept, environment); \
+        return NEXT(name)(__VA_ARGS__); \
+    }
+
+KEEPS(execve, (const char *path, char *const words[], char *const environment[]), path, words, kept)
+KEEPS(execvpe, (const char *file, char *const words[], char *const environment[]), file, words, kept)
+KEEPS(fexecve, (int file, char *const words[], char *const environment[]), file, words, kept)
+KEEPS(execveat, (int at, const char *path, char *const words[], char *const environment[], int flags), at, path, words,
+      kept, flags)
+KEEPS(posix_spawn, (pid_t *child, const char *path, const posix_spawn_file_actions_t *actions,
+      const posix_spawnattr_t *how, char *const words[], char *const environment[]), child, path, actions, how, words,
+      kept)
+KEEPS(posix_spawnp, (pid_t *child, const char *file, const posix_spawn_file_actions_t *actions,
+      const posix_spawnattr_t *how, char *const words[], char *const environment[]), child, file, actions, how, words,
+      kept)
+PUBLIC int execv(const char *path, char *const words[]) { return execve(path, words, environ); }
+PUBLIC int execvp(const char *file, char *const words[]) { return execvpe(file, words, environ); }
+
+/* A call whose words come one after another, with NULL at the end. One of them also takes the environment. */
+#define TAKES(name, call, environment) \
+    PUBLIC int name(const char *path, const char *first, ...) { \
+        va_list rest; \
+        size_t count = 1; \
+        va_start(rest, first); \
+        while (va_arg(rest, char *)) \
+            count++; \
+        va_end(rest); \
+        char *words[count + 1]; \
+        words[0] = (char *)first; \
+        va_start(rest, first); \
+        for (size_t at = 1; at <= count; at++) \
+            words[at] = va_arg(rest, char *); \
+        char *const *given = environment; \
+        va_end(rest); \
+        return call(path, words, given); \
+    }
+
+TAKES(execl, execve, environ)
+TAKES(execlp, execvpe, environ)
+TAKES(execle, execve, va_arg(rest, char *const *))
+
+/* (programs that these calls run have the environment of this process) */
+static void keep_here(void) {
+    KEEP(kept, environ);
+    setenv("LD_PRELOAD", value_of(kept), 1);
+}
+
+PUBLIC int system(const char *line) { return keep_here(), NEXT(system)(line); }
+PUBLIC FILE *popen(const char *line, const char *mode) { return keep_here(), NEXT(popen)(line, mode); }

@@ -8,26 +8,20 @@
 #include <fcntl.h>
 #include <glob.h>
 #include <limits.h>
-#include <linux/capability.h>
-#include <linux/filter.h>
 #include <linux/magic.h>
-#include <linux/seccomp.h>
 #include <sched.h>
 #include <stdarg.h>
 #include <stdio.h>
 #include <stdlib.h>
 #include <string.h>
-#include <sys/ioctl.h>
-#include <sys/mman.h>
 #include <sys/mount.h>
 #include <sys/stat.h>
 #include <sys/statfs.h>
-#include <sys/syscall.h>
 #include <sys/sysmacros.h>
 #include <sys/wait.h>
 #include <unistd.h>
 
-enum { MOST_WORDS = 4096, MEMORY_MAJOR = 1, MISC_MAJOR = 10 };
+enum { MEMORY_MAJOR = 1, MISC_MAJOR = 10 };
 
 /* The nodes that each command has. */
 static const struct {
@@ -58,8 +52,9 @@ static const char *const shown[] = {"/sys/devices/system",     "/sys/fs/cgroup",
                                     "/sys/class/net",          "/sys/devices/virtual/net", "/sys/class/dmi",
                                     "/sys/devices/virtual/dmi"};
 /* What root may do in the sandbox: all that files need, and to become another user. */
-static const char *const rights[] = {"CAP_CHOWN", "CAP_DAC_OVERRIDE", "CAP_FOWNER", "CAP_FSETID",
-                                     "CAP_KILL",  "CAP_SETGID",       "CAP_SETUID", "CAP_AUDIT_WRITE"};
+static const char rights[] = "--cap-drop ALL --cap-add CAP_CHOWN --cap-add CAP_DAC_OVERRIDE --cap-add CAP_FOWNER"
+                             " --cap-add CAP_FSETID --cap-add CAP_KILL --cap-add CAP_SETGID --cap-add CAP_SETUID"
+                             " --cap-add CAP_AUDIT_WRITE";
 
 static int begins(const char *text, const char *beginning) { return strncmp(text, beginning, strlen(beginning)) == 0; }
 
@@ -98,68 +93,46 @@ void check_file(int file, const char *name) {
 void check_streams(void) {
     static const char *const names[] = {"standard input", "standard output", "standard error"};
     for (int file = STDERR_FILENO; file >= 0; file--)
-        check_file(file, names[file]);
-}
-
-/* Lets no other file be inherited than the standard streams. */
-static void keep_streams(void) {
-    DIR *open_files = opendir("/proc/self/fd");
-    struct dirent *entry;
-    if (!open_files)
-        fail_by_errno("/proc/self/fd");
-    while ((entry = readdir(open_files)))
-        if (atoi(entry->d_name) > STDERR_FILENO)
-            fcntl(atoi(entry->d_name), F_SETFD, FD_CLOEXEC);
-    closedir(open_files);
+        if (!(fcntl(file, F_GETFL) & O_PATH))
+            check_file(file, names[file]);
 }
 
 const char *a_real_node(void) {
-    static const char *const patterns[] = {"/dev/nvme*",
-                                           "/dev/ng[0-9]*",
-                                           "/sys/class/nvme/*",
-                                           "/sys/class/nvme-generic/*",
-                                           "/sys/class/block/nvme*",
-                                           "/sys/class/nvme-subsystem/*"};
     static glob_t found;
-    for (unsigned at = 0; at < sizeof patterns / sizeof *patterns; at++)
-        if (glob(patterns[at], at ? GLOB_APPEND : 0, NULL, &found) == GLOB_NOSPACE)
-            fail("out of memory");
-    return found.gl_pathc > 0 ? found.gl_pathv[0] : NULL;
+    int result = glob("/{dev/{nvme*,ng[0-9]*},sys/class/{nvme,nvme-generic,nvme-subsystem}/*,sys/class/block/nvme*}",
+                      GLOB_BRACE, NULL, &found);
+    if (result == GLOB_NOSPACE)
+        fail("out of memory");
+    return result == 0 ? found.gl_pathv[0] : NULL;
 }
 
 /* ---- the arguments of bwrap */
 
-static char *words[MOST_WORDS];
+static char **words;
 static unsigned word_count;
-static int data_files[4];
-static unsigned data_file_count;
 
-/* Adds words, up to NULL. */
-__attribute__((sentinel)) static void add(const char *word, ...) {
-    va_list rest;
-    va_start(rest, word);
-    for (; word; word = va_arg(rest, const char *))
-        if (word_count + 1 == MOST_WORDS || !(words[word_count++] = strdup(word)))
-            fail("this machine has too many mounts");
-    va_end(rest);
+static void add(const char *word) {
+    if (!(words = reallocarray(words, word_count + 2, sizeof *words)) || !(words[word_count++] = strdup(word)))
+        fail("out of memory");
     words[word_count] = NULL;
 }
 
-__attribute__((format(printf, 2, 3))) static void add_printed(const char *option, const char *format, ...) {
-    char text[PATH_MAX];
+/* Adds the words of a text. */
+__attribute__((format(printf, 1, 2))) static void add_words(const char *format, ...) {
+    char text[2048];
     va_list values;
     va_start(values, format);
     vsnprintf(text, sizeof text, format, values);
     va_end(values);
-    add(option, text, NULL);
+    for (char *word = strtok(text, " "); word; word = strtok(NULL, " "))
+        add(word);
 }
 
-/* Adds a file that bwrap reads. */
-static void add_file(const char *option, int file, const char *name) {
-    if (file < 0 || fcntl(file, F_SETFD, 0) < 0)
-        fail_by_errno(name);
-    data_files[data_file_count++] = file;
-    add_printed(option, "%d", file);
+/* Binds a file or folder to another, or the same, place. */
+static void bind_to(const char *option, const char *from, const char *to) {
+    add(option);
+    add(from);
+    add(to);
 }
 
 /* Binds a file or folder to a place whose folders every user can search. (bwrap would make them for its user alone.) */
@@ -167,47 +140,50 @@ static void add_below(const char *option, const char *path) {
     char *folder_of = strdup(path);
     for (char *at = folder_of ? strchr(folder_of + 1, '/') : NULL; at && (at = strchr(at + 1, '/')); *at = '/') {
         *at = '\0';
-        add("--dir", folder_of, NULL);
+        add("--dir");
+        add(folder_of);
     }
     free(folder_of);
-    add(option, path, path, NULL);
+    bind_to(option, path, path);
 }
 
-/* Adds a filter that lets no process type into the caller's terminal (TIOCSTI, and the selection of TIOCLINUX), or take
-   an open file from a process outside, which the peer of a socket can name. (Of a request the kernel looks at 32 bits.)
- */
-static void add_filter(void) {
-    enum { GET_FILE_CALL = 438 };
-    const struct sock_filter filter[] = {
-        BPF_STMT(BPF_LD | BPF_W | BPF_ABS, offsetof(struct seccomp_data, nr)),
-        BPF_STMT(BPF_ALU | BPF_AND | BPF_K, ~(unsigned)X32_BIT),
-        BPF_JUMP(BPF_JMP | BPF_JEQ | BPF_K, GET_FILE_CALL, 7, 0),
-        BPF_JUMP(BPF_JMP | BPF_JEQ | BPF_K, LINUX_CALL, 2, 0),
-        BPF_JUMP(BPF_JMP | BPF_JEQ | BPF_K, X32_CALL, 1, 0),
-        BPF_JUMP(BPF_JMP | BPF_JEQ | BPF_K, OLD_CALL, 0, 3),
-        BPF_STMT(BPF_LD | BPF_W | BPF_ABS, offsetof(struct seccomp_data, args[1])),
-        BPF_JUMP(BPF_JMP | BPF_JEQ | BPF_K, TIOCSTI, 2, 0),
-        BPF_JUMP(BPF_JMP | BPF_JEQ | BPF_K, TIOCLINUX, 1, 0),
-        BPF_STMT(BPF_RET | BPF_K, SECCOMP_RET_ALLOW),
-        BPF_STMT(BPF_RET | BPF_K, SECCOMP_RET_ERRNO | EPERM),
-    };
-    int file = memfd_create("filter", MFD_CLOEXEC);
-    if (file < 0 || write(file, filter, sizeof filter) != (ssize_t)sizeof filter || lseek(file, 0, SEEK_SET) < 0)
-        fail_by_errno("the filter");
-    add_file("--seccomp", file, "the filter");
-}
+/* A line of the kernel's list of mounts. */
+struct mount {
+    dev_t number;
+    char path[PATH_MAX], options[1024], kind[64]; /* the kind of file system, between blanks */
+};
 
-/* Replaces the octal numbers of the kernel's list of mounts. */
-static void unescape(char *text) {
-    char *into = text;
-    unsigned byte;
-    for (; *text; text++)
-        if (*text == '\\' && sscanf(text + 1, "%3o", &byte) == 1) {
+/* Reads the next mount, and replaces the octal numbers in its path. */
+static int read_mount(FILE *mounts, struct mount *mount) {
+    static char *line;
+    static size_t room;
+    unsigned numbers[2], byte;
+    if (getline(&line, &room, mounts) <= 0)
+        return 0;
+    const char *behind = strstr(line, " - ");
+    if (!behind ||
+        sscanf(line, "%*d %*d %u:%u %*s %4095s %1023s", numbers, numbers + 1, mount->path, mount->options) != 4 ||
+        sscanf(behind, " - %61s", mount->kind + 1) != 1)
+        fail("/proc/self/mountinfo can't be read");
+    mount->number = makedev(numbers[0], numbers[1]);
+    mount->kind[0] = ' ';
+    strcat(mount->kind, " ");
+    char *into = mount->path;
+    for (const char *at = into; *at; at++)
+        if (*at == '\\' && sscanf(at + 1, "%3o", &byte) == 1) {
             *into++ = (char)byte;
-            text += 3;
+            at += 3;
         } else
-            *into++ = *text;
+            *into++ = *at;
     *into = '\0';
+    return 1;
+}
+
+static FILE *open_mounts(void) {
+    FILE *mounts = fopen("/proc/self/mountinfo", "re");
+    if (!mounts)
+        fail_by_errno("/proc/self/mountinfo");
+    return mounts;
 }
 
 /* Adds a /proc with the command's processes, in which all that can be written besides them is read-only. (bwrap itself
@@ -217,7 +193,8 @@ static void add_proc(const char *path) {
     struct dirent *entry;
     struct stat about;
     char from[PATH_MAX], to[PATH_MAX];
-    add("--proc", path, NULL);
+    add("--proc");
+    add(path);
     if (!entries)
         fail_by_errno("/proc");
     while ((entry = readdir(entries))) {
@@ -225,7 +202,7 @@ static void add_proc(const char *path) {
         snprintf(to, sizeof to, "%.3800s/%s", path, entry->d_name);
         if (!strchr(".0123456789", entry->d_name[0]) && lstat(from, &about) == 0 && !S_ISLNK(about.st_mode) &&
             (S_ISDIR(about.st_mode) || about.st_mode & 0222))
-            add("--ro-bind-try", from, to, NULL);
+            bind_to("--ro-bind-try", from, to);
     }
     closedir(entries);
 }
@@ -239,46 +216,31 @@ static int is_replaced(const char *path) {
     return 0;
 }
 
-/* Adds what one of the machine's mounts needs. bwrap makes each mount nodev. One that isn't a file system of files, and
-   another view of /dev, are read-only. Another /proc, whose links lead outside, is replaced by the command's own. */
-static void add_mount(char *line) {
-    char path[PATH_MAX], kind[64], *behind = strstr(line, " - ");
-    unsigned numbers[2];
-    struct stat about, dev, root;
-    if (!behind || sscanf(line, "%*d %*d %u:%u %*s %4095s", numbers, numbers + 1, path) != 3 ||
-        sscanf(behind, " - %60s", kind + 1) != 1)
-        return;
-    unescape(path);
-    if (strcmp(path, "/") == 0 || is_replaced(path))
-        return;
-    kind[0] = ' ';
-    int is_view = stat("/dev", &dev) == 0 && stat("/", &root) == 0 && dev.st_dev != root.st_dev &&
-                  dev.st_dev == makedev(numbers[0], numbers[1]);
-    if (!is_view && (strstr(file_systems, strcat(kind, " ")) || begins(kind, " fuse.")))
-        return;
-    /* (a mount that another one covers isn't seen) */
-    if (stat(path, &about) == 0 && about.st_dev == makedev(numbers[0], numbers[1])) {
-        if (strcmp(kind, " proc ") == 0 && S_ISDIR(about.st_mode))
-            add_proc(path);
-        else
-            add("--ro-bind", path, path, NULL);
-    }
-}
-
+/* Adds the machine's mounts, which bwrap makes nodev. One that isn't a file system of files, and another view of /dev,
+   are read-only. Another /proc, whose links lead outside, is replaced by the command's own. (A mount that another one
+   covers isn't seen.) */
 static void add_mounts(void) {
-    FILE *mounts = fopen("/proc/self/mountinfo", "re");
-    char *line = NULL;
-    size_t room = 0;
-    if (!mounts)
-        fail_by_errno("/proc/self/mountinfo");
-    add("--bind", "/", "/", NULL);
-    while (getline(&line, &room, mounts) > 0)
-        add_mount(line);
-    free(line);
+    static struct mount mount;
+    FILE *mounts = open_mounts();
+    struct stat about, dev = {.st_dev = 0}, root = {.st_dev = 0};
+    int is_apart = stat("/dev", &dev) == 0 && stat("/", &root) == 0 && dev.st_dev != root.st_dev;
+    bind_to("--bind", "/", "/");
+    while (read_mount(mounts, &mount)) {
+        int is_view = is_apart && dev.st_dev == mount.number;
+        int holds_files = strstr(file_systems, mount.kind) || begins(mount.kind, " fuse.");
+        if (strcmp(mount.path, "/") == 0 || is_replaced(mount.path) || (holds_files && !is_view) ||
+            stat(mount.path, &about) < 0 || about.st_dev != mount.number)
+            continue;
+        if (strcmp(mount.kind, " proc ") == 0 && S_ISDIR(about.st_mode))
+            add_proc(mount.path);
+        else
+            bind_to("--ro-bind", mount.path, mount.path);
+    }
     fclose(mounts);
 }
 
-static void add_device(const char *path) {
+/* Returns where a device is that may be added, and fails if it may not. */
+static char *find_device(const char *path) {
     char *whole = realpath(path, NULL);
     struct stat about;
     if (!whole || stat(whole, &about) < 0)
@@ -289,35 +251,33 @@ static void add_device(const char *path) {
     unsigned number = is_misc ? minor(about.st_rdev) : major(about.st_rdev);
     if (!begins(whole, "/dev/") || !S_ISCHR(about.st_mode) || number > UINT8_MAX || !memchr(list, (int)number, count))
         fail("--device %s: this isn't a character device that is known to lead to no storage", path);
-    add_below("--dev-bind", whole);
-    free(whole);
+    return whole;
 }
 
-/* Adds a /dev with the nodes that each command has, terminals of its own, which only --dev makes, and the caller's. */
+/* Adds a /dev with the nodes that each command has, terminals of its own, and the caller's. (bwrap makes terminals only
+   in a whole /dev, which is then covered, and calls what it makes /newroot.) */
 static void add_dev(uint64_t limit, const char *const *devices) {
     struct stat about;
-    add_printed("--size", "%llu", (unsigned long long)limit);
-    add("--tmpfs", "/dev", "--perms", "0755", "--dir", MODEL_FOLDER, "--dev", MODEL_FOLDER "/dev", NULL);
-    add("--symlink", ".model/dev/pts", "/dev/pts", "--symlink", ".model/dev/ptmx", "/dev/ptmx", NULL);
-    add("--symlink", "/proc/self/fd", "/dev/fd", "--symlink", "fd/0", "/dev/stdin", NULL);
-    add("--symlink", "fd/1", "/dev/stdout", "--symlink", "fd/2", "/dev/stderr", NULL);
-    add("--perms", "1777", "--tmpfs", "/dev/shm", "--mqueue", "/dev/mqueue", NULL);
+    add_words("--size %llu --tmpfs /dev --dev /dev/mqueue", (unsigned long long)limit);
+    add_words("--dev-bind-try /proc/self/root/newroot/dev/mqueue/pts /dev/pts --symlink pts/ptmx /dev/ptmx");
+    add_words("--symlink /proc/self/fd /dev/fd --symlink fd/0 /dev/stdin --symlink fd/1 /dev/stdout");
+    add_words("--symlink fd/2 /dev/stderr --perms 1777 --tmpfs /dev/shm --mqueue /dev/mqueue");
     for (unsigned at = 0; at < sizeof nodes / sizeof *nodes; at++)
         if (stat(nodes[at].path, &about) == 0 && S_ISCHR(about.st_mode) && is_listed(about.st_rdev))
-            add("--dev-bind", nodes[at].path, nodes[at].path, NULL);
+            bind_to("--dev-bind", nodes[at].path, nodes[at].path);
     for (int file = 0; file <= STDERR_FILENO; file++)
         if (isatty(file) && ttyname(file)) {
-            add("--dev-bind-try", ttyname(file), "/dev/console", NULL);
+            bind_to("--dev-bind-try", ttyname(file), "/dev/console");
             break;
         }
     for (; *devices; devices++)
-        add_device(*devices);
+        add_below("--dev-bind", find_device(*devices));
 }
 
 /* Adds a /sys with what tools read of the machine, among it its network interfaces, and the command's own /proc. */
 static void add_sys(void) {
     glob_t interfaces = {0};
-    add("--perms", "0755", "--tmpfs", "/sys", NULL);
+    add_words("--perms 0755 --tmpfs /sys --perms 0755 --dir /sys/fs --perms 0755 --dir " MODEL_FOLDER);
     for (unsigned at = 0; at < sizeof shown / sizeof *shown; at++)
         add_below("--ro-bind-try", shown[at]);
     glob("/sys/class/net/*", 0, NULL, &interfaces);
@@ -331,55 +291,44 @@ static void add_sys(void) {
     add_proc("/proc");
 }
 
-/* Root that can't make a mount namespace makes it in a user namespace, as other users do. */
-static int is_full_root(void) {
-    struct __user_cap_header_struct header = {.version = _LINUX_CAPABILITY_VERSION_3};
-    struct __user_cap_data_struct data[_LINUX_CAPABILITY_U32S_3];
-    return geteuid() == 0 && syscall(SYS_capget, &header, data) == 0 &&
-           data[CAP_TO_INDEX(CAP_SYS_ADMIN)].effective & CAP_TO_MASK(CAP_SYS_ADMIN);
-}
-
 /* Adds a copy of a program or of the library, which every user can read. */
 static void add_part(const char *path, const char *name) {
-    add("--perms", "0555", NULL);
-    add_file("--ro-bind-data", open(path, O_RDONLY | O_CLOEXEC), path);
-    add(name, NULL);
+    int file = open(path, O_RDONLY);
+    if (file < 0)
+        fail_by_errno(path);
+    add_words("--perms 0555 --ro-bind-data %d %s", file, name);
 }
 
-static void compose(const struct sandbox *sandbox) {
-    add("bwrap", NULL);
+static void compose(const struct sandbox *sandbox, char *const *arguments) {
+    add("bwrap");
     add_mounts();
     add_dev(sandbox->limit, sandbox->devices);
     add_sys();
-    add_filter();
-    add_part("/proc/self/exe", LAUNCHER);
+    add_part("/proc/self/exe", MODEL_FOLDER "/launcher");
     add_part(sandbox->library, MODEL_FOLDER "/library.so");
     add_part(sandbox->device, MODEL_FOLDER "/device");
-    add("--unshare-pid", "--as-pid-1", "--unshare-ipc", "--chdir", "/", NULL);
-    if (geteuid() == 0) {
-        if (!is_full_root())
-            add("--unshare-user", NULL);
-        add("--cap-drop", "ALL", NULL);
-        for (unsigned at = 0; at < sizeof rights / sizeof *rights; at++)
-            add("--cap-add", rights[at], NULL);
-    }
-    add("--", LAUNCHER, "--help", NULL);
+    add_words("--unshare-pid --as-pid-1 --unshare-ipc --chdir / %s -- " MODEL_FOLDER "/launcher",
+              geteuid() == 0 ? rights : "");
+    for (; *arguments; arguments++)
+        add(*arguments);
 }
 
 /* ---- the sandbox */
 
 /* Reads all that a process writes, and returns its last line. */
-static char *last_line(int from) {
-    static char text[2048];
-    size_t length = 0;
-    ssize_t count;
-    while ((count = read(from, text + length, sizeof text - 1 - length)) > 0)
-        length += (size_t)count;
-    while (length > 0 && text[length - 1] == '\n')
-        length--;
-    text[length] = '\0';
-    char *line = strrchr(text, '\n');
-    return line ? line + 1 : text;
+static const char *last_line(int from) {
+    static char *line;
+    char *next = NULL;
+    size_t room = 0;
+    FILE *said = fdopen(from, "r");
+    while (said && getline(&next, &room, said) > 0) {
+        free(line);
+        line = strndup(next, strcspn(next, "\n"));
+    }
+    free(next);
+    if (said)
+        fclose(said);
+    return line ? line : "";
 }
 
 /* Writes what the user namespace needs: "deny", or that a user or group, and no other, is the same one there. */
@@ -390,20 +339,20 @@ static void write_map(const char *path, const char *format, unsigned number) {
     close(file);
 }
 
-/* Becomes bwrap, in a place where the machine's later mounts aren't seen. (The mounts that bwrap makes follow those
-   that it finds, and a mount that came later wouldn't be nodev.) */
-__attribute__((noreturn)) static void become_bwrap(void) {
+/* Becomes bwrap, which starts the launcher with these arguments, in a place where the machine's later mounts aren't
+   seen. (The mounts that bwrap makes follow those that it finds, and a mount that came later wouldn't be nodev.) */
+void enter_sandbox(const struct sandbox *sandbox, char *const *arguments) {
     unsigned user = geteuid(), group = getegid();
-    int is_root = is_full_root();
-    if (unshare(is_root ? CLONE_NEWNS : CLONE_NEWUSER | CLONE_NEWNS) < 0)
-        fail_by_errno("no namespace can be made");
-    if (!is_root) {
+    if (unshare(CLONE_NEWNS) < 0) {
+        if (unshare(CLONE_NEWUSER | CLONE_NEWNS) < 0)
+            fail_by_errno("no namespace can be made");
         write_map("/proc/self/setgroups", "deny", 0);
         write_map("/proc/self/uid_map", "%u %u 1", user);
         write_map("/proc/self/gid_map", "%u %u 1", group);
     }
     if (mount(NULL, "/", NULL, MS_REC | MS_PRIVATE, NULL) < 0)
         fail_by_errno("mounts can't be private");
+    compose(sandbox, arguments);
     execvp(words[0], words);
     if (errno == ENOENT)
         _exit(NOT_FOUND);
@@ -413,11 +362,14 @@ __attribute__((noreturn)) static void become_bwrap(void) {
 /* (another process makes a sandbox for --help first, because the status of a bwrap that fails would be taken for the
    command's. It ends by itself: a bwrap that is killed as it starts would leave a process that waits for it.) */
 const char *why_no_sandbox(const struct sandbox *sandbox) {
+    char *const arguments[] = {"--help", NULL};
     int ends[2], how, null = open("/dev/null", O_RDWR | O_CLOEXEC);
     if (null < 0 || pipe2(ends, O_CLOEXEC) < 0)
         fail_by_errno("pipe");
-    keep_streams();
-    compose(sandbox);
+    if (access(sandbox->library, R_OK) < 0 || access(sandbox->device, X_OK) < 0)
+        fail_by_errno(sandbox->device);
+    for (const char *const *device = sandbox->devices; *device; device++)
+        free(find_device(*device));
     pid_t child = fork();
     if (child < 0)
         fail_by_errno("fork");
@@ -425,32 +377,22 @@ const char *why_no_sandbox(const struct sandbox *sandbox) {
         dup2(null, STDIN_FILENO);
         dup2(null, STDOUT_FILENO);
         dup2(ends[1], STDERR_FILENO);
-        become_bwrap();
+        enter_sandbox(sandbox, arguments);
     }
     close(null);
     close(ends[1]);
     const char *line = last_line(ends[0]);
-    close(ends[0]);
     if (waitpid(child, &how, 0) != child)
         fail_by_errno("waitpid");
     if (WIFEXITED(how) && WEXITSTATUS(how) == NOT_FOUND)
         return "the program bwrap is missing: install the package bubblewrap";
     if (strstr(line, "Unknown option"))
         return "bwrap is older than 0.8: install a newer bubblewrap";
+    line += begins(line, "nvme-model: ") ? strlen("nvme-model: ") : 0;
     return how == 0 ? NULL : *line ? line : "bwrap ended without a reason";
 }
 
-void enter_sandbox(const char *state, const char *here, char **arguments) {
-    for (unsigned at = 0; at < data_file_count; at++)
-        lseek(data_files[at], 0, SEEK_SET);
-    word_count--;
-    add(INSIDE, state, here, NULL);
-    for (; *arguments; arguments++)
-        add(*arguments, NULL);
-    become_bwrap();
-}
-
-/* ---- what is checked inside, because the machine may have changed, or bwrap have left a mount as it was */
+/* ---- what is checked inside, because bwrap leaves a mount as it is that it can't reach */
 
 /* Whether a path can be reached, or its user can make it so. */
 static int is_reachable(char *path, dev_t number) {
@@ -462,47 +404,11 @@ static int is_reachable(char *path, dev_t number) {
     return errno == EACCES && lstat(path, &about) == 0 && (about.st_uid == geteuid() || geteuid() == 0);
 }
 
-/* Whether a procfs is one of the sandbox's processes, where this process is the first. */
-static int is_own_proc(const char *path) {
-    char self[PATH_MAX + 8], number[16];
-    snprintf(self, sizeof self, "%s/self", path);
-    return readlink(self, number, sizeof number) == 1 && number[0] == '1';
-}
-
-/* Splits a line of the list of mounts, and returns whether the mount is nodev, and either holds files or is read-only.
- */
-static int is_kept(const char *line, char path[PATH_MAX], dev_t *number) {
-    char options[1024], kind[64] = " ", *behind = strstr(line, " - ");
-    unsigned numbers[2];
-    if (!behind || sscanf(line, "%*d %*d %u:%u %*s %4095s %1022s", numbers, numbers + 1, path, options) != 4 ||
-        sscanf(behind, " - %60s", kind + 1) != 1)
-        fail("/proc/self/mountinfo can't be read");
-    unescape(path);
-    *number = makedev(numbers[0], numbers[1]);
-    int is_own = strcmp(path, "/") == 0 || (strcmp(kind, " proc") == 0 && is_own_proc(path));
-    return strstr(options, ",nodev") &&
-           (is_own || begins(options, "ro,") || begins(kind, " fuse.") || strstr(file_systems, strcat(kind, " ")));
-}
-
-/* (of several mounts at one path, the last in the list covers the others) */
 void check_mounts(void) {
-    static char *lines[MOST_WORDS];
-    static char path[PATH_MAX], other[PATH_MAX];
-    FILE *mounts = fopen("/proc/self/mountinfo", "re");
-    size_t count = 0, room = 0;
-    dev_t number, other_number;
-    while (mounts && count < MOST_WORDS && getline(&lines[count], &room, mounts) > 0)
-        room = 0, count++;
-    if (!mounts || count == 0 || count == MOST_WORDS)
-        fail("/proc/self/mountinfo can't be read");
+    static struct mount mount;
+    FILE *mounts = open_mounts();
+    while (read_mount(mounts, &mount))
+        if (!strstr(mount.options, ",nodev") && !is_replaced(mount.path) && is_reachable(mount.path, mount.number))
+            fail("%s is a mount of this machine that can't be kept from the command", mount.path);
     fclose(mounts);
-    for (size_t at = 0; at < count; at++) {
-        int is_bad = !is_kept(lines[at], path, &number) && !is_replaced(path);
-        for (size_t later = at + 1; is_bad && later < count; later++) {
-            is_kept(lines[later], other, &other_number);
-            is_bad = strcmp(path, other) != 0;
-        }
-        if (is_bad && is_reachable(path, number))
-            fail("%s is a mount of this machine that can't be kept from the command", path);
-    }
 }

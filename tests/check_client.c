@@ -139,7 +139,7 @@ static void try_order(void) {
             int status = send_command(files[0], &made, &result);
             _exit(status == 0 ? (int)result : 0);
         }
-        pause_for(30);
+        pause_for(200);
     }
     kill(device, SIGCONT);
     for (unsigned at = 0; at < 3; at++) {

@@ -1,7 +1,8 @@
-/* Tests the mistakes that a program in C can make with the calls of nvme_controller.h, and what these calls promise
- * about its memory. Prints what fails, and at the end the number of checks. It is linked with --wrap for malloc,
- * calloc, realloc and free, to count blocks and to refuse an allocation. */
+/* Tests the mistakes that a program in C can make with the calls of nvme_controller.h, what these calls promise about
+ * its memory, and what the header says that controllers don't have. Prints what fails, and at the end the number of
+ * checks. It is linked with --wrap for malloc, calloc, realloc and free, to count blocks and refuse allocations. */
 #include <nvme_controller.h>
+#include <nvme_records.h>
 
 #include <stdio.h>
 #include <stdlib.h>
@@ -130,6 +131,12 @@ static void files(void) {
     CHECK(nvme_machine_open(NULL, 0, &machine, fault, sizeof fault) == NVME_MISSING && machine == NULL);
     CHECK(nvme_machine_open(text, strlen(FILE_TEXT), &machine, NULL, 5) == NVME_NOT_TOML && machine == NULL);
     CHECK(nvme_machine_open(text, strlen(FILE_TEXT), &machine, NULL, 0) == 0 && machine != NULL);
+    nvme_machine_close(machine);
+    /* a file that is larger than the programs take */
+    static uint8_t large[2 << 20];
+    memcpy(large, text, strlen(FILE_TEXT));
+    memset(large + strlen(FILE_TEXT), '\n', sizeof large - strlen(FILE_TEXT));
+    CHECK(nvme_machine_open(large, sizeof large, &machine, fault, sizeof fault) == 0 && machine != NULL);
     nvme_machine_close(machine);
 }
 
@@ -274,6 +281,68 @@ static void reads(void) {
     nvme_machine_close(machines[1]);
 }
 
+/* A qword is two dwords, the lower one first. After the greatest offset, there is no register. */
+static void qwords(void) {
+    nvme_machine *machine = opened();
+    for (uint32_t offset = 0; offset < 0x40; offset += 4) {
+        uint64_t high = nvme_machine_read32(machine, 0, offset + 4);
+        CHECK(nvme_machine_read64(machine, 0, offset) == (high << 32 | nvme_machine_read32(machine, 0, offset)));
+    }
+    nvme_machine_write64(machine, 0, NVME_ASQ, UINT64_C(0x0123456789abc000));
+    CHECK(nvme_machine_read32(machine, 0, NVME_ASQ) == 0x89abc000);
+    CHECK(nvme_machine_read32(machine, 0, NVME_ASQ + 4) == 0x01234567);
+    CHECK(nvme_machine_read64(machine, 0, NVME_ASQ) == UINT64_C(0x0123456789abc000));
+    CHECK(nvme_machine_read64(machine, 0, UINT32_MAX - 3) == 0 && nvme_machine_read64(machine, 0, UINT32_MAX) == 0);
+    uint64_t capabilities = nvme_machine_read64(machine, 0, NVME_CAP);
+    nvme_machine_write64(machine, 0, UINT32_MAX - 3, UINT64_MAX);
+    CHECK(nvme_machine_read64(machine, 0, NVME_CAP) == capabilities && capabilities != 0);
+    CHECK(nvme_machine_read64(machine, 1, NVME_CAP) == UINT64_MAX && nvme_machine_read64(NULL, 0, 0) == UINT64_MAX);
+    nvme_machine_write64(NULL, 0, NVME_ASQ, 0);
+    nvme_machine_close(machine);
+}
+
+/* The name of a status is cut so that a zero byte ends it. */
+static void names(void) {
+    char text[40];
+    memset(text, 'x', sizeof text);
+    CHECK(nvme_status_text(0x6115, text, sizeof text) == 31 && strcmp(text, "Namespace Insufficient Capacity") == 0);
+    CHECK(nvme_status_text(NVME_STATUS_NAMESPACE_INSUFFICIENT_CAPACITY, NULL, 0) == 31);
+    CHECK(nvme_status_text(0, text, 5) == 7 && strcmp(text, "Succ") == 0 && text[5] == 'p');
+    CHECK(nvme_status_text(0x6002, text, 1) == 24 && text[0] == '\0' && text[1] == 'u');
+    CHECK(nvme_status_text(0x7fff, text, sizeof text) == 7 && strcmp(text, "Unknown") == 0);
+    CHECK(nvme_status_text(0x7fff, NULL, sizeof text) == 7);
+    for (unsigned status = 0; status <= UINT16_MAX; status++) {
+        CHECK(nvme_status_text((uint16_t)status, text, sizeof text) < sizeof text);
+    }
+    CHECK(strcmp(nvme_controller_version(), NVME_CONTROLLER_VERSION) == 0);
+}
+
+/* What the header says that a driver finds missing: commands that nvme_records.h doesn't name, and a shutdown. */
+static void missing(void) {
+    static const uint8_t opcodes[] = {
+        NVME_OPCODE_GET_LOG_PAGE, NVME_OPCODE_IDENTIFY, NVME_OPCODE_SET_FEATURES, NVME_OPCODE_GET_FEATURES,
+        NVME_OPCODE_NAMESPACE_MANAGEMENT, NVME_OPCODE_NAMESPACE_ATTACHMENT, NVME_OPCODE_FORMAT_NVM};
+    nvme_machine *machine = opened();
+    uint8_t *memory = guarded(PAGES);
+    enable(machine, PAGE, 0);
+    for (unsigned sent = 0; sent < 256; sent++) {
+        struct nvme_submission_entry entry = {.opcode = (uint8_t)sent, .prp1 = 2 * PAGE, .cid = (uint16_t)sent};
+        struct nvme_completion_entry completion;
+        memcpy(memory + sent % 4 * sizeof entry, &entry, sizeof entry);
+        nvme_machine_write32(machine, 0, NVME_TAIL_DOORBELL, (sent + 1) % 4);
+        CHECK(nvme_machine_turn(machine, 0, memory, PAGES, PAGE, 1) == 1);
+        memcpy(&completion, memory + PAGE + sent % 4 * sizeof completion, sizeof completion);
+        nvme_machine_write32(machine, 0, NVME_HEAD_DOORBELL, (sent + 1) % 4);
+        CHECK(completion.cid == sent && NVME_PHASE(completion.status_and_phase) == 1 - (sent / 4 & 1));
+        int is_named = memchr(opcodes, (int)sent, sizeof opcodes) != NULL;
+        unsigned code = NVME_CODE(NVME_STATUS(completion.status_and_phase));
+        CHECK((code == NVME_STATUS_INVALID_COMMAND_OPCODE) != is_named);
+    }
+    nvme_machine_write32(machine, 0, NVME_CC, 0x00464001);
+    CHECK(nvme_machine_read32(machine, 0, NVME_CSTS) == 1);
+    nvme_machine_close(machine);
+}
+
 /* Each allocation is refused in turn. The call reports it, and frees everything that was allocated, as closing does. A
  * turn allocates nothing. */
 static void allocations(void) {
@@ -316,6 +385,9 @@ int main(void) {
     places();
     short_memory();
     reads();
+    qwords();
+    names();
+    missing();
     allocations();
     printf("%u checks, %u failed\n", checks, failures);
     return failures != 0;

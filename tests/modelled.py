@@ -14,12 +14,14 @@ from tests.support import DEMO, TOP, Case, process_folder, program, run, until
 
 CLIENT = TOP / 'client'
 PARTS = {'bin/nvme-model': ('launcher', 'relay', 'nodes', 'sysfs', 'sandbox', 'calls', 'io'),
-         'lib/nvme-model/library.so': ('library', 'node', 'exec')}
+         'lib/nvme-model/library.so': ('library',),
+         'lib/nvme-model/qemu': ('qemu', 'function', 'memory', 'proxy', 'vfio_user')}
 WARNINGS = '-Wall', '-Wextra', '-Werror'
+VERSION = (TOP / 'VERSION').read_text().strip()
 
 # Programs that need not be installed. A test that calls one is skipped if it isn't.
 TOOLS = ('nvme', 'smartctl', 'busybox', 'inotifywait', 'lsblk', 'blkid', 'blkdiscard', 'wipefs', 'mkfs.ext4', 'debugfs',
-         'e2fsck', 'sudo', 'strace', 'script')
+         'e2fsck', 'sudo', 'strace', 'script', 'udevadm')
 # (an ordinary user's PATH may lack those that root uses)
 os.environ['PATH'] += ':/usr/sbin:/sbin'
 
@@ -56,7 +58,8 @@ def compiled_c(made, sources, *options):
     """Compiles C files to a program or a library. The compiler must give no warning."""
     made.parent.mkdir(parents=True, exist_ok=True)
     files = [(TOP / 'tests' if name.startswith('check') else CLIENT) / f'{name}.c' for name in sources]
-    subprocess.run(['cc', '-g', '-O1', *WARNINGS, '-I', CLIENT, '-o', made, *files, *options], check=True)
+    version = f'-DMODEL_VERSION="{VERSION}"'
+    subprocess.run(['cc', '-g', '-O1', *WARNINGS, version, '-I', CLIENT, '-o', made, *files, *options], check=True)
     return made
 
 

@@ -5,7 +5,7 @@ from collections import Counter
 
 from tests.support import TOP
 
-PAGES = 'README.md', 'CONTRIBUTING.md', 'CHANGELOG.md', 'docs/*.md', 'crates/*/README.md', 'client/README.md'
+PAGES = 'README.md', 'CONTRIBUTING.md', 'CHANGELOG.md', 'docs/*.md', 'examples/README.md', 'crates/*/README.md'
 FILES = re.compile(r'(crates|docs|examples|tests|tools|client|\.ci|nv(?:me)?_[a-z0-9_]*|src|specs|proofs|must-fail)/')
 ITEM = re.compile(r' *([-*+]|[0-9]+\.) ')
 
@@ -70,6 +70,8 @@ class Page:
                 self.files += [(number, name) for piece in code for name in files_in(piece)]
                 links = re.findall(r'\]\(([^ )]+)', text) + re.findall(r'^ *\[[^]]+\]: +([^ ]+)', text)
                 self.links += [(number, link) for link in links]
+            if kind == 'code' and line.startswith('    '):
+                self.files += [(number, name) for name in files_in(line)]
             if kind == 'text' and len(line) > 140:
                 self.wide.append((number, len(line)))
 

@@ -53,7 +53,7 @@ def library():
     """Returns the folder of the library nvme_controller, if the gate or `make library` made it from the current
     sources."""
     if run(TOP / 'tools/stamp', 'is-current', 'nvme_controller').status != 0:
-        raise unittest.SkipTest('the library of these sources does not stand: make library')
+        raise unittest.SkipTest('the library has not been made from the current sources: make library')
     ended = run(TOP / 'tools/library', limit=600)
     if ended.status != 0:
         raise AssertionError(f'the library could not be made\n{ended}')

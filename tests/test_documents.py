@@ -1,15 +1,17 @@
 """Checks the pages of the repository, as far as a program can. The target of each link exists, and so do its heading
 and each named file or folder. The words in the last column of a table of clauses, or of where to look, occur in the
 sources of the crates. A block of code that is said to be from a file occurs in it. No line is wider than 140 columns
-outside of tables and code, and none names a folder of a machine. The numbers of lines, programs, files and definitions
-in pages are those of the sources, and scripts write what pages show. codespell finds no misspelled word. Must-fail
-edits are as CONTRIBUTING says. What the sentences claim isn't checked."""
+outside of tables and code, and none names a folder of a machine. Lists of definitions, crates, files in C, examples and
+messages are those of the sources, the pictures show names that are there, and scripts write what pages show. codespell
+finds no misspelled word. Must-fail edits are as CONTRIBUTING says. What the sentences claim isn't checked."""
 
 import re
+import runpy
 import shutil
 import subprocess
 import textwrap
 import unittest
+from xml.etree import ElementTree
 
 from tests.pages import PAGES, Page
 from tests.support import IS_UNPROVED, TOP, Case, program, run
@@ -64,14 +66,21 @@ class Pages(Case):
                     self.assertIn(heading, list(Page(str(target.relative_to(TOP))).anchors()), place)
 
     def test_links_of_installed_pages(self):
-        self.ends(run('make', '-s', 'install-pages', f'PREFIX={self.folder}'), 0)
+        self.ends(run('make', '-s', 'stage-pages', f'STAGE={self.folder}'), 0)
         pages = self.folder / 'share/doc/nvme-script'
-        links = [(page.name, link) for page in pages.glob('*.md')
-                 for link in re.findall(r'\]\(([^)#]+)', page.read_text()) if '://' not in link]
-        self.assertNotEqual(links, [])
-        for name, link in links:
-            with self.subTest(name):
-                self.assertTrue((pages / link).exists(), f'{name}: the link {link} leads to nothing')
+        links = [(page, link) for page in pages.glob('*.md')
+                 for link in re.findall(r'\]\(([^ )]+)', page.read_text()) if '://' not in link]
+        self.assertGreater(len(links), 50)
+        for page in pages.glob('*.md'):
+            # what isn't installed, and is named all the same, is said to be in the repository
+            self.assertIn('are in the repository', page.read_text().splitlines()[2], page.name)
+        for page, link in links:
+            with self.subTest(page.name):
+                name, _, heading = link.partition('#')
+                target = pages / name if name else page
+                self.assertTrue(target.exists(), f'{page.name}: the link {link} leads to nothing')
+                if heading:
+                    self.assertIn(heading, list(Page(str(target)).anchors()), page.name)
 
     def test_files(self):
         for _, place, path in of_kind('files'):
@@ -84,13 +93,13 @@ class Pages(Case):
         known = words_of_sources()
         for _, place, word in of_kind('words'):
             with self.subTest(place):
-                self.assertTrue(word in known, f'{place}: {word} stands in no source of the crates')
+                self.assertTrue(word in known, f'{place}: {word} is in no source of the crates')
 
     def test_blocks(self):
         for page, place, block, name in of_kind('blocks'):
             with self.subTest(place):
                 path = TOP / name if (TOP / name).exists() else (TOP / page.name).parent / name
-                self.assertTrue(stands(block, path.read_text()), f'{place}: the code above does not stand so in {name}')
+                self.assertTrue(stands(block, path.read_text()), f'{place}: the code above is not in {name}')
 
     def test_lines_are_not_wide(self):
         self.assertEqual([place for _, place, _ in of_kind('wide')], [])
@@ -124,7 +133,8 @@ class Examples(Case):
 
     def test_first_script_of_readme(self):
         readme = text_of('README.md')
-        shown = re.search(r"<<'SCRIPT'\n(.*?)^    SCRIPT$.*?^prints\n\n(.*?)\n^and, on", readme, re.M | re.S)
+        shown = re.search(r"nvme-script <<'SCRIPT'\n(.*?)^    SCRIPT$.*?^prints\n\n(.*?)\n^and, on", readme,
+                          re.M | re.S)
         script, output = (textwrap.dedent(text).encode() for text in shown.groups())
         ended = run(program('nvme_script'), source=script)
         self.ends(ended, 0, output)
@@ -143,7 +153,7 @@ class Examples(Case):
                     self.assertEqual(ended.out.decode(), re.sub(r'(?m)^> .*\n', '', block), ended)
 
     def test_faults_of_subsystem_files(self):
-        """Each row of the table shows the fault of the demonstration file with one text in place of another."""
+        """Each row of the table shows the fault of the built-in file with one text in place of another."""
         rows = re.findall(r'^\| `(.+?)` \| `(.+?)` \| (?:`(.+?)`)? ?\| .*\|$', text_of('docs/SUBSYSTEM-FILE.md'), re.M)
         self.assertEqual(len(rows), 9)
         demo = text_of('examples/demo.toml')
@@ -161,6 +171,68 @@ def code_of(name, language):
 
 
 class Copies(Case):
+    def test_pictures(self):
+        """The pictures show what is in the sources, and are what the program makes, which sees what isn't."""
+        said = run(TOP / 'tools/pictures', '--check')
+        self.ends(said, 0, b'', b'')
+        for name in 'parts', 'command':
+            ElementTree.parse(TOP / f'docs/{name}.svg')
+        pictures = runpy.run_path(str(TOP / 'tools/pictures'))
+        for name in 'nv_queued', 'client/launched.c', 'nv_queue:SubmitRing::pushed', 'nv_queue:SubmitRings::push', 'nv_bus:Buses':
+            self.assertFalse(pictures['is_there'](name), name)
+        self.assertTrue(pictures['uses']('nv_driver nv_bus'))
+        self.assertFalse(pictures['uses']('nv_bus nv_driver'))
+
+    def test_tables_of_architecture(self):
+        """The table of crates has each one after those that it uses, and that of folders names the files in C."""
+        page = text_of('docs/ARCHITECTURE.md')
+        order = re.findall(r'\[(nvm?e?_\w+)\]\(\.\./crates/', page.partition('\n**Two sides')[0])
+        uses = dict(re.match(r'(\w+)[^:]*:(.*)', line).groups() for line in text_of('crates.txt').splitlines())
+        self.assertEqual(sorted(order), sorted(uses))
+        for place, name in enumerate(order):
+            later = set(uses[name].split()) & set(order[place:])
+            self.assertEqual(later, set(), f'{name} is above crates that it uses')
+        for path in TOP.glob('client/*.c'):
+            self.assertIn(f'`{path.name}`', page)
+
+    def test_commands(self):
+        """COMMANDS and the manual page list the commands that a line can begin with, and README their number."""
+        commands = re.findall(r'Verb::\S+ => "([a-z-]+)",', text_of('crates/nv_line/src/verb.rt'))
+        listed = re.search(r'\nThe commands are (.*?)\.\n', text_of('docs/COMMANDS.md'), re.S).group(1)
+        self.assertEqual(re.findall('`([a-z-]+)`', listed), [*commands[:-2], 'list', 'reset'])
+        self.assertEqual(set(re.findall(r'(?m)^\.It Ic ([a-z-]+)', text_of('docs/nvme-script.1'))), set(commands))
+        self.assertIn(f'There are {len(commands)} commands', text_of('README.md'))
+
+    def test_versions(self):
+        version = text_of('VERSION').strip()
+        readme = text_of('README.md')
+        self.assertEqual(set(re.findall(r'[0-9]+\.[0-9]+\.[0-9]+', readme)), {version})
+        self.assertIn(f'\n## {version}, ', text_of('CHANGELOG.md'))
+        if shutil.which('rt') is None:
+            self.skipTest('there is no toolchain')
+        toolchain = run('rt', 'version').out.decode().split()[0]
+        self.assertIn(f'`{toolchain}`', readme)
+        self.assertIn(f'`{toolchain}`', text_of('docs/PROOFS.md'))
+
+    def test_each_example_has_a_sentence(self):
+        gallery = text_of('examples/README.md')
+        named = set(re.findall(r'\]\(([^)]+)\)|`(c/[^`]+)`', gallery))
+        files = {str(path.relative_to(TOP / 'examples')) for pattern in ('*.nvme', '*.sh', 'c/*')
+                 for path in TOP.glob(f'examples/{pattern}') if path.is_file()}
+        self.assertEqual(files - {name for pair in named for name in pair}, set())
+
+    def test_messages_of_support(self):
+        """Each message that SUPPORT explains is in the sources, apart from what varies."""
+        sources = ''.join(path.read_text() for pattern in ('client/*.c', 'tools/unproved', 'nvme-model', 'crates/*/src/*.rt')
+                          for path in TOP.glob(pattern))
+        messages = re.findall(r'(?m)^\| `([^`]+)`(?: \(0x[0-9a-f]+\))? \|', text_of('docs/SUPPORT.md'))
+        self.assertGreater(len(messages), 12)
+        # (in the sources, a long text is cut into several)
+        sources = re.sub(r'"\n\s*"', '', sources)
+        for message in messages:
+            for piece in message.split('..'):
+                self.assertIn(piece.strip(), sources, message)
+
     def test_lists_of_definitions(self):
         said = subprocess.run([TOP / 'tools/believed', '--page'], capture_output=True, check=True, text=True).stdout
         for table in said.rstrip('\n').split('\n\n'):

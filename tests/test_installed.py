@@ -2,9 +2,11 @@
 manual pages have no warnings, and each option of a program is in its manual page and in the completion."""
 
 import re
+import shlex
 import shutil
 import unittest
 
+from tests.modelled import VERSION
 from tests.support import DEMO, TOP, Case, library, run
 
 SYNOPSIS = re.search(r'(?m)^nvme-script \[.*', (TOP / 'docs/COMMANDS.md').read_text()).group()
@@ -16,7 +18,7 @@ LOOK = 'test -c /dev/nvme0 && test -b /dev/nvme0n3 && cat /sys/class/nvme/nvme1/
 class Installed(Case):
     def setUp(self):
         super().setUp()
-        self.prefix = self.folder / 'prefix'
+        self.prefix = self.folder / 'a prefix'
         self.ends(self.make('install'), 0)
 
     def make(self, target):
@@ -38,9 +40,11 @@ class Installed(Case):
         made = self.folder / 'bench'
         flags = f'-I{self.prefix}/include', f'-L{self.prefix}/lib', '-lnvme_controller', f'-Wl,-rpath,{self.prefix}/lib'
         if shutil.which('pkg-config'):
-            ended = run('pkg-config', '--cflags', '--libs', 'nvme_controller',
-                        env={'PKG_CONFIG_PATH': self.prefix / 'lib/pkgconfig'})
-            self.assertEqual(ended.out.decode().split(), list(flags[:3]), ended)
+            env = {'PKG_CONFIG_PATH': self.prefix / 'lib/pkgconfig'}
+            ended = run('pkg-config', '--cflags', '--libs', 'nvme_controller', env=env)
+            words = [re.sub(r'(?<=[^/])/[^/]+/[^/]+/\.\./\.\.', '', word) for word in shlex.split(ended.out.decode())]
+            self.assertEqual(words, list(flags[:3]), ended)
+            self.ends(run('pkg-config', '--modversion', 'nvme_controller', env=env), 0, f'{VERSION}\n'.encode())
         example = self.prefix / 'share/doc/nvme-script/examples/c/bench.c'
         self.ends(run('cc', '-o', made, example, *flags), 0, b'', b'')
         self.ends(run(made, cwd='/'), 0)
@@ -50,17 +54,41 @@ class Installed(Case):
         ended = run('/usr/bin/env', 'python3', '-c', use, env=env)
         self.ends(ended, 0, b'2\n', b'')
 
+    def test_programs_in_an_empty_folder(self):
+        """The program and the commands of EMBEDDING, in which the prefix is a folder of the user."""
+        library()
+        self.ends(self.make('install'), 0)
+        page = (TOP / 'docs/EMBEDDING.md').read_text()
+        section = page.split('## A program in an empty folder\n')[1].split('\n## ')[0]
+        blocks = re.findall(r'(?m)(?:^    .*\n|^\n(?=    ))+', section)
+        source, *commands = [re.sub('(?m)^    ', '', block) for block in blocks]
+        self.assertEqual([text.count('\ncc ') + text.startswith('cc ') for text in commands], [1, 1, 1, 0], commands)
+        # (the commands have no quotes for a blank)
+        (self.folder / 'nvme').symlink_to(self.prefix)
+        env = {'HOME': self.folder, 'PYTHONDONTWRITEBYTECODE': '1'}
+        for number, text in enumerate(commands):
+            if 'pkg-config' in text and not shutil.which('pkg-config'):
+                continue
+            with self.subTest(text):
+                place = self.folder / f'empty{number}'
+                place.mkdir()
+                (place / 'count.c').write_text(source)
+                wanted = b'2\n' if 'python3' in text else b'2 controllers\n'
+                self.ends(run('sh', '-euc', text, cwd=place, env=env), 0, wanted, b'')
+
     def test_manual_pages_have_no_warnings(self):
-        installed = self.prefix / 'share/man/man1'
-        for page in installed / 'nvme-script.1', installed / 'nvme-model.1', TOP / 'docs/nvme_controller.3':
+        pages = [*self.prefix.glob('share/man/man1/*'), TOP / 'docs/nvme_controller.3']
+        self.assertGreater(len(pages), 4)
+        for page in pages:
             with self.subTest(page.name):
                 self.has_no_warnings(page)
 
     def has_no_warnings(self, page):
         if shutil.which('mandoc'):
             warnings = run('mandoc', '-Tlint', page, err='&1').out.splitlines()
-            # the pages that a manual page refers to need not be installed, nor be in the list of pages
-            others = b'referenced manual not found: Xr', b'outdated mandoc.db'
+            # the pages that a manual page refers to need not be installed, nor be in the list of pages, and NetBSD's
+            # own pages name no system
+            others = b'referenced manual not found: Xr', b'outdated mandoc.db', b'system explicitly specified'
             self.assertEqual([line for line in warnings if not any(text in line for text in others)], [])
         elif shutil.which('man') and run('man', '--warnings', '-l', page).status == 0:
             self.ends(run('man', '--warnings', '-l', page), 0, err=b'')
@@ -94,7 +122,30 @@ class Installed(Case):
         completion = self.prefix / 'share/bash-completion/completions/nvme-script'
         return run('bash', '-c', line, completion, 'nvme-script', *words)
 
+    def test_version(self):
+        ended = run(self.prefix / 'bin/nvme-model', '--help')
+        self.assertEqual(ended.out.splitlines()[-1], f'This is version {VERSION}.'.encode(), ended)
+        for page in self.prefix.glob('share/man/man*/*'):
+            self.assertIn(f'\n.Os nvme-script {VERSION}\n', page.read_text(), page)
+
     def test_uninstall(self):
+        # (a second installation takes the place of the first)
+        self.ends(self.make('install'), 0)
         self.assertTrue((self.prefix / 'bin/nvme-script').exists())
         self.ends(self.make('uninstall'), 0)
-        self.assertEqual([path for path in self.prefix.rglob('*') if not path.is_dir()], [])
+        self.assertFalse(self.prefix.exists(), list(self.prefix.rglob('*')))
+        self.ends(self.make('uninstall'), 2)
+
+    def test_uninstall_among_other_files(self):
+        before = ['bin/', 'share/man/', 'share/man/man1/', 'share/man/man1/nvme.1', 'share/nvme-script/', 'lib/other']
+        self.ends(self.make('uninstall'), 0)
+        for name in before:
+            path = self.prefix / name
+            path.parent.mkdir(parents=True, exist_ok=True)
+            path.mkdir() if name.endswith('/') else path.touch()
+        before = set(self.prefix.rglob('*'))
+        self.ends(self.make('install'), 0)
+        own = self.prefix / 'share/doc/nvme-script/own'
+        own.touch()
+        self.ends(self.make('uninstall'), 0)
+        self.assertEqual(set(self.prefix.rglob('*')), {*before, own, own.parent, own.parents[1]})

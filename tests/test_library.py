@@ -1,10 +1,15 @@
 """Tests the library nvme_controller from programs in C, C++, Python and SystemVerilog: the mistakes that its callers
-can make, what it does to their memory, and the programs of examples/c, which print what nvme-script prints. These tests
-need the library, which the gate or `make library` makes from the current sources."""
+can make, what it does to their memory, its symbols, the structures of its headers, and the programs of examples/c,
+which print what nvme-script prints. These tests need the library, which the gate or `make library` makes from the
+current sources."""
 
+import json
+import pathlib
+import re
 import shutil
 import unittest
 
+from tests import records
 from tests.support import DEMO, TOP, Case, library, program, run
 
 FLAGS = '-Wall', '-Wextra', '-Werror', '-fsanitize=address,undefined', '-fno-sanitize-recover=all', '-g'
@@ -16,12 +21,26 @@ list-ns /dev/nvme0
 create-ns /dev/nvme0 -s 14328 -c 14328 -f 0
 error-log /dev/nvme0 -e 1
 """
+# The structures of nvme_records.h, by the names of their layouts in tests/records.py.
+STRUCTURES = {'sqe': 'submission_entry', 'cqe': 'completion_entry', 'error_entry': 'error_entry',
+              'smart': 'smart_health', 'lbaf': 'lba_format', 'id_ns': 'identify_namespace',
+              'id_ctrl': 'identify_controller'}
+
+
+def declared(header):
+    """Returns the calls that a header declares."""
+    text = re.sub(r'/\*.*?\*/', '', (TOP / 'library' / header).read_text(), flags=re.S)
+    return sorted(re.findall(r'(nvme_\w+)\(', text))
 
 
 class Library(Case):
     def setUp(self):
         super().setUp()
         self.library = library()
+
+    def python(self, *words, cwd=TOP, **env):
+        return run('/usr/bin/env', 'python3', *words, cwd=cwd,
+                   env={'PYTHONPATH': self.library, 'PYTHONDONTWRITEBYTECODE': '1', **env})
 
     def compile(self, source, *options, compiler='cc', standard='c99'):
         made = self.folder / 'program'
@@ -35,15 +54,94 @@ class Library(Case):
         self.assertEqual((ended.status, ended.err), (0, b''), ended)
         self.assertRegex(ended.out, rb'\A\d{4,} checks, 0 failed\n\Z', ended)
 
+    def symbols(self, file, *options):
+        """Returns the names of the symbols in a file that other files can use."""
+        ended = run('nm', '--defined-only', '--format=posix', *options, self.library / file)
+        self.assertEqual(ended.status, 0, ended)
+        found = [line.split() for line in ended.out.decode().splitlines() if ' ' in line]
+        return sorted(words[0].split('@')[0] for words in found if words[1] in 'TDBRVW')
+
+    def test_symbols(self):
+        calls = declared('nvme_controller.h')
+        self.assertIn('nvme_machine_turn', calls)
+        self.assertEqual(self.symbols('libnvme_controller.so', '--dynamic'), calls)
+        self.assertEqual(self.symbols('libnvme_controller.a', '--extern-only'), calls)
+        ended = run('readelf', '--dynamic', '--wide', self.library / 'libnvme_controller.so')
+        self.assertIn(b'soname: [libnvme_controller.so.1]', ended.out, ended)
+        self.assertEqual(len(re.findall(rb'\(NEEDED\)', ended.out)), 1, ended)
+
+    def test_beside_another_library_of_the_toolchain(self):
+        source = self.file('two.c', b"""#include <nvme_controller.h>
+int nvme_handle_demo(void **handle);
+uint16_t nvme_handle_controllers(void **handle);
+void nvme_handle_close(void **handle);
+void *rattle_alloc(uint64_t size);
+int main(void) {
+    nvme_machine *machine;
+    void *handle = 0;
+    if (nvme_machine_demo(&machine) != 0 || nvme_handle_demo(&handle) != 0) return 1;
+    int wrong = nvme_machine_controllers(machine) != 2 || nvme_handle_controllers(&handle) != 2;
+    nvme_handle_close(&handle);
+    nvme_machine_close(machine);
+    return wrong ? 2 : 0;
+}
+""")
+        memory = pathlib.Path(run('rt', 'doc').out.decode().strip()).parent / 'c/liblibc_c.a'
+        other = TOP / 'crates/nvme_controller/out/libnvme_controller.a'
+        whole = '-Wl,--whole-archive', other, memory, self.library / 'libnvme_controller.a', '-Wl,--no-whole-archive'
+        made = self.folder / 'program'
+        self.ends(run('cc', '-I', self.library, '-o', made, source, *whole), 0, b'', b'')
+        self.ends(run(made), 0, b'', b'')
+
+    def test_records(self):
+        lines, wanted = [], []
+        for kind, (layout, keys) in records.LAYOUTS.items():
+            offset, record = 0, f'struct nvme_{STRUCTURES[kind]}'
+            fields = iter(keys.split())
+            for count, letter in re.findall(r'(\d*)([a-zA-Z])', layout):
+                number = int(count or 1)
+                size = 1 if letter in 'sxB' else {'H': 2, 'I': 4, 'Q': 8}[letter]
+                for _ in range(0 if letter == 'x' else 1 if letter == 's' else number):
+                    length = number if letter == 's' else size
+                    name = next(fields)
+                    lines.append(f'SHOW({record}, {name})')
+                    wanted.append(f'{record} {name} {offset} {length}')
+                    offset += length
+                offset += number if letter == 'x' else 0
+            lines.append(f'printf("{record} %zu\\n", sizeof({record}));')
+            wanted.append(f'{record} {offset}')
+        source = self.file('records.c', """#include <nvme_records.h>
+#include <stdio.h>
+#define SHOW(record, field) \
+    printf("%s %s %zu %zu\\n", #record, #field, offsetof(record, field), sizeof(((record *)0)->field));
+int main(void) {
+    """.encode() + '\n    '.join(lines).encode() + b'\n}\n')
+        for compiler, standard in ('cc', 'c99'), ('cc', 'c11'):
+            made = self.compile(source, '-Wpedantic', compiler=compiler, standard=standard)
+            self.ends(run(made), 0, '\n'.join([*wanted, '']).encode(), b'')
+
+    def test_names_of_statuses(self):
+        found = re.findall(r'NVME_STATUS_(\w+) = (0x\w{3})\b', (TOP / 'library/nvme_records.h').read_text())
+        self.assertEqual(len(found), 18)
+        use = ('import json, nvme_controller as nvme; '
+               'print(json.dumps([nvme.status_text(status) for status in range(0x10000)]))')
+        ended = self.python('-c', use)
+        self.assertEqual(ended.status, 0, ended)
+        names = json.loads(ended.out)
+        by_code = {int(code, 16): name for name, code in found}
+        for status, name in enumerate(names):
+            self.assertEqual(name.upper().replace(' ', '_'), by_code.get(status & 0x7ff, 'UNKNOWN'), status)
+
     def test_bench(self):
         wanted = run(program('nvme_script'), '--subsystem', DEMO, source=LINES)
         self.assertIn(b'status_field        : 0x6115\n', wanted.out, wanted)
+        self.assertEqual(wanted.err, b'line 5: NVMe status: Namespace Insufficient Capacity (0x6115)\n', wanted)
         made = self.compile(TOP / 'examples/c/bench.c')
         python = '/usr/bin/env', 'python3', TOP / 'examples/c/bench.py'
         for words in [made], [made, DEMO], python, [*python, DEMO]:
             with self.subTest(words):
                 ended = run(*words, env={'PYTHONPATH': self.library, 'PYTHONDONTWRITEBYTECODE': '1'})
-                self.ends(ended, 0, wanted.out, b'NVMe status: 0x6115\n')
+                self.ends(ended, 0, wanted.out, wanted.err[len('line 5: '):])
 
     def test_texts_of_faults(self):
         made = self.compile(TOP / 'examples/c/bench.c')
@@ -60,6 +158,8 @@ class Library(Case):
     @unittest.skipUnless(shutil.which('c++'), 'there is no C++ compiler')
     def test_header_in_cpp(self):
         source = self.file('use.cpp', b"""#include <nvme_controller.h>
+#include <nvme_records.h>
+static_assert(sizeof(nvme_submission_entry) == 64 && NVME_CONTROLLER_VERSION_MAJOR == 1, "");
 int main() {
     nvme_machine *machine;
     if (nvme_machine_demo(&machine) != 0) return 1;
@@ -73,10 +173,12 @@ int main() {
     @unittest.skipUnless(shutil.which('verilator'), 'there is no verilator')
     def test_simulation(self):
         self.ends(run('verilator', '--binary', '--Mdir', self.folder / 'obj', '--top-module', 'bench',
-                      TOP / 'examples/c/bench.sv', '-LDFLAGS', self.library / 'libnvme_controller.a', limit=600), 0)
+                      TOP / 'examples/c/bench.sv', TOP / 'examples/c/memory.c', '-CFLAGS', f'-I{self.library}',
+                      '-LDFLAGS', self.library / 'libnvme_controller.a', limit=600), 0)
         ended = run(self.folder / 'obj/Vbench')
         self.assertEqual(ended.status, 0, ended)
-        self.assertIn(b'controllers: 2\nversion: 00010400\nstatus: 00000000\nstatus: 00000001\n', ended.out)
+        self.assertIn(b'controllers: 2\nstatus: 00000001\ntaken: 1\ncommand identifier: 5\nphase tag: 1\n'
+                      b'status field: 0000\nserial number: S0\n', ended.out)
 
     def test_python_module(self):
         source = self.file('use.py', b"""
@@ -98,8 +200,88 @@ try:
 except ValueError:
     print('done')
 """)
-        ended = run('/usr/bin/env', 'python3', source, env={'PYTHONPATH': self.library, 'PYTHONDONTWRITEBYTECODE': '1'})
-        self.ends(ended, 0, b'done\n', b'')
+        self.ends(self.python(source), 0, b'done\n', b'')
+
+    def test_python_refuses(self):
+        """Numbers that a C type can't hold, and copies of a machine."""
+        source = self.file('refuse.py', b"""
+import copy, pickle
+import nvme_controller as nvme
+machine, page = nvme.Machine(), bytearray(4096)
+turn, wide = machine.turn, 1 << 64
+for call, *arguments in [
+        (machine.read32, 0x10000, 0), (machine.read32, -1, 0), (machine.read32, 0, 1 << 32),
+        (machine.read64, 0x10000, 0), (machine.write32, 0, nvme.ASQ, 1 << 32), (machine.write32, 0, nvme.ASQ, -1),
+        (machine.write32, 0x10000, 0, 0),
+        (machine.write64, 0, nvme.ASQ, wide), (machine.write64, 0, 1 << 32, 0), (machine.counts, 0x10000),
+        (machine.log_entry, 0x10000, 0), (machine.log_entry, 0, wide), (machine.log_entry, 0, -1),
+        (machine.error_log, 0x10000), (turn, 0x10000, page), (turn, 0, page, 1 << 32), (turn, 0, page, 4096, 0x10000),
+        (turn, 0, page, 4095), (nvme.status_text, 0x10000)]:
+    try:
+        print('taken', call, arguments, call(*arguments))
+    except ValueError:
+        pass
+for call, *arguments in [
+        (machine.read32, 0, 1.0), (machine.read32, '0', 0), (nvme.Machine, 'version = 1'), (turn, 0, bytes(4096)),
+        (copy.copy, machine), (copy.deepcopy, machine), (pickle.dumps, machine)]:
+    try:
+        print('taken', call, arguments, call(*arguments))
+    except TypeError:
+        pass
+assert machine.read64(0, nvme.ASQ) == 0 and machine.controllers() == 2
+try:
+    nvme.Machine(b'[')
+except nvme.Fault as fault:
+    for other in pickle.loads(pickle.dumps(fault)), copy.copy(fault):
+        assert (other.number, str(other), repr(other)) == (1, 'not TOML', "Fault(1, 'not TOML')"), other
+print('done')
+""")
+        self.ends(self.python(source), 0, b'done\n', b'')
+
+    def test_python_finds_the_library(self):
+        """In the folder of the module, in lib beside that folder or above, by the variable, and by pkg-config."""
+        use = 'import nvme_controller as nvme; print(nvme.version(), nvme.Machine().controllers())'
+        wanted = (TOP / 'VERSION').read_bytes().strip() + b' 2\n'
+        made = self.library / 'libnvme_controller.so.1'
+        elsewhere = self.folder / 'elsewhere'
+        elsewhere.mkdir()
+        shutil.copy(made, elsewhere)
+        self.file('elsewhere/nvme_controller.pc', f'libdir={elsewhere}\nName: n\nDescription: d\nVersion: 1\n'.encode())
+        rows = [('beside', 'beside', {}), ('one/share', 'one/lib', {}), ('two/share/module', 'two/lib', {}),
+                ('variable', None, {'NVME_CONTROLLER': elsewhere / made.name})]
+        rows += [('package', None, {'PKG_CONFIG_PATH': elsewhere})] * bool(shutil.which('pkg-config'))
+        for module, place, env in rows:
+            with self.subTest(module):
+                (self.folder / module).mkdir(parents=True)
+                shutil.copy(self.library / 'nvme_controller.py', self.folder / module)
+                if place:
+                    (self.folder / place).mkdir(exist_ok=True)
+                    shutil.copy(made, self.folder / place)
+                self.ends(self.python('-c', use, PYTHONPATH=self.folder / module, **env), 0, wanted, b'')
+        ended = self.python('-c', use, PYTHONPATH=self.folder / 'variable', PKG_CONFIG_PATH=self.folder)
+        self.assertEqual((ended.status, ended.out), (1, b''), ended)
+        self.assertRegex(ended.err, rb'\nOSError: libnvme_controller.so.1: .*; the variable NVME_CONTROLLER can name')
+
+    def test_python_has_type_hints(self):
+        source = self.file('hints.py', b"""
+import inspect, typing
+import nvme_controller as nvme
+for owner in nvme, nvme.Machine, nvme.Fault, nvme.ErrorEntry:
+    for name, call in inspect.getmembers(owner, inspect.isroutine):
+        if getattr(call, '__module__', None) == 'nvme_controller':
+            hints = typing.get_type_hints(call)
+            wanted = [key for key in inspect.signature(call).parameters if key not in ('self', 'cls', '_')]
+            assert 'return' in hints and all(key in hints for key in wanted), (name, hints)
+            print(name)
+""")
+        ended = self.python(source)
+        self.assertEqual(ended.status, 0, ended)
+        self.assertLess({b'turn', b'status_text', b'error_log', b'__enter__'}, set(ended.out.split()), ended)
+
+    def test_example_of_a_unit_test(self):
+        ended = self.python('-m', 'unittest', 'test_driver', cwd=TOP / 'examples/c')
+        self.assertEqual(ended.status, 0, ended)
+        self.assertRegex(ended.err, rb'Ran 4 tests in .*\n\nOK\n\Z')
 
 
 if __name__ == '__main__':

@@ -49,18 +49,6 @@ class Ioctls(ModelCase):
                 for word in b'Sanitizer', b'runtime error', b'check: ':
                     self.assertNotIn(word, ended.err, ended)
 
-    def test_before_linux_5_19(self):
-        # the kernel then has a call that a signal interrupted made again, after it was carried out
-        place = self.folder / 'installed'
-        shutil.copytree(installed().parents[1], place)
-        compiled_c(place / 'bin/nvme-model', PARTS['bin/nvme-model'], '-pthread',
-                   '-DSECCOMP_FILTER_FLAG_WAIT_KILLABLE_RECV=0')
-        check = compiled_c(self.folder / 'check', CHECK, '-pthread')
-        for part in 'broken', 'killed':
-            with self.subTest(part):
-                ended = run(place / 'bin/nvme-model', '--subsystem', self.subsystem, check, part, limit=300)
-                self.ends(ended, 0, b'', b'')
-
     def test_device_is_killed_in_a_call(self):
         # each of several calls that wait for an answer gets one, and later calls fail at once
         check = compiled_c(self.folder / 'check', CHECK, '-pthread')
@@ -154,7 +142,8 @@ class Arguments(ModelCase):
         # links
         copy, link = self.folder / 'a folder: here', self.folder / 'link'
         copy.mkdir()
-        shutil.copy(TOP / 'nvme-model', copy)
+        for name in 'nvme-model', 'VERSION':
+            shutil.copy(TOP / name, copy)
         shutil.copytree(CLIENT, copy / 'client')
         link.symlink_to(copy / 'nvme-model')
         self.says(run(copy / 'nvme-model', 'true'), 72,

@@ -182,11 +182,68 @@ class Nodes(ModelCase):
             'cat /sys/block/nvme0n1/queue/logical_block_size /sys/block/nvme0n1/size'), 0,
             b'/sys/devices/PCI/FUNCTION/nvme/nvme0\nnvme0\nnvme1\n1\n9\n3\n512\n2048\n1\n-1\n1\n'
             b'Success formatting namespace:1\n4096\n2048\n', b'')
+        # (libnvme 1.13 and later read all three if the first is there, and otherwise send Identify)
+        ended = self.shell('ls /sys/block/nvme0n1 | grep -c -x -e csi -e nuse -e metadata_bytes')
+        self.assertIn(ended.out, (b'0\n', b'3\n'), ended)
         broken = ('for l in $(find /sys/devices/pci*/*/nvme /sys/class/nvme* /sys/block/nvme* /sys/class/block/nvme* '
                   '/sys/devices/virtual/nvme-subsystem /sys/dev/*/409?:* -type l); do '
                   'test -e $l && echo yes || echo $l; done | sort | uniq -c')
         ended = self.shell(broken)
         self.assertRegex(ended.out, rb'^ *[3-9]\d yes\n$', ended)
+
+    def test_sys_is_read_only(self):
+        # (a write to a file fails as on Linux, also for root, by any program, and changes nothing)
+        files = '/sys/block/nvme0n1/size /sys/class/nvme/nvme0/model /sys/block/nvme0n1/queue/scheduler'
+        script = (f'cd /sys/block; for f in {files} nvme0n1/ro /proc/self/cwd/nvme0n1/nsid; do '
+                  'for c in "echo x >" "busybox truncate -s 0" "dd if=/dev/zero count=1 conv=notrunc of="; do '
+                  'case $c in *=) c=$c$f ;; *) c="$c $f" ;; esac; (eval "$c") 2>&1 | grep -c "Permission denied"; done; done | '
+                  f'sort | uniq -c; cat {files} nvme0n1/ro nvme0n1/nsid')
+        self.ends(self.shell(script), 0, b'     15 1\n2048\nDemo Controller                         \n[none]\n0\n1\n',
+                  b'')
+        self.ends(self.python('for call in lambda: os.open("/sys/block/nvme0n1/size", os.O_RDWR), '
+                              'lambda: os.truncate("/sys/block/nvme0n1/size", 0), '
+                              'lambda: os.open("size", os.O_WRONLY, dir_fd=os.open("/sys/block/nvme0n1", 0)):\n'
+                              '    try:\n        print(call())\n    except OSError as error:\n'
+                              '        print(errno.errorcode[error.errno])\n'), 0, b'EACCES\n' * 3, b'')
+
+    def test_pci_and_modules(self):
+        script = ('cd /sys/bus/pci/devices; for d in *; do echo $d $(cat $d/class $d/vendor $d/device) '
+                  '$(basename $(readlink $d/driver)) $(basename $(readlink -f $d/driver/module)); done; '
+                  'ls ../drivers/nvme; cat /sys/module/nvme/parameters/io_queue_depth /sys/module/nvme_core/parameters/multipath')
+        self.ends(self.shell(script), 0, b'0001:00:00.0 0x010802 0x0000 0x0000 nvme nvme\n'
+                  b'0001:01:00.0 0x010802 0x0000 0x0000 nvme nvme\n0001:00:00.0\n0001:01:00.0\nmodule\n1024\nN\n', b'')
+
+    def test_udevadm(self):
+        self.needs('udevadm')
+        for node, kind in ('nvme0', 'nvme'), ('nvme0n3', 'block'), ('ng0n1', 'nvme-generic'):
+            ended = self.model('udevadm', 'info', '-q', 'property', f'/dev/{node}')
+            self.assertIn(f'SUBSYSTEM={kind}\n'.encode(), ended.out, ended)
+        self.assertIn(b'ATTRS{model}=="Demo Controller', self.model('udevadm', 'info', '-a', '/dev/nvme0n1').out)
+
+    def test_nothing_else_in_dev(self):
+        # (no other file looks like a block device, and nothing is left of namespaces that came and went)
+        blocks = b'/dev/nvme0n1\n/dev/nvme0n3\n'
+        come = ('nvme create-ns /dev/nvme0 -s 8 -c 8 -f 0 -m 1; nvme attach-ns /dev/nvme0 -n 2 -c 0,1; '
+                'echo x > /dev/nvme1n2; nvme detach-ns /dev/nvme0 -n 2 -c 0,1; nvme delete-ns /dev/nvme0 -n 2; ')
+        script = ('find /dev -type b | sort; busybox find /dev -type b; find /dev /sys | sort > "$1.a"; '
+                  f'(for i in 1 2 3; do {come} done) > /dev/null; find /dev /sys | sort > "$1.b"; '
+                  'diff "$1.a" "$1.b"; find /dev -type b | sort')
+        self.ends(self.shell(script, self.folder / 'list'), 0, blocks + blocks, b'')
+
+    def test_many_nodes(self):
+        # sixteen controllers with 1,024 namespaces each
+        every = ', '.join(map(str, range(16)))
+        text = ('version = 1\nnn = 1024\ntnvmcap = 1048576\nsubnqn = "nqn.2014-08.org.example:many"\n[[format]]\nlbads = 9\n' +
+                ''.join(f'[[controller]]\ncntlid = {x}\nsn = "S{x}"\nmn = "Many"\nfr = "1"\nelpe = 0\n' for x in range(16)) +
+                ''.join(f'[[namespace]]\nnsid = {n}\nbytes = 512\nformat = 0\nshared = true\ncontrollers = [{every}]\n'
+                        for n in range(1, 1025)))
+        self.subsystem = self.file('many.toml', text.encode())
+        ended = self.shell('ls /dev | grep -c "^n[vg]"; ls /sys/class/block | wc -l; cat /sys/block/nvme15n1024/nsid; '
+                           'find /sys/block/nvme9n9/ | wc -l; stat -c %h /sys/block/nvme9n9/ro', limit=300)
+        self.ends(ended, 0, err=b'')
+        self.assertEqual(ended.out.splitlines()[:3], [b'32784', b'16384', b'1024'])
+        # (what is the same for each is one file)
+        self.assertEqual(ended.out.splitlines()[4], b'16384')
 
     def test_sys_agrees_with_nodes(self):
         self.ends(self.python(NUMBERS), 0, b'ng0n1 ng0n3 nvme0 nvme0n1 nvme0n3 nvme1\n', b'')
@@ -243,16 +300,14 @@ class Data(ModelCase):
         self.ends(ended, 0, b"b'mmaps' 2 b'abaps' 4608\n0 True\nTrue\n4608\n", b'')
 
     def test_static_programs(self):
-        cuts = static_program('#include <unistd.h>\n#include <fcntl.h>\n#include <stdlib.h>\nint main(int n, char **a) '
-                              '{ int f = open(a[1], O_RDWR); return n < 3 || f < 0 || ftruncate(f, atol(a[2])) < 0 || '
-                              'pwrite(f, "s", 1, 1) < 0; }\n')
-        script = ('echo abc > /dev/nvme0n3; "$0" /dev/nvme0n3 $1; echo $?; sleep 0.3; '
-                  'head -c 2 /dev/nvme0n3 | od -An -c; '
+        writes = static_program('#include <errno.h>\n#include <fcntl.h>\n#include <stdio.h>\n#include <unistd.h>\n'
+                                'int main(int n, char **a) { int f = open(a[n - 1], O_RDWR | O_TRUNC); '
+                                'printf("%d ", f >= 0 && ftruncate(f, 9) < 0 && errno == EINVAL); '
+                                'printf("%d\\n", truncate(a[1], 9) < 0 && errno == EINVAL); '
+                                'return pwrite(f, "s", 1, 1) < 0 || pwrite(f, "s", 1, 9999) < 0; }\n')
+        script = ('echo abc > /dev/nvme0n3; "$0" /dev/nvme0n3; echo $?; sleep 0.3; head -c 3 /dev/nvme0n3; echo; '
                   'wc -c < /dev/nvme0n3; busybox stat -c "%F %s" /dev/nvme0n3')
-        for length, first in ((0, b'  \\0   s'), (2, b'   a   s'), (99999, b'   a   s')):
-            with self.subTest(length):
-                self.ends(self.model('sh', '-c', script, cuts, str(length)), 0,
-                          b'0\n' + first + b'\n4608\nregular file 4608\n', b'')
+        self.ends(self.model('sh', '-c', script, writes), 0, b'1 1\n0\nasc\n4608\nregular file 4608\n', b'')
         # the ioctls of a static program are answered too
         asks = static_program('#include <fcntl.h>\n#include <stdio.h>\n#include <sys/ioctl.h>\n'
                               'int main(int n, char **a) { int f = open(a[n - 1], O_RDWR); long long size = 0; '
@@ -456,6 +511,16 @@ class Tools(ModelCase):
         for script in sorted((TOP / 'examples').glob('*.sh')):
             with self.subTest(script.name):
                 self.ends(self.model('sh', script), 0, script.with_suffix('.txt').read_bytes(), b'')
+
+    def test_layout_of_guide(self):
+        """The layout of GUIDE, made a script of nvme-cli by the page's command, creates three namespaces."""
+        command = re.search(r'^    (sed .*) > layout\.sh$', (TOP / 'docs/GUIDE.md').read_text(), re.M).group(1)
+        script = subprocess.run(command, shell=True, cwd=TOP, check=True, capture_output=True).stdout
+        self.needs('nvme')
+        ended = run(installed(), '--subsystem', TOP / 'examples/guide.toml', 'sh', self.file('layout.sh', script))
+        self.ends(ended, 0, err=b'')
+        self.assertEqual(re.findall(rb'created nsid:(\d)', ended.out), [b'1', b'2', b'3'])
+        self.assertEqual(len(re.findall(rb'(?m)^/dev/nvme', ended.out)), 4)
 
     def test_tools_of_readme(self):
         text = (TOP / 'README.md').read_text()

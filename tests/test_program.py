@@ -192,7 +192,7 @@ def unended_lines():
 
 def scripts():
     """The scripts of tests/scripts, with drivers of every kind of geometry, over the file beside the scripts or the
-    demonstration file, and over that file in version 2."""
+    built-in file, and over that file in version 2."""
     for path in sorted(TOP.glob('tests/scripts/*.txt')):
         subsystem = path.with_suffix('.toml') if path.with_suffix('.toml').exists() else DEMO
         version_2 = re.sub(r'(?m)^version = 1$', 'version = 2', subsystem.read_text())

@@ -1,6 +1,7 @@
-"""Tests ./nvme-model --qemu: valid and invalid messages, which tests/as_qemu.py sends in QEMU's place, and SeaBIOS and
-Linux with nvme-cli over the controllers, if QEMU, a kernel and a static busybox are installed. NVME_TEST_KERNEL names a
-kernel instead of the newest one in /boot, and NVME_TEST_MODULES the folder with its modules."""
+"""Tests ./nvme-model --qemu: valid and invalid messages of x-pci-proxy-dev, which tests/as_qemu.py sends in QEMU's
+place, and SeaBIOS and Linux with nvme-cli over the controllers, if QEMU, a kernel and a static busybox are installed:
+by vfio-user-pci where QEMU has it. tests/test_vfio_user.py tests the messages of that. NVME_TEST_KERNEL names a kernel
+instead of the newest one in /boot, and NVME_TEST_MODULES the folder with its modules."""
 
 import functools
 import glob
@@ -11,13 +12,14 @@ import pathlib
 import re
 import shutil
 import signal
+import socket
 import subprocess
 
 from tests.as_qemu import BROKEN
-from tests.modelled import CLIENT, ModelCase, installed, is_there
+from tests.modelled import CLIENT, PARTS, ModelCase, installed, is_there
 from tests.support import DEMO, TOP, Case, Running, difference, library, process_folder, run
 
-SCENARIOS = ('configuration', 'registers', 'commands', 'page_sizes', 'stopped', 'bus_master', 'interrupts', 'holes',
+SCENARIOS = ('configuration', 'registers', 'commands', 'page_sizes', 'bus_master', 'interrupts', 'holes',
              'sections', 'gone')
 SEEDS = range(8)
 COUNTS = r'nvme-model: controller (\d+): commands (\d+), refused (\d+)\n'
@@ -33,10 +35,11 @@ export PATH=/bin
 busybox --install -s /bin
 echo 0 > /sys/bus/pci/drivers_autoprobe
 for module in $(cat /modules/order); do insmod "/modules/$module" 2>&1; done
+stty -F /dev/ttyS1 raw
+if grep -q plugged /proc/cmdline; then sh /plugged.sh > /dev/ttyS1; fi
 for address in $(grep -l 0x010802 /sys/bus/pci/devices/*/class); do
     basename "${address%/class}" > /sys/bus/pci/drivers/nvme/bind
 done
-stty -F /dev/ttyS1 raw
 for second in 1 2 3 4 5 6 7 8 9 10; do
     [ "$(cat /sys/class/nvme/nvme*/state 2> /dev/null | grep -c live)" -ne 2 ] || break
     sleep 1
@@ -53,6 +56,30 @@ done
 echo b > /proc/sysrq-trigger
 sleep 60
 '''
+# What a guest does with a controller that is plugged in at first, then unplugged, and plugged in again.
+PLUGGED = '''
+wait_until() { for second in $(seq 60); do "$@" 2> /dev/null && return; sleep 1; done; echo TOO LATE; }
+is_live() { grep -q live /sys/class/nvme/nvme*/state; }
+is_gone() { [ ! -e /dev/nvme0 ] && [ ! -e /dev/nvme1 ]; }
+echo 1 > /sys/bus/pci/drivers_autoprobe
+echo 1 > /sys/bus/pci/rescan
+for address in $(grep -l 0x010802 /sys/bus/pci/devices/*/class); do
+    basename "${address%/class}" > /sys/bus/pci/drivers/nvme/bind
+done
+wait_until is_live
+nvme create-ns /dev/nvme0 -s 8 -c 8 -f 0
+grep -c nvme /proc/interrupts
+echo PLUGGED
+wait_until is_gone
+echo UNPLUGGED
+wait_until is_live
+nvme list-ns /dev/nvme0 --all
+nvme reset /dev/nvme0 && wait_until is_live
+dmesg | grep -E 'nvme.*(timeout|[Tt]imed|dead|Abort)'
+echo END
+echo b > /proc/sysrq-trigger
+sleep 60
+'''
 
 
 @functools.lru_cache(maxsize=None)
@@ -60,8 +87,9 @@ def program(*options):
     """Compiles the program, with the library."""
     place = library()
     made = process_folder() / f'qemu{len(options)}'
-    subprocess.run(['cc', '-g', '-O1', '-Wall', '-Wextra', '-Werror', *options, '-o', made, f'-I{place}',
-                    CLIENT / 'qemu.c', place / 'libnvme_controller.a'], check=True)
+    files = [CLIENT / f'{name}.c' for name in PARTS['lib/nvme-model/qemu']]
+    subprocess.run(['cc', '-g', '-O1', '-Wall', '-Wextra', '-Werror', *options, '-o', made, f'-I{place}', *files,
+                    place / 'libnvme_controller.a'], check=True)
     return made
 
 
@@ -73,8 +101,13 @@ class Messages(Case):
 
     def setUp(self):
         super().setUp()
-        stand_in = self.file('qemu-system-x86_64', b'#!/bin/sh\nexec python3 -m tests.as_qemu "$SCENARIO" "$@"\n')
-        stand_in.chmod(0o755)
+        self.stand_in(b'exec python3 -m tests.as_qemu "$SCENARIO" "$@"')
+
+    def stand_in(self, script, devices='x-pci-proxy-dev', version='7.2.22 (Debian 1:7.2+dfsg-7)'):
+        """Makes a program in QEMU's place, which has these devices and otherwise does what the script says."""
+        told = (f'#!/bin/sh\ncase "$*" in\n-device\\ help) echo "name {devices}, bus PCI"; exit ;;\n'
+                f'-version) echo "QEMU emulator version {version}"; exit ;;\nesac\n')
+        self.file('qemu-system-x86_64', told.encode() + script).chmod(0o755)
 
     def said(self, scenario):
         env = {'PATH': f'{self.folder}:{os.environ["PATH"]}', 'SCENARIO': scenario}
@@ -107,38 +140,73 @@ class Messages(Case):
 
     def test_arguments(self):
         for words in ('--bogus', 'x', '--memory', '--memory 5', '--memory M', '--memory 1Mx', '--memory 1M,x=y',
-                      '--memory 3G', '--memory 2049M', '--memory 0M', '--memory -1M', '--depth 3', '--help=1',
-                      'x -- y'):
+                      '--memory 65G', '--memory 65537M', '--memory 0M', '--memory -1M', '--depth 3', '--help=1',
+                      'x -- y', '--socket s', '--vfio-user', '--vfio-user --socket s x',
+                      '--vfio-user --socket s -- -x'):
             with self.subTest(words):
                 ended = run(program(), *words.split())
                 self.ends(ended, 72, b'')
                 self.assertIn(b'usage: nvme-model --qemu ', ended.err)
         self.assertTrue(run(program(), '--help').out.startswith(b'usage: nvme-model --qemu '))
+        self.ends(run(program(), '--vfio-user', '--socket', 'x' * 107), 72, b'',
+                  b'nvme-model: ' + b'x' * 107 + b': the path is too long for a socket\n')
 
     def test_launcher(self):
         shutil.copy(program(), installed().parent.parent / 'lib/nvme-model/qemu')
-        self.assertTrue(run(installed(), '--qemu', '--help').out.startswith(b'usage: nvme-model --qemu '))
-        self.assertTrue(run(installed(), '--no-notice', '--qemu', 'true').err.endswith(b'See nvme-model(1).\n'))
+        for option in '--qemu', '--vfio-user':
+            self.assertTrue(run(installed(), option, '--help').out.startswith(b'usage: nvme-model --qemu '))
+            self.assertIn(b'See nvme-model(1).\n', run(installed(), '--no-notice', option, 'true').err)
+
+    def ended(self, script, *words, **more):
+        """Runs the program over a stand-in with this script."""
+        self.stand_in(script, **more)
+        return run(program(), *words, env={'PATH': f'{self.folder}:{os.environ["PATH"]}'})
 
     def test_ends(self):
-        def ended(script, *words):
-            self.file('qemu-system-x86_64', b'#!/bin/sh\n' + script)
-            return run(program(), *words, env={'PATH': f'{self.folder}:{os.environ["PATH"]}'})
-        self.ends(ended(b'exit 5'), 5, b'', b'')
-        self.ends(ended(b'kill -9 $$'), 137, b'', b'')
-        self.assertRegex(ended(b'echo "$*"', '--memory', '2G', '--', '-x', 'y z').out,
-                         rb'-object \S+,share=on,size=2G( -device x-pci-proxy-dev,fd=\d+){2} -x y z\n')
-        self.file('qemu-system-x86_64', b'#!/bin/sh\necho runs >&2; exec sleep 1000')
-        running = Running(program(), env={'PATH': f'{self.folder}:{os.environ["PATH"]}'})
-        running.comes(b'runs\n')
-        running.process.terminate()
-        self.assertEqual(running.end().status, -signal.SIGTERM)
+        for devices in 'x-pci-proxy-dev', 'vfio-user-pci':
+            with self.subTest(devices):
+                self.ends(self.ended(b'exit 5', devices=devices), 5, b'', b'')
+                self.ends(self.ended(b'kill -9 $$', devices=devices), 137, b'', b'')
+                self.stand_in(b'echo runs >&2; exec sleep 1000', devices=devices)
+                running = Running(program(), env={'PATH': f'{self.folder}:{os.environ["PATH"]}'})
+                running.comes(b'runs\n')
+                running.process.terminate()
+                self.assertEqual(running.end().status, -signal.SIGTERM)
         self.ends(run(program(), env={'PATH': '/none'}), 127, b'',
                   b'nvme-model: qemu-system-x86_64: No such file or directory\n')
         self.ends(run(program(), '--subsystem', '/none'), 72, b'', b'nvme-model: /none: No such file or directory\n')
         bad = run(program(), '--subsystem', self.file('bad.toml', b'version = 9\n'))
         self.ends(bad, 72, b'')
         self.assertTrue(bad.err.startswith(b'nvme-model: out of range'), bad)
+
+    def test_options_of_qemu(self):
+        words = '--memory', '2G', '--', '-x', 'y z'
+        self.assertRegex(self.ended(b'echo "$*"', *words).out,
+                         rb'-object \S+,share=on,size=2G( -device x-pci-proxy-dev,fd=\d+){2} -x y z\n')
+        said = self.ended(b'echo "$*"; ls /tmp/nvme-model.*', *words, devices='vfio-user-pci').out.decode()
+        device = (r'-device \{"driver":"vfio-user-pci","id":"nvme-model-%d",'
+                  r'"socket":\{"type":"unix","path":"(\S+)/%d"\}\}')
+        found = re.search(rf'-object \S+,share=on,size=2G {device % (0, 0)} {device % (1, 1)} -x y z\n', said)
+        self.assertTrue(found, said)
+        # (the sockets were there, and aren't left)
+        self.assertEqual(found[1], found[2])
+        self.assertRegex(said, r'(?m)^0\n1$')
+        self.assertFalse(os.path.exists(found[1]))
+
+    def test_other_versions(self):
+        # where it can't be done, one sentence says so
+        proxied = {'devices': 'x-pci-proxy-dev'}
+        for words, more, sentence in (
+                ((), {'devices': 'e1000'}, b'this QEMU has no vfio-user-pci: install QEMU 10.1 or later'),
+                ((), {**proxied, 'version': '10.0.3 (Debian)'}, b'without KVM, x-pci-proxy-dev ends this '
+                 b'QEMU: install QEMU 10.1 or later, for vfio-user-pci'),
+                (('--', '-m', '1G', '-daemonize'), proxied, b'-daemonize: QEMU needs this program all the time, '
+                 b'so start nvme-model --vfio-user first')):
+            with self.subTest(sentence):
+                self.ends(self.ended(b'exit 5', *words, **more), 72, b'', b'nvme-model: ' + sentence + b'\n')
+        self.ends(self.ended(b'exit 5', '--', '-accel', 'kvm', **proxied, version='10.0.3'), 5, b'', b'')
+        for version in '7.0.0', '8.1.5 (x)', 'none':
+            self.ends(self.ended(b'exit 5', **proxied, version=version), 5, b'', b'')
 
 
 def kernel():
@@ -162,9 +230,16 @@ def why_not():
         return 'there is no kernel with its modules: NVME_TEST_KERNEL and NVME_TEST_MODULES name them'
     if any(pathlib.Path(kernel()[1]).rglob('nvme*.ko.zst')):
         return 'the modules of the kernel are packed in a way that Python does not know'
-    if b'x-pci-proxy-dev' not in run('qemu-system-x86_64', '-device', 'help').out:
-        return 'this QEMU has no x-pci-proxy-dev'
+    if not devices():
+        return 'this QEMU has neither vfio-user-pci nor x-pci-proxy-dev'
     return None
+
+
+@functools.lru_cache(maxsize=None)
+def devices():
+    """Returns which of the two devices QEMU has that reach another process."""
+    said = run('qemu-system-x86_64', '-device', 'help').out
+    return [name for name in (b'vfio-user-pci', b'x-pci-proxy-dev') if name in said]
 
 
 def module(name):
@@ -205,6 +280,7 @@ def initial_files():
     for name, data in needed.items():
         (root / 'modules' / name).write_bytes(data)
     (root / 'modules/order').write_text(' '.join(needed))
+    (root / 'plugged.sh').write_text(PLUGGED)
     (root / 'init').write_text(INIT)
     (root / 'init').chmod(0o755)
     packed = process_folder() / 'guest.cpio'
@@ -255,11 +331,14 @@ class Drivers(ModelCase):
         self.assertEqual([error[2:] for error in re.findall(ERROR, summary)], [('6001', 'ffff', '0')] * 2)
 
     def test_linux(self):
+        # (Without KVM, the older device has no interrupts. A busy machine fails the kernel's check of the timer.)
+        is_new = b'vfio-user-pci' in devices()
         summary = self.boot('-serial', f'file:{self.console}', '-serial', f'file:{self.results}',
-                            '-kernel', kernel()[0], '-initrd', initial_files(),
-                            '-append', 'console=ttyS0 irqpoll nolapic_timer panic=-1')
+                            *['-smp', '2'] * is_new, '-kernel', kernel()[0], '-initrd', initial_files(), '-append',
+                            'console=ttyS0 panic=-1 no_timer_check' + ' irqpoll nolapic_timer' * (not is_new))
         console = self.console.read_text(errors='replace')
-        self.assertEqual(console.count('IO queues not created'), 3, console[-3000:])
+        self.assertEqual(len(re.findall('IO queues (?:not created|lost)', console)), 3, console[-3000:])
+        self.assertEqual(re.findall(r'(?i)nvme.*(?:timeout|timed out|dead|abort)', console), [])
         script, logs = self.results.read_text().split('END OF SCRIPT\n')
         wanted = self.model('sh', TOP / 'tests/guest.sh', limit=60)
         self.assertEqual(difference('guest', wanted.out, script.encode()), [], console[-3000:])
@@ -270,3 +349,45 @@ class Drivers(ModelCase):
         self.assertEqual(errors, re.findall(ERROR, summary))
         refused = [smart['num_err_log_entries'] for smart in pages[1::2]]
         self.assertEqual(refused, [counts[2] for counts in re.findall(COUNTS, summary)])
+
+    def test_plugged(self):
+        # a controller is unplugged, and plugged in again, in two machines one after the other
+        if b'vfio-user-pci' not in devices():
+            self.skipTest('this QEMU has no vfio-user-pci')
+        server = Running(program(), '--vfio-user', '--socket', self.folder / 's', '--subsystem', self.subsystem)
+        self.addCleanup(server.process.kill)
+        server.comes(b's1\n')
+        device = {'driver': 'vfio-user-pci', 'bus': 'first', 'id': 'own',
+                  'socket': {'type': 'unix', 'path': f'{self.folder}/s0'}}
+        for nsid in 2, 4:
+            machine = Running(
+                'qemu-system-x86_64', '-nodefaults', '-display', 'none', '-no-reboot', '-m', '256M',
+                '-object', 'memory-backend-memfd,id=ram,share=on,size=256M', '-machine', 'q35,memory-backend=ram',
+                '-device', 'pcie-root-port,id=first,chassis=1', '-device', json.dumps(device),
+                '-qmp', f'unix:{self.folder}/monitor,server=on,wait=off', '-serial', f'file:{self.console}',
+                '-serial', 'stdio', '-kernel', kernel()[0], '-initrd', initial_files(),
+                '-append', 'console=ttyS0 panic=-1 no_timer_check plugged')
+            self.addCleanup(machine.process.kill)
+            machine.comes(b'PLUGGED\n', limit=280)
+            self.order('device_del', id='own')
+            machine.comes(b'UNPLUGGED\n', limit=280)
+            self.order('device_add', **device)
+            machine.comes(b'END\n', limit=280)
+            ended = machine.end(280)
+            self.assertEqual(ended.status, 0, ended)
+            self.assertRegex(ended.out.decode(), rf'nsid:{nsid}\n1\nPLUGGED\nUNPLUGGED\n(\[.*\n)+END\n$')
+        server.process.terminate()
+        self.ends(server.end(), -signal.SIGTERM)
+
+    def order(self, name, **arguments):
+        """Tells QEMU's monitor a command, and waits for its answer."""
+        with socket.socket(socket.AF_UNIX) as monitor:
+            monitor.connect(f'{self.folder}/monitor')
+            lines = monitor.makefile('rw')
+            for command in {'execute': 'qmp_capabilities'}, {'execute': name, 'arguments': arguments}:
+                lines.write(json.dumps(command))
+                lines.flush()
+                answer = {}
+                while not answer.keys() & {'return', 'error'}:
+                    answer = json.loads(lines.readline())
+                self.assertEqual(answer, {'return': {}})

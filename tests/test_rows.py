@@ -123,7 +123,7 @@ def rows_of(path):
             answered = False
         elif line and not line.startswith("#"):
             if answered:
-                raise ValueError(f"{path}:{number}: no operation stands above this line")
+                raise ValueError(f"{path}:{number}: there is no operation above this line")
             rows[-1] = (*rows[-1][:2], line)
             answered = True
     if not rows:

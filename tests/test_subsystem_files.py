@@ -21,7 +21,7 @@ def refused(text):
     return f'refused: {text}'
 
 
-# For each number, a text of the demonstration file, its replacement, in which # stands for the number, the key, and the
+# For each number, a text of the built-in file, its replacement, in which # stands for the number, the key, and the
 # least and the greatest value. docs/SUBSYSTEM-FILE.md has the ranges.
 GREATEST = 2 ** 63 - 1
 LAST = 'elpe = 0'

@@ -170,7 +170,7 @@ class Builds(Copy):
         total = len(run('tools/crates').out.splitlines())
         self.assertGreater(total, 10)
         ended = self.script('--build')
-        self.says(ended, 0, b'the proved program stands: %d crates' % total)
+        self.says(ended, 0, b'built and proved: %d crates' % total)
         self.assertIn(b'nvme-script: building nv_bits, 1 of %d\n' % total, ended.err)
         self.is_proved()
         self.says(self.script('--build'), 0, b'nothing to do')
@@ -203,7 +203,7 @@ class Unproved(Copy):
     def test_sources_that_rt_refuses(self):
         self.answer(1, b'error: a type is wrong\nrun=none proved=no\n')
         ended = self.script()
-        self.says(ended, 72, b'rt gave no run of these sources')
+        self.says(ended, 72, b'rt did not run these sources')
         self.assertIn(b'\nerror: a type is wrong\n', ended.err)
 
     def test_no_rt(self):

@@ -1,0 +1,144 @@
+/* A controller as a PCI function: its configuration space, registers, rings and interrupts. A guest's writes come here,
+   so no number in them is trusted. None of this is proved. */
+#include "function.h"
+#include <sys/time.h>
+
+/* Registers of the configuration space, and their bits. */
+enum { COMMAND = 4, STATUS = 6, CAPABILITY = 0x34, MESSAGES = 0x42 };
+enum { IS_MASTER = 1 << 2, HAS_NO_PIN = 1 << 2, IS_WAITING = 1 << 3, SENDS_MESSAGES = 1 };
+enum { MOST_WAIT = 20000 }; /* how many microseconds an event counter may hold this process up */
+
+/* The configuration after a reset: QEMU's own numbers, class 010802h, INTA, and a capability of one message (MSI). */
+static const unsigned char config_at_reset[CONFIG_SIZE] = {
+    [0] = 0x36, 0x1b, 0x10, [STATUS] = 0x10,     [8] = 2,    2,          8, 1,   [0x2c] = 0xf4,
+    0x1a,       0,    0x11, [CAPABILITY] = 0x40, [0x3d] = 1, [0x40] = 5, 0, 0x80};
+/* The bits that can be written: of Command, the BAR, the interrupt line, and the message. */
+static const unsigned char config_mask[CONFIG_SIZE] = {
+    [COMMAND] = 6, 4,   [0x11] = 0xc0, 255, 255, [0x3c] = 255, [MESSAGES] = 1, [0x44] = 0xfc, 255, 255, 255,
+    255,           255, 255,           255, 255, 255};
+
+static uint32_t read_register(const struct function *function, uint32_t offset) {
+    return nvme_machine_read32(function->machine, function->number, offset);
+}
+
+/* Adds 1 to an event counter, or clears it. If the other process made it so that this waits, the timer interrupts. */
+static int use_counter(int counter, int is_write) {
+    const struct itimerval limit = {{0, MOST_WAIT}, {0, MOST_WAIT}}, none = {{0, 0}, {0, 0}};
+    uint64_t count = 1;
+    setitimer(ITIMER_REAL, &limit, NULL);
+    ssize_t length = is_write ? write(counter, &count, sizeof count) : read(counter, &count, sizeof count);
+    int is_used = length == sizeof count || (length < 0 && errno == EAGAIN);
+    setitimer(ITIMER_REAL, &none, NULL);
+    return is_used;
+}
+
+/* Returns whether a descriptor is an event counter. (This process writes nothing else for a client.) */
+int is_counter(int file) {
+    static const char wanted[] = "anon_inode:[eventfd]";
+    char path[40], name[sizeof wanted] = "";
+    snprintf(path, sizeof path, "/proc/self/fd/%d", file);
+    return readlink(path, name, sizeof name) == sizeof wanted - 1 && memcmp(name, wanted, sizeof wanted - 1) == 0;
+}
+
+/* Puts a copy of an event counter, or none (-1), in the place of the former one. */
+void set_counter(struct function *function, int *counter, int file) {
+    if (*counter >= 0)
+        close(*counter);
+    *counter = fcntl(file, F_DUPFD_CLOEXEC, 0);
+    function->is_masked &= counter != &function->pin;
+}
+
+/* Raises the interrupt if completions wait: by a message, or by the pin. What can't be raised yet is later. */
+void raise_interrupt(struct function *function) {
+    int has_message = function->bell >= 0, *counter = has_message ? &function->bell : &function->pin;
+    int is_off = function->config[COMMAND + 1] & HAS_NO_PIN || function->config[MESSAGES] & SENDS_MESSAGES;
+    if (function->posted == function->head || *counter < 0 || (!has_message && (is_off || function->is_masked)))
+        return;
+    function->is_masked |= !has_message;
+    if (!use_counter(*counter, 1))
+        set_counter(function, counter, -1);
+}
+
+/* The other process has seen the pin's interrupt. */
+void see_interrupt(struct function *function) {
+    if (!use_counter(function->unmask, 0))
+        set_counter(function, &function->unmask, -1);
+    function->is_masked = 0;
+    raise_interrupt(function);
+}
+
+/* Takes one waiting entry of the guest's ring, if the function may access the guest's memory. */
+void take_turn(struct function *function) {
+    uint64_t submission = read_register(function, NVME_ASQ) | (uint64_t)read_register(function, NVME_ASQ + 4) << 32;
+    uint64_t completion = read_register(function, NVME_ACQ) | (uint64_t)read_register(function, NVME_ACQ + 4) << 32;
+    uint32_t power = read_register(function, NVME_CC) >> 7 & 15, less_one = read_register(function, NVME_AQA);
+    function->has_more =
+        function->fetched != function->tail && function->config[COMMAND] & IS_MASTER &&
+        turn(function, submission + 64 * function->fetched, completion + 16 * function->posted, SMALL_PAGE << power);
+    if (!function->has_more)
+        return;
+    function->fetched = (function->fetched + 1) % ((less_one & 0xfff) + 1);
+    function->posted = (function->posted + 1) % ((less_one >> 16 & 0xfff) + 1);
+    function->has_more = function->fetched != function->tail;
+    raise_interrupt(function);
+}
+
+/* Keeps a doorbell's value, unless the controller ignores it: a tail that names no slot, or a head that names none of
+   the completions that wait. */
+static void ring_doorbell(struct function *function, uint32_t offset, uint32_t value) {
+    uint32_t less_one = read_register(function, NVME_AQA), slots = (less_one >> 16 & 0xfff) + 1;
+    uint32_t waiting = (function->posted + slots - function->head) % slots;
+    if (!(read_register(function, NVME_CSTS) & 1))
+        return;
+    if (offset == NVME_TAIL_DOORBELL && value <= (less_one & 0xfff))
+        function->tail = value;
+    else if (offset == NVME_HEAD_DOORBELL && value < slots && (value + slots - function->head) % slots <= waiting)
+        function->head = value;
+    take_turn(function);
+}
+
+static void write_register(struct function *function, uint32_t offset, uint32_t value) {
+    nvme_machine_write32(function->machine, function->number, offset, value);
+    if (offset == NVME_CC && !(value & 1))
+        function->fetched = function->tail = function->posted = function->head = 0;
+    else if (offset == NVME_TAIL_DOORBELL || offset == NVME_HEAD_DOORBELL)
+        ring_doorbell(function, offset, value);
+}
+
+static unsigned char byte_at(const struct function *function, int is_config, uint32_t offset) {
+    if (!is_config)
+        return read_register(function, offset - offset % 4) >> offset % 4 * 8;
+    return function->config[offset] | (offset == STATUS && function->posted != function->head ? IS_WAITING : 0);
+}
+
+/* Writes the configuration, by which the function may reach the memory, or raise its interrupt, from now on. */
+static void write_config(struct function *function, uint32_t offset, uint32_t count, const unsigned char *bytes) {
+    for (uint32_t at = offset; at < offset + count; at++)
+        function->config[at] ^= (function->config[at] ^ bytes[at - offset]) & config_mask[at];
+    take_turn(function);
+    raise_interrupt(function);
+}
+
+/* Reads or writes the configuration or registers, of those only whole dwords. Returns whether they exist. */
+int use(struct function *function, int is_config, uint64_t offset, uint64_t count, unsigned char *bytes, int is_write) {
+    uint64_t size = is_config ? CONFIG_SIZE : BAR_SIZE;
+    if (count == 0 || count > size || offset > size - count)
+        return 0;
+    if (is_write && is_config)
+        write_config(function, offset, count, bytes);
+    for (uint32_t at = 0; is_write && !is_config && (offset | count) % 4 == 0 && at < count; at += 4)
+        write_register(function, offset + at, number_at(bytes + at, 4));
+    for (uint32_t at = 0; !is_write && at < count; at++)
+        bytes[at] = byte_at(function, is_config, offset + at);
+    return 1;
+}
+
+/* Resets a function, and clears CC: first EN, then the fields that can change only while EN is 0. */
+void reset(struct function *function) {
+    memcpy(function->config, config_at_reset, CONFIG_SIZE);
+    if (function->protocol == &proxy)
+        function->config[STATUS] = function->config[CAPABILITY] = 0;
+    write_register(function, NVME_CC, 0);
+    write_register(function, NVME_CC, 0);
+    function->is_masked = function->has_more = 0;
+}

@@ -1,0 +1,121 @@
+/* The protocol vfio-user, by which QEMU 10.1 and later, and other programs, use a PCI function of another process: a
+   message is a header and a payload, in little-endian numbers. Nothing that a client sends is trusted. */
+#include "function.h"
+
+enum { VERSION = 1, DMA_MAP, DMA_UNMAP, DEVICE_INFO, REGION_INFO, IRQ_INFO = 7, SET_IRQS, REGION_READ, REGION_WRITE };
+enum { RESET = 13, COMMANDS };
+/* The flags of messages, of the device, of memory and regions, of interrupts, and of SET_IRQS. */
+enum { KIND = 15, IS_ANSWER = 1, WANTS_NONE = 0x10, IS_ERROR = 0x20, CAN_RESET = 1, IS_PCI = 2 };
+enum { MAY_READ = 1, MAY_WRITE = 2, UNMAP_ALL = 2, HAS_COUNTER = 1, IS_MASKABLE = 2, MASKS_ITSELF = 4, IS_FIXED = 8 };
+enum { WITH_NONE = 1, WITH_COUNTER = 4, MASK = 8, UNMASK = 0x10, TRIGGER = 0x20 };
+/* The regions and interrupts of a PCI function, and which this one has. (It also tells of the absent MSI-X.) */
+enum { REGIONS = 9, BAR_REGION = 0, CONFIG_REGION = 7, INTERRUPTS = 5, PIN = 0, MESSAGES = 1, MESSAGES_X = 2 };
+
+/* The sizes of the commands' payloads, of which two can be longer. */
+static const uint32_t payload_sizes[COMMANDS] = {
+    [VERSION] = 4,   [DMA_MAP] = 32,  [DMA_UNMAP] = 24,   [DEVICE_INFO] = 16, [REGION_INFO] = 32,
+    [IRQ_INFO] = 16, [SET_IRQS] = 20, [REGION_READ] = 16, [REGION_WRITE] = 16};
+
+static uint64_t length(const unsigned char *header) {
+    uint32_t size = number_at(header + 4, 4), kind = number_at(header + 8, 4) & KIND;
+    return size >= HEADER && size <= MOST_MESSAGE && kind == 0 ? size : 0;
+}
+
+/* The functions for commands make the answer's payload, and return its size, or minus the number of an error. */
+static int tell_version(unsigned char *payload, uint32_t size) {
+    static const char version[] =
+        "\0\0\0\0{\"capabilities\":{\"max_msg_fds\":8,\"max_data_xfer_size\":16384,\"max_dma_maps\":256}}";
+    static_assert(MOST_FILES == 8 && MOST_ACCESS == 16384 && MOST_SECTIONS == 256, "the version tells the limits");
+    if (number_at(payload, 2) != 0 || (size > 4 && payload[size - 1] != '\0'))
+        return -EINVAL;
+    memcpy(payload, version, sizeof version);
+    return sizeof version;
+}
+
+static int map(struct function *function, const unsigned char *payload) {
+    uint32_t flags = number_at(payload + 4, 4);
+    struct section section = {number_at(payload + 16, 8), number_at(payload + 24, 8), number_at(payload + 8, 8),
+                              function->files[0], flags == (MAY_READ | MAY_WRITE)};
+    return (flags != MAY_READ && !section.is_writable) || function->file_count > 1 ? -EINVAL
+                                                                                   : -add_section(function, section);
+}
+
+/* (All sections at once have a flag of their own, and the size 0.) */
+static int unmap(struct function *function, const unsigned char *payload) {
+    uint64_t size = number_at(payload + 16, 8);
+    int is_valid = number_at(payload + 4, 4) == (size > 0 ? 0 : UNMAP_ALL);
+    int fault = is_valid ? drop_sections(function, number_at(payload + 8, 8), size) : EINVAL;
+    return fault ? -fault : 24;
+}
+
+static int tell_region(unsigned char *payload) {
+    uint32_t index = number_at(payload + 8, 4), size = index == BAR_REGION      ? BAR_SIZE
+                                                       : index == CONFIG_REGION ? CONFIG_SIZE
+                                                                                : 0;
+    const uint32_t words[] = {32, size ? MAY_READ | MAY_WRITE : 0, index, 0, size, 0, 0, 0};
+    return index < REGIONS ? (int)put_dwords(payload, words, 8) : -EINVAL;
+}
+
+static int tell_interrupt(unsigned char *payload) {
+    uint32_t index = number_at(payload + 8, 4), flags = index == PIN ? IS_MASKABLE | MASKS_ITSELF : IS_FIXED;
+    const uint32_t words[] = {16, HAS_COUNTER | flags, index, index != MESSAGES_X};
+    return index <= MESSAGES_X ? (int)put_dwords(payload, words, 4) : -EINVAL;
+}
+
+/* Binds or unbinds an event counter, or masks or unmasks the pin. */
+static int set_interrupts(struct function *function, const unsigned char *payload) {
+    uint32_t flags = number_at(payload + 4, 4), index = number_at(payload + 8, 4), count = number_at(payload + 16, 4);
+    if (index > MESSAGES || number_at(payload + 12, 4) != 0 || count > 1 ||
+        function->file_count > (flags & WITH_COUNTER ? 1 : 0) ||
+        (function->file_count > 0 && !is_counter(function->files[0])))
+        return -EINVAL;
+    if (flags == (TRIGGER | (count ? WITH_COUNTER : WITH_NONE)))
+        set_counter(function, index == PIN ? &function->pin : &function->bell, function->files[0]);
+    else if (flags == (UNMASK | WITH_COUNTER) && index == PIN && count)
+        set_counter(function, &function->unmask, function->files[0]);
+    else if ((flags == (MASK | WITH_NONE) || flags == (UNMASK | WITH_NONE)) && index == PIN && count)
+        function->is_masked = flags == (MASK | WITH_NONE);
+    else
+        return -EINVAL;
+    raise_interrupt(function);
+    return 0;
+}
+
+static int use_region(struct function *function, unsigned char *payload, uint32_t size, int is_write) {
+    uint32_t region = number_at(payload + 8, 4), count = number_at(payload + 12, 4);
+    if ((region != BAR_REGION && region != CONFIG_REGION) || count > MOST_ACCESS ||
+        size != 16 + (is_write ? count : 0) ||
+        !use(function, region == CONFIG_REGION, number_at(payload, 8), count, payload + 16, is_write))
+        return -EINVAL;
+    return 16 + (is_write ? 0 : (int)count);
+}
+
+static int serve_command(struct function *function, uint32_t command, unsigned char *payload, uint32_t size) {
+    static const uint32_t device[] = {16, CAN_RESET | IS_PCI, REGIONS, INTERRUPTS};
+    uint32_t wanted = command < COMMANDS ? payload_sizes[command] : 0;
+    int can_be_longer = command == VERSION || command == REGION_WRITE;
+    if (wanted == 0 && command != RESET)
+        return -ENOTSUP;
+    if (size < wanted || (size > wanted && !can_be_longer))
+        return -EINVAL;
+    return command == VERSION       ? tell_version(payload, size)
+           : command == DMA_MAP     ? map(function, payload)
+           : command == DMA_UNMAP   ? unmap(function, payload)
+           : command == DEVICE_INFO ? (int)put_dwords(payload, device, 4)
+           : command == REGION_INFO ? tell_region(payload)
+           : command == IRQ_INFO    ? tell_interrupt(payload)
+           : command == SET_IRQS    ? set_interrupts(function, payload)
+           : command == RESET       ? (reset(function), 0)
+                                    : use_region(function, payload, size, command == REGION_WRITE);
+}
+
+static uint32_t serve(struct function *function) {
+    unsigned char *message = function->message;
+    uint32_t command = number_at(message + 2, 2), flags = number_at(message + 8, 4);
+    int result = serve_command(function, command, message + HEADER, function->come - HEADER);
+    uint32_t error = result < 0 ? (uint32_t)-result : 0, size = HEADER + (error ? 0 : (uint32_t)result);
+    put_dwords(message + 4, (uint32_t[]){size, error ? IS_ANSWER | IS_ERROR : IS_ANSWER, error}, 3);
+    return flags & WANTS_NONE ? 0 : size;
+}
+
+const struct protocol vfio_user = {length, serve};

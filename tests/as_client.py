@@ -1,0 +1,295 @@
+"""A client of the protocol vfio-user, as the tests of `./nvme-model --vfio-user` need it: it sends what QEMU 11.1
+sends, or anything else, and keeps a second machine of the library beside the server's, whose registers and memory must
+agree with the server's in each byte."""
+
+import array
+import importlib.util
+import mmap
+import os
+import select
+import socket
+import struct
+import time
+
+PAGE = 4096
+(VERSION, DMA_MAP, DMA_UNMAP, DEVICE_INFO, REGION_INFO, IRQ_INFO, SET_IRQS, REGION_READ, REGION_WRITE,
+ RESET) = 1, 2, 3, 4, 5, 7, 8, 9, 10, 13
+REQUEST, ANSWER, WANTS_NONE, ERROR = 0, 1, 0x10, 0x20
+BAR, CONFIG = 0, 7
+PIN, MESSAGES = 0, 1
+READ, WRITE = 1, 2
+BIND, UNBIND, MASK, UNMASK, BIND_UNMASK = 0x24, 0x21, 0x09, 0x11, 0x14
+CC, CSTS, AQA, ASQ, ACQ, TAIL, HEAD = 0x14, 0x1c, 0x24, 0x28, 0x30, 0x1000, 0x1004
+COMMAND, STATUS, BASE, MESSAGE_CONTROL = 4, 6, 0x10, 0x42
+MASTER, NO_INTERRUPT, ENABLED = 6, 0x400, 0x0046_0001
+QEMU_CAPABILITIES = (b'{"capabilities": {"pgsizes": 4096, "max_msg_fds": 16, "max_dma_maps": 65535, '
+                     b'"max_data_xfer_size": 1048576, "migration": {"pgsize": 4096, "max_bitmap_size": 8192}, '
+                     b'"write_multiple": true}}\0')
+
+
+class Refused(Exception):
+    """The server refused a request with this number of an error."""
+
+
+def counter():
+    """Returns an event counter whose reads don't wait. (Python's `os` has `eventfd` from 3.10 on.)"""
+    import ctypes
+    return ctypes.CDLL(None).eventfd(0, os.O_NONBLOCK | os.O_CLOEXEC)
+
+
+def is_raised(number, seconds=0):
+    """Returns whether an event counter was raised since the last call, or is raised within some time."""
+    return bool(select.select([number], [], [], seconds)[0]) and os.read(number, 8) != b''
+
+
+class Client:
+    """A connection to a function's socket, which answers within ten seconds."""
+
+    def __init__(self, path):
+        self.socket = socket.socket(socket.AF_UNIX)
+        self.socket.settimeout(10)
+        self.socket.connect(os.fspath(path))
+        self.number = 0
+
+    def close(self):
+        self.socket.close()
+
+    def say(self, command, payload=b'', files=(), flags=REQUEST, size=None):
+        """Sends a message, with descriptors at its first byte."""
+        self.number = (self.number + 1) % 2 ** 16
+        size = 16 + len(payload) if size is None else size
+        header = struct.pack('<HHIII', self.number, command, size, flags, 0)
+        with_files = [(socket.SOL_SOCKET, socket.SCM_RIGHTS, array.array('i', files))] if files else []
+        self.socket.sendmsg([header + payload], with_files)
+
+    def receive(self, length):
+        data = b''
+        while len(data) < length:
+            piece = self.socket.recv(length - len(data), socket.MSG_WAITALL)
+            if not piece:
+                raise EOFError('the server closed the connection')
+            data += piece
+        return data
+
+    def heard(self):
+        """Returns the number, command, flags and error of the next answer, and its payload."""
+        number, command, size, flags, error = struct.unpack('<HHIII', self.receive(16))
+        return number, command, flags, error, self.receive(size - 16)
+
+    def ask(self, command, payload=b'', files=()):
+        """Sends a request, and returns the payload of its answer."""
+        self.say(command, payload, files)
+        number, answered, flags, error, reply = self.heard()
+        assert (number, answered) == (self.number, command), (number, answered)
+        if flags == ANSWER | ERROR:
+            assert error and not reply, (error, reply)
+            raise Refused(error)
+        assert (flags, error) == (ANSWER, 0), (flags, error)
+        return reply
+
+    def refusal(self, *request, **more):
+        """Returns with which error a request is refused, or 0."""
+        try:
+            self.ask(*request, **more)
+        except Refused as refused:
+            return refused.args[0]
+        return 0
+
+    def greet(self, capabilities=QEMU_CAPABILITIES):
+        return self.ask(VERSION, struct.pack('<HH', 0, 0) + capabilities)
+
+    def map(self, address, size, file=None, offset=0, flags=READ | WRITE):
+        payload = struct.pack('<IIQQQ', 32, flags, offset, address, size)
+        return self.refusal(DMA_MAP, payload, files=[] if file is None else [file])
+
+    def unmap(self, address, size, flags=0):
+        return self.refusal(DMA_UNMAP, struct.pack('<IIQQ', 24, flags, address, size))
+
+    def read(self, region, offset, count):
+        reply = self.ask(REGION_READ, struct.pack('<QII', offset, region, count))
+        assert reply[:16] == struct.pack('<QII', offset, region, count) and len(reply) == 16 + count
+        return reply[16:]
+
+    def write(self, region, offset, data, posted=False):
+        payload = struct.pack('<QII', offset, region, len(data)) + data
+        if posted:
+            self.say(REGION_WRITE, payload, flags=WANTS_NONE)
+        else:
+            assert self.ask(REGION_WRITE, payload) == payload[:16]
+
+    def set_irqs(self, flags, index, count=1, file=None, start=0):
+        payload = struct.pack('<5I', 20, flags, index, start, count)
+        return self.refusal(SET_IRQS, payload, files=[] if file is None else [file])
+
+    def config(self, offset, length=4):
+        return int.from_bytes(self.read(CONFIG, offset, length), 'little')
+
+    def set_config(self, offset, value, length=4):
+        self.write(CONFIG, offset, value.to_bytes(length, 'little'))
+
+    def register(self, offset, size=4):
+        return int.from_bytes(self.read(BAR, offset, size), 'little')
+
+    def set_register(self, offset, value, size=4):
+        """Writes a register as QEMU does, without an answer."""
+        self.write(BAR, offset, value.to_bytes(size, 'little'), posted=True)
+
+    def is_closed(self):
+        """Returns whether the server closes the connection, after answers that nobody reads."""
+        try:
+            while self.socket.recv(65536):
+                pass
+        except ConnectionError:
+            pass
+        except socket.timeout:
+            return False
+        return True
+
+    def is_silent(self, seconds=0.2):
+        """Returns whether nothing comes for some time."""
+        return not select.select([self.socket], [], [], seconds)[0]
+
+
+def memory_file(length):
+    """Returns a file of memory without seals."""
+    file = os.memfd_create('ram', os.MFD_CLOEXEC | os.MFD_ALLOW_SEALING)
+    os.ftruncate(file, length)
+    return file
+
+
+def machine_of(place, file=None):
+    """Returns a machine of the library in this folder, by its Python module."""
+    found = importlib.util.spec_from_file_location('nvme_controller', place / 'nvme_controller.py')
+    module = importlib.util.module_from_spec(found)
+    found.loader.exec_module(module)
+    return module.Machine(file)
+
+
+class Piece:
+    """A piece of a guest's memory."""
+
+    def __init__(self, address, length, file=None, offset=0):
+        self.address, self.length = address, length
+        self.file = memory_file(offset + length) if file is None else file
+        self.bytes = mmap.mmap(self.file, length, offset=offset)
+
+
+class Guest(Client):
+    """A client with memory and a driver. Beside it there may be a machine of the library, to which the same is done;
+    `ctrl` is the controller's number in it."""
+
+    def __init__(self, path, machine=None, ctrl=0, layout=((0, 64 * PAGE),), command=MASTER):
+        super().__init__(path)
+        self.machine, self.ctrl, self.pieces = machine, ctrl, []
+        self.greet()
+        for address, length in layout:
+            self.add(Piece(address, length))
+        self.set_config(COMMAND, command, 2)
+
+    def close(self):
+        super().close()
+        for piece in self.pieces:
+            os.close(piece.file)
+        self.pieces = []
+
+    def add(self, piece):
+        self.pieces.append(piece)
+        assert self.map(piece.address, piece.length, piece.file) == 0
+        end = max(piece.address + piece.length for piece in self.pieces)
+        flags = mmap.MAP_PRIVATE | mmap.MAP_ANONYMOUS | 0x4000  # (MAP_NORESERVE)
+        self.flat = mmap.mmap(-1, end, flags=flags)
+
+    def at(self, address, length):
+        """Returns the bytes of the guest's memory at an address, which can be written."""
+        for piece in self.pieces:
+            if piece.address <= address and address + length <= piece.address + piece.length:
+                start = address - piece.address
+                return memoryview(piece.bytes)[start:start + length]
+        raise IndexError(hex(address))
+
+    def set(self, offset, value, size=4):
+        """Writes a register, also that of the machine, which then takes its turn. All memory must then agree."""
+        if not self.machine:
+            self.set_register(offset, value, size)
+            self.register(CSTS)
+            return
+        for piece in self.pieces:
+            self.flat[piece.address:piece.address + piece.length] = piece.bytes[:]
+        self.set_register(offset, value, size)
+        for part in range(0, size, 4):
+            self.machine.write32(self.ctrl, offset + part, value >> 8 * part & 0xffff_ffff)
+        if offset in (TAIL, HEAD):
+            page = PAGE << (self.machine.read32(self.ctrl, CC) >> 7 & 15)
+            whole = len(self.flat) // page * page
+            self.machine.turn(self.ctrl, memoryview(self.flat)[:whole], page)
+        self.agree()
+
+    def agree(self):
+        """Compares the registers, and each byte of the memory."""
+        for offset in 0, 4, 8, CC, CSTS, AQA, ASQ, ASQ + 4, ACQ, ACQ + 4, TAIL, HEAD:
+            got, wanted = self.register(offset), self.machine.read32(self.ctrl, offset)
+            assert got == wanted, (hex(offset), hex(got), hex(wanted))
+        for piece in self.pieces:
+            wanted = self.flat[piece.address:piece.address + piece.length]
+            assert piece.bytes[:] == wanted, (hex(piece.address), differing(piece.bytes[:], wanted))
+
+    def enable(self, rings=(0, PAGE), slots=(16, 16), power=0):
+        """Enables the controller with pages of 4,096 bytes, doubled `power` times."""
+        self.rings, self.slots, self.tail, self.head, self.phase = rings, slots, 0, 0, 1
+        attributes = slots[0] - 1 | slots[1] - 1 << 16
+        for offset, value in (CC, 0), (AQA, attributes), (ASQ, rings[0]), (ACQ, rings[1]), (CC, ENABLED | power << 7):
+            self.set(offset, value, 8 if offset in (ASQ, ACQ) else 4)
+
+    def put(self, opcode, first=0, second=0, nsid=0, dword10=0, dword11=0, rings=True):
+        """Writes an entry, and rings the tail doorbell."""
+        entry = struct.pack('<BBHIQQQQ6I', opcode, 0, self.tail + 100, nsid, 0, 0, first, second, dword10, dword11,
+                            *[0] * 4)
+        self.at(self.rings[0] + 64 * self.tail, 64)[:] = entry
+        self.tail = (self.tail + 1) % self.slots[0]
+        if rings:
+            self.set(TAIL, self.tail)
+
+    def completion(self):
+        """Returns the next completion's command identifier and status, or nothing if there is none."""
+        data = self.at(self.rings[1] + 16 * self.head, 16)
+        identifier, status = struct.unpack_from('<HH', data, 12)
+        return (identifier - 100, status >> 1 & 0x7ff) if status & 1 == self.phase else None
+
+    def take(self):
+        """Takes the next completion, and returns its status."""
+        found = self.completion()
+        assert found, 'there is no completion'
+        self.head += 1
+        if self.head == self.slots[1]:
+            self.head, self.phase = 0, 1 - self.phase
+        self.set(HEAD, self.head)
+        return found[1]
+
+    def status_of(self, *command, **more):
+        self.put(*command, **more)
+        return self.take()
+
+    def serial(self, page=2 * PAGE):
+        """Returns the serial number in the Identify Controller data."""
+        assert self.status_of(6, page, dword10=1) == 0
+        return bytes(self.at(page + 4, 20)).decode().strip()
+
+    def counters(self):
+        """Binds event counters to the pin and to messages, and returns them."""
+        found = counter(), counter()
+        assert self.set_irqs(BIND, PIN, file=found[0]) == self.set_irqs(BIND, MESSAGES, file=found[1]) == 0
+        return found
+
+
+def differing(got, wanted):
+    """Returns the first offset at which two pieces differ, and what they hold there."""
+    place = next(at for at, (one, other) in enumerate(zip(got, wanted)) if one != other)
+    return hex(place), got[place:place + 16].hex(), wanted[place:place + 16].hex()
+
+
+def until(condition, limit=10):
+    """Returns whether the condition becomes true within this number of seconds."""
+    end = time.monotonic() + limit
+    while not condition() and time.monotonic() < end:
+        time.sleep(0.01)
+    return condition()
