@@ -1,11 +1,17 @@
 # For anyone who looks for a Makefile: each target is a command of README.md.
-.PHONY: help run build library test ci install uninstall
+.PHONY: help run build library test ci stage install uninstall dist
 
 PREFIX = /usr/local
-prefix = $(DESTDIR)$(PREFIX)
-manuals = GUIDE COMMANDS DIFFERENCES SUBSYSTEM-FILE PASSTHROUGH QEMU TRACE EMBEDDING
-parts = $(prefix)/lib/nvme-model
-pages = $(prefix)/share/doc/nvme-script
+# The folder of all that is installed, and that of the programs in C.
+STAGE = out/stage
+CLIENT = out/client
+# The pages of docs/ that are installed, and those that aren't.
+manuals = GUIDE COMMANDS DIFFERENCES SUBSYSTEM-FILE PASSTHROUGH QEMU TRACE EMBEDDING BENCHES PACKAGES SUPPORT
+left_out = ARCHITECTURE|DECISIONS|GLOSSARY|PROOFS|SPEED
+pages = $(STAGE)/share/doc/nvme-script
+# Puts the version into a text, and whether a program or library is the proved one of these sources.
+with_version = sed "s|@VERSION@|$$(cat VERSION)|"
+is_current = tools/stamp is-current $(1) < /dev/null > /dev/null 2>&1
 
 help:
 	@echo 'make run ARGS="OPTION.." < SCRIPT   ./nvme-script: runs a script'
@@ -13,8 +19,9 @@ help:
 	@echo 'make library                        makes the library nvme_controller, in out/library'
 	@echo 'make test                           .ci/run --quick: all tests, unproved'
 	@echo 'make ci                             .ci/run: the gate, with every proof'
-	@echo 'make install                        puts the proved programs and their manual under PREFIX, $(PREFIX)'
-	@echo 'make uninstall                      takes them away'
+	@echo 'make install                        puts what was built, and its manual, under PREFIX, $(PREFIX)'
+	@echo 'make uninstall                      takes it away'
+	@echo 'make dist                           makes packages of what was built, in out/dist'
 
 run:
 	@./nvme-script $(ARGS)
@@ -32,57 +39,63 @@ test:
 ci:
 	@.ci/run
 
-# The programs need nothing else from this folder. (The parts of nvme-model are in lib/nvme-model, next to bin. The
-# library is installed if `make library` made it from these sources.)
-install:
-	@for program in nvme_script nvme_device; do \
-	    tools/stamp is-current $$program < /dev/null > /dev/null 2>&1 || \
-	        { echo 'there are no proved programs: make build' >&2; exit 1; } \
-	done
-	@./nvme-model --help > /dev/null
-	install -D -m 755 crates/nvme_script/out/nvme_script $(prefix)/bin/nvme-script
-	install -D -m 755 out/client/bin/nvme-model $(prefix)/bin/nvme-model
-	install -D -m 755 crates/nvme_device/out/nvme_device $(parts)/nvme_device
-	install -D -m 755 out/client/lib/nvme-model/library.so $(parts)/library.so
-	@if tools/stamp is-current nvme_controller < /dev/null > /dev/null 2>&1 && \
-	    [ -e out/library/libnvme_controller.a ]; then \
-	    ./nvme-model --qemu --help > /dev/null && install -D -m 755 out/client/lib/nvme-model/qemu $(parts)/qemu; \
-	fi
-	install -D -m 644 docs/nvme-script.1 $(prefix)/share/man/man1/nvme-script.1
-	install -D -m 644 docs/nvme-model.1 $(prefix)/share/man/man1/nvme-model.1
-	install -D -m 644 docs/nvme-script.bash $(prefix)/share/bash-completion/completions/nvme-script
-	@$(MAKE) --no-print-directory install-pages
-	@if tools/stamp is-current nvme_controller && [ -e out/library/libnvme_controller.a ]; then \
-	    $(MAKE) --no-print-directory install-library; \
-	fi
-
-# (a link to what isn't installed becomes its text)
-.PHONY: install-pages
-install-pages:
-	install -d $(pages)/examples
-	install -m 644 examples/*.* $(pages)/examples
-	for page in $(manuals); do \
-	    sed -e 's|](\.\./examples/|](examples/|g' -e 's|\[\([^]]*\)\](\.\./[^)]*)|\1|g' \
-	        -e 's|\[\([^]]*\)\](PROOFS\.md[^)]*)|\1|g' docs/$$page.md > $(pages)/$$page.md && \
-	        chmod 644 $(pages)/$$page.md || exit; \
-	done
-
-.PHONY: install-library
-install-library:
-	install -D -m 644 library/nvme_controller.h $(prefix)/include/nvme_controller.h
-	install -D -m 644 out/library/libnvme_controller.a $(prefix)/lib/libnvme_controller.a
-	install -D -m 755 out/library/libnvme_controller.so $(prefix)/lib/libnvme_controller.so
-	install -d $(prefix)/lib/pkgconfig $(prefix)/share/nvme_controller $(pages)/examples/c
-	sed 's|@PREFIX@|$(PREFIX)|' library/nvme_controller.pc.in > $(prefix)/lib/pkgconfig/nvme_controller.pc
-	install -m 644 library/nvme_controller.py $(prefix)/share/nvme_controller
-	install -D -m 644 docs/nvme_controller.3 $(prefix)/share/man/man3/nvme_controller.3
-	install -m 644 examples/c/* $(pages)/examples/c
+install: stage
+	@$(STAGE)/install "$(DESTDIR)$(PREFIX)"
 
 uninstall:
-	rm -f $(prefix)/bin/nvme-script $(prefix)/share/man/man1/nvme-script.1
-	rm -f $(prefix)/bin/nvme-model $(prefix)/share/man/man1/nvme-model.1
-	rm -f $(prefix)/share/bash-completion/completions/nvme-script
-	rm -rf $(pages) $(parts)
-	rm -f $(prefix)/include/nvme_controller.h $(prefix)/lib/libnvme_controller.a $(prefix)/lib/libnvme_controller.so
-	rm -f $(prefix)/lib/pkgconfig/nvme_controller.pc $(prefix)/share/man/man3/nvme_controller.3
-	rm -rf $(prefix)/share/nvme_controller
+	@tools/install --remove "$(DESTDIR)$(PREFIX)"
+
+dist:
+	@tools/dist
+
+# The programs need nothing else from this repository, and find each other from any folder. What wasn't built is left
+# out, except for nvme-script and nvme-model.
+stage:
+	@for program in nvme_script nvme_device; do \
+	    $(call is_current,$$program) || { echo 'there are no proved programs: make build' >&2; exit 1; } \
+	done
+	@./nvme-model --compile $(CLIENT)
+	rm -rf $(STAGE)
+	install -D -m 755 tools/install $(STAGE)/install
+	install -D -m 755 crates/nvme_device/out/nvme_device $(STAGE)/lib/nvme-model/nvme_device
+	install -D -m 755 $(CLIENT)/bin/nvme-model $(STAGE)/bin/nvme-model
+	@for part in library.so qemu; do \
+	    [ ! -e $(CLIENT)/lib/nvme-model/$$part ] || \
+	        install -m 755 $(CLIENT)/lib/nvme-model/$$part $(STAGE)/lib/nvme-model || exit; \
+	done
+	@for name in script trace bench; do \
+	    ! $(call is_current,nvme_$$name) || \
+	        install -m 755 crates/nvme_$$name/out/nvme_$$name $(STAGE)/bin/nvme-$$name || exit; \
+	done
+	install -D -m 644 docs/nvme-script.bash $(STAGE)/share/bash-completion/completions/nvme-script
+	install -d $(STAGE)/share/man/man1
+	for page in docs/*.1; do $(with_version) $$page > $(STAGE)/share/man/man1/$${page#docs/} || exit; done
+	@$(MAKE) --no-print-directory stage-pages
+	@if $(call is_current,nvme_controller) && [ -e out/library/libnvme_controller.a ]; then \
+	    $(MAKE) --no-print-directory stage-library; \
+	fi
+
+# (a link to what isn't installed becomes its text, and each page says what its names of files mean here)
+note = Here, `./nvme-script` is `nvme-script` and `./nvme-model` is `nvme-model`, both built. Files of `crates`, `client`, \
+    `library`, `tests` and `tools` are in the repository.
+.PHONY: stage-pages
+stage-pages:
+	install -d $(pages)/examples
+	install -m 644 examples/*.* $(pages)/examples
+	install -m 644 packages/copyright docs/command.svg $(pages)
+	for page in $(manuals:%=docs/%.md) CHANGELOG.md; do \
+	    sed -E -e 's#\]\(\.\./(examples/|CHANGELOG)#](\1#g; s#\]\(docs/#](#g' \
+	        -e 's#\[([^]]*)\]\((\.\./|($(left_out))\.md)[^)]*\)#\1#g' -e '1s#$$#\n\n$(note)#' $$page > $(pages)/$${page#docs/} || exit; \
+	done
+
+.PHONY: stage-library
+stage-library:
+	install -d $(STAGE)/include $(STAGE)/lib/pkgconfig $(STAGE)/share/nvme_controller $(STAGE)/share/man/man3
+	install -m 644 out/library/*.h $(STAGE)/include
+	cp -P out/library/libnvme_controller.* $(STAGE)/lib
+	chmod 644 $(STAGE)/lib/libnvme_controller.*
+	install -m 644 out/library/*.py* $(STAGE)/share/nvme_controller
+	$(with_version) library/nvme_controller.pc.in > $(STAGE)/lib/pkgconfig/nvme_controller.pc
+	$(with_version) docs/nvme_controller.3 > $(STAGE)/share/man/man3/nvme_controller.3
+	install -d $(pages)/examples/c
+	install -m 644 examples/c/* $(pages)/examples/c

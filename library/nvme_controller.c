@@ -1,6 +1,6 @@
 /* The layer between the calls of nvme_controller.h and the proved calls of crates/nvme_controller: it handles null
  * pointers, and stores the handle of each machine. */
-#include "nvme_controller.h"
+#include <nvme_controller.h>
 
 #include <stdlib.h>
 #include <string.h>
@@ -20,6 +20,7 @@ uint16_t nvme_handle_turn(nvme_machine *handle, uint16_t ctrl, uint8_t *memory, 
                           uint16_t most);
 void nvme_handle_counts(nvme_machine *handle, uint16_t ctrl, uint64_t *refusals, uint64_t *commands);
 int nvme_handle_log_entry(nvme_machine *handle, uint16_t ctrl, size_t index, uint8_t *entry);
+size_t nvme_status_name(uint16_t status, uint8_t *text, size_t room);
 
 /* A pointer to no bytes. */
 static uint8_t nothing[1];
@@ -35,6 +36,10 @@ static void tell(char *fault, size_t room, const char *text) {
         fault[0] = '\0';
         strncat(fault, text, room - 1);
     }
+}
+
+const char *nvme_controller_version(void) {
+    return NVME_CONTROLLER_VERSION;
 }
 
 int nvme_machine_open(const uint8_t *file, size_t length, nvme_machine **machine, char *fault, size_t room) {
@@ -91,6 +96,21 @@ void nvme_machine_write32(nvme_machine *machine, uint16_t ctrl, uint32_t offset,
     }
 }
 
+/* Returns the offset of the dword after one. (There is no register at the greatest offset.) */
+static uint32_t after(uint32_t offset) {
+    return offset > UINT32_MAX - 4 ? UINT32_MAX : offset + 4;
+}
+
+uint64_t nvme_machine_read64(const nvme_machine *machine, uint16_t ctrl, uint32_t offset) {
+    uint64_t low = nvme_machine_read32(machine, ctrl, offset);
+    return low | (uint64_t)nvme_machine_read32(machine, ctrl, after(offset)) << 32;
+}
+
+void nvme_machine_write64(nvme_machine *machine, uint16_t ctrl, uint32_t offset, uint64_t value) {
+    nvme_machine_write32(machine, ctrl, offset, (uint32_t)value);
+    nvme_machine_write32(machine, ctrl, after(offset), (uint32_t)(value >> 32));
+}
+
 uint16_t nvme_machine_turn(nvme_machine *machine, uint16_t ctrl, uint8_t *memory, size_t pages, uint32_t page_size,
                            uint16_t most) {
     if (machine == NULL || (memory == NULL && pages != 0) || page_size == 0 || pages > PTRDIFF_MAX / page_size) {
@@ -109,4 +129,11 @@ void nvme_machine_counts(const nvme_machine *machine, uint16_t ctrl, uint64_t *r
 
 int nvme_machine_log_entry(const nvme_machine *machine, uint16_t ctrl, size_t index, uint8_t entry[64]) {
     return machine != NULL && nvme_handle_log_entry(unlocked(machine), ctrl, index, entry);
+}
+
+size_t nvme_status_text(uint16_t status, char *text, size_t room) {
+    if (text == NULL || room > PTRDIFF_MAX) {
+        room = 0;
+    }
+    return nvme_status_name(status, room != 0 ? (uint8_t *)text : nothing, room);
 }

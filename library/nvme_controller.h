@@ -14,13 +14,20 @@
  *     nvme_machine_turn(machine, 0, memory, 16, 4096, 1);          // its completion lies at 1000h
  *     nvme_machine_close(machine);
  *
+ * nvme_records.h has the structures of entries and records, and the numbers of commands and statuses by name.
+ *
  * Machines are independent, and there is no state outside them. Use a machine from one thread at a time, and make no
  * call from a signal handler. Memory is allocated only when a machine is opened, by `malloc` and `calloc`, and freed by
  * `free` when it is closed. If an allocation fails, opening says so.
  *
  * It is safe to pass a null machine, or a controller that does not exist: a read returns FFFFFFFFh, a write does
  * nothing, and a turn returns 0. But a machine that is not null must have been opened and not closed, and each other
- * pointer must point to the memory that the call describes. */
+ * pointer must point to the memory that the call describes.
+ *
+ * What a driver finds missing: the controllers have admin queues and no I/O queues. They refuse each command that
+ * nvme_records.h doesn't name with Invalid Command Opcode, such as Create I/O Submission Queue, Abort and Asynchronous
+ * Event Request. They raise no interrupt: after a turn, look at the phase tag of the next completion. A shutdown
+ * notification (CC.SHN) has no effect, and the shutdown status (CSTS.SHST) stays 0. */
 #ifndef NVME_CONTROLLER_H
 #define NVME_CONTROLLER_H
 
@@ -30,6 +37,15 @@
 #ifdef __cplusplus
 extern "C" {
 #endif
+
+/* The version of this header, as a text and as numbers. Programs of a version run with the shared library of the same
+ * major version and an equal or higher minor one. */
+#define NVME_CONTROLLER_VERSION "@VERSION@"
+#define NVME_CONTROLLER_VERSION_MAJOR @MAJOR@
+#define NVME_CONTROLLER_VERSION_MINOR @MINOR@
+
+/* Returns the version of the library that the program runs with, such as NVME_CONTROLLER_VERSION. */
+const char *nvme_controller_version(void);
 
 /* The registers by their offsets in bytes. Each is a dword. At any other offset a read returns 0, and a write changes
  * nothing. */
@@ -65,10 +81,11 @@ typedef struct nvme_machine nvme_machine;
  * `*machine`, or returns the number of the fault and stores null. The text of the fault, such as `missing top.nn`, is
  * copied to `fault`, cut to `room` bytes including its zero byte; it is empty if the machine was opened. `fault` may
  * be null if `room` is 0. `file` may be null if `length` is 0, which is a fault because an empty file has one. Null
- * with another length or room is refused as NVME_NOT_TOML. */
+ * with another length or room is refused as NVME_NOT_TOML. The file can have any length, while the programs that read
+ * subsystem files take up to 1 MiB. */
 int nvme_machine_open(const uint8_t *file, size_t length, nvme_machine **machine, char *fault, size_t room);
 
-/* Opens the machine of the demonstration subsystem. Returns 0 or NVME_NO_MEMORY. */
+/* Opens the machine of the built-in subsystem. Returns 0 or NVME_NO_MEMORY. */
 int nvme_machine_demo(nvme_machine **machine);
 
 /* Closes a machine. It must not be used afterwards. Null is ignored. */
@@ -83,6 +100,10 @@ uint32_t nvme_machine_read32(const nvme_machine *machine, uint16_t ctrl, uint32_
 /* Writes the dword of a controller's registers at an offset in bytes. Writing CC with EN 0 when it was 1 resets the
  * controller. */
 void nvme_machine_write32(nvme_machine *machine, uint16_t ctrl, uint32_t offset, uint32_t value);
+
+/* Reads or writes the dword at an offset as bits 31:0, and then the dword after it as bits 63:32. */
+uint64_t nvme_machine_read64(const nvme_machine *machine, uint16_t ctrl, uint32_t offset);
+void nvme_machine_write64(nvme_machine *machine, uint16_t ctrl, uint32_t offset, uint64_t value);
 
 /* Lets a controller take at most `most` entries from its submission queue, and returns how many it took. The host's
  * memory is `pages` pages of `page_size` bytes at `memory`, with addresses from 0 on. It is used only during this call.
@@ -104,6 +125,13 @@ void nvme_machine_counts(const nvme_machine *machine, uint16_t ctrl, uint64_t *r
 /* Copies the entry of a controller's error log at an index, counted from the newest, to `entry`. Returns 1, or 0 if
  * there is no such entry; then `entry` doesn't change. */
 int nvme_machine_log_entry(const nvme_machine *machine, uint16_t ctrl, size_t index, uint8_t entry[64]);
+
+/* Copies the name of a status to `text`, cut to `room` bytes including its zero byte, and returns the length of the
+ * name. `text` may be null if `room` is 0. The name is that of nvme-script's messages, such as `Invalid Field in
+ * Command`; or `Success`; or `Unknown` for a status that no controller of this library has. The status is that of a
+ * completion without the phase tag, and only its code and their type count. A name has at most 40 bytes with its zero
+ * byte. */
+size_t nvme_status_text(uint16_t status, char *text, size_t room);
 
 #ifdef __cplusplus
 }

@@ -1,115 +1,240 @@
 """The controllers of a model of an NVM Express 1.4 subsystem, by the library nvme_controller.
 
-    with Machine() as machine:                           # the demonstration subsystem
+    with Machine() as machine:                           # the built-in subsystem
         memory = bytearray(16 * 4096)
         machine.write32(0, AQA, 0x00070007)              # eight entries each
-        machine.write32(0, ACQ, 0x1000)                  # (ASQ is 0)
+        machine.write64(0, ACQ, 0x1000)                  # (ASQ is 0)
         machine.write32(0, CC, 0x00460001)               # pages of 4,096 bytes, EN
         memory[:64] = entry
         machine.write32(0, TAIL_DOORBELL, 1)
         machine.turn(0, memory)                          # its completion lies at 1000h
+        for error in machine.error_log(0):
+            print(status_text(error.status))
 
-The calls are those of nvme_controller.h. The shared library is loaded from the folder of this file, from the path in
-the variable NVME_CONTROLLER, or from where the system finds it."""
+The calls are those of nvme_controller.h. A number that its C type can't hold is a ValueError.
+
+The shared library is the file that the environment variable NVME_CONTROLLER names. Without it, it is the one in the
+folder of this file, in ../lib or ../../lib from there, where the system finds it, or where pkg-config does."""
+
+from __future__ import annotations
 
 import ctypes
+import operator
 import os
 import pathlib
+import struct
+import subprocess
+from typing import List, NamedTuple, NoReturn, Optional, Tuple
 
 CAP, VS, CC, CSTS, AQA, ASQ, ACQ = 0x00, 0x08, 0x14, 0x1c, 0x24, 0x28, 0x30
 TAIL_DOORBELL, HEAD_DOORBELL = 0x1000, 0x1004
+
+_NAME = 'libnvme_controller.so.1'
+_ERROR = struct.Struct('<QHHHHQIB3xQ24x')
 
 
 class Fault(Exception):
     """A subsystem file was refused, or there was no memory: `number`, from 1 to 9, and the text."""
 
-    def __init__(self, number, text):
-        super().__init__(text)
+    def __init__(self, number: int, text: str) -> None:
+        super().__init__(number, text)
         self.number = number
 
+    def __str__(self) -> str:
+        return str(self.args[1])
 
-def _library():
-    beside = pathlib.Path(__file__).with_name('libnvme_controller.so')
-    library = ctypes.CDLL(os.environ.get('NVME_CONTROLLER') or (str(beside) if beside.exists() else beside.name))
-    machine, u16, u32, size = ctypes.c_void_p, ctypes.c_uint16, ctypes.c_uint32, ctypes.c_size_t
+
+class ErrorEntry(NamedTuple):
+    """An entry of an error log."""
+
+    error_count: int
+    sqid: int
+    cid: int
+    status: int  # (without the phase tag)
+    location: int
+    lba: int
+    nsid: int
+    vendor: int
+    specific: int
+
+    @classmethod
+    def of(cls, data: bytes) -> ErrorEntry:
+        """Returns the entry with these 64 bytes."""
+        count, sqid, cid, word, *others = _ERROR.unpack(data)
+        return cls(count, sqid, cid, word >> 1, *others)
+
+
+def _by_pkg_config() -> Optional[str]:
+    command = 'pkg-config', '--variable=libdir', 'nvme_controller'
+    try:
+        ended = subprocess.run(command, stdout=subprocess.PIPE, stderr=subprocess.DEVNULL, check=True)
+    except (OSError, subprocess.CalledProcessError):
+        return None
+    return str(pathlib.Path(os.fsdecode(ended.stdout.rstrip(b'\n'))) / _NAME)
+
+
+def _load() -> ctypes.CDLL:
+    """Loads the library."""
+    named = os.environ.get('NVME_CONTROLLER')
+    if named:
+        return ctypes.CDLL(named)
+    folder = pathlib.Path(__file__).resolve().parent
+    for place in folder, folder.parent / 'lib', folder.parent.parent / 'lib':
+        if (place / _NAME).exists():
+            return ctypes.CDLL(str(place / _NAME))
+    try:
+        return ctypes.CDLL(_NAME)
+    except OSError as error:
+        found = _by_pkg_config()
+        if found is None:
+            raise OSError(f'{error}; the variable NVME_CONTROLLER can name the file') from None
+        return ctypes.CDLL(found)
+
+
+def _library() -> ctypes.CDLL:
+    """Loads the library, and declares its calls."""
+    library = _load()
+    machine, u16, u32, u64, size = (ctypes.c_void_p, ctypes.c_uint16, ctypes.c_uint32, ctypes.c_uint64, ctypes.c_size_t)
     for name, result, *arguments in [
-            ('open', ctypes.c_int, ctypes.c_char_p, size, ctypes.POINTER(machine), ctypes.c_char_p, size),
-            ('demo', ctypes.c_int, ctypes.POINTER(machine)),
-            ('close', None, machine),
-            ('controllers', u16, machine),
-            ('read32', u32, machine, u16, u32),
-            ('write32', None, machine, u16, u32, u32),
-            ('turn', u16, machine, u16, ctypes.c_void_p, size, u32, u16),
-            ('counts', None, machine, u16, *[ctypes.POINTER(ctypes.c_uint64)] * 2),
-            ('log_entry', ctypes.c_int, machine, u16, size, ctypes.c_char_p)]:
-        call = getattr(library, f'nvme_machine_{name}')
+            ('controller_version', ctypes.c_char_p),
+            ('status_text', size, u16, ctypes.c_char_p, size),
+            ('machine_open', ctypes.c_int, ctypes.c_char_p, size, ctypes.POINTER(machine), ctypes.c_char_p, size),
+            ('machine_demo', ctypes.c_int, ctypes.POINTER(machine)),
+            ('machine_close', None, machine),
+            ('machine_controllers', u16, machine),
+            ('machine_read32', u32, machine, u16, u32),
+            ('machine_write32', None, machine, u16, u32, u32),
+            ('machine_read64', u64, machine, u16, u32),
+            ('machine_write64', None, machine, u16, u32, u64),
+            ('machine_turn', u16, machine, u16, ctypes.c_void_p, size, u32, u16),
+            ('machine_counts', None, machine, u16, *[ctypes.POINTER(u64)] * 2),
+            ('machine_log_entry', ctypes.c_int, machine, u16, size, ctypes.c_char_p)]:
+        call = getattr(library, f'nvme_{name}')
         call.restype, call.argtypes = result, arguments
     return library
 
 
+_loaded: Optional[ctypes.CDLL] = None
+
+
+def _calls() -> ctypes.CDLL:
+    """Returns the library, which is loaded at the first call."""
+    global _loaded
+    if _loaded is None:
+        _loaded = _library()
+    return _loaded
+
+
+def _number(what: str, value: int, bits: int) -> int:
+    """Returns a number that this many bits hold. (ctypes would drop the others.)"""
+    number = operator.index(value)
+    if number >> bits:
+        raise ValueError(f'{what} {number} is not a number from 0 to {(1 << bits) - 1:#x}')
+    return number
+
+
+def version() -> str:
+    """Returns the version of the library."""
+    return _calls().nvme_controller_version().decode()
+
+
+def status_text(status: int) -> str:
+    """Returns the name of a status, as nvme-script's messages have it, or `Success`, or `Unknown`."""
+    text = ctypes.create_string_buffer(64)
+    _calls().nvme_status_text(_number('status', status, 16), text, len(text))
+    return text.value.decode()
+
+
 class Machine:
-    """The controllers of one subsystem, which is that of a file's bytes or the demonstration subsystem. Only one thread
-    may use it at a time."""
+    """The controllers of one subsystem, which is that of a file's bytes or the built-in subsystem. Only one thread
+    may use it at a time. It can't be copied."""
 
-    _calls = None
-
-    def __init__(self, file=None):
+    def __init__(self, file: Optional[bytes] = None) -> None:
         self._machine = ctypes.c_void_p()
-        if Machine._calls is None:
-            Machine._calls = _library()
+        self._library = _calls()
         text = ctypes.create_string_buffer(b'out of memory', 128)
         if file is None:
-            number = self._calls.nvme_machine_demo(self._machine)
+            number = self._library.nvme_machine_demo(self._machine)
         else:
-            number = self._calls.nvme_machine_open(file, len(file), self._machine, text, len(text))
+            data = bytes(memoryview(file))
+            number = self._library.nvme_machine_open(data, len(data), self._machine, text, len(text))
         if number:
             raise Fault(number, text.value.decode())
 
-    def close(self):
-        """Closes the machine. It must not be used afterwards."""
+    def close(self) -> None:
+        """Closes the machine. Afterwards, only `close` may be called."""
         machine, self._machine = self._machine, ctypes.c_void_p()
-        self._calls.nvme_machine_close(machine)
+        self._library.nvme_machine_close(machine)
 
-    def __enter__(self):
+    def __enter__(self) -> Machine:
         return self
 
-    def __exit__(self, *_):
+    def __exit__(self, *_: object) -> None:
         self.close()
 
-    def __del__(self):
-        if self._calls is not None:
+    def __del__(self) -> None:
+        if hasattr(self, '_library'):
             self.close()
 
-    def _open(self):
+    def __reduce_ex__(self, protocol: object) -> NoReturn:
+        """Refuses a copy, which would close the same machine once more, and a pickle."""
+        raise TypeError('a machine cannot be copied')
+
+    def _open(self) -> ctypes.c_void_p:
         if not self._machine:
             raise ValueError('the machine is closed')
         return self._machine
 
-    def controllers(self):
-        return self._calls.nvme_machine_controllers(self._open())
+    def controllers(self) -> int:
+        """Returns the number of controllers, which are numbered from 0."""
+        return self._library.nvme_machine_controllers(self._open())
 
-    def read32(self, ctrl, offset):
-        return self._calls.nvme_machine_read32(self._open(), ctrl, offset)
+    def _register(self, ctrl: int, offset: int) -> Tuple[ctypes.c_void_p, int, int]:
+        return self._open(), _number('controller', ctrl, 16), _number('offset', offset, 32)
 
-    def write32(self, ctrl, offset, value):
-        self._calls.nvme_machine_write32(self._open(), ctrl, offset, value)
+    def read32(self, ctrl: int, offset: int) -> int:
+        """Returns the dword of a controller's registers at an offset."""
+        return self._library.nvme_machine_read32(*self._register(ctrl, offset))
 
-    def turn(self, ctrl, memory, page_size=4096, most=0xffff):
-        """Lets a controller take entries, over a bytearray or another writable buffer of whole pages."""
+    def write32(self, ctrl: int, offset: int, value: int) -> None:
+        """Writes the dword of a controller's registers at an offset."""
+        self._library.nvme_machine_write32(*self._register(ctrl, offset), _number('value', value, 32))
+
+    def read64(self, ctrl: int, offset: int) -> int:
+        """Returns the dword at an offset as bits 31:0, and the one after it as bits 63:32."""
+        return self._library.nvme_machine_read64(*self._register(ctrl, offset))
+
+    def write64(self, ctrl: int, offset: int, value: int) -> None:
+        """Writes bits 31:0 to the dword at an offset, and then bits 63:32 to the one after it."""
+        self._library.nvme_machine_write64(*self._register(ctrl, offset), _number('value', value, 64))
+
+    def turn(self, ctrl: int, memory: bytearray, page_size: int = 4096, most: int = 0xffff) -> int:
+        """Lets a controller take entries, over a bytearray or another writable buffer of whole pages, and returns how
+        many it took."""
+        ctrl, most = _number('controller', ctrl, 16), _number('most', most, 16)
+        page_size = _number('page size', page_size, 32)
         view = memoryview(memory).cast('B')
         pages, rest = divmod(len(view), page_size) if page_size else (0, len(view))
         if rest:
             raise ValueError('the memory has no whole number of pages')
         lent = (ctypes.c_uint8 * len(view)).from_buffer(view)
-        return self._calls.nvme_machine_turn(self._open(), ctrl, ctypes.addressof(lent), pages, page_size, most)
+        return self._library.nvme_machine_turn(self._open(), ctrl, ctypes.addressof(lent), pages, page_size, most)
 
-    def counts(self, ctrl):
+    def counts(self, ctrl: int) -> Tuple[int, int]:
         """Returns how many commands a controller refused, and how many it took."""
         refusals, commands = ctypes.c_uint64(), ctypes.c_uint64()
-        self._calls.nvme_machine_counts(self._open(), ctrl, refusals, commands)
+        self._library.nvme_machine_counts(self._open(), _number('controller', ctrl, 16), refusals, commands)
         return refusals.value, commands.value
 
-    def log_entry(self, ctrl, index):
+    def log_entry(self, ctrl: int, index: int) -> Optional[bytes]:
         """Returns the 64 bytes of an entry of a controller's error log, counted from the newest, or None."""
         entry = ctypes.create_string_buffer(64)
-        return entry.raw if self._calls.nvme_machine_log_entry(self._open(), ctrl, index, entry) else None
+        ctrl, index = _number('controller', ctrl, 16), _number('index', index, 64)
+        return entry.raw if self._library.nvme_machine_log_entry(self._open(), ctrl, index, entry) else None
+
+    def error_log(self, ctrl: int) -> List[ErrorEntry]:
+        """Returns the entries of a controller's error log, the newest first."""
+        entries: List[ErrorEntry] = []
+        while (data := self.log_entry(ctrl, len(entries))) is not None:
+            entries.append(ErrorEntry.of(data))
+        return entries

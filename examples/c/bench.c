@@ -4,6 +4,7 @@
  *     cc -o bench bench.c $(pkg-config --cflags --libs nvme_controller)
  *     ./bench [SUBSYSTEM-FILE] */
 #include <nvme_controller.h>
+#include <nvme_records.h>
 
 #include <inttypes.h>
 #include <stdio.h>
@@ -23,30 +24,10 @@ struct host {
     uint8_t memory[PAGES * PAGE];
 };
 
-/* A command: what differs from an entry of zeros. */
-struct command {
-    uint8_t opcode;
-    uint32_t nsid, cdw10;
-};
-
 struct answer {
     uint32_t dword0;
-    unsigned status;
+    uint16_t status;
 };
-
-static void put(uint8_t *at, int bytes, uint64_t value) {
-    for (int i = 0; i < bytes; i++) {
-        at[i] = (uint8_t)(value >> 8 * i);
-    }
-}
-
-static uint64_t get(const uint8_t *at, int bytes) {
-    uint64_t value = 0;
-    for (int i = 0; i < bytes; i++) {
-        value |= (uint64_t)at[i] << 8 * i;
-    }
-    return value;
-}
 
 static void give_up(const char *what) {
     fprintf(stderr, "bench: %s\n", what);
@@ -56,8 +37,8 @@ static void give_up(const char *what) {
 /* Makes the controller ready with rings of DEPTH entries. */
 static void enable(struct host *host) {
     nvme_machine_write32(host->machine, host->ctrl, NVME_AQA, (DEPTH - 1) << 16 | (DEPTH - 1));
-    nvme_machine_write32(host->machine, host->ctrl, NVME_ASQ, SUBMISSIONS);
-    nvme_machine_write32(host->machine, host->ctrl, NVME_ACQ, COMPLETIONS);
+    nvme_machine_write64(host->machine, host->ctrl, NVME_ASQ, SUBMISSIONS);
+    nvme_machine_write64(host->machine, host->ctrl, NVME_ACQ, COMPLETIONS);
     nvme_machine_write32(host->machine, host->ctrl, NVME_CC, 0x00460001);
     if ((nvme_machine_read32(host->machine, host->ctrl, NVME_CSTS) & 1) == 0) {
         give_up("the controller isn't ready");
@@ -65,87 +46,87 @@ static void enable(struct host *host) {
 }
 
 /* Sends a command whose data, if it has any, is the page at DATA, and waits for its completion. */
-static struct answer send(struct host *host, struct command command) {
-    uint8_t *entry = host->memory + SUBMISSIONS + 64 * host->tail;
-    memset(entry, 0, 64);
-    put(entry, 4, command.opcode | (uint32_t)host->cid << 16);
-    put(entry + 4, 4, command.nsid);
-    put(entry + 24, 8, DATA);
-    put(entry + 40, 4, command.cdw10);
+static struct answer send(struct host *host, uint8_t opcode, uint32_t nsid, uint32_t cdw10) {
+    struct nvme_submission_entry entry = {
+        .opcode = opcode, .cid = host->cid, .nsid = nsid, .prp1 = DATA, .cdw10 = cdw10};
+    memcpy(host->memory + SUBMISSIONS + sizeof entry * host->tail, &entry, sizeof entry);
     host->tail = (host->tail + 1) % DEPTH;
     nvme_machine_write32(host->machine, host->ctrl, NVME_TAIL_DOORBELL, host->tail);
     if (nvme_machine_turn(host->machine, host->ctrl, host->memory, PAGES, PAGE, 1) != 1) {
         give_up("no entry was taken");
     }
-    const uint8_t *completion = host->memory + COMPLETIONS + 16 * host->head;
-    unsigned word = (unsigned)get(completion + 14, 2);
-    if ((int)(word & 1) != host->phase || get(completion + 12, 2) != host->cid) {
+    struct nvme_completion_entry completion;
+    memcpy(&completion, host->memory + COMPLETIONS + sizeof completion * host->head, sizeof completion);
+    if (NVME_PHASE(completion.status_and_phase) != host->phase || completion.cid != host->cid) {
         give_up("not this command's completion");
     }
     host->cid++;
     host->head = (host->head + 1) % DEPTH;
     host->phase ^= host->head == 0;
     nvme_machine_write32(host->machine, host->ctrl, NVME_HEAD_DOORBELL, host->head);
-    return (struct answer){(uint32_t)get(completion, 4), word >> 1};
+    return (struct answer){completion.command_specific, NVME_STATUS(completion.status_and_phase)};
 }
 
 /* Whether the command was accepted. */
 static int is_done(struct answer answer) {
+    char text[40];
     if (answer.status != 0) {
-        fprintf(stderr, "NVMe status: 0x%x\n", answer.status);
+        nvme_status_text(answer.status, text, sizeof text);
+        fprintf(stderr, "NVMe status: %s (0x%x)\n", text, answer.status);
     }
     return answer.status == 0;
 }
 
 static void list_namespaces(struct host *host) {
-    if (is_done(send(host, (struct command){0x06, 0, 0x02}))) {
-        for (int i = 0; i < 1024 && get(host->memory + DATA + 4 * i, 4) != 0; i++) {
-            printf("[%4d]:0x%x\n", i, (unsigned)get(host->memory + DATA + 4 * i, 4));
+    if (is_done(send(host, NVME_OPCODE_IDENTIFY, 0, NVME_IDENTIFY_ACTIVE_NAMESPACES))) {
+        struct nvme_namespace_list list;
+        memcpy(&list, host->memory + DATA, sizeof list);
+        for (int i = 0; i < 1024 && list.nsids[i] != 0; i++) {
+            printf("[%4d]:0x%" PRIx32 "\n", i, list.nsids[i]);
         }
     }
 }
 
 static void create_namespace(struct host *host, uint64_t blocks) {
-    uint8_t *data = host->memory + DATA;
-    memset(data, 0, PAGE);
-    put(data, 8, blocks);
-    put(data + 8, 8, blocks);
-    struct answer answer = send(host, (struct command){0x0d, 0, 0});
+    struct nvme_new_namespace wanted = {.nsze = blocks, .ncap = blocks};
+    memcpy(host->memory + DATA, &wanted, sizeof wanted);
+    struct answer answer = send(host, NVME_OPCODE_NAMESPACE_MANAGEMENT, 0, NVME_NAMESPACE_CREATE);
     if (is_done(answer)) {
         printf("create-ns: Success, created nsid:%" PRIu32 "\n", answer.dword0);
     }
 }
 
 static void attach_namespace(struct host *host, uint32_t nsid, uint16_t ctrl) {
-    uint8_t *data = host->memory + DATA;
-    memset(data, 0, PAGE);
-    put(data, 2, 1);
-    put(data + 2, 2, ctrl);
-    if (is_done(send(host, (struct command){0x15, nsid, 0}))) {
+    struct nvme_controller_list list = {.count = 1, .cntlids = {ctrl}};
+    memcpy(host->memory + DATA, &list, sizeof list);
+    if (is_done(send(host, NVME_OPCODE_NAMESPACE_ATTACHMENT, nsid, NVME_NAMESPACE_ATTACH))) {
         printf("attach-ns: Success, nsid:%" PRIu32 "\n", nsid);
     }
 }
 
 /* Shows the newest entry of the error log, after a look at the controller's data, as nvme-script does. */
 static void show_error(struct host *host) {
-    if (!is_done(send(host, (struct command){0x06, 0, 0x01})) ||
-        !is_done(send(host, (struct command){0x02, 0xffffffff, 0x01 | (64 / 4 - 1) << 16}))) {
+    struct nvme_error_entry entry;
+    uint32_t dwords = sizeof entry / 4;
+    if (!is_done(send(host, NVME_OPCODE_IDENTIFY, 0, NVME_IDENTIFY_CONTROLLER)) ||
+        !is_done(send(host, NVME_OPCODE_GET_LOG_PAGE, NVME_EVERY_NAMESPACE,
+                      NVME_LOG_ERROR_INFORMATION | (dwords - 1) << 16))) {
         return;
     }
-    const uint8_t *entry = host->memory + DATA;
+    memcpy(&entry, host->memory + DATA, sizeof entry);
     printf("%-20s: %d\n", "entry", 0);
-    printf("%-20s: %" PRIu64 "\n", "error_count", get(entry, 8));
-    printf("%-20s: %" PRIu64 "\n", "sqid", get(entry + 8, 2));
-    printf("%-20s: 0x%" PRIx64 "\n", "cmdid", get(entry + 10, 2));
-    printf("%-20s: 0x%" PRIx64 "\n", "status_field", get(entry + 12, 2) >> 1);
-    printf("%-20s: 0x%" PRIx64 "\n", "parm_err_loc", get(entry + 14, 2));
-    printf("%-20s: 0x%" PRIx64 "\n", "lba", get(entry + 16, 8));
-    printf("%-20s: 0x%" PRIx64 "\n", "nsid", get(entry + 24, 4));
-    printf("%-20s: 0x%" PRIx64 "\n", "vs", get(entry + 28, 1));
-    printf("%-20s: 0x%" PRIx64 "\n", "cs", get(entry + 32, 8));
+    printf("%-20s: %" PRIu64 "\n", "error_count", entry.count);
+    printf("%-20s: %d\n", "sqid", entry.sqid);
+    printf("%-20s: 0x%x\n", "cmdid", entry.cid);
+    printf("%-20s: 0x%x\n", "status_field", NVME_STATUS(entry.status_and_phase));
+    printf("%-20s: 0x%x\n", "parm_err_loc", entry.location);
+    printf("%-20s: 0x%" PRIx64 "\n", "lba", entry.lba);
+    printf("%-20s: 0x%" PRIx32 "\n", "nsid", entry.nsid);
+    printf("%-20s: 0x%x\n", "vs", entry.vendor);
+    printf("%-20s: 0x%" PRIx64 "\n", "cs", entry.specific);
 }
 
-/* The machine of a file, or of the demonstration subsystem. */
+/* The machine of a file, or of the built-in subsystem. */
 static nvme_machine *opened(const char *path) {
     static uint8_t file[1 << 20];
     nvme_machine *machine = NULL;

@@ -4,10 +4,9 @@
 import struct
 import sys
 
-from nvme_controller import ACQ, AQA, CC, HEAD_DOORBELL, TAIL_DOORBELL, Machine
+from nvme_controller import ACQ, AQA, CC, HEAD_DOORBELL, TAIL_DOORBELL, ErrorEntry, Machine, status_text
 
 PAGE, DEPTH, DATA = 4096, 8, 0x2000
-ERROR = struct.Struct('<QHHHHQIB3xQ')
 ERROR_FIELDS = 'error_count', 'sqid', 'cmdid', 'status_field', 'parm_err_loc', 'lba', 'nsid', 'vs', 'cs'
 
 
@@ -34,7 +33,7 @@ class Host:
         self.machine.write32(0, HEAD_DOORBELL, (slot + 1) % DEPTH)
         self.sent += 1
         if word >> 1:
-            print(f'NVMe status: {word >> 1:#x}', file=sys.stderr)
+            print(f'NVMe status: {status_text(word >> 1)} ({word >> 1:#x})', file=sys.stderr)
             return None
         return dword0
 
@@ -57,8 +56,7 @@ class Host:
         self.send(0x06, cdw10=0x01)
         self.send(0x02, 0xffffffff, 0x01 | (64 // 4 - 1) << 16)
         print(f'{"entry":20}: 0')
-        for name, value in zip(ERROR_FIELDS, ERROR.unpack_from(self.memory, DATA)):
-            value = value >> 1 if name == 'status_field' else value
+        for name, value in zip(ERROR_FIELDS, ErrorEntry.of(self.memory[DATA:DATA + 64])):
             print(f'{name:20}: {value}' if name in ('error_count', 'sqid') else f'{name:20}: {value:#x}')
 
 
