@@ -3,6 +3,7 @@ nodes and the data of namespaces, signals, and the tools that are installed."""
 
 import itertools
 import os
+import pathlib
 import shlex
 import shutil
 import signal
@@ -11,7 +12,7 @@ import sys
 import time
 import unittest
 
-from tests.modelled import CLIENT, PARTS, ModelCase, compiled_c, installed
+from tests.modelled import CLIENT, PARTS, ModelCase, compiled_c, installed, processes_of
 from tests.support import TOP, Running, program, run, until
 
 CHECK = 'check', 'check_client'
@@ -251,8 +252,16 @@ class Signals(ModelCase):
             time.sleep(delay / 1000)
             running.process.kill()
             running.process.wait()
+            self.end_waiting_bwrap()
             self.leaves_nothing()
         self.assertEqual(looks(), before)
+
+    def end_waiting_bwrap(self):
+        """Ends a process of bubblewrap whose parent was killed before it told the process to go on."""
+        if not until(lambda: not processes_of(self.subsystem)):
+            for number in processes_of(self.subsystem):
+                self.assertEqual(pathlib.Path(f'/proc/{number}/comm').read_text(), 'bwrap\n')
+                os.kill(number, signal.SIGKILL)
 
     def test_what_is_left_in_the_background(self):
         ended = self.shell('(sleep 0.3; echo late > "$1") & (setsid sh -c \'trap "" TERM HUP; sleep 0.3; echo late > "$1"\''
