@@ -3,8 +3,26 @@
 //! `nv_benches` has examples of benches in Rattle instead, which call the crates directly.
 #![tactic(auto)]
 
-use nv_operations::Bench;
+mod answer;
+mod arguments;
+mod commands;
+mod conditions;
+mod controllers;
+mod device;
+mod error;
+mod memory;
+mod records;
+mod registers;
+mod replies;
+mod rings;
+mod row;
+mod sending;
+mod session;
+mod transfers;
+mod watched;
+
 use nv_stream::Retrying;
+use session::Bench;
 use std::alloc::{AllocError, Global};
 use std::io::{self, BufRead, BufReader, ErrorKind, Write};
 use std::process::ExitCode;
@@ -58,23 +76,32 @@ fn without_newline(line: &[u8]) -> &[u8] {
     }
 }
 
+/// Answers a line.
+fn answer_line<W: Write>(
+    alloc: Global,
+    session: &mut Bench,
+    line: &[u8],
+    out: &mut W,
+) -> Result<(), BenchStop> {
+    match session.answer(alloc, without_newline(line))? {
+        Some(answer) if out.write_all(answer.as_bytes()).is_err() => Err(BenchStop::Write),
+        _ => Ok(()),
+    }
+}
+
 /// Answers lines until the input ends.
 fn answer_lines<R: BufRead, W: Write>(
     alloc: Global,
+    session: &mut Bench,
     input: &mut R,
     out: &mut W,
 ) -> Result<(), BenchStop> {
-    let mut session = Bench::new(alloc)?;
     let mut line = Vec::new(alloc);
     for _ in 0..u64::MAX {
         if !read_line(input, &mut line)? {
             return Ok(());
         }
-        if let Some(answer) = session.answer(alloc, without_newline(line.as_slice()))? {
-            if out.write_all(answer.as_bytes()).is_err() {
-                return Err(BenchStop::Write);
-            }
-        }
+        answer_line(alloc, session, line.as_slice(), out)?;
     }
     Ok(())
 }
@@ -85,7 +112,8 @@ fn answer_input(rt: &HostRuntime) -> Result<(), BenchStop> {
         return Err(BenchStop::Memory);
     };
     let mut out = Retrying::new(io::writer(rt));
-    answer_lines(rt.alloc(), &mut input, &mut out)
+    let mut session = Bench::new(rt.alloc())?;
+    answer_lines(rt.alloc(), &mut session, &mut input, &mut out)
 }
 
 fn main(rt: HostRuntime) -> ExitCode {

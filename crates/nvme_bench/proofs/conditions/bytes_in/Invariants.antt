@@ -1,6 +1,6 @@
 use Rattle.std.proofs.Common.{◌≡◌, ◌*◌, ◌≤◌, length, take}
 use Rattle.nv_prp.specs.Place.{places}
-use Rattle.nv_operations.proofs.conditions.bytes_in.Given as goal
+use Rattle.nvme_bench.proofs.conditions.bytes_in.Given as goal
 
 abbrev pub invariant-loop-span : goal.invariant-loop-span
 invariant-loop-span l =

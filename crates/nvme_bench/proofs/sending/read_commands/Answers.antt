@@ -2,7 +2,7 @@ use Rattle.std.proofs.Common.{All, subst, sym}
 use Rattle.std.proofs.lemmas.List.Elements.{All-push}
 use Rattle.nv_command.specs.Command.{CommandFits}
 use Rattle.nv_command.specs.Logs.{IsSendable}
-use Rattle.nv_operations.proofs.sending.read_commands.Goals as goal
+use Rattle.nvme_bench.proofs.sending.read_commands.Goals as goal
 
 pub loop-place-preserved : goal.loop-place-preserved
 loop-place-preserved c =

@@ -1,6 +1,6 @@
 use Rattle.std.proofs.Common.{◌∙◌, refl, subst}
 use Rattle.nv_prp.specs.Place.{AreDistinct}
-use Rattle.nv_operations.proofs.transfers.build_entries.Goals as goal
+use Rattle.nvme_bench.proofs.transfers.build_entries.Goals as goal
 
 pub build-requires-clause-distinct : goal.build-requires-clause-distinct
 build-requires-clause-distinct c =

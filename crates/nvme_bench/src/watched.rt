@@ -12,7 +12,8 @@ use nv_register::{Readiness, RegisterBank};
 use std::alloc::{AllocError, Global};
 
 /// The controllers of a subsystem, and what they saw of their driver: its register writes, their
-/// turns, and the bytes of the entries that they took.
+/// turns, and the bytes of the entries that they took, with the numbers of the pages that PRP1 and
+/// PRP2 point into.
 #[derive(Drop)]
 pub(crate) struct Watched {
     pub(crate) machine: Machine,
@@ -21,15 +22,17 @@ pub(crate) struct Watched {
     writes: Vec<u64>,
     turns: Vec<u64>,
     entries: Vec<u8>,
+    pages: Vec<u64>,
     /// Whether there was memory for all that was seen.
     is_whole: bool,
 }
 
 /// Adds the next entries of a submission ring, with only the offsets in a page of their PRP
-/// entries.
+/// entries, and adds the numbers of the pages to `pages`.
 #[tactic(auto, using(nv_host::proofs::PageLaws::page_size_bounds))]
 fn add_entries<M: PagedMemory>(
     entries: &mut Vec<u8>,
+    pages: &mut Vec<u64>,
     bank: &mut RegisterBank,
     mem: &M,
     count: u16,
@@ -51,6 +54,7 @@ fn add_entries<M: PagedMemory>(
             let mut bytes = [0xff; 64];
             shown.put(&mut bytes);
             entries.extend_from_slice(&bytes)?;
+            pages.extend_from_slice(&[entry.prp1 / page_size, entry.prp2 / page_size])?;
         }
     }
     Ok(())
@@ -67,6 +71,7 @@ impl Watched {
             writes: Vec::new(alloc),
             turns: Vec::new(alloc),
             entries: Vec::new(alloc),
+            pages: Vec::new(alloc),
             is_whole: true,
         }
     }
@@ -77,6 +82,7 @@ impl Watched {
         self.writes.clear();
         self.turns.clear();
         self.entries.clear();
+        self.pages.clear();
         self.is_whole = true;
     }
 
@@ -101,7 +107,8 @@ impl Watched {
         let answer = Answer::new(alloc)
             .numbers("writes", self.writes.as_slice())?
             .numbers("turns", self.turns.as_slice())?
-            .bytes("entries", self.entries.as_slice())?;
+            .bytes("entries", self.entries.as_slice())?
+            .numbers("pages", self.pages.as_slice())?;
         self.forget();
         Ok(answer)
     }
@@ -130,7 +137,13 @@ impl Bus for Watched {
     fn turn<M: PagedMemory>(&mut self, ctrl: u16, mem: &mut M, most: u16) -> u16 {
         let count = self.machine.turn(ctrl, mem, most);
         if let Some(bank) = self.banks.get_mut(usize::from(ctrl)) {
-            self.is_whole &= add_entries(&mut self.entries, bank, mem, count).is_ok();
+            self.is_whole &= add_entries(
+                &mut self.entries,
+                &mut self.pages,
+                bank,
+                mem,
+                count,
+            ).is_ok();
         }
         let numbers = [u64::from(ctrl), u64::from(most), u64::from(count)];
         self.is_whole &= self.turns.extend_from_slice(&numbers).is_ok();

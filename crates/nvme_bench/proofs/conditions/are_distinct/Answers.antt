@@ -1,8 +1,8 @@
 use Rattle.std.proofs.Common.{◌+◌, refl}
 use Rattle.std.proofs.lemmas.Bool.{false≢true}
-use Rattle.nv_operations.proofs.ListLaws.{rest_of}
-use Rattle.nv_operations.proofs.TransferLaws.{one_again, one_more_apart}
-use Rattle.nv_operations.proofs.conditions.are_distinct.Goals as goal
+use Rattle.nvme_bench.proofs.ListLaws.{rest_of}
+use Rattle.nvme_bench.proofs.TransferLaws.{one_again, one_more_apart}
+use Rattle.nvme_bench.proofs.conditions.are_distinct.Goals as goal
 
 pub returns-then-not-is_apart : goal.returns-then-not-is_apart
 returns-then-not-is_apart c =

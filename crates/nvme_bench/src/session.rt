@@ -15,7 +15,7 @@ use std::alloc::{AllocError, Global};
 /// The state that operations work on: the host's memory, the spans of the last walk, the registers
 /// of a controller, a pair of rings, and the controllers of the last subsystem.
 #[derive(Drop)]
-pub struct Bench {
+pub(crate) struct Bench {
     pub(crate) memory: FlatMemory,
     pub(crate) spans: Spans,
     pub(crate) bank: RegisterBank,
@@ -27,7 +27,7 @@ impl Bench {
     /// Creates a session with a memory of 16 pages of 4,096 zero bytes, no spans, the registers
     /// after power on, rings of 16 slots in the first two pages, and no controllers.
     #[tactic(auto, unfolding(nv_host::specs::Pages::IsPageSize))]
-    pub fn new(alloc: Global) -> Result<Bench, AllocError> {
+    pub(crate) fn new(alloc: Global) -> Result<Bench, AllocError> {
         match FlatMemory::new(alloc, 4096, 16) {
             Ok(memory) => Ok(Bench {
                 memory,
@@ -42,7 +42,11 @@ impl Bench {
 
     /// Does what a line asks for, and returns the line that answers it. A blank line or a comment
     /// has no answer.
-    pub fn answer(&mut self, alloc: Global, line: &[u8]) -> Result<Option<String>, AllocError> {
+    pub(crate) fn answer(
+        &mut self,
+        alloc: Global,
+        line: &[u8],
+    ) -> Result<Option<String>, AllocError> {
         if is_skipped_line(line) {
             return Ok(None);
         }

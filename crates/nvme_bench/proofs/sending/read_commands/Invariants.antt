@@ -1,7 +1,7 @@
 use Rattle.std.proofs.Common.{All}
 use Rattle.nv_command.specs.Command.{CommandFits}
 use Rattle.nv_command.specs.Logs.{IsSendable}
-use Rattle.nv_operations.proofs.sending.read_commands.Given as goal
+use Rattle.nvme_bench.proofs.sending.read_commands.Given as goal
 
 -- the commands so far can be sent
 abbrev pub invariant-loop-place : goal.invariant-loop-place

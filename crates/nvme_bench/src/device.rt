@@ -4,7 +4,7 @@ ghost use Rattle.std.specs.Prelude.{◌<◌, All, IfOk, Some, length};
 ghost use Rattle.nv_command.specs.Command.{CommandFits};
 ghost use Rattle.nv_command.specs.Logs.{IsSendable};
 ghost use Rattle.nv_layout.specs.Sqe.{SqeFits};
-ghost use Rattle.nv_operations.specs.Device.{IsDevice};
+ghost use Rattle.nvme_bench.specs.Device.{IsDevice};
 
 use crate::answer::{Answer, Answered};
 use crate::arguments::OperationArguments;
@@ -30,7 +30,7 @@ pub(crate) struct DrivenDevice {
 }
 
 impl Model for DrivenDevice {
-    ghost use Rattle.nv_operations.specs.Device.{IsDevice};
+    ghost use Rattle.nvme_bench.specs.Device.{IsDevice};
 
     ghost Value = { Unit {0} };
 

@@ -1,5 +1,5 @@
-use Rattle.nv_operations.proofs.TransferLaws.{ApartTo}
-use Rattle.nv_operations.proofs.conditions.are_distinct.Given as goal
+use Rattle.nvme_bench.proofs.TransferLaws.{ApartTo}
+use Rattle.nvme_bench.proofs.conditions.are_distinct.Given as goal
 
 -- no page so far occurs again after it
 abbrev pub invariant-loop-index : goal.invariant-loop-index
