@@ -33,6 +33,7 @@ fr = "1.0"
 pub(crate) fn identify(rt: &HostRuntime) -> anyhow::Result<()> {
     let subsystem = Subsystem::from_toml(rt.alloc(), FILE.as_bytes())?;
     let mut machine = Machine::new(rt.alloc(), subsystem)?;
+    enable(&mut machine)?;
     let mut mem = FlatMemory::new(rt.alloc(), 4096, 16)?;
     // The data lies in the second half of page 5 and the first half of page 9.
     let buffer = Buffer {
@@ -53,8 +54,11 @@ pub(crate) fn identify(rt: &HostRuntime) -> anyhow::Result<()> {
         cdw10: 0x01,
         ..Sqe::default()
     };
-    enable(&mut machine)?;
     let status = submit(&mut machine, &mut mem, &entry)?;
+    print_serial(rt, &mem, status)
+}
+
+fn print_serial(rt: &HostRuntime, mem: &FlatMemory, status: u16) -> anyhow::Result<()> {
     let mut serial = [0; 20];
     mem.load(0x5804, &mut serial)?;
     let serial = str::from_utf8(&serial)?;

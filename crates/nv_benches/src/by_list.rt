@@ -16,14 +16,6 @@ use nv_subsystem::{DEMO, Subsystem};
 /// 6, and prints the newest error and the last bytes.
 #[tactic(auto, unfolding(nv_host::specs::Pages::IsPageSize))]
 pub(crate) fn read_log(rt: &HostRuntime) -> anyhow::Result<()> {
-    let subsystem = Subsystem::from_toml(rt.alloc(), DEMO.as_bytes())?;
-    let mut machine = Machine::new(rt.alloc(), subsystem)?;
-    let mut mem = FlatMemory::new(rt.alloc(), 4096, 16)?;
-    // PRP1 is the address of page 13. PRP2 is the address of the list, which has the other pages.
-    mem.store(0x8000, &0x5000u64.to_le_bytes())?;
-    mem.store(0x8008, &0xb000u64.to_le_bytes())?;
-    mem.store(0x8010, &0x6000u64.to_le_bytes())?;
-    mem.store(0x6ff8, &[0xff; 8])?;
     let reserved = Sqe {
         opcode: 0xff,
         cid: 1,
@@ -38,8 +30,25 @@ pub(crate) fn read_log(rt: &HostRuntime) -> anyhow::Result<()> {
         cdw10: 0x0fff_0001,
         ..Sqe::default()
     };
+    let subsystem = Subsystem::from_toml(rt.alloc(), DEMO.as_bytes())?;
+    let mut machine = Machine::new(rt.alloc(), subsystem)?;
     enable(&mut machine)?;
+    let mut mem = FlatMemory::new(rt.alloc(), 4096, 16)?;
+    list_pages(&mut mem)?;
     submit(&mut machine, &mut mem, &reserved, &log)?;
+    print_log(rt, &mem)
+}
+
+/// Writes the list. PRP1 is the address of page 13, and PRP2 that of the list, with the other pages.
+fn list_pages(mem: &mut FlatMemory) -> anyhow::Result<()> {
+    mem.store(0x8000, &0x5000u64.to_le_bytes())?;
+    mem.store(0x8008, &0xb000u64.to_le_bytes())?;
+    mem.store(0x8010, &0x6000u64.to_le_bytes())?;
+    mem.store(0x6ff8, &[0xff; 8])?;
+    Ok(())
+}
+
+fn print_log(rt: &HostRuntime, mem: &FlatMemory) -> anyhow::Result<()> {
     let mut newest = [0; 64];
     mem.load(0xd000, &mut newest)?;
     let newest = ErrorEntry::get(&newest);

@@ -49,13 +49,11 @@ pub(crate) fn count_turns(rt: &HostRuntime) -> anyhow::Result<()> {
     }
     let mut slot = AnswerSlot::new();
     let command = Command::ActiveList { after: 0 };
-    match driver.admin(&mut bus, 0, &command, &mut slot) {
-        Ok(Reply::List(list)) => {
-            let count = list.as_slice().len();
-            println!(rt; "own bus: {count} namespaces, turns: {}", bus.turns)?;
-        }
+    let count = match driver.admin(&mut bus, 0, &command, &mut slot) {
+        Ok(Reply::List(list)) => list.as_slice().len(),
         Ok(_) => bail!("another reply"),
         Err(status) => bail!("status {:#x}", status.number()),
-    }
+    };
+    println!(rt; "own bus: {count} namespaces, turns: {}", bus.turns)?;
     Ok(())
 }

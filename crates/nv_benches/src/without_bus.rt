@@ -14,12 +14,11 @@ pub(crate) fn count_namespaces(rt: &HostRuntime) -> anyhow::Result<()> {
         cid: 0,
         phase: true,
     };
-    match subsystem.execute(0, &Command::ActiveList { after: 0 }, origin, &mut room) {
-        Ok(Reply::List(list)) => {
-            println!(rt; "without bus: {} namespaces", list.as_slice().len())?;
-        }
+    let count = match subsystem.execute(0, &Command::ActiveList { after: 0 }, origin, &mut room) {
+        Ok(Reply::List(list)) => list.as_slice().len(),
         Ok(_) => bail!("another reply"),
         Err(refusal) => bail!("status {:#x}", refusal.status.number()),
-    }
+    };
+    println!(rt; "without bus: {count} namespaces")?;
     Ok(())
 }

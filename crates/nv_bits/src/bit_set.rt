@@ -132,11 +132,20 @@ impl BitSet {
         if !self.contains(n) {
             return false;
         }
+        self.remove_member(n);
+        true
+    }
+
+    /// Removes a number that the set holds.
+    fn remove_member(&mut self, n: u32)
+        requires member { map.contains_key self.old.members n ≡ true }
+        requires in_range { IsOf self.old.first self.old.count n }
+        ensures { self.new ≡ record self.old { members = map.remove self.old.members n } }
+    {
         let k = (n - self.first) as usize;
         self.words[k / 64] &= !(1 << (k % 64));
         self.len -= 1;
         self.lowest_word = next_word(&self.words, self.lowest_word);
-        true
     }
 
     /// Removes all numbers.
@@ -180,9 +189,9 @@ impl BitSet {
             × (self.new ≡ record self.old { members = map.remove self.old.members n })) }
         ensures in_range { IfSome result (IsOf self.old.first self.old.count) }
     {
-        let n = self.lowest()?;
-        self.remove(n);
-        Some(n)
+        let lowest = self.lowest()?;
+        self.remove_member(lowest);
+        Some(lowest)
     }
 
     /// Returns the lowest number of the set that is greater than `n`.

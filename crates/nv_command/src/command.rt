@@ -65,7 +65,9 @@ pub enum Command<'a> {
 }
 
 impl<'a> Command<'a> {
-    /// Returns the command's form: its entry, its data, and the kind of its reply.
+    /// Returns the command's form: its entry, its data, and the kind of its reply. It is inlined,
+    /// because each caller needs only a part.
+    #[inline(always)]
     pub(crate) fn form(&self) -> Form
         ensures { result ≡ form_of self.now }
     {

@@ -6,8 +6,9 @@ use Rattle.std.specs.Bool.{MatchBool}
 use Rattle.nv_layout.proofs.LogLaws.{length-bytes_of_smart, length-entries}
 use Rattle.nv_prp.specs.Place.{written_at}
 use Rattle.nv_bus.specs.Call.{length_of}
-use Rattle.nv_command.specs.Command.{bytes_to_host}
-use Rattle.nv_command.specs.Reply.{FitsRecord, data_of, log_of, page_of}
+use Rattle.nv_command.proofs.TravelLaws.{replies_fit}
+use Rattle.nv_command.specs.Command.{bytes_to_host, transfer_by}
+use Rattle.nv_command.specs.Reply.{FitsRecord, IsReplyTo, data_of, log_of, page_of}
 use Rattle.nv_command.specs.declared.command.Command.{Command}
 use Rattle.nv_command.specs.declared.command.Command.TheVariants.{GetLog}
 use Rattle.nv_command.specs.declared.logs.LogQuery.{LogQuery}
@@ -30,6 +31,12 @@ page_data k r other = refl
 -- if the data is to the host, all of it is sent by the controller
 pub all_sent : (m : Transfer) (n : ℕ) → m ≡ ToHost n → bytes_to_host m ≡ length_of m
 all_sent m n is = ap bytes_to_host is ∙ sym (ap length_of is)
+
+-- if the data of a command that reads no log is to the host, it is as long as the page of the reply
+pub page_length : (k : Command) (r : Reply) (n : ℕ) → transfer_by k ≡ ToHost n → IsReplyTo k r → FitsRecord r
+    → IsNoLog k → length_of (transfer_by k) ≡ length (page_of r)
+page_length k r n is reply fits other =
+    sym (all_sent (transfer_by k) n is) ∙ sym (replies_fit k r reply fits) ∙ ap length (page_data k r other)
 
 -- if the data isn't to the host, the controller sends no bytes
 pub none_sent : (m : Transfer) → ((n : ℕ) → m ≡ ToHost n → ⊥) → bytes_to_host m ≡ 0

@@ -3,7 +3,7 @@
 ghost use Rattle.std.specs.Prelude.{◌≡◌, ◌*◌, ◌<◌, ◌≤◌, Ok, Err, IfOk, MatchResult, OnOk, length, true};
 ghost use Rattle.nv_layout.specs.Parts.{part};
 ghost use Rattle.nv_command.specs.Command.{transfer_by};
-ghost use Rattle.nv_command.specs.Reply.{FitsRecord, IsReplyTo, data_of, log_of};
+ghost use Rattle.nv_command.specs.Reply.{FitsRecord, IsReplyTo, data_of, log_of, page_of};
 ghost use Rattle.nv_prp.specs.Place.{LieIn, places, written_at};
 ghost use Rattle.nv_prp.specs.Transfer.{most_bytes};
 ghost use Rattle.nv_command.specs.LogPage.{log_asked};
@@ -154,6 +154,32 @@ fn deliver_log<M: PagedMemory>(
     write_out(mem, spans, &part);
 }
 
+/// Writes the page of the reply to an accepted command to several spans, if it has one. The page is
+/// made beside them, so that it is made once. This isn't inlined, because a function clears its
+/// local values when it begins, and most pages are made where they belong.
+#[inline(never)]
+fn deliver_in_parts<M: PagedMemory>(
+    subsystem: &Subsystem,
+    ctrl: u16,
+    mem: &mut M,
+    command: &Command,
+    spans: &Spans,
+)
+    requires ctrl { ctrl < length subsystem.now.controllers }
+    requires inside { LieIn (length (M.bytes mem.old)) spans.now }
+    requires len { length (places spans.now)
+        ≡ length (page_of (reply_of subsystem.now ctrl command.now)) }
+    ensures bytes { M.bytes mem.new ≡ written_at (M.bytes mem.old) (places spans.now)
+        (page_of (reply_of subsystem.now ctrl command.now)) }
+    ensures len { length (M.bytes mem.new) ≡ length (M.bytes mem.old) }
+    ensures page_len { M.page_len mem.new ≡ M.page_len mem.old }
+{
+    let mut page = [0; 4096];
+    if subsystem.put_page(ctrl, command, &mut page) {
+        copy_out(mem, spans, &page);
+    }
+}
+
 /// Writes the data of the reply to an accepted command to where the entry's data lies, if it has
 /// any.
 fn deliver<M: PagedMemory>(
@@ -193,11 +219,7 @@ fn deliver<M: PagedMemory>(
         return;
     }
 
-    // A page that lies in several parts is made beside them, so that it is made once.
-    let mut page = [0; 4096];
-    if subsystem.put_page(ctrl, command, &mut page) {
-        copy_out(mem, spans, &page);
-    }
+    deliver_in_parts(subsystem, ctrl, mem, command, spans);
 }
 
 /// Executes a command: writes the data of its reply, and then makes its changes.

@@ -6,6 +6,7 @@
 
 mod case;
 mod cases;
+mod cut_run;
 #[cfg(test)]
 mod cut_sink;
 mod cut_source;

@@ -2,12 +2,12 @@
 
 ghost use Rattle.std.specs.Prelude.{◌<◌};
 
-use crate::case::{Case, Stream};
+use crate::case::Case;
 use crate::cases::cases;
+use crate::cut_run::CutRun;
 use crate::cut_source::CutSource;
-use crate::kept::Kept;
 use nv_controller::Machine;
-use nv_script::{Geometry, OverWrite, RunEnd, run, run_within};
+use nv_script::{Geometry, OverWrite, RunEnd, run_within};
 use nv_subsystem::{DEMO, Subsystem};
 use std::alloc::Global;
 use std::process::Abort;
@@ -31,38 +31,15 @@ fn fails_at(
     most: usize,
     call: u64,
 ) -> Result<bool, Fail> {
-    let Some(mut machine) = case.machine(alloc) else {
-        assert!(rt; false, "no controllers");
-        return Ok(false);
-    };
-    let mut script = CutSource::new(case.script.as_bytes(), most, call);
-    let mut out = OverWrite::new(Vec::new(alloc));
-    let mut messages = OverWrite::new(Vec::new(alloc));
-    let end = run(
-        alloc,
-        &mut machine,
-        Geometry::default(),
-        &mut script,
-        &mut out,
-        &mut messages,
-    );
-    let lines = newlines(case.script.as_bytes(), script.given as usize);
-    let output = case.text(alloc, Stream::Output, lines)?;
-    assert!(rt; out.into_inner().as_slice() == output.as_bytes());
-    let message = case.text(alloc, Stream::Messages, lines)?;
-    assert!(rt; messages.into_inner().as_slice() == message.as_bytes());
-    assert!(rt; Kept::of(&machine) == case.kept(lines));
-    match end {
-        RunEnd::Read => Ok(true),
-        RunEnd::Status(_) => {
-            assert!(rt; lines == case.lines.len());
-            Ok(false)
-        }
-        _ => {
-            assert!(rt; false, "another end");
-            Ok(false)
-        }
+    let run = CutRun::of(alloc, case, most, call)?;
+    let lines = newlines(case.script.as_bytes(), run.given as usize);
+    assert!(rt; run.wrote(alloc, case, lines)?);
+    assert!(rt; run.kept == case.kept(lines));
+    if run.end != RunEnd::Read {
+        assert!(rt; run.end == RunEnd::Status(case.status()));
+        assert!(rt; lines == case.lines.len());
     }
+    Ok(run.end == RunEnd::Read)
 }
 
 /// An upper bound of the reads of a run.

@@ -1,12 +1,14 @@
 //! A write that fails at each call: the texts of all earlier lines are complete, a part of the
 //! current line's text is written from its start on, and the line has been executed.
 
+ghost use Rattle.std.specs.Prelude.{◌≡◌, false};
+
 use crate::case::{Case, Stream};
 use crate::cases::cases;
 use crate::cut_sink::CutSink;
 use crate::kept::Kept;
-use nv_script::{Geometry, OverRead, RunEnd, run};
-use std::alloc::Global;
+use nv_script::{Geometry, OverRead, RunEnd, Sink, run};
+use std::alloc::{AllocError, Global};
 use std::process::Abort;
 use std::test::Fail;
 
@@ -23,6 +25,26 @@ fn cut_line(case: &Case, stream: Stream, taken: usize) -> Option<usize> {
     None
 }
 
+/// Runs a case's script into two sinks, and returns how the run ended and the state of the first
+/// controller. An error is one outside the run.
+fn run_into(
+    alloc: Global,
+    case: &Case,
+    out: &mut CutSink,
+    messages: &mut CutSink,
+) -> Result<(RunEnd, Kept), AllocError>
+    requires out { (⟦<CutSink as Sink>⟧.state out.old).has_failed ≡ false }
+    requires messages { (⟦<CutSink as Sink>⟧.state messages.old).has_failed ≡ false }
+{
+    let Some(mut machine) = case.machine(alloc) else {
+        return Err(AllocError);
+    };
+    let mut script = OverRead::new(case.script.as_bytes());
+    let geometry = Geometry::default();
+    let end = run(alloc, &mut machine, geometry, &mut script, out, messages);
+    Ok((end, Kept::of(&machine)))
+}
+
 /// Runs a script in which one stream takes at most `most` bytes in a write and fails after `calls`
 /// writes. Returns whether it failed.
 fn fails_after(
@@ -33,25 +55,12 @@ fn fails_after(
     most: usize,
     calls: u64,
 ) -> Result<bool, Fail> {
-    let Some(mut machine) = case.machine(alloc) else {
-        assert!(rt; false, "no controllers");
-        return Ok(false);
-    };
-    let mut script = OverRead::new(case.script.as_bytes());
     let mut failing = CutSink::new(alloc, most, calls);
     let mut other = CutSink::new(alloc, usize::MAX, u64::MAX);
-    let (out, messages) = match stream {
-        Stream::Output => (&mut failing, &mut other),
-        Stream::Messages => (&mut other, &mut failing),
+    let (end, kept) = match stream {
+        Stream::Output => run_into(alloc, case, &mut failing, &mut other)?,
+        Stream::Messages => run_into(alloc, case, &mut other, &mut failing)?,
     };
-    let end = run(
-        alloc,
-        &mut machine,
-        Geometry::default(),
-        &mut script,
-        out,
-        messages,
-    );
     let Some(cut) = cut_line(case, stream, failing.taken.len()) else {
         assert!(rt; end == RunEnd::Status(case.status()));
         return Ok(false);
@@ -65,7 +74,7 @@ fn fails_after(
     assert!(rt; whole.as_bytes().starts_with(failing.taken.as_slice()));
     let before = case.text(alloc, stream.other(), cut)?;
     assert!(rt; other.taken.as_slice() == before.as_bytes());
-    assert!(rt; Kept::of(&machine) == case.kept(cut.saturating_add(1)));
+    assert!(rt; kept == case.kept(cut.saturating_add(1)));
     Ok(true)
 }
 

@@ -1,6 +1,7 @@
 //! The number of turns in which `list` asks controllers.
 
 ghost use Rattle.std.specs.Prelude.{◌≡◌};
+ghost use Rattle.nv_bus.specs.Bus.{IsBus};
 ghost use Rattle.nv_controller.specs.Machine.{bus_of};
 
 use nv_controller::{Bus, Machine};
@@ -80,6 +81,17 @@ fn shared_file(alloc: Global) -> Result<String, AllocError> {
     Ok(file)
 }
 
+/// Runs `list` over controllers, and returns how it ended and what it wrote to the two streams.
+fn list_over(alloc: Global, bus: &mut TurnCounts, geometry: Geometry) -> (RunEnd, Vec<u8>, Vec<u8>)
+    requires { IsBus (⟦<TurnCounts as Bus>⟧.meaning bus.old) }
+{
+    let mut script = OverRead::new(b"list\n".as_slice());
+    let mut out = OverWrite::new(Vec::new(alloc));
+    let mut messages = OverWrite::new(Vec::new(alloc));
+    let end = run(alloc, bus, geometry, &mut script, &mut out, &mut messages);
+    (end, out.into_inner(), messages.into_inner())
+}
+
 /// Checks the number of turns that `list` gives these controllers, and how many entries the first
 /// ones take.
 fn expect_turns(
@@ -91,21 +103,11 @@ fn expect_turns(
 ) -> Result<(), Fail> {
     let subsystem = Subsystem::from_toml(alloc, shared_file(alloc)?.as_bytes())?;
     let mut bus = TurnCounts::new(Machine::new(alloc, subsystem)?);
-    let mut script = OverRead::new(b"list\n".as_slice());
-    let mut out = OverWrite::new(Vec::new(alloc));
-    let mut messages = OverWrite::new(Vec::new(alloc));
-    let end = run(
-        alloc,
-        &mut bus,
-        geometry,
-        &mut script,
-        &mut out,
-        &mut messages,
-    );
+    let (end, out, messages) = list_over(alloc, &mut bus, geometry);
     assert!(rt; end == RunEnd::Status(0));
     // Each line has 120 bytes.
-    assert_eq!(rt; out.into_inner().len(), 9600);
-    assert!(rt; messages.into_inner().is_empty());
+    assert_eq!(rt; out.len(), 9600);
+    assert!(rt; messages.is_empty());
     assert_eq!(rt; bus.turns, turns);
     assert_eq!(rt; bus.taken, taken);
     Ok(())

@@ -153,17 +153,26 @@ fn write<M: HostMemory>(mem: &mut M, bytes: &[u8; 4096])
     copy_out(mem, &spans, bytes);
 }
 
+/// Has the first of new controllers identify itself, and returns the completion.
+fn identify_first(alloc: Global, mem: &mut OwnMemory) -> Result<Option<Cqe>, Fail>
+    requires page { mem.old.memory.page_size ≡ 4096 }
+    requires len { length mem.old.memory.bytes ≡ 65536 }
+    ensures page { mem.new.memory.page_size ≡ 4096 }
+    ensures len { length mem.new.memory.bytes ≡ 65536 }
+{
+    let subsystem = Subsystem::from_toml(alloc, DEMO.as_bytes())?;
+    let mut machine = Machine::new(alloc, subsystem)?;
+    if machine.controllers() == 0 {
+        return Ok(None);
+    }
+    Ok(identify(&mut machine, mem))
+}
+
 /// The controller's data is written to pages that the memory lends, where the driver finds it.
 #[test]
 fn a_controller_and_a_driver_work_over_it(rt: HostRuntime) -> Result<(), Fail> {
-    let subsystem = Subsystem::from_toml(rt.alloc(), DEMO.as_bytes())?;
-    let mut machine = Machine::new(rt.alloc(), subsystem)?;
     let mut mem = OwnMemory::new(rt.alloc())?;
-    if machine.controllers() == 0 {
-        assert!(rt; false, "no controller");
-        return Ok(());
-    }
-    let Some(completion) = identify(&mut machine, &mut mem) else {
+    let Some(completion) = identify_first(rt.alloc(), &mut mem)? else {
         assert!(rt; false, "no completion");
         return Ok(());
     };

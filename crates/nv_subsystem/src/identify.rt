@@ -1,6 +1,7 @@
 //! The Identify commands: when they are refused, and what they return. Section "Identify command".
 
 ghost use Rattle.std.specs.Prelude.{◌≡◌, ◌≤◌, ◌<◌, ◌∷◌, [], length, All};
+ghost use Rattle.nv_command.specs.Reply.{page_of};
 ghost use Rattle.nv_command.specs.declared.reply.Reply.TheVariants as reply;
 ghost use Rattle.nv_model.specs.WellFormed.{blocks};
 ghost use Rattle.nv_model.specs.Identify.{active_namespace, active_reply};
@@ -92,6 +93,16 @@ impl Subsystem {
         } else {
             self.active(ctrl, nsid)
         }
+    }
+
+    /// Writes the bytes of the data for an active namespace. It isn't inlined, so that only this
+    /// reply needs room for it.
+    #[inline(never)]
+    pub(crate) fn put_active(&self, ctrl: u16, nsid: u32, page: &mut [u8; 4096])
+        requires { ctrl < length self.now.controllers }
+        ensures { page.new ≡ page_of (active_reply self.now ctrl nsid) }
+    {
+        self.active_data(ctrl, nsid).put(page);
     }
 }
 

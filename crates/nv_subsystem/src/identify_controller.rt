@@ -1,6 +1,7 @@
 //! The Identify data of a controller. Section "Identify Controller data structure (CNS 01h)".
 
 ghost use Rattle.std.specs.Prelude.{◌≡◌};
+ghost use Rattle.nv_layout.specs.IdCtrl.{bytes_of_id_ctrl};
 ghost use Rattle.nv_subsystem.specs.inner.ControllerView.{controller_view};
 ghost use Rattle.nv_model.specs.IdentifyController.{cmic_of, fna_of};
 ghost use Rattle.nv_model.specs.IdentifyController.{id_ctrl_of, padded};
@@ -74,5 +75,15 @@ impl Subsystem {
             vwc: numbers.vwc,
             subnqn: padded(self.subnqn.as_bytes(), 0),
         }
+    }
+
+    /// Writes the bytes of the data of a controller. It isn't inlined, so that only this reply
+    /// needs room for it.
+    #[inline(never)]
+    pub(crate) fn put_id_ctrl(&self, controller: &Controller, page: &mut [u8; 4096])
+        ensures { page.new
+            ≡ bytes_of_id_ctrl (id_ctrl_of self.now (controller_view controller.now)) }
+    {
+        self.id_ctrl(controller).put(page);
     }
 }

@@ -208,9 +208,9 @@ impl Subsystem {
     {
         match command {
             Command::IdentifyController => {
-                self.id_ctrl(&self.controllers[ctrl as usize]).put(page);
+                self.put_id_ctrl(&self.controllers[ctrl as usize], page);
             }
-            Command::IdentifyNamespace { nsid } => self.active_data(ctrl, *nsid).put(page),
+            Command::IdentifyNamespace { nsid } => self.put_active(ctrl, *nsid, page),
             Command::AllocatedNamespace { nsid } => self.allocated(*nsid).put(page),
             Command::ActiveList { after } => {
                 put_above(&self.controllers[ctrl as usize].attached, *after, page);

@@ -1,4 +1,4 @@
-use Rattle.std.proofs.Common.{◌∙◌, ap, arith, length, refl, subst, sym}
+use Rattle.std.proofs.Common.{◌∙◌, ap, arith, refl, subst, sym}
 use Rattle.std.proofs.lemmas.List.{nil_from_length}
 use Rattle.nv_command.specs.Command.{transfer_by}
 use Rattle.nv_command.specs.Reply.{FitsRecord}
@@ -8,7 +8,7 @@ use Rattle.nv_command.specs.LogPage.{log_asked}
 use Rattle.nv_model.specs.Logs.{log_reply}
 use Rattle.nv_model.specs.Meaning.{reply_of}
 use Rattle.nv_prp.specs.Place.{places, written_at}
-use Rattle.nv_controller.proofs.DataLaws.{all_sent, log_length, none_sent, nothing_written, page_data}
+use Rattle.nv_controller.proofs.DataLaws.{log_length, none_sent, nothing_written, page_data, page_length}
 use Rattle.nv_controller.proofs.entry.deliver.Goals as goal
 
 pub deliver_log-requires-clause-short : goal.deliver_log-requires-clause-short
@@ -18,11 +18,8 @@ deliver_log-requires-clause-short g c =
 
 pub write_out-requires-clause-len : goal.write_out-requires-clause-len
 write_out-requires-clause-len g c =
-    let k = c.args.command.now in
-    c.requires.len
-    ∙ sym (all_sent (transfer_by k) c.in-ToHost.field-0 (sym c.requires.transfer ∙ c.in-ToHost.is))
-    ∙ sym (replies_fit k _ c.requires.is_reply c.requires.fits)
-    ∙ ap length (page_data k _ c.in_default.not-GetLog)
+    c.requires.len ∙ page_length c.args.command.now _ c.in-ToHost.field-0 (sym c.requires.transfer ∙ c.in-ToHost.is)
+    c.requires.is_reply c.requires.fits c.in_default.not-GetLog
 
 pub write_out-requires-clause-limit : goal.write_out-requires-clause-limit
 write_out-requires-clause-limit g c = omega (arith, write_out-requires-clause-len g c, c.requires.few)
@@ -40,9 +37,14 @@ returns-in_default-transfer g c =
       page_len = refl;
     }
 
-pub returns-else-put_page-clause-bytes : goal.returns-else-put_page-clause-bytes
-returns-else-put_page-clause-bytes g c =
+pub deliver_in_parts-requires-clause-len : goal.deliver_in_parts-requires-clause-len
+deliver_in_parts-requires-clause-len g c =
+    c.requires.len ∙ page_length c.args.command.now _ c.in-ToHost.field-0 (sym c.requires.transfer ∙ c.in-ToHost.is)
+    c.requires.is_reply c.requires.fits c.in_default.not-GetLog
+
+pub returns-clause-bytes : goal.returns-clause-bytes
+returns-clause-bytes g c =
     let bytes = g.M.PagedMemory.bytes c.args.mem.now in
     let at = places c.args.entry_data.now.spans in
-    let page = page_data c.args.command.now _ c.in_default.not-GetLog in
-    nothing_written bytes at ∙ ap (written_at bytes at) (sym (page ∙ c.if-put_page.ensures))
+    c.deliver_in_parts.ensures.bytes
+    ∙ ap (written_at bytes at) (sym (page_data c.args.command.now _ c.in_default.not-GetLog))
