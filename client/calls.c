@@ -7,6 +7,7 @@
 #include "launcher.h"
 #include <errno.h>
 #include <fcntl.h>
+#include <grp.h>
 #include <limits.h>
 #include <linux/audit.h>
 #include <linux/filter.h>
@@ -122,24 +123,54 @@ void filter_calls(void) {
 
 /* ---- the process that made a call */
 
-static struct call own; /* the launcher itself */
+enum { NOBODY = 65534, MOST_GROUPS = 256 };
+#define NOT_READ ((uid_t)-1)
+
+/* What a process may do with files: the launcher, and the one that made the call, which is only read for root. */
+static struct identity {
+    uid_t user;
+    gid_t group, groups[MOST_GROUPS];
+    size_t count;
+} own = {.user = NOT_READ}, caller;
+
+/* (the owner of a process's folder in /proc is root if the process changed its user) */
+static void read_identity(pid_t process, struct identity *identity) {
+    char path[64], *line = NULL;
+    size_t room = 0;
+    int is_last = 0;
+    snprintf(path, sizeof path, "/proc/%d/status", process);
+    FILE *status = fopen(path, "re");
+    *identity = (struct identity){.user = NOBODY, .group = NOBODY};
+    while (status && !is_last && getline(&line, &room, status) > 0) {
+        sscanf(line, "Uid: %*u %*u %*u %u", &identity->user);
+        sscanf(line, "Gid: %*u %*u %*u %u", &identity->group);
+        is_last = strncmp(line, "Groups:", 7) == 0;
+        char *at = is_last ? strtok(line + 7, " \t\n") : NULL;
+        for (; at && identity->count < MOST_GROUPS; at = strtok(NULL, " \t\n"))
+            identity->groups[identity->count++] = (gid_t)strtoul(at, NULL, 10);
+    }
+    if (status)
+        fclose(status);
+    free(line);
+}
 
 /* Takes the identity of a process, because its memory and its files are open to nobody else. (root alone can do so, and
    its right to do so stays.) */
-static void act_as(const struct call *as) {
-    static uid_t now;
-    if (own.user != 0 || as->user == now)
+static void act_as(const struct identity *identity) {
+    if (own.user != 0 || caller.user == 0)
         return;
-    now = as->user;
-    setresgid(as->group, (gid_t)-1, (gid_t)-1);
-    setfsgid(as->group);
-    setresuid(as->user, (uid_t)-1, (uid_t)-1);
-    setfsuid(as->user);
+    if (setgroups(identity->count, identity->groups) < 0 || setresgid(identity->group, (gid_t)-1, (gid_t)-1) < 0 ||
+        setresuid(identity->user, (uid_t)-1, (uid_t)-1) < 0)
+        fail_by_errno("the user can't be changed");
+    setfsgid(identity->group);
+    setfsuid(identity->user);
+    if (identity == &own)
+        follow_monitor();
 }
 
 static int copy(const struct call *call, uint64_t there, void *here, size_t size, __typeof__(process_vm_readv) *move) {
     struct iovec ours = {here, size}, theirs = {(void *)(uintptr_t)there, size};
-    act_as(call);
+    act_as(&caller);
     ssize_t count = size == 0 ? 0 : move(call->process, &ours, 1, &theirs, 1, 0);
     act_as(&own);
     return count == (ssize_t)size ? 0 : -EFAULT;
@@ -175,7 +206,7 @@ static int find_node(struct call *call) {
     char link[64], name[PATH_MAX];
     struct stat about, how, dev;
     snprintf(link, sizeof link, "/proc/%d/fd/%d", call->process, call->file);
-    act_as(call);
+    act_as(&caller);
     int is_file = stat(link, &about) == 0 && S_ISREG(about.st_mode) && lstat(link, &how) == 0;
     read_link(link, name);
     act_as(&own);
@@ -187,8 +218,8 @@ static int find_node(struct call *call) {
 }
 
 /* Opens a file of the process again, as the process could. */
-static int open_again(const struct call *call, const char *link, int flags) {
-    act_as(call);
+static int open_again(const char *link, int flags) {
+    act_as(&caller);
     int file = open(link, flags | O_CLOEXEC), error = errno;
     act_as(&own);
     return file < 0 ? -error : file;
@@ -338,6 +369,19 @@ static void control(const char *name) {
         scan(device_of(call.node.controller), call.node.controller, 1);
 }
 
+/* Returns what a path leads to below the folder in /proc of the process that opens it, or an empty text. */
+static const char *find_own(const char *path) {
+    static char found[PATH_MAX + 8];
+    static const char *const places[][2] = {{"/proc/self/", ""},     {"/proc/thread-self/", ""},
+                                            {"/dev/fd/", "fd/"},     {"/dev/stdin", "fd/0"},
+                                            {"/dev/stdout", "fd/1"}, {"/dev/stderr", "fd/2"}};
+    *found = '\0';
+    for (unsigned at = 0; at < sizeof places / sizeof *places; at++)
+        if (strncmp(path, places[at][0], strlen(places[at][0])) == 0)
+            snprintf(found, sizeof found, "%s%s", places[at][1], path + strlen(places[at][0]));
+    return found;
+}
+
 /* Answers a call that opens a file with these flags, or that changes its length: a file of /sys that isn't there for
    writing can't be opened for it, even by root, and a node isn't truncated, or opened for direct access. */
 static int answer_open(const struct call *call, int directory, uint64_t path, int flags, int is_length) {
@@ -347,13 +391,14 @@ static int answer_open(const struct call *call, int directory, uint64_t path, in
     struct stat about, top;
     if (copy_text(call, path, text) < 0 || (flags & (O_CREAT | O_EXCL)) == (O_CREAT | O_EXCL))
         return NOT_OURS;
-    if (strncmp(text, "/proc/self/", 11) == 0)
-        snprintf(place, sizeof place, "/proc/%d/%s", call->process, text + 11);
+    const char *own_file = find_own(text);
+    if (*own_file)
+        snprintf(place, sizeof place, "/proc/%d/%s", call->process, own_file);
     else if (*text == '/' || directory == AT_FDCWD)
         snprintf(place, sizeof place, "/proc/%d/%s/%s", call->process, *text == '/' ? "root" : "cwd", text);
     else
         snprintf(place, sizeof place, "/proc/%d/fd/%d/%s", call->process, directory, text);
-    int file = open_again(call, place, O_PATH | (flags & O_NOFOLLOW));
+    int file = open_again(place, O_PATH | (flags & O_NOFOLLOW));
     if (file < 0)
         return NOT_OURS;
     sprintf(place, "/proc/self/fd/%d", file);
@@ -363,10 +408,10 @@ static int answer_open(const struct call *call, int directory, uint64_t path, in
                   about.st_dev == top.st_dev;
     if (is_file && is_sys && !(about.st_mode & 0222))
         result = -EACCES;
-    else if (is_file && is_sys && !is_length && (result = open_again(call, place, again)) >= 0)
+    else if (is_file && is_sys && !is_length && (result = open_again(place, again)) >= 0)
         control(name);
     else if (is_file && strncmp(name, "/dev/", 5) == 0 && read_name(name + 5, &node))
-        result = is_length ? -EINVAL : flags & (O_TRUNC | O_DIRECT) ? open_again(call, place, again) : NOT_OURS;
+        result = is_length ? -EINVAL : flags & (O_TRUNC | O_DIRECT) ? open_again(place, again) : NOT_OURS;
     close(file);
     return result;
 }
@@ -403,19 +448,16 @@ void answer_call(void) {
                         .argument = got.data.args[2]};
     unsigned row = 0;
     int flags = 0, result = NOT_OURS;
-    struct stat about;
-    char path[64];
     while (row < ROWS && (call.is_old || rows[row].number != got.data.nr))
         row++;
     uint64_t id = got.id;
+    if (own.user == NOT_READ)
+        read_identity(getpid(), &own);
+    if (own.user == 0)
+        read_identity(call.process, &caller);
     /* (a process that is gone by now may have left its number to another one) */
-    snprintf(path, sizeof path, "/proc/%d", call.process);
-    if (stat(path, &about) == 0 && ioctl(calls, SECCOMP_IOCTL_NOTIF_ID_VALID, &id) == 0) {
-        call.user = about.st_uid;
-        call.group = about.st_gid;
-        own = (struct call){.user = getuid(), .group = getgid()};
+    if (ioctl(calls, SECCOMP_IOCTL_NOTIF_ID_VALID, &id) == 0)
         result = row == ROWS ? answer_ioctl(&call) : answer_row(&call, row, got.data.args, &flags);
-    }
     if (row < ROWS && result >= 0) {
         struct seccomp_notif_addfd added = {.id = id,
                                             .flags = SECCOMP_ADDFD_FLAG_SEND,

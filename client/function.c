@@ -17,21 +17,6 @@ static const unsigned char config_mask[CONFIG_SIZE] = {
     [COMMAND] = 6, 4,   [0x11] = 0xc0, 255, 255, [0x3c] = 255, [MESSAGES] = 1, [0x44] = 0xfc, 255, 255, 255,
     255,           255, 255,           255, 255, 255};
 
-static uint32_t read_register(const struct function *function, uint32_t offset) {
-    return nvme_machine_read32(function->machine, function->number, offset);
-}
-
-/* Adds 1 to an event counter, or clears it. If the other process made it so that this waits, the timer interrupts. */
-static int use_counter(int counter, int is_write) {
-    const struct itimerval limit = {{0, MOST_WAIT}, {0, MOST_WAIT}}, none = {{0, 0}, {0, 0}};
-    uint64_t count = 1;
-    setitimer(ITIMER_REAL, &limit, NULL);
-    ssize_t length = is_write ? write(counter, &count, sizeof count) : read(counter, &count, sizeof count);
-    int is_used = length == sizeof count || (length < 0 && errno == EAGAIN);
-    setitimer(ITIMER_REAL, &none, NULL);
-    return is_used;
-}
-
 /* Returns whether a descriptor is an event counter. (This process writes nothing else for a client.) */
 int is_counter(int file) {
     static const char wanted[] = "anon_inode:[eventfd]";
@@ -48,6 +33,18 @@ void set_counter(struct function *function, int *counter, int file) {
     function->is_masked &= counter != &function->pin;
 }
 
+/* Adds 1 to an event counter, or clears it. If the other process made it so that this waits, the timer interrupts, and
+   the counter is dropped. */
+static void use_counter(struct function *function, int *counter, int is_write) {
+    const struct itimerval limit = {{0, MOST_WAIT}, {0, MOST_WAIT}}, none = {{0, 0}, {0, 0}};
+    uint64_t count = 1;
+    setitimer(ITIMER_REAL, &limit, NULL);
+    ssize_t length = is_write ? write(*counter, &count, sizeof count) : read(*counter, &count, sizeof count);
+    if (length < 0 && errno != EAGAIN)
+        set_counter(function, counter, -1);
+    setitimer(ITIMER_REAL, &none, NULL);
+}
+
 /* Raises the interrupt if completions wait: by a message, or by the pin. What can't be raised yet is later. */
 void raise_interrupt(struct function *function) {
     int has_message = function->bell >= 0, *counter = has_message ? &function->bell : &function->pin;
@@ -55,26 +52,24 @@ void raise_interrupt(struct function *function) {
     if (function->posted == function->head || *counter < 0 || (!has_message && (is_off || function->is_masked)))
         return;
     function->is_masked |= !has_message;
-    if (!use_counter(*counter, 1))
-        set_counter(function, counter, -1);
+    use_counter(function, counter, 1);
 }
 
 /* The other process has seen the pin's interrupt. */
 void see_interrupt(struct function *function) {
-    if (!use_counter(function->unmask, 0))
-        set_counter(function, &function->unmask, -1);
+    use_counter(function, &function->unmask, 0);
     function->is_masked = 0;
     raise_interrupt(function);
 }
 
 /* Takes one waiting entry of the guest's ring, if the function may access the guest's memory. */
 void take_turn(struct function *function) {
-    uint64_t submission = read_register(function, NVME_ASQ) | (uint64_t)read_register(function, NVME_ASQ + 4) << 32;
-    uint64_t completion = read_register(function, NVME_ACQ) | (uint64_t)read_register(function, NVME_ACQ + 4) << 32;
-    uint32_t power = read_register(function, NVME_CC) >> 7 & 15, less_one = read_register(function, NVME_AQA);
-    function->has_more =
-        function->fetched != function->tail && function->config[COMMAND] & IS_MASTER &&
-        turn(function, submission + 64 * function->fetched, completion + 16 * function->posted, SMALL_PAGE << power);
+    uint64_t entry = nvme_machine_read64(function->machine, function->number, NVME_ASQ) + 64 * function->fetched;
+    uint64_t slot = nvme_machine_read64(function->machine, function->number, NVME_ACQ) + 16 * function->posted;
+    uint32_t less_one = nvme_machine_read32(function->machine, function->number, NVME_AQA);
+    uint32_t power = nvme_machine_read32(function->machine, function->number, NVME_CC) >> 7 & 15;
+    function->has_more = function->fetched != function->tail && function->config[COMMAND] & IS_MASTER &&
+                         turn(function, entry, slot, SMALL_PAGE << power);
     if (!function->has_more)
         return;
     function->fetched = (function->fetched + 1) % ((less_one & 0xfff) + 1);
@@ -86,9 +81,9 @@ void take_turn(struct function *function) {
 /* Keeps a doorbell's value, unless the controller ignores it: a tail that names no slot, or a head that names none of
    the completions that wait. */
 static void ring_doorbell(struct function *function, uint32_t offset, uint32_t value) {
-    uint32_t less_one = read_register(function, NVME_AQA), slots = (less_one >> 16 & 0xfff) + 1;
-    uint32_t waiting = (function->posted + slots - function->head) % slots;
-    if (!(read_register(function, NVME_CSTS) & 1))
+    uint32_t less_one = nvme_machine_read32(function->machine, function->number, NVME_AQA);
+    uint32_t slots = (less_one >> 16 & 0xfff) + 1, waiting = (function->posted + slots - function->head) % slots;
+    if (!(nvme_machine_read32(function->machine, function->number, NVME_CSTS) & 1))
         return;
     if (offset == NVME_TAIL_DOORBELL && value <= (less_one & 0xfff))
         function->tail = value;
@@ -107,7 +102,7 @@ static void write_register(struct function *function, uint32_t offset, uint32_t 
 
 static unsigned char byte_at(const struct function *function, int is_config, uint32_t offset) {
     if (!is_config)
-        return read_register(function, offset - offset % 4) >> offset % 4 * 8;
+        return nvme_machine_read32(function->machine, function->number, offset - offset % 4) >> offset % 4 * 8;
     return function->config[offset] | (offset == STATUS && function->posted != function->head ? IS_WAITING : 0);
 }
 

@@ -13,7 +13,7 @@
 /* The most functions, sections of a machine's memory, descriptors with a message, and bytes of an access. */
 enum { MOST_FUNCTIONS = 16, MOST_SECTIONS = 256, MOST_FILES = 8, MOST_ACCESS = 0x4000 };
 enum { FAILED = 72, HEADER = 16, MOST_MESSAGE = HEADER + 16 + MOST_ACCESS };
-enum { BAR_SIZE = 0x4000, CONFIG_SIZE = 256, SMALL_PAGE = 4096 };
+enum { BAR_SIZE = MOST_ACCESS, CONFIG_SIZE = 256, SMALL_PAGE = 4096 };
 
 /* A piece of the machine's memory, in a file. What has none (-1) is a hole. */
 struct section {

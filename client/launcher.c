@@ -102,11 +102,20 @@ static void reap(void) {
     }
 }
 
+/* Reads what the kernel says of bwrap outside, and fails if that has ended. (It may still have a number.) */
+static void read_monitor(char text[4096]) {
+    ssize_t length = pread(MONITOR, text, 4095, 0);
+    text[length < 0 ? 0 : length] = '\0';
+    const char *state = strstr(text, "\nState:\t");
+    if (!state || strchr("ZX", state[strlen("\nState:\t")]))
+        fail("bwrap has ended");
+}
+
 /* Returns the signals that were sent to bwrap, which blocks them and so can't pass them on. (Signal 1 is bit 0.) */
 static unsigned long signals_at_monitor(void) {
-    char text[4096], *line;
-    ssize_t length = has_sandbox ? pread(MONITOR, text, sizeof text - 1, 0) : 0;
-    text[length < 0 ? 0 : length] = '\0';
+    char text[4096] = "", *line;
+    if (has_sandbox)
+        read_monitor(text);
     line = strstr(text, "\nShdPnd:");
     return line ? strtoul(line + strlen("\nShdPnd:"), NULL, 16) : 0;
 }
@@ -352,7 +361,8 @@ static void open_as(int number, const char *path, int flags) {
     int file = open(path, flags | O_NOCTTY, 0666);
     if (file < 0 || dup2(file, number) < 0)
         fail_by_errno(path);
-    close(file);
+    if (file != number)
+        close(file);
 }
 
 static void open_files(void) {
@@ -414,26 +424,32 @@ static void go_inside(const struct sandbox *sandbox, char **arguments) {
     enter_sandbox(sandbox, words);
 }
 
+/* Asks to be killed when bwrap ends. (The kernel forgets this when a process takes another user's identity.) */
+void follow_monitor(void) {
+    char text[4096];
+    if (!has_sandbox)
+        return;
+    if (prctl(PR_SET_PDEATHSIG, SIGKILL) < 0)
+        fail_by_errno("the end of bwrap can't be followed");
+    read_monitor(text);
+}
+
 /* Takes what the launcher outside handed on. This process is the first one of its kind, so all others end with it. */
 static void begin_inside(const char *blocked, const char *here) {
     unsigned long bits = strtoul(blocked, NULL, 16);
     struct stat about, outside = {.st_dev = 0};
-    char byte;
     memcpy(&mask, &bits, sizeof bits);
     has_sandbox = 1;
     strcpy(library, MODEL_FOLDER "/library.so");
     strcpy(program, MODEL_FOLDER "/device");
     check_mounts();
     /* (the folder is another one if a mount covers it, and /dev, /sys and /proc always are) */
-    int is_own = strncmp(here, "/dev", 4) == 0 || strncmp(here, "/sys", 4) == 0 || strncmp(here, "/proc", 5) == 0;
     fstat(HERE, &outside);
     close(HERE);
     if (chdir(here) < 0 || stat(".", &about) < 0 ||
-        (!is_own && (about.st_dev != outside.st_dev || about.st_ino != outside.st_ino)))
+        (!is_replaced(here) && (about.st_dev != outside.st_dev || about.st_ino != outside.st_ino)))
         fail("the folder %s isn't there for the command: run it from another one", here);
-    /* (bwrap may have been killed before) */
-    if (prctl(PR_SET_PDEATHSIG, SIGKILL) < 0 || pread(MONITOR, &byte, 1, 0) < 0)
-        fail("bwrap has ended");
+    follow_monitor();
 }
 
 /* Makes the sandbox and runs the command there, or else without one, if the machine has no NVMe device. */

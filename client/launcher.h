@@ -26,12 +26,13 @@ extern int waits;           /* whether nodes wait for a scan or a reset, because
 extern uint64_t geometry[]; /* of the devices' drivers */
 
 /* launcher.c: `fail` reports why the launcher can't continue, and ends everything that was started; `fail_by_errno`
-   adds why the last call failed; and `cannot` reports by errno that a path can't be made, which ends the launcher only
-   before the command runs. */
+   adds why the last call failed; `cannot` reports by errno that a path can't be made, which ends the launcher only
+   before the command runs; and `follow_monitor` has the launcher killed when bwrap ends, or ends it if bwrap has. */
 enum { FAILED = 72, NOT_EXECUTABLE = 126, NOT_FOUND = 127 };
 __attribute__((noreturn, format(printf, 1, 2))) void fail(const char *format, ...);
 __attribute__((noreturn)) void fail_by_errno(const char *what);
 void cannot(const char *path);
+void follow_monitor(void);
 
 /* relay.c: starts the exchange with a device; sends it a request, and returns -1 if it is gone, or one for a controller
    by its number among all; and copies what it wrote to its standard error so far. */
@@ -65,13 +66,14 @@ struct device *device_of(unsigned controller);
 int open_data(const struct node *node);
 const struct volume *volume_of(const struct node *node);
 
-/* sysfs.c: puts the files of /sys that are there at first, and those that describe a
-   subsystem, a controller with its place in it, and a namespace, with the nodes of these; and removes those of a
-   namespace, whose data is in an open file. */
+/* sysfs.c: puts the files of /sys that are there at first, and those that describe a subsystem, a controller with its
+   place in it, and a namespace, whose data is in an open file, with the nodes of these; and removes those of a
+   namespace. Those of a namespace can be put in one place after the other. */
+enum { IN_DEV = 1, IN_SYS = 2 };
 void begin_sys(void);
 void put_subsystem(unsigned number, const unsigned char *identity);
 void put_controller(unsigned number, unsigned place, const unsigned char *identity);
-void put_namespace(unsigned controller, uint32_t nsid, const struct volume *volume, int file);
+void put_namespace(unsigned controller, uint32_t nsid, const struct volume *volume, int file, int places);
 void remove_namespace(unsigned controller, uint32_t nsid);
 
 /* calls.c: has the calls of this process, which becomes the command, answered by the launcher, for which `calls` was
@@ -83,8 +85,6 @@ void answer_call(void);
 /* A call that a process made on a node. */
 struct call {
     pid_t process;
-    uid_t user; /* of the process, and its group */
-    gid_t group;
     int file, is_writable, is_old; /* whether the file is open for writing, and the program has 32 bits */
     uint32_t request;
     uint64_t argument;
@@ -111,12 +111,14 @@ struct sandbox {
 
 /* sandbox.c: fails if an open file, or a standard stream, leads to a device of the machine; returns an NVMe device of
    the machine, or NULL if it has none; returns why no sandbox can be made, or NULL if one can; starts the launcher in
-   it with these arguments, in place of this process; and, in it, fails if a mount isn't kept from the command. */
+   it with these arguments, in place of this process; and, in it, fails if a mount isn't kept from the command, and
+   returns whether a path is one that bwrap makes anew, such as /dev, or below one. */
 void check_file(int file, const char *name);
 void check_streams(void);
 const char *a_real_node(void);
 const char *why_no_sandbox(const struct sandbox *sandbox);
 __attribute__((noreturn)) void enter_sandbox(const struct sandbox *sandbox, char *const *arguments);
 void check_mounts(void);
+int is_replaced(const char *path);
 
 #endif

@@ -8,8 +8,9 @@
 #include <sys/stat.h>
 #include <sys/vfs.h>
 
-/* More pages than an entry touches, whose data has at most 1 MiB, those that are kept, and the opcode of that data. */
-enum { MOST_PAGES = 512, MOST_KEPT = 4, GET_LOG_PAGE = 2 };
+/* More pages than an entry touches, whose data has at most 1 MiB, and how many are kept for the next turn; the opcode
+   of Get Log Page, which alone has so much data; and how the lent addresses are mapped. */
+enum { MOST_PAGES = 512, MOST_KEPT = 4, GET_LOG_PAGE = 2, LENT = MAP_PRIVATE | MAP_ANONYMOUS | MAP_NORESERVE };
 #define MOST_MEMORY ((uint64_t)128 << 30) /* the addresses that a controller reaches */
 
 static unsigned char *lent;                          /* the addresses that are lent, from the guest's 0 on */
@@ -79,7 +80,7 @@ static void check_entry(uint64_t entry, uint32_t page) {
 }
 
 void reserve_memory(void) {
-    lent = mmap(NULL, MOST_MEMORY, PROT_NONE, MAP_PRIVATE | MAP_ANONYMOUS | MAP_NORESERVE, -1, 0);
+    lent = mmap(NULL, MOST_MEMORY, PROT_NONE, LENT, -1, 0);
     if (lent == MAP_FAILED || sysconf(_SC_PAGESIZE) != SMALL_PAGE)
         err(FAILED, "128 GiB of addresses, in pages of 4,096 bytes");
     sigaction(SIGSEGV, &(struct sigaction){.sa_sigaction = bring, .sa_flags = SA_SIGINFO}, NULL);
@@ -156,10 +157,8 @@ static void store_all(uint64_t slot) {
    it took it. Where either isn't in memory, it finds no memory at all, which is fatal for it. */
 int turn(struct function *function, uint64_t entry, uint64_t slot, uint32_t page) {
     uint64_t count = section_at(function, entry) && section_at(function, slot) ? MOST_MEMORY / page : 0;
-    while (page_count > 0 && (user != function || page_count > MOST_KEPT)) {
-        madvise(lent + pages[--page_count], SMALL_PAGE, MADV_DONTNEED);
-        mprotect(lent + pages[page_count], SMALL_PAGE, PROT_NONE);
-    }
+    while (page_count > MOST_KEPT && mmap(lent + *pages, SMALL_PAGE, PROT_NONE, LENT | MAP_FIXED, -1, 0) != MAP_FAILED)
+        memmove(pages, pages + 1, --page_count * sizeof *pages);
     user = function;
     for (unsigned number = 0; number < page_count; number++)
         load(number);

@@ -13,6 +13,8 @@
 #include <string.h>
 #include <sys/inotify.h>
 #include <sys/stat.h>
+#include <sys/sysinfo.h>
+#include <sys/wait.h>
 #include <unistd.h>
 
 enum { CNS_NAMESPACE = 0, CNS_CONTROLLER = 1, MOST_NAME = 40 };
@@ -20,6 +22,8 @@ enum { CNS_NAMESPACE = 0, CNS_CONTROLLER = 1, MOST_NAME = 40 };
 /* What each controller's nodes show now: the generation of the namespace plus 1, or 0 if there is no node. */
 static unsigned shown[MOST_CONTROLLERS][MOST_NSID + 1];
 static struct volume volumes[MOST_DEVICES][MOST_NSID + 1];
+static int places = IN_DEV; /* where a namespace's files are put */
+static unsigned put_count;  /* how many were put */
 int watcher = -1;
 
 static struct volume *volume_at(const struct device *device, uint32_t nsid) { return &volumes[device - devices][nsid]; }
@@ -117,7 +121,8 @@ static void put(const struct device *device, unsigned controller, uint32_t nsid)
     if (file < 0 && has_sandbox)
         file = make_data(volume);
     shown[controller][nsid] = volume->generation + 1;
-    put_namespace(controller, nsid, volume, file);
+    put_count++;
+    put_namespace(controller, nsid, volume, file, places);
     if (file >= 0)
         close(file);
 }
@@ -227,7 +232,7 @@ static void clear_namespace(struct device *device, unsigned controller, uint32_t
     resize(device, nsid, length_of(volume));
     for (unsigned at = device->first; at < device->first + device->count; at++)
         if (shown[at][nsid] == volume->generation + 1)
-            put_namespace(at, nsid, volume, -1);
+            put_namespace(at, nsid, volume, -1, places);
 }
 
 /* (a command for all namespaces formats those that are active on the controller) */
@@ -264,10 +269,52 @@ static void make_controllers(struct device *device) {
     scan(device, device->first, device->count);
 }
 
+/* Puts the files of /sys for the namespaces from one NSID to another, on every `step`th controller from `first` on, and
+   returns how many there are. (Those with one NSID come together, because they have texts in common.) */
+static unsigned describe(uint32_t nsid, uint32_t last_nsid, unsigned first, unsigned step) {
+    const struct device *last = devices + device_count - 1;
+    unsigned count = 0;
+    for (; nsid <= last_nsid; nsid++)
+        for (unsigned controller = first; controller < last->first + last->count; controller += step)
+            if (shown[controller][nsid]) {
+                put_namespace(controller, nsid, volume_at(device_of(controller), nsid), -1, IN_SYS);
+                count++;
+            }
+    return count;
+}
+
+/* Does so for all, in a process for each processor if there are many. The lowest NSID comes first, because equal files
+   of all others become other names of its files. */
+static void describe_all(void) {
+    enum { MANY = 512, MOST_PROCESSES = 16 };
+    pid_t workers[MOST_PROCESSES];
+    uint32_t nsid = 1;
+    while (nsid <= MOST_NSID && describe(nsid, nsid, 0, 1) == 0)
+        nsid++;
+    int step = has_sandbox && put_count >= MANY ? get_nprocs() : 1, how;
+    step = step < MOST_PROCESSES ? step : MOST_PROCESSES;
+    for (int first = 1; first < step; first++) {
+        workers[first] = fork();
+        if (workers[first] <= 0)
+            describe(nsid + 1, MOST_NSID, (unsigned)first, (unsigned)step);
+        if (workers[first] == 0)
+            _exit(0);
+    }
+    describe(nsid + 1, MOST_NSID, 0, (unsigned)step);
+    for (int first = 1; first < step; first++)
+        if (workers[first] > 0 && waitpid(workers[first], &how, 0) == workers[first] && how != 0) {
+            if (WIFSIGNALED(how))
+                fail("a process that made files of /sys was killed");
+            exit(FAILED); /* (it said why) */
+        }
+}
+
 void make_nodes(void) {
     begin_sys();
     for (unsigned at = 0; at < device_count; at++)
         make_controllers(devices + at);
+    describe_all();
+    places = IN_DEV | IN_SYS;
     watcher = has_sandbox ? inotify_init1(IN_CLOEXEC | IN_NONBLOCK) : -1;
     if (watcher >= 0)
         inotify_add_watch(watcher, "/dev", IN_CLOSE_WRITE);

@@ -13,8 +13,7 @@ static uint64_t length(const unsigned char *header) {
 
 /* Takes the memory anew: eight addresses, sizes and offsets. If a section isn't valid, there is none. */
 static void set_memory(struct function *function, const unsigned char *body) {
-    int fault = 0;
-    drop_sections(function, 0, 0);
+    int fault = drop_sections(function, 0, 0);
     for (unsigned at = 0; at < function->file_count && !fault; at++)
         fault = add_section(function, (struct section){number_at(body + 8 * at, 8), number_at(body + 64 + 8 * at, 8),
                                                        number_at(body + 128 + 8 * at, 8), function->files[at], 1});

@@ -8,6 +8,7 @@
 #include <sys/resource.h>
 #include <sys/signalfd.h>
 #include <sys/socket.h>
+#include <sys/stat.h>
 #include <sys/un.h>
 #include <sys/wait.h>
 
@@ -202,12 +203,15 @@ static int watch_signals(sigset_t *mask) {
     return signalfd(-1, &watched, SFD_CLOEXEC | SFD_NONBLOCK);
 }
 
-/* Listens at a function's socket. One at which nobody listens is replaced. */
+/* Listens at a function's socket. A socket at which nobody listens is replaced, and no other file. (A connection to one
+   that isn't a socket is refused in the same way.) */
 static int listen_at(unsigned number) {
     struct sockaddr_un at = address_of(number);
     int made = socket(AF_UNIX, SOCK_STREAM | SOCK_CLOEXEC | SOCK_NONBLOCK, 0);
     int probe = socket(AF_UNIX, SOCK_STREAM | SOCK_CLOEXEC | SOCK_NONBLOCK, 0);
-    if (connect(probe, (const struct sockaddr *)&at, sizeof at) < 0 && errno == ECONNREFUSED)
+    struct stat about;
+    if (connect(probe, (const struct sockaddr *)&at, sizeof at) < 0 && errno == ECONNREFUSED &&
+        lstat(at.sun_path, &about) == 0 && S_ISSOCK(about.st_mode))
         unlink(at.sun_path);
     close(probe);
     if (bind(made, (const struct sockaddr *)&at, sizeof at) < 0 || listen(made, MOST_WAITING) < 0)

@@ -207,8 +207,7 @@ static void add_proc(const char *path) {
     closedir(entries);
 }
 
-/* Whether a path is one of those that bwrap makes anew, or below one. */
-static int is_replaced(const char *path) {
+int is_replaced(const char *path) {
     static const char *const made[] = {"/dev", "/proc", "/sys"};
     for (unsigned at = 0; at < sizeof made / sizeof *made; at++)
         if (begins(path, made[at]) && (path[strlen(made[at])] == '/' || path[strlen(made[at])] == '\0'))

@@ -15,110 +15,48 @@
 #include <sys/stat.h>
 #include <unistd.h>
 
-/* A folder below /sys with the lines that describe its entries. A line has a name and the file's text, where tabs stand
-   for ends of lines, or > and what a link leads to, ! for a file that is there to be written, + for a node without
-   data, or = and the descriptor of a node's data, of which -1 means that the node is there. The name of a folder ends
-   with a slash. A name that begins with one is elsewhere below /sys, and with two, anywhere. Words in braces stand for
-   their values. */
+/* The folders below /sys, and the nodes and links of /dev, as sys.txt describes them. */
+extern const char folders[];
+__asm__(".section .rodata\nfolders: .incbin \"sys.txt\"\n.byte 0\n.previous");
+
+/* A kind of folder: where its path and its lines are, which are found by its name, the folder that was made last, and
+   the texts of that one's own entries, each behind the one before. */
 struct folder {
-    const char *path, *lines;
-    int last, turn; /* the folder of this kind that was made last, and the texts in it, each behind the one before */
+    const char *name, *at;
+    int last, turn;
     char texts[2][4096];
 };
 
-#define SUBSYSTEM "devices/virtual/nvme-subsystem/nvme-subsys{k}"
-#define FUNCTION "devices/{bus}/{function}"
-#define CONTROLLER FUNCTION "/nvme/nvme{x}"
-#define BLOCK CONTROLLER "/nvme{x}n{n}"
-#define GENERIC CONTROLLER "/ng{x}n{n}"
+static struct folder top = {.name = "\n[top] "}, module = {.name = "\n[module] "}, core = {.name = "\n[core] "},
+                     subsystem = {.name = "\n[subsystem] "}, function = {.name = "\n[function] "},
+                     controller = {.name = "\n[controller] "}, block = {.name = "\n[block] "},
+                     queue = {.name = "\n[queue] "}, generic = {.name = "\n[generic] "};
 
-static struct folder subsystem = {.path = SUBSYSTEM,
-                                  .lines = "subsysnqn {nqn}\nserial {serial}\nmodel {model}\n"
-                                           "firmware_rev {firmware}\nsubsystype nvm\niopolicy numa\nuevent \n"
-                                           "subsystem >../../../../class/nvme-subsystem\n"
-                                           "/class/nvme-subsystem/nvme-subsys{k} >../../" SUBSYSTEM "\n"};
+/* The line of an entry: its name, and its text with the mark before it, which is > ! + = or none (0). */
+struct line {
+    const char *name, *text;
+    size_t name_length, text_length;
+    char mark;
+};
 
-/* (resources are the range of memory with the registers, and no others) */
-static struct folder function = {
-    .path = FUNCTION,
-    .lines = "class 0x010802\nvendor 0x{vendor}\ndevice 0x0000\nsubsystem_vendor 0x{subsystem_vendor}\n"
-             "subsystem_device 0x0000\nrevision 0x00\nirq 0\nenable 1\nnuma_node -1\nlocal_cpulist 0\n"
-             "current_link_speed 8.0 GT/s PCIe\ncurrent_link_width 4\nmax_link_speed 8.0 GT/s PCIe\nmax_link_width 4\n"
-             "modalias pci:v0000{vendor}d00000000sv0000{subsystem_vendor}sd00000000bc01sc08i02\n"
-             "uevent DRIVER=nvme\tPCI_CLASS=10802\tPCI_ID={vendor}:0000\tPCI_SUBSYS_ID={subsystem_vendor}:0000\t"
-             "PCI_SLOT_NAME={function}\n"
-             "subsystem >../../../bus/pci\ndriver >../../../bus/pci/drivers/nvme\n"
-             "/bus/pci/devices/{function} >../../../" FUNCTION "\n"
-             "/bus/pci/drivers/nvme/{function} >../../../../" FUNCTION "\n"};
+/* Reads a line, and returns where the next one begins, or NULL at a folder's end. */
+static const char *read_line(const char *at, struct line *line) {
+    size_t length = strcspn(at, "\n"), name = strcspn(at, " \n");
+    size_t before = name + (name < length), mark = length > before && strchr(">!+=", at[before]) != NULL;
+    *line = (struct line){at, at + before + mark, name, length - before - mark, mark ? at[before] : '\0'};
+    return length > 0 ? at + length + 1 : NULL;
+}
 
-static struct folder controller = {
-    .path = CONTROLLER,
-    .lines = "subsysnqn {nqn}\nserial {serial}\nmodel {model}\nfirmware_rev {firmware}\ncntlid {cntlid}\ncntrltype io\n"
-             "dctype none\nkato 0\ntransport pcie\naddress {function}\nstate live\nnuma_node -1\nqueue_count 1\n"
-             "sqsize {sqsize}\nreset_controller !\nrescan_controller !\ndev {major}:{minor}\n"
-             "uevent MAJOR={major}\tMINOR={minor}\tDEVNAME=nvme{x}\tNVME_TRTYPE=pcie\n"
-             "device >../../../{function}\nsubsystem >../../../../../class/nvme\n"
-             "/class/nvme/nvme{x} >../../" CONTROLLER "\n"
-             "/dev/char/{major}:{minor} >../../" CONTROLLER "\n"
-             "/" SUBSYSTEM "/nvme{x} >../../../../" CONTROLLER "\n//dev/nvme{x} +\n"};
-
-/* (sizes are in units of 512 bytes; `queue` and empty folders are one for all; there is no `csi`, because tools that
-   find it read `nuse` and `metadata_bytes` here too, in place of Identify) */
-static struct folder block = {
-    .path = BLOCK,
-    .lines = "size {size}\nnsid {n}\nwwid nvme.{vendor}-{serial_hex}-{model_hex}-{nsid_hex}\nro 0\nremovable 0\n"
-             "hidden 0\nrange 0\next_range 256\ncapability 0\nalignment_offset 0\ndiscard_alignment 0\n"
-             "stat 0 0 0 0 0 0 0 0 0 0 0 0 0 0 0 0 0\ninflight 0 0\n"
-             "queue >" MODEL_FOLDER "/queue-{block}\nholders >" MODEL_FOLDER "/empty\nslaves >" MODEL_FOLDER "/empty\n"
-             "device >../../nvme{x}\nsubsystem >../../../../../../class/block\ndev {major}:{minor}\n"
-             "uevent MAJOR={major}\tMINOR={minor}\tDEVNAME=nvme{x}n{n}\tDEVTYPE=disk\n"
-             "/block/nvme{x}n{n} >../" BLOCK "\n/class/block/nvme{x}n{n} >../../" BLOCK "\n"
-             "/dev/block/{major}:{minor} >../../" BLOCK "\n"
-             "//dev/disk/by-id/nvme-nvme.{vendor}-{serial_hex}-{model_hex}-{nsid_hex} >../../nvme{x}n{n}\n"
-             "//dev/disk/by-id/nvme-{model_name}_{serial_name} >../../nvme{x}n{n}\n"
-             "//dev/disk/by-id/nvme-{model_name}_{serial_name}_{n} >../../nvme{x}n{n}\n"
-             "//dev/disk/by-path/pci-{function}-nvme-{n} >../../nvme{x}n{n}\n//dev/nvme{x}n{n} ={file}\n"};
-
-/* (as of a device with one queue) */
-static struct folder queue = {
-    .path = "fs/nvme-model/queue-{block}",
-    .lines = "logical_block_size {block}\nphysical_block_size {block}\nhw_sector_size {block}\n"
-             "minimum_io_size {block}\noptimal_io_size 0\ndiscard_granularity {block}\n"
-             "discard_max_bytes 2199023255040\ndiscard_zeroes_data 0\nrotational 0\nscheduler [none]\n"
-             "write_cache write back\nnr_requests {sqsize}\nmax_sectors_kb 128\nread_ahead_kb 128\nadd_random 0\n"
-             "zoned none\ndax 0\n"};
-
-static struct folder generic = {.path = GENERIC,
-                                .lines = "device >../../nvme{x}\nsubsystem >../../../../../../class/nvme-generic\n"
-                                         "dev {major}:{minor}\n"
-                                         "uevent MAJOR={major}\tMINOR={minor}\tDEVNAME=ng{x}n{n}\n"
-                                         "/class/nvme-generic/ng{x}n{n} >../../" GENERIC "\n"
-                                         "/dev/char/{major}:{minor} >../../" GENERIC "\n"
-                                         "//dev/ng{x}n{n} +{file}\n"};
-
-/* What is there without a controller. */
-static struct folder top = {.path = "bus/pci",
-                            .lines = "rescan !\nslots/\n/block/ \n/class/block/ \n/class/nvme/ \n"
-                                     "/class/nvme-generic/ \n/class/nvme-subsystem/ \n/dev/block/ \n/dev/char/ \n"
-                                     "/fs/nvme-model/empty/ \n/bus/pci/devices/ \n"
-                                     "/bus/pci/drivers/nvme/module >../../../../module/nvme\n"
-                                     "/module/nvme/drivers/pci:nvme >../../../bus/pci/drivers/nvme\n"};
-static struct folder module = {.path = "module/nvme/parameters",
-                               .lines = "io_queue_depth 1024\nmax_host_mem_size_mb 128\nnoacpi N\npoll_queues 0\n"
-                                        "sgl_threshold 32768\nuse_cmb_sqes Y\nuse_threaded_interrupts 0\n"
-                                        "write_queues 0\n"};
-static struct folder core = {.path = "module/nvme_core/parameters",
-                             .lines = "admin_timeout 60\nio_timeout 30\nmax_retries 5\nmultipath N\n"
-                                      "shutdown_timeout 5\nstreams N\n"};
-
-enum { PCI_DOMAIN = 1 };
+/* The functions have a PCI domain of their own, in which each has some memory with its registers. */
+enum { PCI_DOMAIN = 1, REGISTER_BYTES = 8192 };
+static uint32_t address_of(unsigned controller) { return 0xfe000000 + controller * REGISTER_BYTES; }
 
 /* ---- the values, each after its name */
 
 static struct {
     const char *name;
     char text[300];
-} values[24];
+} values[32];
 
 /* What Identify Controller says of each controller, up to its name. */
 enum { IDENTITY_BYTES = 1024 };
@@ -157,6 +95,8 @@ static void set_controller(unsigned number) {
     set("x", "%u", number);
     set("bus", "pci%04x:%02x", PCI_DOMAIN, number);
     set("function", "%04x:%02x:00.0", PCI_DOMAIN, number);
+    set("first", "%016x", address_of(number));
+    set("last", "%016x", address_of(number) + REGISTER_BYTES - 1);
     set("sqsize", "%u", (unsigned)geometry[DEPTH] - 1);
     set("vendor", "%04x", (unsigned)number_at(identity, 2));
     set("subsystem_vendor", "%04x", (unsigned)number_at(identity + 2, 2));
@@ -176,23 +116,37 @@ static void set_numbers(unsigned major, unsigned number, uint32_t nsid) {
     set("minor", "%u", minor_of(number, nsid));
 }
 
-/* Replaces the words in a part of a text with their values. */
+/* Replaces the words in a part of a text with their values, and | with the end of a line. */
 static void expand(char *into, const char *text, size_t length) {
     for (const char *end = text + length; text < end; text++) {
         size_t name = *text == '{' ? strcspn(text + 1, "}") : 0;
         unsigned at = 0;
         while (name > 0 && (strncmp(values[at].name, text + 1, name) != 0 || values[at].name[name] != '\0'))
             at++;
-        into = name > 0 ? stpcpy(into, values[at].text) : (*into = *text, into + 1);
+        into = name > 0 ? stpcpy(into, values[at].text) : (*into = *text == '|' ? '\n' : *text, into + 1);
         text += name > 0 ? name + 1 : 0;
     }
     *into = '\0';
 }
 
-static void expand_path(char into[PATH_MAX], const char *path, size_t length) {
-    int is_elsewhere = strncmp(path, "//", 2) == 0;
-    strcpy(into, is_elsewhere ? "" : *path == '/' ? "/sys" : "/sys/");
-    expand(into + strlen(into), path + is_elsewhere, length - (size_t)is_elsewhere);
+static int is_in_dev(const struct line *line) { return strncmp(line->name, "//", 2) == 0; }
+
+/* Makes the name of an entry, which is a path if the entry isn't in the folder itself. */
+static void expand_name(char into[PATH_MAX], const struct line *line) {
+    size_t is_path = *line->name == '/', skipped = (size_t)is_in_dev(line);
+    strcpy(into, is_path && !skipped ? "/sys" : "");
+    expand(into + strlen(into), line->name + skipped, line->name_length - skipped);
+}
+
+/* Makes the path of a folder, which becomes a value, and returns its first line. */
+static const char *expand_path(char into[PATH_MAX], struct folder *folder) {
+    if (!folder->at)
+        folder->at = strstr(folders, folder->name) + strlen(folder->name);
+    size_t length = strcspn(folder->at, "\n");
+    strcpy(into, "/sys/");
+    expand(into + strlen(into), folder->at, length);
+    set("path", "%s", into + strlen("/sys/"));
+    return folder->at + length + 1;
 }
 
 /* ---- the files */
@@ -217,32 +171,29 @@ static void make_folders(char *path) {
 }
 
 /* Makes an entry of a folder, if it isn't there. */
-static int make(int folder, const char *name, const char *text) {
+static int make(int folder, const char *name, char mark, const char *text) {
     char line[1024];
-    if (*text == '>')
-        return symlinkat(text + 1, folder, name);
-    if (strcmp(text, "=-1") == 0 || strcmp(text, "+-1") == 0)
+    if (mark == '>')
+        return symlinkat(text, folder, name);
+    if ((mark == '=' || mark == '+') && strcmp(text, "-1") == 0)
         return 0;
-    if (*text == '=') {
-        snprintf(line, sizeof line, "/proc/self/fd/%s", text + 1);
+    if (mark == '=') {
+        snprintf(line, sizeof line, "/proc/self/fd/%s", text);
         return linkat(AT_FDCWD, line, folder, name, AT_SYMLINK_FOLLOW);
     }
     if (name[strlen(name) - 1] == '/')
         return mkdirat(folder, name, 0755);
-    int is_empty = *text == '!' || *text == '+', mode = *text == '!' ? 0200 : *text == '+' ? 0600 : 0444;
-    int file = openat(folder, name, O_WRONLY | O_CREAT | O_EXCL | O_CLOEXEC, mode);
+    int file = openat(folder, name, O_WRONLY | O_CREAT | O_EXCL | O_CLOEXEC, mark == '!' ? 0200 : mark ? 0600 : 0444);
     int length = snprintf(line, sizeof line, "%s\n", text);
-    for (char *at = line; (at = strchr(at, '\t')); *at = '\n')
-        continue;
-    int result = file >= 0 && (is_empty || write(file, line, (size_t)length) == length) ? 0 : -1;
+    int result = file >= 0 && (mark || write(file, line, (size_t)length) == length) ? 0 : -1;
     if (file >= 0)
         close(file);
     return result;
 }
 
 /* Makes an entry, in place of what is there. (Of several links with one name in /dev/disk, the first stays.) */
-static void put(int folder, char *name, const char *text) {
-    for (int tries = 0; make(folder, name, text) < 0; tries++) {
+static void put(int folder, char *name, char mark, const char *text) {
+    for (int tries = 0; make(folder, name, mark, text) < 0; tries++) {
         int error = errno;
         if (error == EEXIST && (name[strlen(name) - 1] == '/' || strncmp(name, "/dev/disk/", 10) == 0))
             return;
@@ -257,58 +208,74 @@ static void put(int folder, char *name, const char *text) {
     }
 }
 
-/* Makes a folder. An entry that is the same as in the last folder of this kind becomes another name of that one. */
-static void put_folder(struct folder *folder) {
-    char path[PATH_MAX], name[PATH_MAX], *before = folder->texts[folder->turn];
-    if (!has_sandbox)
-        return;
-    char *text = folder->texts[folder->turn = !folder->turn];
-    expand_path(path, folder->path, strlen(folder->path));
+static int open_folder(char *path) {
     if (mkdir(path, 0755) < 0 && errno == ENOENT) {
         make_folders(path);
         mkdir(path, 0755);
     }
-    int at = open(path, O_PATH | O_DIRECTORY | O_NOFOLLOW | O_CLOEXEC);
-    if (at < 0)
-        return cannot(path);
-    for (const char *line = folder->lines, *blank; *line; line = strchr(blank, '\n') + 1) {
-        blank = line + strcspn(line, " \n");
-        if (*line == '/')
-            expand_path(name, line, (size_t)(blank - line));
-        else
-            snprintf(name, sizeof name, "%.*s", (int)(blank - line), line);
-        expand(text, blank + (*blank == ' '), strcspn(blank, "\n") - (*blank == ' '));
-        int is_same = folder->last > 0 && *line != '/' && strcmp(text, before) == 0;
-        before += strlen(before) + 1;
+    int folder = open(path, O_PATH | O_DIRECTORY | O_NOFOLLOW | O_CLOEXEC);
+    if (folder < 0)
+        cannot(path);
+    return folder;
+}
+
+/* Makes what a folder has in these places. An entry that is the same as in the last folder of this kind becomes another
+   name of that one. */
+static void put_folder(struct folder *folder, int places) {
+    char path[PATH_MAX], name[PATH_MAX], *before = folder->texts[folder->turn];
+    struct line line;
+    if (!has_sandbox)
+        return;
+    const char *next = expand_path(path, folder);
+    char *text = folder->texts[folder->turn = !folder->turn];
+    int at = places & IN_SYS ? open_folder(path) : AT_FDCWD;
+    while ((next = read_line(next, &line)) && at != -1) {
+        if (!(places & (is_in_dev(&line) ? IN_DEV : IN_SYS)))
+            continue;
+        expand_name(name, &line);
+        expand(text, line.text, line.text_length);
+        int is_own = *name != '/', is_same = folder->last > 0 && is_own && strcmp(text, before) == 0;
         if (!is_same || linkat(folder->last, name, at, name, 0) < 0)
-            put(at, name, text);
-        text += strlen(text) + 1;
+            put(at, name, line.mark, text);
+        before += is_own ? strlen(before) + 1 : 0;
+        text += is_own ? strlen(text) + 1 : 0;
     }
     if (folder->last > 0)
         close(folder->last);
-    folder->last = at;
+    folder->last = at > 0 ? at : 0;
 }
 
 /* Removes what a folder has elsewhere, but no links that another folder has made, and then the folder. */
-static void remove_folder(const struct folder *folder) {
-    char path[PATH_MAX], text[PATH_MAX], found[PATH_MAX];
-    for (const char *line = has_sandbox ? folder->lines : "", *blank; *line; line = strchr(blank, '\n') + 1) {
-        blank = line + strcspn(line, " \n");
-        if (*line != '/')
+static void remove_folder(struct folder *folder) {
+    char path[PATH_MAX], name[PATH_MAX], text[PATH_MAX], found[PATH_MAX];
+    struct line line;
+    if (!has_sandbox)
+        return;
+    for (const char *next = expand_path(path, folder); (next = read_line(next, &line));) {
+        if (*line.name != '/')
             continue;
-        expand_path(path, line, (size_t)(blank - line));
-        expand(text, blank + 1, strcspn(blank, "\n") - 1);
-        ssize_t length = readlink(path, found, sizeof found - 1);
+        expand_name(name, &line);
+        expand(text, line.text, line.text_length);
+        ssize_t length = readlink(name, found, sizeof found - 1);
         found[length < 0 ? 0 : length] = '\0';
-        if (*text != '>' || strcmp(found, text + 1) == 0)
-            unlink(path);
+        if (line.mark != '>' || strcmp(found, text) == 0)
+            unlink(name);
     }
-    expand_path(path, folder->path, strlen(folder->path));
-    if (has_sandbox)
-        remove_all(path);
+    remove_all(path);
 }
 
-/* Writes the registers as they are while the controller is ready, in its first page of memory. The addresses of its
+/* Puts a file of bytes in the folder of a function. */
+static void put_bytes(const char *name, const void *bytes, size_t size, mode_t mode) {
+    char path[PATH_MAX];
+    expand_path(path, &function);
+    strcat(path, name);
+    int file = has_sandbox ? open(path, O_WRONLY | O_CREAT | O_EXCL | O_CLOEXEC, mode) : -1;
+    if (has_sandbox && (file < 0 || write(file, bytes, size) != (ssize_t)size))
+        cannot(path);
+    close(file);
+}
+
+/* Puts the registers as they are while the controller is ready, in its first page of memory. The addresses of its
    queues follow from the geometry: each controller's rings, and after them the pages of its outstanding commands. */
 static void put_registers(unsigned place) {
     const uint64_t page = geometry[PAGE_SIZE], submission = (64 * geometry[DEPTH] + page - 1) / page;
@@ -318,40 +285,44 @@ static void put_registers(unsigned place) {
     const uint32_t enabled = 0x00460001 | ((uint32_t)__builtin_ctzll(page) - 12) << 7;
     const uint32_t depths = (uint32_t)(geometry[DEPTH] - 1) * 0x10001;
     const uint32_t dwords[10] = {0x01010fff, 0x00400020, 0x00010400, 0, 0, enabled, 0, 1, 0, depths};
-    unsigned char registers[8192] = {0};
-    char path[PATH_MAX];
+    unsigned char registers[REGISTER_BYTES] = {0};
     memcpy(registers, dwords, sizeof dwords);
     memcpy(registers + sizeof dwords, queues, sizeof queues);
-    expand_path(path, FUNCTION "/resource0", strlen(FUNCTION "/resource0"));
-    int file = has_sandbox ? open(path, O_WRONLY | O_CREAT | O_EXCL | O_CLOEXEC, 0400) : -1;
-    if (has_sandbox && (file < 0 || write(file, registers, sizeof registers) != (ssize_t)sizeof registers))
-        cannot(path);
-    close(file);
+    put_bytes("/resource0", registers, sizeof registers, 0400);
+}
+
+/* Puts what an ordinary user reads of a function's configuration: its identifiers, a command register by which it reads
+   and writes memory, its class, and where its registers are. */
+static void put_configuration(const unsigned char *identity, uint32_t address) {
+    const uint32_t vendor = (uint32_t)number_at(identity, 2), subsystem_vendor = (uint32_t)number_at(identity + 2, 2);
+    put_bytes("/config", (const uint32_t[16]){vendor, 0x0406, 0x010802 << 8, 0, address | 4, [11] = subsystem_vendor},
+              64, 0444);
 }
 
 void begin_sys(void) {
     static struct folder *const first[] = {&top, &module, &core};
     for (unsigned at = 0; at < sizeof first / sizeof *first; at++)
-        put_folder(first[at]);
+        put_folder(first[at], IN_SYS);
 }
 
 void put_subsystem(unsigned number, const unsigned char *identity) {
     memcpy(identities[0], identity, IDENTITY_BYTES);
     set("k", "%u", number);
     set_controller(0);
-    put_folder(&subsystem);
+    put_folder(&subsystem, IN_SYS);
 }
 
 void put_controller(unsigned number, unsigned place, const unsigned char *identity) {
     memcpy(identities[number], identity, IDENTITY_BYTES);
     set_controller(number);
     set_numbers(CONTROLLER_MAJOR, number, 0);
-    put_folder(&function);
-    put_folder(&controller);
+    put_folder(&function, IN_SYS);
+    put_folder(&controller, IN_DEV | IN_SYS);
     put_registers(place);
+    put_configuration(identity, address_of(number));
 }
 
-void put_namespace(unsigned number, uint32_t nsid, const struct volume *volume, int file) {
+void put_namespace(unsigned number, uint32_t nsid, const struct volume *volume, int file, int places) {
     static uint32_t queues; /* a bit for each power of a block's size whose folder is there */
     uint64_t size = volume->power < 9 ? volume->blocks >> (9 - volume->power) : volume->blocks << (volume->power - 9);
     set_controller(number);
@@ -359,12 +330,12 @@ void put_namespace(unsigned number, uint32_t nsid, const struct volume *volume, 
     set("block", "%llu", 1ULL << volume->power);
     set("file", "%d", file);
     set_numbers(BLOCK_MAJOR, number, nsid);
-    put_folder(&block);
+    put_folder(&block, places);
     if (!(queues >> volume->power & 1))
-        put_folder(&queue);
+        put_folder(&queue, IN_SYS);
     queues |= 1u << volume->power;
     set_numbers(GENERIC_MAJOR, number, nsid);
-    put_folder(&generic);
+    put_folder(&generic, places);
 }
 
 void remove_namespace(unsigned number, uint32_t nsid) {

@@ -49,9 +49,8 @@ static int unmap(struct function *function, const unsigned char *payload) {
 }
 
 static int tell_region(unsigned char *payload) {
-    uint32_t index = number_at(payload + 8, 4), size = index == BAR_REGION      ? BAR_SIZE
-                                                       : index == CONFIG_REGION ? CONFIG_SIZE
-                                                                                : 0;
+    static const uint32_t sizes[REGIONS] = {[BAR_REGION] = BAR_SIZE, [CONFIG_REGION] = CONFIG_SIZE};
+    uint32_t index = number_at(payload + 8, 4), size = index < REGIONS ? sizes[index] : 0;
     const uint32_t words[] = {32, size ? MAY_READ | MAY_WRITE : 0, index, 0, size, 0, 0, 0};
     return index < REGIONS ? (int)put_dwords(payload, words, 8) : -EINVAL;
 }
@@ -83,8 +82,7 @@ static int set_interrupts(struct function *function, const unsigned char *payloa
 
 static int use_region(struct function *function, unsigned char *payload, uint32_t size, int is_write) {
     uint32_t region = number_at(payload + 8, 4), count = number_at(payload + 12, 4);
-    if ((region != BAR_REGION && region != CONFIG_REGION) || count > MOST_ACCESS ||
-        size != 16 + (is_write ? count : 0) ||
+    if ((region != BAR_REGION && region != CONFIG_REGION) || size != 16 + (is_write ? count : 0) ||
         !use(function, region == CONFIG_REGION, number_at(payload, 8), count, payload + 16, is_write))
         return -EINVAL;
     return 16 + (is_write ? 0 : (int)count);
