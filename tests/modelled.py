@@ -21,7 +21,7 @@ VERSION = (TOP / 'VERSION').read_text().strip()
 
 # Programs that need not be installed. A test that calls one is skipped if it isn't.
 TOOLS = ('nvme', 'smartctl', 'busybox', 'inotifywait', 'lsblk', 'blkid', 'blkdiscard', 'wipefs', 'mkfs.ext4', 'debugfs',
-         'e2fsck', 'sudo', 'strace', 'script', 'udevadm')
+         'e2fsck', 'sudo', 'strace', 'script', 'udevadm', 'lspci')
 # (an ordinary user's PATH may lack those that root uses)
 os.environ['PATH'] += ':/usr/sbin:/sbin'
 

@@ -211,6 +211,19 @@ class Archive(Packages):
         self.ends(run(*as_another(self.place / 'install', '--remove', prefix), cwd='/'), 0, b'', b'')
         self.assertEqual(list(prefix.parent.iterdir()), [])
 
+    def test_list_of_what_was_installed(self):
+        # neither a line of the list nor a link in its place leads anywhere else
+        prefix, other = self.folder / 'prefix', self.folder / 'other'
+        (prefix / 'share/nvme-script').mkdir(parents=True)
+        path = prefix / 'share/nvme-script/installed'
+        other.write_text('bin/nothing\n../other\n')
+        path.symlink_to(other)
+        self.ends(run(self.place / 'install', prefix), 0, b'', b'')
+        self.assertEqual(other.read_text(), 'bin/nothing\n../other\n')
+        path.write_text(f'{path.read_text()}../other\n')
+        self.ends(run(self.place / 'install', '--remove', prefix), 0, b'', b'')
+        self.assertTrue(other.exists())
+
     def test_install_in_the_wrong_place(self):
         self.ends(run(self.place / 'install', '--remove', self.folder), 1, b'',
                   f'install: nothing was installed in {self.folder}\n'.encode())

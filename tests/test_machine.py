@@ -228,6 +228,15 @@ class Machines(MachineCase):
                 self.assertEqual((self.folder / 'touched').exists(), said == '')
                 (self.folder / 'touched').unlink(missing_ok=True)
 
+    def test_many_descriptors_are_inherited(self):
+        # the launcher's own numbers begin at 200, and each of them may be the next one that is free
+        for machine, user in self.users():
+            for last in 199, 200, 203:
+                by = 'bash', '-c', f'for n in {{3..{last}}}; do eval "exec $n< /dev/null"; done; exec "$@"', 'bash'
+                ended = machine.model('pwd; exec ls /proc/self/fd', user, where='/', by=by)
+                # (3 is the folder that ls reads)
+                self.ends(ended, 0, b'/\n0\n1\n2\n3\n', b'')
+
     def test_working_folder(self):
         script = 'echo MODELLED | dd of=nvme0n1 conv=notrunc 2> /dev/null; head -c 8 ./nvme0n1 ../dev/nvme0n1 -q; pwd'
         for machine, user in self.users():
@@ -329,7 +338,7 @@ class Machines(MachineCase):
     def test_eight_at_once(self):
         with contextlib.closing(Machine(self, 'files')) as machine:
             script = ('for i in 1 2 3 4 5 6 7 8; do "$model" sh -c "echo $i > /dev/nvme0n1; sleep 0.5; '
-                      'head -c 1 /dev/nvme0n1; echo" & done; wait')
+                      'echo \\$(head -c 1 /dev/nvme0n1)" & done; wait')
             ended = run(*machine.enter, 'sh', '-c', script, env={'model': installed()})
             self.assertEqual(sorted(ended.out.split()), [b'%d' % number for number in range(1, 9)], ended)
             machine.is_unchanged()

@@ -149,6 +149,7 @@ class Arguments(ModelCase):
         link.symlink_to(copy / 'nvme-model')
         self.says(run(copy / 'nvme-model', 'true'), 72,
                   'nvme-model: there is no proved device program of these sources')
+        self.ends(run(copy / 'nvme-model', '--compile', ''), 72, b'', b'nvme-model: --compile needs the name of a folder\n')
         for folder in 'tools', '.ci':
             (copy / folder).mkdir()
             (copy / folder / 'stamp').symlink_to('/bin/true')
@@ -251,10 +252,20 @@ class Signals(ModelCase):
             running = Running(*self.command('sh', '-c', 'sleep 100 & sleep 100'))
             time.sleep(delay / 1000)
             running.process.kill()
+            # (until it is awaited, its number remains)
+            time.sleep(delay % 8 / 100)
             running.process.wait()
             self.end_waiting_bwrap()
             self.leaves_nothing()
         self.assertEqual(looks(), before)
+
+    @unittest.skipUnless(os.geteuid() == 0, 'root alone can become another user')
+    def test_killed_after_a_call_of_another_user(self):
+        running = self.begun('setpriv --reuid=65534 --regid=65534 --clear-groups test -b /dev/nvme0n1; echo ready; '
+                             'exec sleep 100')
+        running.process.kill()
+        running.process.wait()
+        self.leaves_nothing()
 
     def end_waiting_bwrap(self):
         """Ends a process of bubblewrap whose parent was killed before it told the process to go on."""

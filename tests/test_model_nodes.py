@@ -212,6 +212,18 @@ class Nodes(ModelCase):
                   'ls ../drivers/nvme; cat /sys/module/nvme/parameters/io_queue_depth /sys/module/nvme_core/parameters/multipath')
         self.ends(self.shell(script), 0, b'0001:00:00.0 0x010802 0x0000 0x0000 nvme nvme\n'
                   b'0001:01:00.0 0x010802 0x0000 0x0000 nvme nvme\n0001:00:00.0\n0001:01:00.0\nmodule\n1024\nN\n', b'')
+        # what lspci reads: identifiers, memory space and bus master, the class, and one base address, of 64 bits
+        script = ('cd /sys/bus/pci/devices/0001:01:00.0; od -A n -v -t x4 -w16 config; wc -l < resource; '
+                  'head -n 2 resource')
+        zeros = b'00000000 00000000 00000000'
+        self.ends(self.shell(script), 0, b' 00000000 00000406 01080200 00000000\n fe002004 %b\n 00000000 %b\n'
+                  b' 00000000 %b\n13\n0x00000000fe002000 0x00000000fe003fff 0x0000000000140204\n'
+                  b'0x0000000000000000 0x0000000000000000 0x0000000000000000\n' % (zeros, zeros, zeros), b'')
+
+    def test_lspci(self):
+        self.needs('lspci')
+        self.ends(self.shell('lspci -n; lspci -v -s 0001:01:00.0 | grep -o -e size=8K -e "in use.*"'), 0,
+                  b'0001:00:00.0 0108: 0000:0000\n0001:01:00.0 0108: 0000:0000\nsize=8K\nin use: nvme\n')
 
     def test_udevadm(self):
         self.needs('udevadm')
@@ -239,11 +251,10 @@ class Nodes(ModelCase):
                         for n in range(1, 1025)))
         self.subsystem = self.file('many.toml', text.encode())
         ended = self.shell('ls /dev | grep -c "^n[vg]"; ls /sys/class/block | wc -l; cat /sys/block/nvme15n1024/nsid; '
-                           'find /sys/block/nvme9n9/ | wc -l; stat -c %h /sys/block/nvme9n9/ro', limit=300)
+                           'find /sys/devices/pci0001:* -mindepth 5 -type f | wc -l; stat -c %h /sys/block/nvme9n9/ro', limit=300)
         self.ends(ended, 0, err=b'')
-        self.assertEqual(ended.out.splitlines()[:3], [b'32784', b'16384', b'1024'])
-        # (what is the same for each is one file)
-        self.assertEqual(ended.out.splitlines()[4], b'16384')
+        # (15 files for each block device, and 2 for each generic node; what is the same for each is one file)
+        self.assertEqual(ended.out.splitlines(), [b'32784', b'16384', b'1024', b'%d' % (16384 * 17), b'16384'])
 
     def test_sys_agrees_with_nodes(self):
         self.ends(self.python(NUMBERS), 0, b'ng0n1 ng0n3 nvme0 nvme0n1 nvme0n3 nvme1\n', b'')
@@ -255,6 +266,14 @@ class Nodes(ModelCase):
         self.ends(ended, 0, b'1\n/sys/class/net/lo/mtu\n0\n', b'')
         ended = run('sh', '-c', 'umask 077; exec "$@"', 'sh', *self.command('su', 'nobody', '-s', '/bin/sh', '-c', look))
         self.ends(ended, 0, b'1\n/sys/class/net/lo/mtu\n0\n', b'')
+
+    @unittest.skipUnless(os.geteuid() == 0, 'root alone can become another user')
+    def test_groups_of_other_users(self):
+        # what a user may open depends on its own groups, and not on those of the launcher
+        for own, groups, status in ('--groups=disk', '--clear-groups', 1), ('--clear-groups', '--groups=disk', 0):
+            command = self.command('setpriv', '--reuid=65534', '--regid=65534', groups, 'dd', 'if=/dev/nvme0n1',
+                                   'of=/dev/null', 'iflag=direct', 'count=1', 'status=none')
+            self.ends(run('setpriv', own, *command), status, b'')
 
     @unittest.skipUnless(os.geteuid() == 0, 'root alone can take /sys away')
     def test_a_machine_without_sys(self):
@@ -288,6 +307,13 @@ class Data(ModelCase):
                              ': > /dev/nvme0n3; head -c 3 /dev/nvme0n3; truncate -s 0 /dev/nvme0n3; '
                              'busybox wc -c < /dev/nvme0n3; cp /bin/sh /dev/nvme0n3; busybox wc -c < /dev/nvme0n3'), 0,
                   b'full\nfull\n4608\n512 bytes\n12\n4608\n4608\n')
+
+    def test_open_files_by_name(self):
+        # a name of a process's own open file leads to that file, and a node isn't truncated
+        script = ('yes | head -c 4608 > /dev/nvme0n3; (echo x > "$1") > /dev/nvme0n3; head -c 6 /dev/nvme0n3; '
+                  'tail -c 4 /dev/nvme0n3')
+        for name in '/dev/stdout', '/dev/fd/1', '/proc/self/fd/1', '/proc/thread-self/fd/1':
+            self.ends(self.shell(script, name), 0, b'x\ny\ny\ny\ny\n', b'')
 
     def test_streams_past_the_end(self):
         # (a stream of the C library writes with a call that the preloaded library doesn't see, so bytes past the end
@@ -511,6 +537,14 @@ class Tools(ModelCase):
         for script in sorted((TOP / 'examples').glob('*.sh')):
             with self.subTest(script.name):
                 self.ends(self.model('sh', script), 0, script.with_suffix('.txt').read_bytes(), b'')
+
+    def test_texts_that_begin_like_marks(self):
+        for text in '>../x', '=1', '!', '+7':
+            file = (TOP / 'examples/demo.toml').read_text().replace('sn = "S0"', f'sn = "{text}"')
+            self.assertIn(f'sn = "{text}"', file)
+            ended = run(installed(), '--subsystem', self.file('marks.toml', file.encode()), 'cat',
+                        '/sys/class/nvme/nvme0/serial')
+            self.ends(ended, 0, f'{text:20}\n'.encode(), b'')
 
     def test_layout_of_guide(self):
         """The layout of GUIDE, made a script of nvme-cli by the page's command, creates three namespaces."""

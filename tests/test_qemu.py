@@ -22,6 +22,8 @@ from tests.support import DEMO, TOP, Case, Running, difference, library, process
 SCENARIOS = ('configuration', 'registers', 'commands', 'page_sizes', 'bus_master', 'interrupts', 'holes',
              'sections', 'gone')
 SEEDS = range(8)
+# Seconds for a guest: its emulated processor needs some 20 of a real one, for which it waits on a busy machine.
+LIMIT = 1200
 COUNTS = r'nvme-model: controller (\d+): commands (\d+), refused (\d+)\n'
 ERROR = r'nvme-model: error (\d+): command (\d+), status 0x([0-9a-f]+), location 0x([0-9a-f]+), NSID 0x([0-9a-f]+)\n'
 
@@ -40,7 +42,7 @@ if grep -q plugged /proc/cmdline; then sh /plugged.sh > /dev/ttyS1; fi
 for address in $(grep -l 0x010802 /sys/bus/pci/devices/*/class); do
     basename "${address%/class}" > /sys/bus/pci/drivers/nvme/bind
 done
-for second in 1 2 3 4 5 6 7 8 9 10; do
+for second in $(seq 600); do
     [ "$(cat /sys/class/nvme/nvme*/state 2> /dev/null | grep -c live)" -ne 2 ] || break
     sleep 1
 done
@@ -58,7 +60,7 @@ sleep 60
 '''
 # What a guest does with a controller that is plugged in at first, then unplugged, and plugged in again.
 PLUGGED = '''
-wait_until() { for second in $(seq 60); do "$@" 2> /dev/null && return; sleep 1; done; echo TOO LATE; }
+wait_until() { for second in $(seq 600); do "$@" 2> /dev/null && return; sleep 1; done; echo TOO LATE; }
 is_live() { grep -q live /sys/class/nvme/nvme*/state; }
 is_gone() { [ ! -e /dev/nvme0 ] && [ ! -e /dev/nvme1 ]; }
 echo 1 > /sys/bus/pci/drivers_autoprobe
@@ -320,7 +322,7 @@ class Drivers(ModelCase):
     def boot(self, *options):
         """Runs a machine until it would reset itself, and returns what the program reported at its end."""
         ended = run(program(), '--summary', '--subsystem', self.subsystem, '--', '-nodefaults', '-display', 'none',
-                    '-no-reboot', *options, limit=280)
+                    '-no-reboot', *options, limit=LIMIT)
         self.ends(ended, 0, b'')
         return ended.err.decode()
 
@@ -340,7 +342,7 @@ class Drivers(ModelCase):
         self.assertEqual(len(re.findall('IO queues (?:not created|lost)', console)), 3, console[-3000:])
         self.assertEqual(re.findall(r'(?i)nvme.*(?:timeout|timed out|dead|abort)', console), [])
         script, logs = self.results.read_text().split('END OF SCRIPT\n')
-        wanted = self.model('sh', TOP / 'tests/guest.sh', limit=60)
+        wanted = self.model('sh', TOP / 'tests/guest.sh', limit=LIMIT)
         self.assertEqual(difference('guest', wanted.out, script.encode()), [], console[-3000:])
         # what the guest read last, and what the program reported at its end
         self.assertTrue(logs.endswith('END OF LOGS\n'), logs)
@@ -368,20 +370,22 @@ class Drivers(ModelCase):
                 '-serial', 'stdio', '-kernel', kernel()[0], '-initrd', initial_files(),
                 '-append', 'console=ttyS0 panic=-1 no_timer_check plugged')
             self.addCleanup(machine.process.kill)
-            machine.comes(b'PLUGGED\n', limit=280)
-            self.order('device_del', id='own')
-            machine.comes(b'UNPLUGGED\n', limit=280)
+            machine.comes(b'PLUGGED\n', limit=LIMIT)
+            # (the guest no longer sees the controller before QEMU has removed it)
+            self.order('device_del', 'DEVICE_DELETED', id='own')
+            machine.comes(b'UNPLUGGED\n', limit=LIMIT)
             self.order('device_add', **device)
-            machine.comes(b'END\n', limit=280)
-            ended = machine.end(280)
+            machine.comes(b'END\n', limit=LIMIT)
+            ended = machine.end(LIMIT)
             self.assertEqual(ended.status, 0, ended)
             self.assertRegex(ended.out.decode(), rf'nsid:{nsid}\n1\nPLUGGED\nUNPLUGGED\n(\[.*\n)+END\n$')
         server.process.terminate()
         self.ends(server.end(), -signal.SIGTERM)
 
-    def order(self, name, **arguments):
-        """Tells QEMU's monitor a command, and waits for its answer."""
+    def order(self, name, event=None, **arguments):
+        """Tells QEMU's monitor a command, and waits for its answer, and for an event if one is named."""
         with socket.socket(socket.AF_UNIX) as monitor:
+            monitor.settimeout(LIMIT)
             monitor.connect(f'{self.folder}/monitor')
             lines = monitor.makefile('rw')
             for command in {'execute': 'qmp_capabilities'}, {'execute': name, 'arguments': arguments}:
@@ -391,3 +395,5 @@ class Drivers(ModelCase):
                 while not answer.keys() & {'return', 'error'}:
                     answer = json.loads(lines.readline())
                 self.assertEqual(answer, {'return': {}})
+            while event and answer.get('event') != event:
+                answer = json.loads(lines.readline())

@@ -80,6 +80,11 @@ class Served(Case):
         stat = pathlib.Path(f'/proc/{self.server.process.pid}/stat').read_text()
         return sum(map(int, stat.rpartition(')')[2].split()[11:13])) / os.sysconf('SC_CLK_TCK')
 
+    def woken(self):
+        """Returns how often the server has slept."""
+        return int(re.search(r'(?m)^voluntary_ctxt_switches:\s*(\d+)',
+                             pathlib.Path(f'/proc/{self.server.process.pid}/status').read_text())[1])
+
     def keeps(self, count):
         """Checks how many descriptors the server has. (It closes those of a message after its answer.)"""
         self.assertTrue(until(lambda: self.kept() == count), (self.kept(), count))
@@ -277,6 +282,17 @@ class Commands(Served):
         self.assertIsNone(guest.completion())
         guest.set_config(COMMAND, MASTER, 2)
         self.assertEqual(guest.completion(), (0, 0))
+
+    def test_sleep(self):
+        # after work the server sleeps, and nothing wakes it
+        guest = self.guest()
+        guest.enable()
+        for _ in range(100):
+            self.assertEqual(guest.serial(), 'S0')
+        time.sleep(1)
+        before = self.woken(), self.spent()
+        time.sleep(1)
+        self.assertEqual((self.woken(), self.spent()), before)
 
     def test_processors_go_on(self):
         # what the guest writes beside the data while turns go on, stays
@@ -669,6 +685,19 @@ class Hostile(Served):
         self.server.end()
         self.server = self.start()
         self.assertEqual(self.greeted().config(0), 0x0010_1b36)
+
+    def test_other_files_at_the_path(self):
+        # a file that isn't a socket is never removed, although a connection to it is refused as to a dead one
+        kept = self.folder / 'kept'
+        for make in (lambda path: path.write_text('precious'), lambda path: path.symlink_to('kept'), os.mkfifo):
+            kept.write_text('precious')
+            path = self.folder / 'file0'
+            make(path)
+            ended = run(program(*SANITIZERS), '--vfio-user', '--socket', self.folder / 'file')
+            self.ends(ended, 72, b'', f'nvme-model: {path}: Address already in use\n'.encode())
+            self.assertTrue(os.path.lexists(path))
+            path.unlink()
+            self.assertEqual(kept.read_text(), 'precious')
 
     def test_several_subsystems(self):
         self.stop(self.server, signal.SIGINT)
