@@ -76,13 +76,15 @@ static void when(uint32_t value, uint32_t action) {
 }
 
 /* Adds the calls of programs of 64 or of 32 bits. No process can type into the caller's terminal (TIOCSTI, and the
-   selection of TIOCLINUX), or take an open file from a process outside, which the peer of a socket can name. (Of a
-   request the kernel looks at 32 bits.) */
+   selection of TIOCLINUX), or take an open file from a process outside, which the peer of a socket can name. A ring of
+   io_uring opens files without calls, so that there are none. (Of a request the kernel looks at 32 bits.) */
 static void add_calls(int is_old) {
     load(offsetof(struct seccomp_data, nr));
     emit(BPF_JMP | BPF_JGE | BPF_K, X32_BIT, 1);
     emit(BPF_RET | BPF_K, SECCOMP_RET_ERRNO | ENOSYS, 0);
     when(TAKE_FILE, SECCOMP_RET_ERRNO | EPERM);
+    for (uint32_t number = SYS_io_uring_setup; has_sandbox && number <= SYS_io_uring_register; number++)
+        when(number, SECCOMP_RET_ERRNO | ENOSYS);
     for (unsigned at = 0; has_sandbox && !is_old && at < ROWS; at++)
         if (rows[at].flags < 0)
             when((uint32_t)rows[at].number, SECCOMP_RET_USER_NOTIF);

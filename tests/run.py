@@ -12,7 +12,7 @@ import unittest
 
 from tests.support import TOP, environment, process_folder
 
-LONGEST = 'test_refused', 'test_program', 'test_wrapper', 'unproved.Tests.test_nv_failing_tests'
+LONGEST = 'test_refused', 'test_program', 'test_wrapper', 'unproved.Programs'
 SUMS = '{} passed, {} failed, {} skipped'
 
 
@@ -101,7 +101,7 @@ def main(arguments):
         from tests import unproved
         of_sources = ['test_program', 'test_unready', 'test_documents']
         print('not run: proofs, wrong bodies,', ', '.join(name for name in names if name not in of_sources))
-        names = [*of_sources, 'unproved.Layout', *unproved.names()]
+        names = [*of_sources, 'unproved.Layout', 'unproved.Programs', *unproved.names()]
     elif arguments:
         sys.exit('usage: python3 -m tests.run [--quick]')
     sums = run_all(sorted(names, key=lambda name: name not in LONGEST))

@@ -206,6 +206,13 @@ class Nodes(ModelCase):
                               '    try:\n        print(call())\n    except OSError as error:\n'
                               '        print(errno.errorcode[error.errno])\n'), 0, b'EACCES\n' * 3, b'')
 
+    def test_no_io_uring(self):
+        # (a ring opens files without calls, so that nothing could refuse them: there is none, for no user)
+        calls = ('import ctypes; call = ctypes.CDLL(None, use_errno=True).syscall\n'
+                 'for number in 425, 426, 427:\n'
+                 '    print(call(number, -1, None, 0, 0, None, 0), errno.errorcode[ctypes.get_errno()])\n')
+        self.ends(self.python(calls), 0, b'-1 ENOSYS\n' * 3, b'')
+
     def test_pci_and_modules(self):
         script = ('cd /sys/bus/pci/devices; for d in *; do echo $d $(cat $d/class $d/vendor $d/device) '
                   '$(basename $(readlink $d/driver)) $(basename $(readlink -f $d/driver/module)); done; '

@@ -1,5 +1,5 @@
-"""Checks the unproved sources for the gate: runs the tests of each crate by `rt try`, and checks the layout of the
-files. `python3 -m tests.run --quick` runs this."""
+"""Checks the unproved sources for the gate: runs the tests of each crate and the program nv_failing_tests by `rt try`,
+and checks the layout of the files. `python3 -m tests.run --quick` runs this."""
 
 import re
 
@@ -35,6 +35,14 @@ class Tests(Case):
 
 for tested in CRATES:
     setattr(Tests, f'test_{tested.name}', lambda self, crate=tested: self.check(crate))
+
+
+class Programs(Case):
+    def test_nv_failing_tests(self):
+        crate = TOP / 'crates/nv_failing_tests'
+        source, wanted = ((crate / name).read_bytes() for name in ('stdin', 'stdout'))
+        ended = run('rt', 'try', '--seconds', '900', cwd=crate, source=source, limit=1800)
+        self.ends(ended, 0, wanted)
 
 
 class Layout(Case):

@@ -3,15 +3,12 @@
 ghost use Rattle.std.specs.Prelude.{◌<◌};
 
 use crate::case::Case;
-use crate::cases::cases;
 use crate::cut_run::CutRun;
 use crate::cut_source::CutSource;
-use nv_controller::Machine;
+use crate::memory::Left;
 use nv_script::{Geometry, OverWrite, RunEnd, run_within};
-use nv_subsystem::{DEMO, Subsystem};
-use std::alloc::Global;
-use std::process::Abort;
-use std::test::Fail;
+use nv_subsystem::DEMO;
+use std::alloc::{AllocError, Global};
 
 /// Returns how many newlines the first `bytes` bytes of a script have.
 fn newlines(script: &[u8], bytes: usize) -> usize {
@@ -22,51 +19,47 @@ fn newlines(script: &[u8], bytes: usize) -> usize {
         .count()
 }
 
-/// Runs a script whose source provides at most `most` bytes in a read and fails at a given call.
-/// Returns whether it failed: it doesn't if the script has been read to its end before.
-fn fails_at(
-    rt: &impl Abort,
-    alloc: Global,
-    case: &Case,
-    most: usize,
-    call: u64,
-) -> Result<bool, Fail> {
+/// Runs a script whose source provides at most `most` bytes in a read and fails at a given call. It
+/// doesn't fail if the script has been read to its end before.
+fn cut_at(alloc: Global, case: &Case, most: usize, call: u64) -> Result<Left, AllocError> {
     let run = CutRun::of(alloc, case, most, call)?;
     let lines = newlines(case.script.as_bytes(), run.given as usize);
-    assert!(rt; run.wrote(alloc, case, lines)?);
-    assert!(rt; run.kept == case.kept(lines));
-    if run.end != RunEnd::Read {
-        assert!(rt; run.end == RunEnd::Status(case.status()));
-        assert!(rt; lines == case.lines.len());
+    if run.kept != case.kept(lines) || !run.wrote(alloc, case, lines)? {
+        return Ok(Left::Other);
     }
-    Ok(run.end == RunEnd::Read)
+    if run.end == RunEnd::Read {
+        return Ok(Left::Beginning);
+    }
+    if run.end == RunEnd::Status(case.status()) && lines == case.lines.len() {
+        return Ok(Left::Whole);
+    }
+    Ok(Left::Other)
 }
 
 /// An upper bound of the reads of a run.
 const MOST_CALLS: u64 = 1000;
 
-#[test]
-fn executes_the_lines_that_were_read(rt: HostRuntime) -> Result<(), Fail> {
-    for case in &cases(rt.alloc())? {
-        let most = if case.script.len() > 1000 { 97 } else { 1 };
-        let mut last = MOST_CALLS;
-        for call in 0..MOST_CALLS {
-            if !fails_at(&rt, rt.alloc(), case, most, call)? {
-                last = call;
-                break;
-            }
+/// Runs a case's script as often as it has reads, of which another one fails in each run, and once
+/// without a failure. Returns whether each run left what it should.
+pub(crate) fn cut_each(alloc: Global, case: &Case) -> Result<bool, AllocError> {
+    let most = if case.script.len() > 1000 { 97 } else { 1 };
+    for call in 0..MOST_CALLS {
+        let left = cut_at(alloc, case, most, call)?;
+        if left != Left::Beginning {
+            return Ok(left == Left::Whole && call > 10);
         }
-        assert!(rt; last > 10 && last < MOST_CALLS);
     }
-    Ok(())
+    Ok(false)
 }
 
-/// Runs a script of one line, which one read provides, with at most `reads` reads.
-fn ends_within(rt: &impl Abort, alloc: Global, reads: u32) -> Result<RunEnd, Fail>
+/// Runs a script of one line, which one read provides, with at most `reads` reads. Returns whether
+/// it wrote its text and ended so.
+fn ends_within(alloc: Global, reads: u32, want: RunEnd) -> Result<bool, AllocError>
     requires { 0 < reads }
 {
-    let subsystem = Subsystem::from_toml(alloc, DEMO.as_bytes())?;
-    let mut machine = Machine::new(alloc, subsystem)?;
+    let Some(mut machine) = Case::new(alloc, DEMO, None)?.machine(alloc) else {
+        return Err(AllocError);
+    };
     let mut script = CutSource::new(b"list-ns /dev/nvme0\n", 4096, u64::MAX);
     let mut out = OverWrite::new(Vec::new(alloc));
     let mut messages = OverWrite::new(Vec::new(alloc));
@@ -79,16 +72,18 @@ fn ends_within(rt: &impl Abort, alloc: Global, reads: u32) -> Result<RunEnd, Fai
         &mut messages,
         reads,
     );
-    assert!(rt; out.into_inner().as_slice() == "[   0]:0x1\n[   1]:0x3\n".as_bytes());
-    assert!(rt; messages.into_inner().is_empty());
-    Ok(end)
+    Ok(
+        end == want
+            && out.into_inner().as_slice() == "[   0]:0x1\n[   1]:0x3\n".as_bytes()
+            && messages.into_inner().is_empty(),
+    )
 }
 
-#[test]
-fn ends_by_a_fault_at_the_last_read(rt: HostRuntime) -> Result<(), Fail> {
-    let alloc = rt.alloc();
-    assert!(rt; ends_within(&rt, alloc, 1)? == RunEnd::Read);
-    assert!(rt; ends_within(&rt, alloc, 2)? == RunEnd::Read);
-    assert!(rt; ends_within(&rt, alloc, 3)? == RunEnd::Status(0));
-    Ok(())
+/// Returns whether a run whose last allowed read isn't the one that finds the end ends by a fault.
+pub(crate) fn last_read_is_a_fault(alloc: Global) -> Result<bool, AllocError> {
+    Ok(
+        ends_within(alloc, 1, RunEnd::Read)?
+            && ends_within(alloc, 2, RunEnd::Read)?
+            && ends_within(alloc, 3, RunEnd::Status(0))?,
+    )
 }

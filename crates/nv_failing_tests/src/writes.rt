@@ -4,13 +4,11 @@
 ghost use Rattle.std.specs.Prelude.{◌≡◌, false};
 
 use crate::case::{Case, Stream};
-use crate::cases::cases;
 use crate::cut_sink::CutSink;
 use crate::kept::Kept;
+use crate::memory::Left;
 use nv_script::{Geometry, OverRead, RunEnd, Sink, run};
 use std::alloc::{AllocError, Global};
-use std::process::Abort;
-use std::test::Fail;
 
 /// Returns the line in whose text a stream failed after it had taken `taken` bytes, or `None` if it
 /// had taken all bytes.
@@ -46,15 +44,14 @@ fn run_into(
 }
 
 /// Runs a script in which one stream takes at most `most` bytes in a write and fails after `calls`
-/// writes. Returns whether it failed.
-fn fails_after(
-    rt: &impl Abort,
+/// writes.
+fn cut_after(
     alloc: Global,
     case: &Case,
     stream: Stream,
     most: usize,
     calls: u64,
-) -> Result<bool, Fail> {
+) -> Result<Left, AllocError> {
     let mut failing = CutSink::new(alloc, most, calls);
     let mut other = CutSink::new(alloc, usize::MAX, u64::MAX);
     let (end, kept) = match stream {
@@ -62,40 +59,45 @@ fn fails_after(
         Stream::Messages => run_into(alloc, case, &mut other, &mut failing)?,
     };
     let Some(cut) = cut_line(case, stream, failing.taken.len()) else {
-        assert!(rt; end == RunEnd::Status(case.status()));
-        return Ok(false);
+        let is_right = end == RunEnd::Status(case.status());
+        return Ok(if is_right { Left::Whole } else { Left::Other });
     };
     let want = match stream {
         Stream::Output => RunEnd::OutWrite,
         Stream::Messages => RunEnd::MessageWrite,
     };
-    assert!(rt; end == want && failing.calls_left == 0);
     let whole = case.text(alloc, stream, case.lines.len())?;
-    assert!(rt; whole.as_bytes().starts_with(failing.taken.as_slice()));
     let before = case.text(alloc, stream.other(), cut)?;
-    assert!(rt; other.taken.as_slice() == before.as_bytes());
-    assert!(rt; kept == case.kept(cut.saturating_add(1)));
-    Ok(true)
+    let is_right = end == want
+        && failing.calls_left == 0
+        && whole.as_bytes().starts_with(failing.taken.as_slice())
+        && other.taken.as_slice() == before.as_bytes()
+        && kept == case.kept(cut.saturating_add(1));
+    Ok(if is_right {
+        Left::Beginning
+    } else {
+        Left::Other
+    })
 }
 
 /// An upper bound of the writes of a run.
 const MOST_CALLS: u64 = 1000;
 
-#[test]
-fn leaves_a_beginning_of_the_line(rt: HostRuntime) -> Result<(), Fail> {
-    for case in &cases(rt.alloc())? {
-        for stream in [Stream::Output, Stream::Messages] {
-            let whole = case.text(rt.alloc(), stream, case.lines.len())?;
-            let most = if whole.len() > 1000 { 501 } else { 7 };
-            let mut last = MOST_CALLS;
-            for calls in 0..MOST_CALLS {
-                if !fails_after(&rt, rt.alloc(), case, stream, most, calls)? {
-                    last = calls;
-                    break;
-                }
-            }
-            assert!(rt; last < MOST_CALLS);
+/// Runs a case's script as often as it writes to a stream, where another write fails in each run,
+/// and once without a failure. Returns whether each run left what it should.
+fn cut_stream(alloc: Global, case: &Case, stream: Stream) -> Result<bool, AllocError> {
+    let whole = case.text(alloc, stream, case.lines.len())?;
+    let most = if whole.len() > 1000 { 501 } else { 7 };
+    for calls in 0..MOST_CALLS {
+        let left = cut_after(alloc, case, stream, most, calls)?;
+        if left != Left::Beginning {
+            return Ok(left == Left::Whole);
         }
     }
-    Ok(())
+    Ok(false)
+}
+
+/// Does so for both streams.
+pub(crate) fn cut_each(alloc: Global, case: &Case) -> Result<bool, AllocError> {
+    Ok(cut_stream(alloc, case, Stream::Output)? && cut_stream(alloc, case, Stream::Messages)?)
 }
