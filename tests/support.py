@@ -86,7 +86,7 @@ def copy_sources(folder):
             shutil.copytree(path, folder / path.relative_to(TOP))
 
 
-def until(condition, limit=60):
+def until(condition, limit=300):
     """Returns whether the condition becomes true within this number of seconds."""
     end = time.monotonic() + limit
     while not condition():
@@ -158,7 +158,7 @@ def opened(files, path, mode):
     return number
 
 
-def run(*command, source=b'', out=None, err=None, env=(), cwd=TOP, limit=120):
+def run(*command, source=b'', out=None, err=None, env=(), cwd=TOP, limit=600):
     """Runs a command to its end. Its input is `source`, which is bytes or the path of a file. Its output and its
     messages are returned, or go to the files `out` and `err`; with `err='&1'` both are returned in order as output.
 
@@ -217,14 +217,14 @@ class Running:
         self.heard += piece.replace(b'\r', b'')
         return piece != b''
 
-    def comes(self, text, limit=60):
+    def comes(self, text, limit=300):
         """Waits until what was read ends with this text."""
         end = time.monotonic() + limit
         while not self.heard.endswith(text):
             if not self.hear(end - time.monotonic()):
                 raise AssertionError(f'{self.line}\n{text} did not come, only {self.heard[-2000:]}')
 
-    def end(self, limit=60):
+    def end(self, limit=300):
         """Ends the command's input, and returns how the command ended, with everything that was read as its output."""
         if self.is_on_terminal:
             self.say(b'\x04')
