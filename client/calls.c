@@ -76,8 +76,8 @@ static void when(uint32_t value, uint32_t action) {
 }
 
 /* Adds the calls of programs of 64 or of 32 bits. No process can type into the caller's terminal (TIOCSTI, and the
-   selection of TIOCLINUX), or take an open file from a process outside, which the peer of a socket can name. A ring of
-   io_uring opens files without calls, so that there are none. (Of a request the kernel looks at 32 bits.) */
+   selection of TIOCLINUX), or take an open file from a process outside, which the peer of a socket can name. There is
+   no io_uring, which opens files without calls. (Of a request the kernel looks at 32 bits.) */
 static void add_calls(int is_old) {
     load(offsetof(struct seccomp_data, nr));
     emit(BPF_JMP | BPF_JGE | BPF_K, X32_BIT, 1);
