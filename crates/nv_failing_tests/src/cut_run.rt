@@ -1,9 +1,11 @@
 //! A run of a case's script, and what it left behind.
 
+ghost use Rattle.std.specs.Prelude.{◌<◌};
+
 use crate::case::{Case, Stream};
 use crate::cut_source::CutSource;
 use crate::kept::Kept;
-use nv_script::{Geometry, OverWrite, RunEnd, run};
+use nv_script::{Geometry, OverWrite, RunEnd, run_within};
 use std::alloc::{AllocError, Global};
 
 /// The size of a buffer that holds everything that a script writes to a stream, so that writes need
@@ -30,19 +32,33 @@ impl CutRun {
         most: usize,
         fails_at: u64,
     ) -> Result<CutRun, AllocError> {
+        CutRun::within(alloc, case, most, fails_at, u32::MAX)
+    }
+
+    /// Does the same with at most `reads` reads.
+    pub(crate) fn within(
+        alloc: Global,
+        case: &Case,
+        most: usize,
+        fails_at: u64,
+        reads: u32,
+    ) -> Result<CutRun, AllocError>
+        requires { 0 < reads }
+    {
         let Some(mut machine) = case.machine(alloc) else {
             return Err(AllocError);
         };
         let mut script = CutSource::new(case.script.as_bytes(), most, fails_at);
         let mut out = OverWrite::new(Vec::with_capacity(alloc, ROOM)?);
         let mut messages = OverWrite::new(Vec::with_capacity(alloc, ROOM)?);
-        let end = run(
+        let end = run_within(
             alloc,
             &mut machine,
             Geometry::default(),
             &mut script,
             &mut out,
             &mut messages,
+            reads,
         );
         Ok(CutRun {
             end,

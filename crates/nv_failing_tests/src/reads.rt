@@ -4,9 +4,8 @@ ghost use Rattle.std.specs.Prelude.{◌<◌};
 
 use crate::case::Case;
 use crate::cut_run::CutRun;
-use crate::cut_source::CutSource;
 use crate::memory::Left;
-use nv_script::{Geometry, OverWrite, RunEnd, run_within};
+use nv_script::RunEnd;
 use nv_subsystem::DEMO;
 use std::alloc::{AllocError, Global};
 
@@ -39,8 +38,8 @@ fn cut_at(alloc: Global, case: &Case, most: usize, call: u64) -> Result<Left, Al
 /// An upper bound of the reads of a run.
 const MOST_CALLS: u64 = 1000;
 
-/// Runs a case's script as often as it has reads, of which another one fails in each run, and once
-/// without a failure. Returns whether each run left what it should.
+/// Runs a case's script once for each of its reads, which fails, and once without a failure. Returns
+/// whether each run left what it should.
 pub(crate) fn cut_each(alloc: Global, case: &Case) -> Result<bool, AllocError> {
     let most = if case.script.len() > 1000 { 97 } else { 1 };
     for call in 0..MOST_CALLS {
@@ -57,29 +56,18 @@ pub(crate) fn cut_each(alloc: Global, case: &Case) -> Result<bool, AllocError> {
 fn ends_within(alloc: Global, reads: u32, want: RunEnd) -> Result<bool, AllocError>
     requires { 0 < reads }
 {
-    let Some(mut machine) = Case::new(alloc, DEMO, None)?.machine(alloc) else {
-        return Err(AllocError);
-    };
-    let mut script = CutSource::new(b"list-ns /dev/nvme0\n", 4096, u64::MAX);
-    let mut out = OverWrite::new(Vec::new(alloc));
-    let mut messages = OverWrite::new(Vec::new(alloc));
-    let end = run_within(
+    let mut case = Case::new(alloc, DEMO, Some(1))?;
+    case.prints(
         alloc,
-        &mut machine,
-        Geometry::default(),
-        &mut script,
-        &mut out,
-        &mut messages,
-        reads,
-    );
-    Ok(
-        end == want
-            && out.into_inner().as_slice() == "[   0]:0x1\n[   1]:0x3\n".as_bytes()
-            && messages.into_inner().is_empty(),
-    )
+        "list-ns /dev/nvme0",
+        "[   0]:0x1\n[   1]:0x3",
+        (0, 1),
+    )?;
+    let run = CutRun::within(alloc, &case, 4096, u64::MAX, reads)?;
+    Ok(run.end == want && run.wrote(alloc, &case, 1)?)
 }
 
-/// Returns whether a run whose last allowed read isn't the one that finds the end ends by a fault.
+/// Returns whether a run ends by a fault if its last allowed read doesn't find the script's end.
 pub(crate) fn last_read_is_a_fault(alloc: Global) -> Result<bool, AllocError> {
     Ok(
         ends_within(alloc, 1, RunEnd::Read)?

@@ -83,8 +83,8 @@ fn cut_after(
 /// An upper bound of the writes of a run.
 const MOST_CALLS: u64 = 1000;
 
-/// Runs a case's script as often as it writes to a stream, where another write fails in each run,
-/// and once without a failure. Returns whether each run left what it should.
+/// Runs a case's script once for each write to a stream, which fails, and once without a failure.
+/// Returns whether each run left what it should.
 fn cut_stream(alloc: Global, case: &Case, stream: Stream) -> Result<bool, AllocError> {
     let whole = case.text(alloc, stream, case.lines.len())?;
     let most = if whole.len() > 1000 { 501 } else { 7 };
@@ -97,7 +97,7 @@ fn cut_stream(alloc: Global, case: &Case, stream: Stream) -> Result<bool, AllocE
     Ok(false)
 }
 
-/// Does so for both streams.
+/// Does the same for both streams.
 pub(crate) fn cut_each(alloc: Global, case: &Case) -> Result<bool, AllocError> {
     Ok(cut_stream(alloc, case, Stream::Output)? && cut_stream(alloc, case, Stream::Messages)?)
 }
