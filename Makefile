@@ -1,5 +1,5 @@
 # For anyone who looks for a Makefile: each target is a command of README.md.
-.PHONY: help run build library test ci stage install uninstall dist
+.PHONY: help run build library test ci stage install uninstall dist packages
 
 PREFIX = /usr/local
 # The folder of all that is installed, and that of the programs in C.
@@ -17,11 +17,12 @@ help:
 	@echo 'make run ARGS="OPTION.." < SCRIPT   ./nvme-script: runs a script'
 	@echo 'make build                          makes the proved programs, nvme-script and nvme-model'
 	@echo 'make library                        makes the library nvme_controller, in out/library'
-	@echo 'make test                           .ci/run --quick: all tests, unproved'
+	@echo 'make test                           .ci/run --quick: the tests that need no proof'
 	@echo 'make ci                             .ci/run: the gate, with every proof'
 	@echo 'make install                        puts what was built, and its manual, under PREFIX, $(PREFIX)'
 	@echo 'make uninstall                      takes it away'
-	@echo 'make dist                           makes packages of what was built, in out/dist'
+	@echo 'make packages                       builds all programs and the library, and packs them, in out/dist'
+	@echo 'make dist                           packs what was built'
 
 run:
 	@./nvme-script $(ARGS)
@@ -44,6 +45,12 @@ install: stage
 
 uninstall:
 	@tools/install --remove "$(DESTDIR)$(PREFIX)"
+
+packages: build
+	@tools/build nvme_trace
+	@tools/build nvme_bench
+	@tools/library
+	@tools/dist
 
 dist:
 	@tools/dist

@@ -6,6 +6,7 @@ controller=/dev/nvme0
 echo 'A namespace of 8 MiB'
 created=$(nvme create-ns $controller --nsze 16384 --ncap 16384 --flbas 0)
 nsid=${created##*nsid:}
+nsid=${nsid# } # (later versions of nvme-cli print a blank before it)
 nvme attach-ns $controller --namespace-id "$nsid" --controllers 0
 disk=${controller}n$nsid
 blockdev --getsize64 "$disk"

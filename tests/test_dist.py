@@ -320,7 +320,7 @@ class Debian(Packages):
 class Proved(Packages):
     def sections(self, path):
         """Returns the sections of a PROVED, by the first word of each but the first one."""
-        first, *others = re.split(r'(?m)^\n(?=[A-Z].*:\n\n)', path.read_text())
+        first, *others = re.split(r'(?m)^#\n# (?=[A-Z].*:\n#\n)', path.read_text())
         return {'': first, **{re.match(r'\w+', other)[0]: other for other in others}}
 
     def digests(self, path, *names):
@@ -341,10 +341,17 @@ class Proved(Packages):
             with self.subTest(path):
                 sections = self.sections(path)
                 head = sections[''].splitlines()
-                self.assertEqual(head[:2], [f'nvme-script {VERSION} for Linux on x86-64', f'commit {commit}'])
-                self.assertIn(f'toolchain {run("rt", "version").out.decode().strip()}', head)
-                self.assertIn(f'C compiler {run("cc", "--version").out.decode().splitlines()[0]}', head)
-                self.assertTrue(sections['To'].endswith('\n    make dist\n'), sections['To'])
+                self.assertEqual(head[:2], [f'# nvme-script {VERSION} for Linux on x86-64', f'# commit {commit}'])
+                self.assertIn(f'# toolchain {run("rt", "version").out.decode().strip()}', head)
+                self.assertIn(f'# C compiler {run("cc", "--version").out.decode().splitlines()[0]}', head)
+                self.assertTrue(sections['To'].endswith('\n#     make packages\n'), sections['To'])
+
+    def test_sha256sum_reads_each_line(self):
+        for path, place in self.places():
+            for folder in place, TOP:
+                with self.subTest(path, folder=folder):
+                    ended = run('sha256sum', '--check', '--ignore-missing', path, cwd=folder)
+                    self.assertEqual((ended.status, ended.err), (0, b''), ended)
 
     def test_digests_of_programs(self):
         for path, place in self.places():
@@ -397,6 +404,7 @@ class First(Case):
         for crate, command in (('nvme_script', './nvme-script --build'), ('nvme_device', './nvme-model --build'),
                                ('nvme_trace', 'tools/build nvme_trace'), ('nvme_controller', 'make library')):
             self.assertIn(f'dist: there is no proved {crate} of these sources: {command} makes it', lines)
+        self.assertEqual(lines[-1], 'dist: make packages builds and packs everything')
         self.assertFalse((self.folder / 'out').exists())
 
     def test_refuses_what_is_not_committed(self):
