@@ -6,7 +6,7 @@ PREFIX = /usr/local
 STAGE = out/stage
 CLIENT = out/client
 # The pages of docs/ that are installed, and those that aren't.
-manuals = GUIDE COMMANDS DIFFERENCES SUBSYSTEM-FILE PASSTHROUGH QEMU TRACE EMBEDDING BENCHES PACKAGES SUPPORT
+manuals = GUIDE ALTERNATIVES COMMANDS DIFFERENCES SUBSYSTEM-FILE PASSTHROUGH QEMU TRACE EMBEDDING BENCHES PACKAGES SUPPORT
 left_out = ARCHITECTURE|DECISIONS|GLOSSARY|PROOFS|SPEED
 pages = $(STAGE)/share/doc/nvme-script
 # Puts the version into a text, and whether a program or library is the proved one of these sources.
