@@ -1,4 +1,4 @@
-/* The calls on nodes. A filter that the command's processes inherit (seccomp) hands the ioctls of NVMe and of block
+/* The calls on nodes. A filter that the command's processes inherit (filter.c) hands the ioctls of NVMe and of block
    devices to the launcher, and in a sandbox also calls that open files for writing or change their lengths. It answers
    those on nodes and on files of /sys from the memory of the process, as Linux does, and lets the kernel carry out all
    others. So static programs, and those that make system calls themselves, are answered too. A result is that of the
@@ -10,7 +10,6 @@
 #include <grp.h>
 #include <limits.h>
 #include <linux/audit.h>
-#include <linux/filter.h>
 #include <linux/fs.h>
 #include <linux/hdreg.h>
 #include <linux/nvme_ioctl.h>
@@ -19,16 +18,10 @@
 #include <stdlib.h>
 #include <string.h>
 #include <sys/fsuid.h>
-#include <sys/prctl.h>
 #include <sys/stat.h>
 #include <sys/syscall.h>
 #include <sys/uio.h>
 #include <unistd.h>
-
-/* (of Linux 5.19: a call that the launcher has received is interrupted only by what kills the process) */
-#ifndef SECCOMP_FILTER_FLAG_WAIT_KILLABLE_RECV
-#define SECCOMP_FILTER_FLAG_WAIT_KILLABLE_RECV (1UL << 5)
-#endif
 
 /* The room for a message of the kernel, which is longer in later versions. */
 enum { MOST_STRUCT = 512 };
@@ -39,89 +32,20 @@ enum { TO_DEVICE = 1, FROM_DEVICE = 2 };
 /* The result of a call that the kernel carries out. */
 enum { NOT_OURS = -10000 };
 
-int calls = -1; /* where the filter's calls come from */
-
-/* ---- the filter */
-
-/* Calls of programs of 64 bits that are handed over: those that open a file or change its length, by the arguments that
-   say where it is (-1 for none) and by which flags (of which it must have one of CHANGES, if the filter can see them);
-   and those that are refused for a node, by the argument that is its descriptor, with the error that Linux has. */
-enum { CHANGES = O_WRONLY | O_RDWR | O_TRUNC | O_DIRECT };
-static const struct {
-    int number, file, path, flags, error;
-} rows[] = {{SYS_open, -1, 0, 1, 0},
-            {SYS_openat, 0, 1, 2, 0},
-            {SYS_openat2, 0, 1, -1, 0},
-            {SYS_creat, -1, 0, -1, 0},
-            {SYS_truncate, -1, 0, -1, 0},
-            {SYS_ftruncate, 0, -1, -1, -EINVAL},
-            {SYS_sendfile, 0, -1, -1, -EINVAL},
-            {SYS_splice, 2, -1, -1, -EINVAL},
-            {SYS_fallocate, 0, -1, -1, -ENODEV},
-            {SYS_copy_file_range, 2, -1, -1, -EXDEV}};
-enum { ROWS = sizeof rows / sizeof *rows, OLD_IOCTL = 54, TAKE_FILE = 438, X32_BIT = 0x40000000 };
-
-static struct sock_filter filter[256];
-static unsigned short filter_length;
-
-static void emit(unsigned code, uint32_t value, int if_not) {
-    filter[filter_length++] = (struct sock_filter){.code = (uint16_t)code, .jf = (uint8_t)if_not, .k = value};
-}
-
-static void load(size_t at) { emit(BPF_LD | BPF_W | BPF_ABS, (uint32_t)at, 0); }
-
-static void when(uint32_t value, uint32_t action) {
-    emit(BPF_JMP | BPF_JEQ | BPF_K, value, 1);
-    emit(BPF_RET | BPF_K, action, 0);
-}
-
-/* Adds the calls of programs of 64 or of 32 bits. No process can type into the caller's terminal (TIOCSTI, and the
-   selection of TIOCLINUX), or take an open file from a process outside, which the peer of a socket can name. There is
-   no io_uring, which opens files without calls. (Of a request the kernel looks at 32 bits.) */
-static void add_calls(int is_old) {
-    load(offsetof(struct seccomp_data, nr));
-    emit(BPF_JMP | BPF_JGE | BPF_K, X32_BIT, 1);
-    emit(BPF_RET | BPF_K, SECCOMP_RET_ERRNO | ENOSYS, 0);
-    when(TAKE_FILE, SECCOMP_RET_ERRNO | EPERM);
-    for (uint32_t number = SYS_io_uring_setup; has_sandbox && number <= SYS_io_uring_register; number++)
-        when(number, SECCOMP_RET_ERRNO | ENOSYS);
-    for (unsigned at = 0; has_sandbox && !is_old && at < ROWS; at++)
-        if (rows[at].flags < 0)
-            when((uint32_t)rows[at].number, SECCOMP_RET_USER_NOTIF);
-        else {
-            emit(BPF_JMP | BPF_JEQ | BPF_K, (uint32_t)rows[at].number, 4);
-            load(offsetof(struct seccomp_data, args) + 8 * (size_t)rows[at].flags);
-            emit(BPF_JMP | BPF_JSET | BPF_K, CHANGES, 1);
-            emit(BPF_RET | BPF_K, SECCOMP_RET_USER_NOTIF, 0);
-            emit(BPF_RET | BPF_K, SECCOMP_RET_ALLOW, 0);
-        }
-    emit(BPF_JMP | BPF_JEQ | BPF_K, is_old ? OLD_IOCTL : SYS_ioctl, 10);
-    load(offsetof(struct seccomp_data, args[1]));
-    when(TIOCSTI, SECCOMP_RET_ERRNO | EPERM);
-    when(TIOCLINUX, SECCOMP_RET_ERRNO | EPERM);
-    when(GEOMETRY_REQUEST, SECCOMP_RET_USER_NOTIF);
-    emit(BPF_ALU | BPF_AND | BPF_K, _IOC_TYPEMASK << _IOC_TYPESHIFT, 0);
-    when(NVME_TYPE << _IOC_TYPESHIFT, SECCOMP_RET_USER_NOTIF);
-    when(BLOCK_TYPE << _IOC_TYPESHIFT, SECCOMP_RET_USER_NOTIF);
-    emit(BPF_RET | BPF_K, SECCOMP_RET_ALLOW, 0);
-}
-
-void filter_calls(void) {
-    unsigned long flags = SECCOMP_FILTER_FLAG_NEW_LISTENER | SECCOMP_FILTER_FLAG_WAIT_KILLABLE_RECV;
-    load(offsetof(struct seccomp_data, arch));
-    unsigned short at = filter_length;
-    emit(BPF_JMP | BPF_JEQ | BPF_K, AUDIT_ARCH_X86_64, 0);
-    add_calls(0);
-    filter[at].jf = (uint8_t)(filter_length - at - 1);
-    add_calls(1);
-    const struct sock_fprog program = {filter_length, filter};
-    int file = prctl(PR_SET_NO_NEW_PRIVS, 1, 0, 0, 0) < 0
-                   ? -1
-                   : (int)syscall(SYS_seccomp, SECCOMP_SET_MODE_FILTER, flags, &program);
-    if (file < 0 || dup3(file, calls, O_CLOEXEC) < 0)
-        fail("calls can't be answered here (Linux 5.19 or later is needed): %s", strerror(errno));
-    close(file);
-}
+/* Calls that open a file or change its length, by the arguments that say where it is (-1 for none) and by which flags
+   (which must ask for a change, if the filter can see them); and those that are refused for a node, by the argument
+   that is its descriptor, with the error that Linux has. */
+const struct handed_call handed_calls[HANDED_CALLS] = {
+    {SYS_open, -1, 0, 1, 0},
+    {SYS_openat, 0, 1, 2, 0},
+    {SYS_openat2, 0, 1, -1, 0},
+    {SYS_creat, -1, 0, -1, 0},
+    {SYS_truncate, -1, 0, -1, 0},
+    {SYS_ftruncate, 0, -1, -1, -EINVAL},
+    {SYS_sendfile, 0, -1, -1, -EINVAL},
+    {SYS_splice, 2, -1, -1, -EINVAL},
+    {SYS_fallocate, 0, -1, -1, -ENODEV},
+    {SYS_copy_file_range, 2, -1, -1, -EXDEV}};
 
 /* ---- the process that made a call */
 
@@ -418,18 +342,18 @@ static int answer_open(const struct call *call, int directory, uint64_t path, in
     return result;
 }
 
-static int answer_row(struct call *call, unsigned row, const __u64 *words, int *flags) {
-    int number = rows[row].number;
+static int answer_handed(struct call *call, const struct handed_call *handed, const __u64 *words, int *flags) {
+    int number = handed->number;
     uint64_t how = number == SYS_creat || number == SYS_truncate ? O_WRONLY | O_CREAT | O_TRUNC : 0;
-    if (rows[row].path < 0) {
+    if (handed->path < 0) {
         int is_hole = number == SYS_fallocate && words[1] & (FALLOC_FL_PUNCH_HOLE | FALLOC_FL_ZERO_RANGE);
-        call->file = (int)words[rows[row].file];
-        return !is_hole && find_node(call) ? rows[row].error : NOT_OURS;
+        call->file = (int)words[handed->file];
+        return !is_hole && find_node(call) ? handed->error : NOT_OURS;
     }
     if (number == SYS_openat2 && copy_in(call, words[2], &how, sizeof how) < 0)
         return NOT_OURS;
-    *flags = rows[row].flags < 0 ? (int)how : (int)words[rows[row].flags];
-    return answer_open(call, rows[row].file < 0 ? AT_FDCWD : (int)words[rows[row].file], words[rows[row].path], *flags,
+    *flags = handed->flags < 0 ? (int)how : (int)words[handed->flags];
+    return answer_open(call, handed->file < 0 ? AT_FDCWD : (int)words[handed->file], words[handed->path], *flags,
                        number == SYS_truncate);
 }
 
@@ -450,7 +374,7 @@ void answer_call(void) {
                         .argument = got.data.args[2]};
     unsigned row = 0;
     int flags = 0, result = NOT_OURS;
-    while (row < ROWS && (call.is_old || rows[row].number != got.data.nr))
+    while (row < HANDED_CALLS && (call.is_old || handed_calls[row].number != got.data.nr))
         row++;
     uint64_t id = got.id;
     if (own.user == NOT_READ)
@@ -459,8 +383,9 @@ void answer_call(void) {
         read_identity(call.process, &caller);
     /* (a process that is gone by now may have left its number to another one) */
     if (ioctl(calls, SECCOMP_IOCTL_NOTIF_ID_VALID, &id) == 0)
-        result = row == ROWS ? answer_ioctl(&call) : answer_row(&call, row, got.data.args, &flags);
-    if (row < ROWS && result >= 0) {
+        result = row == HANDED_CALLS ? answer_ioctl(&call)
+                                     : answer_handed(&call, handed_calls + row, got.data.args, &flags);
+    if (row < HANDED_CALLS && result >= 0) {
         struct seccomp_notif_addfd added = {.id = id,
                                             .flags = SECCOMP_ADDFD_FLAG_SEND,
                                             .srcfd = (uint32_t)result,

@@ -76,8 +76,15 @@ void put_controller(unsigned number, unsigned place, const unsigned char *identi
 void put_namespace(unsigned controller, uint32_t nsid, const struct volume *volume, int file, int places);
 void remove_namespace(unsigned controller, uint32_t nsid);
 
-/* calls.c: has the calls of this process, which becomes the command, answered by the launcher, for which `calls` was
-   opened; and answers one. */
+/* A call that is handed to the launcher by those programs of 64 bits that are in a sandbox. */
+struct handed_call {
+    int number, file, path, flags, error;
+};
+enum { HANDED_CALLS = 10 };
+extern const struct handed_call handed_calls[HANDED_CALLS]; /* calls.c */
+
+/* filter.c: has the calls of this process, which becomes the command, answered by the launcher, for which `calls` was
+   opened. calls.c: answers one. */
 extern int calls;
 void filter_calls(void);
 void answer_call(void);
