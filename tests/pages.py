@@ -53,9 +53,8 @@ class Page:
         self.links, self.files, self.words, self.wide, self.blocks = [], [], [], [], []
         self.read_lines()
         self.read_rows()
-        if name.startswith('crates/'):
-            for found in re.finditer(r'^```rust *\n(.*?)^``` *\n\s*\(from `([^`]+)`', self.text, re.M | re.S):
-                self.blocks.append((self.text[:found.start(2)].count('\n') + 1, *found.groups()))
+        for found in re.finditer(r'^```rust *\n((?:(?!```).*\n)*)^``` *\n\s*\(from `([^`]+)`', self.text, re.M):
+            self.blocks.append((self.text[:found.start(2)].count('\n') + 1, *found.groups()))
 
     def read_lines(self):
         is_code = False

@@ -4,6 +4,7 @@ a table counts, and the status is 1 if anything failed."""
 
 import os
 import re
+import runpy
 import subprocess
 import sys
 import tempfile
@@ -92,6 +93,13 @@ def run_all(names):
     return sums
 
 
+def unbuilt():
+    """Returns a line for each program, and the library, that isn't built from the current sources."""
+    builds = runpy.run_path(str(TOP / 'tools/dist'))['BUILDS']
+    return [f'{name} is not built from these sources: {command} makes it' for name, command in builds.items()
+            if subprocess.run([TOP / 'tools/stamp', 'is-current', name]).returncode != 0]
+
+
 def main(arguments):
     if arguments[:1] == ['--one']:
         return run_one(arguments[1])
@@ -104,6 +112,8 @@ def main(arguments):
         names = [*of_sources, 'unproved.Layout', 'unproved.Programs', *unproved.names()]
     elif arguments:
         sys.exit('usage: python3 -m tests.run [--quick]')
+    elif missing := unbuilt():
+        sys.exit('\n'.join(['the tests need all that is built, and', *missing]))
     sums = run_all(sorted(names, key=lambda name: name not in LONGEST))
     print('unproved: ' * len(arguments) + SUMS.format(*sums))
     sys.exit(1 if sums[1] or not sums[0] else 0)
