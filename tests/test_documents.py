@@ -152,6 +152,18 @@ class Examples(Case):
                     ended = run(program('nvme_script'), *arguments, source=script.encode(), err='&1')
                     self.assertEqual(ended.out.decode(), re.sub(r'(?m)^> .*\n', '', block), ended)
 
+    def test_check_of_guide(self):
+        """The check sees that every line succeeded, and that there was no subsystem file."""
+        section = text_of('docs/GUIDE.md').partition('\n## Check the result')[2]
+        check, query = (textwrap.dedent(block) for block in re.findall(r'(?m)(?:^    .*\n)+', section))
+        for name in 'nvme-script', 'examples':
+            (self.folder / name).symlink_to(TOP / name)
+        self.ends(run('sh', '-c', check, cwd=self.folder), 0, b'every line succeeded\n', b'')
+        self.ends(run('sh', '-c', check.replace('guide.toml', 'missing.toml'), cwd=self.folder), 0,
+                  b'nvme-script: subsystem: unreadable\n', b'')
+        if shutil.which('jq'):
+            self.ends(run('sh', '-c', query, cwd=self.folder), 0, b'"0"\n', b'')
+
     def test_faults_of_subsystem_files(self):
         """Each row of the table shows the fault of the built-in file with one text in place of another."""
         rows = re.findall(r'^\| `(.+?)` \| `(.+?)` \| (?:`(.+?)`)? ?\| .*\|$', text_of('docs/SUBSYSTEM-FILE.md'), re.M)
