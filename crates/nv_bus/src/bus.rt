@@ -1,6 +1,6 @@
 //! The bus that a host talks to.
 
-ghost use Rattle.std.specs.Prelude.{◌≡◌, ◌<◌, ℕ, length, slice_set};
+ghost use Rattle.std.specs.Prelude.{◌≡◌, ◌<◌, ℕ, List, length, slice_set};
 ghost use Rattle.nv_register.specs.RegisterBank.{value_at, with_register_at};
 ghost use Rattle.nv_bus.specs.Bus.{BusValue, IsBus, bank_at, state_written};
 ghost use Rattle.nv_bus.specs.Turn.{TakesCount, Turn};
@@ -13,12 +13,16 @@ pub trait Bus {
     // The subsystem, and each controller's registers and rings.
     ghost meaning: { Self → BusValue };
 
-    // What a bus says of a write, with the bus before and after it, and of a read. Most buses say
-    // nothing. Code for every bus learns either only by making the call, so a contract that states
-    // such calls one after another says that they were made, in this order.
+    // What a bus says of a write, with the bus before and after it, of a read, and of a turn, with
+    // the bus and the memory's bytes before and after it, the greatest number of entries and how
+    // many were taken. Most buses say nothing. Code for every bus learns these only by making the
+    // call, so a contract that states such calls one after another says that they were made, in
+    // this order.
     ghost was_written: { Self → ℕ → ℕ → ℕ → Self → Type 0 } = { λ _ _ _ _ _. Unit {0} };
 
     ghost was_read: { Self → ℕ → ℕ → ℕ → Type 0 } = { λ _ _ _ _. Unit {0} };
+
+    ghost was_turned: { Self → List ℕ → ℕ → ℕ → ℕ → Self → List ℕ → Type 0 } = { λ _ _ _ _ _ _ _. Unit {0} };
 
     /// Returns the number of controllers.
     fn controllers(&self) -> u16
@@ -55,5 +59,7 @@ pub trait Bus {
             (bank_at (meaning self.old).banks ctrl) result (bank_at (meaning self.new).banks ctrl) }
         ensures bus { IsBus (meaning self.new) }
         ensures len { length (M.bytes mem.new) ≡ length (M.bytes mem.old) }
-        ensures page { M.page_len mem.new ≡ M.page_len mem.old };
+        ensures page { M.page_len mem.new ≡ M.page_len mem.old }
+        ensures turned { was_turned self.old (M.bytes mem.old) ctrl most result
+            self.new (M.bytes mem.new) };
 }

@@ -44,9 +44,13 @@ module _ {g : Geometry} {mem : PagedBytes} {ls : List QueuePairFields} {d : Driv
   pub at : pair_at (map pair_value ls) c ≡ pair_value l
   at = value_at ls c l no_pair below ∙ ap pair_value (sym here)
 
+  -- so is that of the driver
+  pub pair_is : pair_at d.pairs c ≡ pair_value l
+  pair_is = ap (λ (v : DriverValue). pair_at v.pairs c) (sym value) ∙ at
+
   -- the driver and the queue pair agree on the command identifier that is due
   pub serial_is : (pair_at d.pairs c).serial ≡ l.serial
-  serial_is = ap (λ (v : DriverValue). (pair_at v.pairs c).serial) (sym value) ∙ ap (λ (v : QueuePair). v.serial) at
+  serial_is = ap (λ (v : QueuePair). v.serial) pair_is
 
   -- its queue pair is where it was placed
   pub placed_at : IsPlaced g c (pair_value l)

@@ -1,18 +1,22 @@
 -- A single request: how it begins, and the state after it was answered.
 use Rattle.std.proofs.Common.{[], ◌≡◌, ◌∙◌, ℕ, ◌+◌, ◌*◌, ◌<◌, ◌≤◌, List, ◌∷◌, ap, arith, get_or, length, Err, Ok, refl}
-use Rattle.std.proofs.Common.{subst, sym}
+use Rattle.std.proofs.Common.{subst, sym, true}
 use Rattle.nv_prp.specs.Buffer.{buffer_places}
 use Rattle.nv_layout.specs.declared.cqe.Status.{Status}
 use Rattle.nv_bus.specs.declared.told.Told.{Told}
 use Rattle.nv_bus.specs.Entry.{status_in, told_by}
-use Rattle.nv_bus.specs.Call.{asked_by}
+use Rattle.nv_bus.specs.Call.{asked_by, data_places}
 use Rattle.nv_driver.proofs.Words.{Answer, AreOutside, Asked, BusValue, Cqe, Delivers, Geometry, HasFreeSlot}
 use Rattle.nv_driver.proofs.Words.{IsAnswered, IsBus, IsOnWay, IsPlaceFor, IsReady, IsRequest, IsSubmittedAt, IsTold}
 use Rattle.nv_driver.proofs.Words.{KeepsBelow, QueuePairFields, RequestPlace, Run, Sent, Setting, Sqe, SqeFits}
-use Rattle.nv_driver.proofs.Words.{awaited_completion, bank_at, collected_one, greatest_limit, known_to, length_of}
-use Rattle.nv_driver.proofs.Words.{limit_bounds, limit_of, mul-le-mul_right, numbered, padded, pages_of_entry}
+use Rattle.nv_driver.proofs.Words.{awaited_completion, bank_at, collected_one, entry, greatest_limit, known_to, length_of}
+use Rattle.nv_driver.proofs.Words.{limit_bounds, limit_of, mul-le-mul_right, numbered, padded, pages_of_entry, places}
 use Rattle.nv_driver.proofs.Words.{pair_value, place_from, received_from, run_of, sent_at, sent_for, setting_of, side}
 use Rattle.nv_driver.proofs.Words.{slice_set, step_of, transfer_for, way, with_register_at}
+use Rattle.nv_queue.specs.Numbers.{next, slot_of}
+use Rattle.nv_queue.specs.Slots.{submission_at}
+use Rattle.nv_driver.specs.BringingUp.{Write}
+use Rattle.nv_driver.specs.Passing.{BusTurn, HoldsEntry, Passes}
 use Rattle.nv_driver.specs.inner.Alone.{IsAlone, IsExchanged, came_with, request_in}
 use Rattle.nv_driver.specs.Alone.{Comes, IsReceived, asked_in, entry_step}
 use Rattle.nv_driver.specs.Layout.{data_count}
@@ -25,6 +29,8 @@ use Rattle.nv_driver.specs.inner.Submitting.{request_as}
 use Rattle.nv_driver.specs.declared.submitting.Outgoing.{Outgoing}
 use Rattle.nv_driver.proofs.AnswerLaws.{IsAnswerTo, answer_sound}
 use Rattle.nv_driver.proofs.RequestLaws.{every_entry}
+use Rattle.nv_driver.proofs.KeptLaws.{number_zero}
+use Rattle.nv_driver.proofs.PointerLaws.{entry_places}
 use Rattle.nv_driver.proofs.OnWayLaws.{answer_next, begins, collects_on, completion_is, first_way, held, left_after}
 use Rattle.nv_driver.proofs.OnWayLaws.{rings, submits_on, tells_on, turned}
 use Rattle.nv_driver.proofs.PaddingLaws.{length-padded}
@@ -97,20 +103,74 @@ module _ {g : Geometry} {bus : BusValue} {c : ℕ} {l : QueuePairFields} {bytes 
   abbrev pub one_sent : Course
   one_sent = record { sent = sent ∷ []; answers = []; events = Turn 1 ∷ Bell ∷ Submit sent ∷ [] }
 
+  -- the request was submitted
+  submitted : IsOnWay ever (way run (record { sent = sent ∷ []; answers = []; events = Submit sent ∷ [] }) 0 0 0) bus l'
+      now1 mem
+  submitted = submits_on (begins {due = ever} [] ready) b.sub can b.place b.first (omega (arith, b.last))
+      (omega (arith, ready.laid.deep.0)) (λ n d from below. absurd (omega arith)) tt
+
   -- the tail doorbell was rung for it, and the controller had a turn, which took it
   pub took : {now2 value count : ℕ} {one two : BusValue} {mem2 : List ℕ} → value ≡ tail → one.state ≡ bus.state
       → one.banks ≡ slice_set bus.banks c (with_register_at (bank_at bus.banks c) 0x1000 value)
       → (IsBus bus → IsBus one) → T.Turn now1 c 1 count one mem two mem2 → IsBus two → length mem2 ≡ length mem
-      → now2 ≡ now1 → IsOnWay ever (way run one_sent 1 1 0) two l' now2 mem2
-  took {now2} {two = two} {mem2 = mem2} put state banks rung turn lawful size page =
+      → now2 ≡ now1 → IsOnWay ever (way run one_sent 1 1 0) two l' now2 mem2 × (count ≡ 1)
+  took {now2} {count = count} {two = two} {mem2 = mem2} put state banks rung turn lawful size page =
       let begin = begins {due = ever} [] ready in
-      let on = submits_on begin b.sub can b.place b.first (omega (arith, b.last))
-      (omega (arith, ready.laid.deep.0)) (λ n d from below. absurd (omega arith)) tt in
-      let next = turned (rings on refl (put ∙ W.tail_after begin b.sub.tail) state banks rung tt) refl refl turn lawful
-      size page tt in
+      let next = turned (rings submitted refl (put ∙ W.tail_after begin b.sub.tail) state banks rung tt) refl refl turn
+      lawful size page tt in
       let deep = ready.laid.deep in
-      subst (λ n. IsOnWay ever (way run one_sent 1 n 0) two l' now2 mem2)
-      (omega (arith, next.1, deep.0)) next.0
+      let one : count ≡ 1 = omega (arith, next.1, deep.0) in
+      (subst (λ n. IsOnWay ever (way run one_sent 1 n 0) two l' now2 mem2) (omega (arith, one)) next.0, one)
+
+  -- ---- its calls
+
+  -- the memory holds the entry in the ring's next slot, and its data where its data pointer says
+  holds_entry : HoldsEntry l.geometry.page_size (pair_value l) e given mem
+  holds_entry =
+      let k = submitted.keeps in
+      let here = subst (λ n. submission_at mem l.submission.base (slot_of l.submission.depth n) ≡ entry sent)
+      (sym (number_zero t ready.laid.number)) (k.waiting 0 sent (omega arith) (omega arith)) in
+      subst (λ n. HoldsEntry n (pair_value l) e given mem) (ap (λ (q : Geometry). q.page_size) (sym ready.shape))
+      (record {
+        prp1 = b.sub.prp1;
+        prp2 = b.sub.prp2;
+        places = places g.page_size sent;
+        entry = here;
+        named = subst (λ q. data_places g.page_size mem q (transfer_for e) ≡ Ok (places g.page_size sent)) (sym here)
+            (entry_places t sent mem can (k.named 0 sent (omega arith) (omega arith)));
+        sent = k.to_send 0 sent (omega arith) (omega arith);
+      })
+
+  -- the head that is told is the slot of the next number
+  head_next : (q : ℕ) {l1 : QueuePairFields}
+      → l1 ≡ record l' { submission = known_to l'.submission q; completion = collected_one l'.completion }
+      → slot_of l1.completion.depth l1.completion.collected
+      ≡ slot_of l.submission.depth (next l.submission.depth l.submission.submitted)
+  head_next q first =
+      let quiet = ready.quiet in
+      ap (λ (o : QueuePairFields). slot_of o.completion.depth o.completion.collected) first
+      ∙ ap (λ (o : QueuePairFields). slot_of o.completion.depth (next o.completion.depth o.completion.collected)) b.sub.pair
+      ∙ ap (λ n. slot_of n (next n l.completion.collected)) quiet.depth
+      ∙ ap (λ n. slot_of l.submission.depth (next l.submission.depth n)) quiet.collected
+
+  -- the entry was passed through call by call
+  pub passes : {B : Type 0} (wrote : Write B) (took_turn : BusTurn B) (q : ℕ) {old rung taken new : B} {value count : ℕ}
+      {mem2 : List ℕ} {l1 : QueuePairFields} → value ≡ tail → wrote old c 0x1000 value rung → count ≡ 1
+      → took_turn rung mem c 1 count taken mem2
+      → l1 ≡ record l' { submission = known_to l'.submission q; completion = collected_one l'.completion }
+      → (l1.completion.untold ≡ true → wrote taken c 0x1004 (slot_of l1.completion.depth l1.completion.collected) new)
+      → Passes wrote took_turn c (pair_value l) e given old new
+  passes wrote took_turn q {old} {rung} {taken} {new} {mem2 = mem2} put told_tail one turn first told_head = (
+    rung,
+    taken,
+    mem,
+    mem2,
+    subst (λ n. wrote old c 0x1000 n rung) (put ∙ b.sub.tail) told_tail,
+    holds_entry,
+    subst (λ n. took_turn rung mem c 1 n taken mem2) one turn,
+    subst (λ n. wrote taken c 0x1004 n new) (head_next q first)
+        (told_head (ap (λ (o : QueuePairFields). o.completion.untold) first)),
+  )
 
   -- ---- the end
 

@@ -135,17 +135,23 @@ call_by (Ok m) e at sends page_size mem asked lies is =
     ∙ call_ends asked at
 call_by (Err code) e at sends page_size mem asked lies is = ap (call_at at) is
 
+-- The data pointer of the entry names the places of the request's data.
+pub entry_places : (t : Setting) (x : Sent) (mem : List ℕ) → IsRequest t.limit x.request → StaysNamed t.page_size x mem
+    → data_places t.page_size mem (entry x) x.request.transfer ≡ Ok (places t.page_size x)
+entry_places t x mem can stays =
+    let at = places t.page_size x in
+    let names = names_in t.page_size x mem stays in
+    places_by x.request.transfer t.page_size mem (entry x) at can.room (length-places t.page_size x)
+    (λ some. legal_places (pointed t.page_size x mem) at (names.0 some) (sym names.1))
+
 -- The entry asks for what the request says, with its data in its pages.
 pub entry_call : (t : Setting) (x : Sent) (mem : List ℕ) → IsRequest t.limit x.request → x.cid < 2 ^ 16
     → StaysNamed t.page_size x mem → HoldsSent t.page_size x mem
     → call_of t.page_size t.limit mem (entry x) ≡ call_at (places t.page_size x) x.request.asked
 entry_call t x mem can cid stays holds =
     let at = places t.page_size x in
-    let names = names_in t.page_size x mem stays in
-    let found = places_by x.request.transfer t.page_size mem (entry x) at can.room (length-places t.page_size x)
-    (λ some. legal_places (pointed t.page_size x mem) at (names.0 some) (sym names.1)) in
     in_order (transfer_of (entry x)) t.limit t.page_size mem (entry x)
     ∙ call_by (moves_of t.limit (entry x)) (entry x) at x.request.sends t.page_size mem x.request.asked
     (λ m is. let same : x.request.transfer ≡ m = can.transfer x.cid x.prp1 x.prp2 m cid is in
-    rw (← same) (found, holds))
+    rw (← same) (entry_places t x mem can stays, holds))
     (can.asked x.cid x.prp1 x.prp2 cid)

@@ -15,6 +15,7 @@ ghost use Rattle.nv_driver.specs.Driver.{after_command, after_commands, after_re
 ghost use Rattle.nv_driver.specs.Driver.{HasEntryPages, driver_with, new_driver};
 ghost use Rattle.nv_driver.specs.Layout.{pages_of_entry};
 ghost use Rattle.nv_driver.specs.Linked.{IsBroughtUp, IsLinked};
+ghost use Rattle.nv_driver.specs.Passing.{Passes};
 
 use crate::answer_slot::{Answer, AnswerSlot};
 use crate::batch::exchange_all;
@@ -240,6 +241,8 @@ impl Driver {
         ensures driver { self.new ≡ after_command self.old ctrl }
         ensures entries { HasEntryPages self.new }
         ensures linked { IsLinked (B.meaning bus.new) self.new }
+        ensures steps { Passes B.was_written B.was_turned ctrl (pair_at self.old.pairs ctrl)
+            entry.now bytes.now bus.old bus.new }
     {
         let passed = Passed {
             entry,

@@ -6,6 +6,8 @@ ghost use Rattle.nv_driver.specs.inner.Alone.{IsExchanged};
 ghost use Rattle.nv_driver.specs.Exchange.{IsReady};
 ghost use Rattle.nv_driver.specs.inner.Exchange.{side};
 ghost use Rattle.nv_driver.specs.Layout.{pages_of_entry};
+ghost use Rattle.nv_driver.specs.Passing.{Passes};
+ghost use Rattle.nv_driver.specs.Quiet.{pair_value};
 
 use crate::entry_data::receive;
 use crate::host_side::HostSide;
@@ -44,11 +46,13 @@ pub(crate) fn exchange_entry<B: Bus, M: HostMemory>(
         * pair.old.geometry.page_size ≤ length (M.bytes host.old.mem) }
     requires numbered { passed.now.first_page + pages_of_entry pair.old.geometry.page_size
         < 2 ^ 32 }
-    ensures { IsExchanged pair.old.geometry ctrl
+    ensures exchanged { IsExchanged pair.old.geometry ctrl
         passed.now.entry.now passed.now.bytes.now passed.now.first_page
         (side (B.meaning bus.old) pair.old (M.page_len host.old.mem) (M.bytes host.old.mem))
         (side (B.meaning bus.new) pair.new (M.page_len host.new.mem) (M.bytes host.new.mem))
         result out.new }
+    ensures steps { Passes B.was_written B.was_turned ctrl (pair_value pair.old)
+        passed.now.entry.now passed.now.bytes.now bus.old bus.new }
 {
     let geometry = pair.geometry();
     let HostSide {

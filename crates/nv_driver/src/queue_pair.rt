@@ -1,7 +1,8 @@
 //! The host's side of one controller: its rings and its free pages.
 
-ghost use Rattle.std.specs.Prelude.{◌≡◌, ◌+◌, ◌*◌, ◌<◌, ◌≤◌, ◌^◌, All, IfOk, length, map, replicate};
+ghost use Rattle.std.specs.Prelude.{◌≡◌, ◌+◌, ◌*◌, ◌<◌, ◌≤◌, ◌^◌, All, IfOk, length, map, replicate, true};
 ghost use Rattle.nv_host.specs.Bytes.{with_bytes};
+ghost use Rattle.nv_queue.specs.Numbers.{slot_of};
 ghost use Rattle.nv_queue.specs.Rings.{collected_one, known_to};
 ghost use Rattle.nv_queue.specs.Slots.{HoldsTags, awaited_completion};
 ghost use Rattle.nv_driver.specs.QueuePair.{renewed_pair};
@@ -97,7 +98,9 @@ impl QueuePair {
     /// "Completion Queue y Head Doorbell".
     pub(crate) fn tell<B: Bus>(&mut self, bus: &mut B, ctrl: u16)
         requires { ctrl < length (B.meaning bus.old).banks }
-        ensures { IsTold ctrl self.old (B.meaning bus.old) self.new (B.meaning bus.new) }
+        ensures told { IsTold ctrl self.old (B.meaning bus.old) self.new (B.meaning bus.new) }
+        ensures written { self.old.completion.untold ≡ true → B.was_written bus.old ctrl 0x1004
+            (slot_of self.old.completion.depth self.old.completion.collected) bus.new }
     {
         if let Some(head) = self.completion.head_to_tell() {
             bus.write32(ctrl, offset::HEAD_DOORBELL, u32::from(head));

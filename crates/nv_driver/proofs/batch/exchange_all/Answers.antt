@@ -58,17 +58,17 @@ returns-clause-answers g c =
 
 pub returns-clause-state : goal.returns-clause-state
 returns-clause-state g c = let i = c.loop-batch.invariant in
-    (ends_all c.requires.1.1.0 i.under_way (omega (arith, c.loop-batch-test.false)) c.tell.ensures
+    (ends_all c.requires.1.1.0 i.under_way (omega (arith, c.loop-batch-test.false)) c.tell.ensures.told
     c.requires.1.1.1.0.page_size).state
 
 pub returns-clause-paced : goal.returns-clause-paced
 returns-clause-paced g c = let i = c.loop-batch.invariant in
     subst (λ x. IsPaced x (g.B.Bus.meaning c.tell.new.bus) (g.M.HostMemory.bytes c.loop-batch.host.mem))
     (sym c.requires.1.1.0)
-    (ends_all c.requires.1.1.0 i.under_way (omega (arith, c.loop-batch-test.false)) c.tell.ensures
+    (ends_all c.requires.1.1.0 i.under_way (omega (arith, c.loop-batch-test.false)) c.tell.ensures.told
     c.requires.1.1.1.0.page_size).paced
 
 pub returns-clause-left : goal.returns-clause-left
 returns-clause-left g c = let i = c.loop-batch.invariant in
-    (ends_all c.requires.1.1.0 i.under_way (omega (arith, c.loop-batch-test.false)) c.tell.ensures
+    (ends_all c.requires.1.1.0 i.under_way (omega (arith, c.loop-batch-test.false)) c.tell.ensures.told
     c.requires.1.1.1.0.page_size).left

@@ -4,7 +4,7 @@ use Rattle.nv_driver.proofs.Words.{RequestPlace, bytes_from_host, greatest_limit
 use Rattle.nv_driver.proofs.Words.{received_from, transfer_for}
 use Rattle.nv_driver.specs.Layout.{data_count}
 use Rattle.nv_driver.specs.inner.Alone.{came_with}
-use Rattle.nv_driver.proofs.ExchangeLaws.{begun_by, exchanged, has_slot, its_place, took}
+use Rattle.nv_driver.proofs.ExchangeLaws.{begun_by, exchanged, has_slot, its_place, passes, took}
 use Rattle.nv_driver.proofs.OnWayLaws.{can_collect}
 use Rattle.nv_driver.proofs.PaddingLaws.{length-padded}
 use Rattle.nv_driver.proofs.ShareLaws.{few_of_entry}
@@ -47,7 +47,7 @@ next_completion-completion-requires g c =
     c.new-place.ensures q.sends c.submit-tail.ensures in
     let w = c.write32.ensures in
     let t = c.turn.ensures in
-    let u = took begun c.from.ensures w.state w.banks w.bus t.turn t.bus t.len t.page in
+    let u = (took begun c.from.ensures w.state w.banks w.bus t.turn t.bus t.len t.page).0 in
     can_collect u (omega arith)
 
 pub receive-requires-clause-buffer : goal.receive-requires-clause-buffer
@@ -58,28 +58,28 @@ receive-requires-clause-buffer g c =
     c.new-place.ensures q.sends c.submit-tail.ensures in
     let w = c.write32.ensures in
     let t = c.turn.ensures in
-    let u = took begun c.from.ensures w.state w.banks w.bus t.turn t.bus t.len t.page in
+    let u = (took begun c.from.ensures w.state w.banks w.bus t.turn t.bus t.len t.page).0 in
     let place = its_place c.of_entry-request.result c.requires.ready c.requires.fits c.requires.inside c.requires.behind
     q.entry q.transfer q.few c.bytes-len.ensures c.geometry-geometry.ensures
     c.new-place.ensures in
     buffer_later u.size (u.page_size ∙ sym c.requires.ready.page_size) place.buffer
 
-pub returns : goal.returns
-returns g c =
+pub returns-clause-exchanged : goal.returns-clause-exchanged
+returns-clause-exchanged g c =
     let q = c.of_entry-request.ensures in
     let begun = begun_by c.of_entry-request.result c.requires.ready c.requires.fits c.requires.inside c.requires.behind
     q.entry q.transfer q.few c.bytes-len.ensures c.geometry-geometry.ensures
     c.new-place.ensures q.sends c.submit-tail.ensures in
     let w = c.write32.ensures in
     let t = c.turn.ensures in
-    let u = took begun c.from.ensures w.state w.banks w.bus t.turn t.bus t.len t.page in
+    let u = (took begun c.from.ensures w.state w.banks w.bus t.turn t.bus t.len t.page).0 in
     let n = length c.args.out.now in
     let status = c.next_completion-completion.result.status in
     let after = g.M.HostMemory.bytes c.turn.new.mem in
     let size = g.M.HostMemory.page_len c.turn.new.mem in
     let buffer = c.new-place.result.buffer in
     let e = c.next_completion-completion.ensures in
-    exchanged begun u e.value e.pair c.tell.ensures n (c.receive.ensures
+    exchanged begun u e.value e.pair c.tell.ensures.told n (c.receive.ensures
     ∙ ap (λ m. padded n (came_with status (received_from m after
     (buffer_places size buffer.pages.now buffer.offset (length_of m))))) q.transfer
     ∙ ap (λ (at : RequestPlace). padded n (came_with status (received_from
@@ -89,3 +89,15 @@ returns g c =
     ∙ ap (λ q. place_from q c.args.passed.now.first_page c.bytes-len.result) c.geometry-geometry.ensures
     ∙ ap (place_from c.args.pair.now.geometry c.args.passed.now.first_page)
     (c.bytes-len.ensures ∙ ap length_of q.transfer)))
+
+pub returns-clause-steps : goal.returns-clause-steps
+returns-clause-steps g c =
+    let q = c.of_entry-request.ensures in
+    let begun = begun_by c.of_entry-request.result c.requires.ready c.requires.fits c.requires.inside c.requires.behind
+    q.entry q.transfer q.few c.bytes-len.ensures c.geometry-geometry.ensures
+    c.new-place.ensures q.sends c.submit-tail.ensures in
+    let w = c.write32.ensures in
+    let t = c.turn.ensures in
+    let one = (took begun c.from.ensures w.state w.banks w.bus t.turn t.bus t.len t.page).1 in
+    passes begun g.B.Bus.was_written g.B.Bus.was_turned c.next_completion-completion.result.sq_head c.from.ensures w.written one t.turned
+    c.next_completion-completion.ensures.pair c.tell.ensures.written

@@ -50,7 +50,7 @@ returns-then-posted-eq0 g c =
     (omega (arith, rest.1.0, rest.1.1.0, u.begun.geometry.window.0)) deep.0 in
     let due : IsToReport g.run (world h.0) = inr (h.0.collected ∙ sym same, inl (omega (arith, free.1, none))) in
     record {
-      under_way = rw same at (tells_on h.0 c.tell.ensures due);
+      under_way = rw same at (tells_on h.0 c.tell.ensures.told due);
       answers = rest.0;
       near = omega (arith, some);
       count = omega (arith, h.1, none);
@@ -150,7 +150,7 @@ loop-preserved g c =
     i.answers one.answer in
     elim c.if-self-pace.branch [
       | then-self-pace w ↦
-          let t = w.tell-then-self-pace.ensures in
+          let t = w.tell-then-self-pace.ensures.told in
           let due : n + 1 ≡ c.loop.self.told + g.run.geometry.pace =
           omega (arith, w.if-self-pace.true, limit, some) in
           let told = tells_on next t (inl (next.collected ∙ due)) in

@@ -1,7 +1,8 @@
 use Rattle.std.proofs.Common.{◌∙◌, refl, subst, sym}
 use Rattle.nv_driver.proofs.Words.{HasEntryPages, after_some}
 use Rattle.nv_driver.specs.Alone.{IsReceived, asked_in, entry_step}
-use Rattle.nv_driver.proofs.AdminLaws.{after_first, driver_after, left_at, linked_after, ready_by, serial_is}
+use Rattle.nv_driver.specs.Passing.{Passes}
+use Rattle.nv_driver.proofs.AdminLaws.{after_first, driver_after, left_at, linked_after, pair_is, ready_by, serial_is}
 use Rattle.nv_driver.proofs.AdminLaws.{value_after}
 use Rattle.nv_driver.proofs.PassthroughLaws.{behind_last, ends_before, has_room, room_stays}
 use Rattle.nv_driver.proofs.driver.Driver.passthrough.Goals as goal
@@ -29,7 +30,7 @@ pub invariant_of-self : goal.invariant_of-self
 invariant_of-self g c =
     driver_after c.self.invariant c.self.view_is c.requires.ctrl c.index_mut-pair.ensures.value
     (left_at c.self.invariant c.self.view_is c.requires.ctrl c.index_mut-pair.ensures.value
-    c.exchange_entry.ensures.left)
+    c.exchange_entry.ensures.exchanged.left)
     (ends_before c.self.invariant c.self.view_is c.controllers.ensures c.pages.ensures.pages c.requires.ctrl
     c.index_mut-pair.ensures.value)
 
@@ -39,19 +40,26 @@ returns-clause-out g c =
     subst (λ n. IsReceived (asked_in s c.args.ctrl c.args.entry.now c.args.bytes.now)
     (entry_step s c.args.ctrl c.args.entry.now c.args.bytes.now n).answer c.exchange_entry.new.out)
     (sym (serial_is c.self.invariant c.self.view_is c.requires.ctrl c.index_mut-pair.ensures.value))
-    c.exchange_entry.ensures.received
+    c.exchange_entry.ensures.exchanged.received
 
 pub returns-clause-driver : goal.returns-clause-driver
 returns-clause-driver g c =
     value_after c.self.invariant c.self.view_is c.requires.ctrl c.index_mut-pair.ensures.value
     (left_at c.self.invariant c.self.view_is c.requires.ctrl c.index_mut-pair.ensures.value
-    c.exchange_entry.ensures.left) (after_some 1) refl ∙ after_first c.args.self.now c.args.ctrl
+    c.exchange_entry.ensures.exchanged.left) (after_some 1) refl ∙ after_first c.args.self.now c.args.ctrl
 
 pub returns-clause-linked : goal.returns-clause-linked
 returns-clause-linked g c =
     linked_after c.self.invariant c.self.view_is c.requires.ctrl c.index_mut-pair.ensures.value
     (left_at c.self.invariant c.self.view_is c.requires.ctrl c.index_mut-pair.ensures.value
-    c.exchange_entry.ensures.left) c.requires.linked
+    c.exchange_entry.ensures.exchanged.left) c.requires.linked
+
+pub returns-clause-steps : goal.returns-clause-steps
+returns-clause-steps g c =
+    subst (λ l. Passes g.B.Bus.was_written g.B.Bus.was_turned c.args.ctrl l c.args.entry.now c.args.bytes.now
+    c.args.bus.now c.exchange_entry.new.bus)
+    (sym (pair_is c.self.invariant c.self.view_is c.requires.ctrl c.index_mut-pair.ensures.value))
+    c.exchange_entry.ensures.steps
 
 pub returns-clause-entries : goal.returns-clause-entries
 returns-clause-entries g c =
