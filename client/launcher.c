@@ -28,16 +28,19 @@
 #include <sys/wait.h>
 #include <unistd.h>
 
-enum { MOST_ADDED = 64 };
+enum { MOST_ADDED = 64, MOST_OPTIONS = 16 };
 
 struct device devices[MOST_DEVICES];
 unsigned device_count;
 int has_sandbox, waits;
 uint64_t geometry[] = {[DEPTH] = 32, [PAGE_SIZE] = 4096, [WINDOW] = 1};
 
-/* The descriptors that the launcher outside hands on: of the current folder, of bwrap's status, which tells the signals
-   that wait there, of the trace, and of the subsystem files. */
-enum { HERE = 200, MONITOR, TRACE_TO, FILES };
+/* The descriptors that the launcher outside hands on: of the current folder, until it was found inside; of bwrap's
+   status, which tells the signals that wait there; of the trace; and of the subsystem files, until the devices have
+   them. Inside, it has these and the streams alone, and adds a socket and a pipe of each device (device.c), folders of
+   its own /sys (sysfs.c), the data of namespaces without nodes and what tells of changes in /dev (nodes.c), and what
+   signals and calls come from. */
+enum { HERE = PROGRAM_FILE, MONITOR, TRACE_TO, FILES };
 
 static pid_t command;
 static int status = -1;        /* of the command, once it has ended */
@@ -46,8 +49,8 @@ static char parts[PATH_MAX], library[PATH_MAX + 32], program[PATH_MAX + 32];
 
 /* The values of the options. */
 static const char *names[MOST_DEVICES], *added[MOST_ADDED + 1];
-static char *device_options[16];
-static unsigned file_count, device_option_count, added_count;
+static char *device_words[MOST_OPTIONS + 3] = {program}; /* a device's program and options */
+static unsigned file_count, device_word_count = 1, added_count;
 static int has_trace;
 static const char *trace_file;
 static uint64_t limit;
@@ -174,48 +177,6 @@ static void block_signals(void) {
     sigprocmask(SIG_BLOCK, &watched, NULL);
 }
 
-/* Runs a device's program in a session of its own, so that signals from the terminal's keys don't end it. It is killed
-   when the launcher ends. */
-static void run_device(int file, int in_and_out, int said) {
-    char name[32], *arguments[24] = {program};
-    unsigned count = 1;
-    for (unsigned at = 0; at < device_option_count; at++)
-        arguments[count++] = device_options[at];
-    if (has_trace)
-        arguments[count++] = "--trace";
-    if (file >= 0) {
-        snprintf(name, sizeof name, "/proc/self/fd/%d", file);
-        arguments[count++] = "--subsystem";
-        arguments[count++] = name;
-        fcntl(file, F_SETFD, 0);
-    }
-    setsid();
-    prctl(PR_SET_PDEATHSIG, SIGKILL);
-    sigprocmask(SIG_SETMASK, &mask, NULL);
-    if (dup2(in_and_out, STDIN_FILENO) >= 0 && dup2(in_and_out, STDOUT_FILENO) >= 0 && dup2(said, STDERR_FILENO) >= 0)
-        execv(program, arguments);
-    fprintf(stderr, "nvme-model: %s: %s\n", program, strerror(errno));
-    _exit(FAILED);
-}
-
-static void start_device(int file, const char *name) {
-    int channel[2], said[2];
-    struct device *device = devices + device_count++;
-    if (socketpair(AF_UNIX, SOCK_STREAM | SOCK_CLOEXEC, 0, channel) < 0 || pipe2(said, O_CLOEXEC) < 0)
-        fail_by_errno("a device can't be started");
-    *device = (struct device){.to_and_from = channel[0], .said = said[0]};
-    if (device_count > 1)
-        device->first = device[-1].first + device[-1].count;
-    device->process = fork();
-    if (device->process < 0)
-        fail_by_errno("fork");
-    if (device->process == 0)
-        run_device(file, channel[1], said[1]);
-    close(channel[1]);
-    close(said[1]);
-    greet_device(device, name);
-}
-
 /* Puts a value before that of a variable of the environment. */
 static void prepend(const char *name, const char *value) {
     const char *before = getenv(name);
@@ -250,13 +211,6 @@ static void start_command(char **arguments) {
     int is_found = errno != ENOENT && errno != ENOTDIR;
     fprintf(stderr, "nvme-model: %s: %s\n", arguments[0], strerror(errno));
     _exit(is_found ? NOT_EXECUTABLE : NOT_FOUND);
-}
-
-/* Occupies the numbers of streams that are closed, so that no other file gets them, by what can't be used. */
-static void hold_streams(void) {
-    for (int file = 0; file <= STDERR_FILENO; file++)
-        if (fcntl(file, F_GETFD) < 0 && open("/", O_PATH) < 0)
-            fail_by_errno("/");
 }
 
 static const char usage[] =
@@ -324,9 +278,9 @@ static int read_options(int count, char **arguments) {
         else if (option == HELP) {
             fputs(usage, stdout);
             exit(fflush(stdout) == 0 ? 0 : FAILED);
-        } else if (option < GEOMETRY || device_option_count == sizeof device_options / sizeof *device_options)
+        } else if (option < GEOMETRY || device_word_count > MOST_OPTIONS)
             refuse_options();
-        else if (asprintf(&device_options[device_option_count++], "--%s=%s", options[place].name, optarg) < 0)
+        else if (asprintf(&device_words[device_word_count++], "--%s=%s", options[place].name, optarg) < 0)
             fail("out of memory");
         /* (the devices check whether they are numbers) */
         if (option >= GEOMETRY && option < OTHER)
@@ -392,8 +346,12 @@ static int run(char **arguments) {
     trace = trace_file ? TRACE_TO : STDERR_FILENO;
     for (int file = HERE; file < FILES + MOST_DEVICES; file++)
         fcntl(file, F_SETFD, FD_CLOEXEC);
+    if (has_trace)
+        device_words[device_word_count] = "--trace";
     for (unsigned at = 0; at == 0 || at < file_count; at++)
-        start_device(file_count > 0 ? FILES + (int)at : -1, names[at]);
+        start_device(device_words, file_count > 0 ? FILES + (int)at : -1, names[at], &mask);
+    for (unsigned at = 0; at < file_count; at++)
+        close(FILES + (int)at);
     block_signals();
     make_nodes();
     start_command(arguments);
@@ -402,6 +360,8 @@ static int run(char **arguments) {
         files_limit.rlim_cur = files_limit.rlim_max;
         setrlimit(RLIMIT_NOFILE, &files_limit);
     }
+    if (has_sandbox)
+        confine_launcher();
     await_end();
     end_devices();
     return status;
@@ -442,13 +402,20 @@ static void begin_inside(const char *blocked, const char *here) {
     has_sandbox = 1;
     strcpy(library, MODEL_FOLDER "/library.so");
     strcpy(program, MODEL_FOLDER "/device");
+    if (prctl(PR_SET_DUMPABLE, 0) < 0)
+        fail_by_errno("other processes can't be kept from tracing this one");
+    hold_streams_again();
     check_mounts();
+    check_nodes();
     /* (the folder is another one if a mount covers it, and /dev, /sys and /proc always are) */
     fstat(HERE, &outside);
-    close(HERE);
     if (chdir(here) < 0 || stat(".", &about) < 0 ||
         (!is_replaced(here) && (about.st_dev != outside.st_dev || about.st_ino != outside.st_ino)))
         fail("the folder %s isn't there for the command: run it from another one", here);
+    if (close_range(STDERR_FILENO + 1, HERE, 0) < 0 || close_range(FILES + file_count, ~0U, 0) < 0)
+        fail_by_errno("close_range");
+    if (!trace_file)
+        close(TRACE_TO);
     follow_monitor();
 }
 
@@ -483,10 +450,12 @@ int main(int count, char **arguments) {
         arguments += 3;
         count -= 3;
     } else {
+        int is_qemu = count > 1 && (strcmp(arguments[1], "--qemu") == 0 || strcmp(arguments[1], "--vfio-user") == 0);
+        if (!is_qemu)
+            check_streams();
         hold_streams();
-        if (count > 1 && (strcmp(arguments[1], "--qemu") == 0 || strcmp(arguments[1], "--vfio-user") == 0))
+        if (is_qemu)
             run_qemu(arguments);
-        check_streams();
         if (close_range(STDERR_FILENO + 1, ~0U, CLOSE_RANGE_CLOEXEC) < 0)
             fail_by_errno("close_range");
     }

@@ -2,6 +2,7 @@
 #ifndef LAUNCHER_H
 #define LAUNCHER_H
 #include "wire.h"
+#include <signal.h>
 #include <stddef.h>
 #include <sys/types.h>
 
@@ -33,6 +34,11 @@ __attribute__((noreturn, format(printf, 1, 2))) void fail(const char *format, ..
 __attribute__((noreturn)) void fail_by_errno(const char *what);
 void cannot(const char *path);
 void follow_monitor(void);
+
+/* device.c: starts a device by these words, with a subsystem file (or -1) and its name, and with these signals blocked.
+   Until it runs, its program has a descriptor of its own. */
+enum { PROGRAM_FILE = 200 };
+void start_device(char *const *words, int file, const char *name, const sigset_t *blocked);
 
 /* relay.c: starts the exchange with a device; sends it a request, and returns -1 if it is gone, or one for a controller
    by its number among all; and copies what it wrote to its standard error so far. */
@@ -84,9 +90,12 @@ enum { HANDED_CALLS = 10 };
 extern const struct handed_call handed_calls[HANDED_CALLS]; /* calls.c */
 
 /* filter.c: has the calls of this process, which becomes the command, answered by the launcher, for which `calls` was
-   opened. calls.c: answers one. */
+   opened; and lets this process, the launcher or one that becomes a device, make only the calls that it needs.
+   calls.c: answers a call. */
 extern int calls;
 void filter_calls(void);
+void confine_launcher(void);
+int confine_device(void);
 void answer_call(void);
 
 /* A call that a process made on a node. */
@@ -116,16 +125,32 @@ struct sandbox {
 #define MODEL_FOLDER "/sys/fs/nvme-model"
 #define INSIDE "--inside"
 
-/* sandbox.c: fails if an open file, or a standard stream, leads to a device of the machine; returns an NVMe device of
-   the machine, or NULL if it has none; returns why no sandbox can be made, or NULL if one can; starts the launcher in
-   it with these arguments, in place of this process; and, in it, fails if a mount isn't kept from the command, and
-   returns whether a path is one that bwrap makes anew, such as /dev, or below one. */
-void check_file(int file, const char *name);
-void check_streams(void);
+/* sandbox.c: returns an NVMe device of the machine, or NULL if it has none; returns why no sandbox can be made, or NULL
+   if one can; starts the launcher in it with these arguments, in place of this process; and, in it, fails if a mount
+   isn't kept from the command, and returns whether a path is one that bwrap makes anew, such as /dev, or below one. */
 const char *a_real_node(void);
 const char *why_no_sandbox(const struct sandbox *sandbox);
 __attribute__((noreturn)) void enter_sandbox(const struct sandbox *sandbox, char *const *arguments);
 void check_mounts(void);
 int is_replaced(const char *path);
 
+/* The nodes of the machine that each command has. */
+struct machine_node {
+    const char *path;
+    unsigned major, minor;
+};
+enum { MACHINE_NODES = 6 };
+extern const struct machine_node machine_nodes[MACHINE_NODES]; /* inherited.c */
+
+/* inherited.c: returns whether a device number is that of such a node; returns where a device is that --device adds,
+   and fails if it may not be added; fails, in the sandbox, if /dev has any other device; fails if an open file, or a
+   standard stream, isn't one that may come into the sandbox; occupies the numbers of the streams that are closed, so
+   that no other file gets them, by what can't be used; and does so again in the sandbox, by what is there. */
+int is_machine_node(dev_t number);
+char *find_device(const char *path);
+void check_nodes(void);
+void check_file(int file, const char *name);
+void check_streams(void);
+void hold_streams(void);
+void hold_streams_again(void);
 #endif

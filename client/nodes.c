@@ -89,14 +89,14 @@ int open_data(const struct node *node) {
     return is_active ? open_volume(device, node->nsid) : -1;
 }
 
-/* Makes the file of a namespace's data, without a name. (root's block devices belong to the group disk, as on Linux.)
-   Data that was left in a file that lost all names moves there, piece by piece, because that gets no name again. */
+static const struct group *disk; /* to which root's block devices belong, as on Linux */
+
+/* Makes the file of a namespace's data, without a name. Data that was left in a file that lost all names moves there,
+   piece by piece, because that gets no name again. */
 static int make_data(struct volume *volume) {
     static unsigned char piece[1 << 18];
-    static const struct group *disk;
     off_t at = 0;
     ssize_t count = 0;
-    disk = disk || geteuid() != 0 ? disk : getgrnam("disk");
     int file = open("/dev", O_TMPFILE | O_RDWR | O_CLOEXEC, 0660), from = volume->left;
     if (file < 0 || ftruncate(file, length_of(volume)) < 0 ||
         (disk && fchown(file, (uid_t)-1, disk->gr_gid) < 0 && errno != EPERM && errno != EINVAL))
@@ -310,6 +310,7 @@ static void describe_all(void) {
 }
 
 void make_nodes(void) {
+    disk = geteuid() == 0 ? getgrnam("disk") : NULL;
     begin_sys();
     for (unsigned at = 0; at < device_count; at++)
         make_controllers(devices + at);

@@ -1,6 +1,6 @@
-/* The part of the launcher that runs outside of the sandbox. It looks at what the command would inherit, composes the
-   arguments of bubblewrap (bwrap), which makes the sandbox, and becomes it. bwrap starts the launcher again inside,
-   with the rights of the command and no others. None of this is proved. */
+/* The part of the launcher that runs outside of the sandbox. It composes the arguments of bubblewrap (bwrap), which
+   makes the sandbox, and becomes it. bwrap starts the launcher again inside, with the rights of the command and no
+   others. None of this is proved. */
 #define _GNU_SOURCE
 #include "launcher.h"
 #include <dirent.h>
@@ -8,7 +8,6 @@
 #include <fcntl.h>
 #include <glob.h>
 #include <limits.h>
-#include <linux/magic.h>
 #include <sched.h>
 #include <stdarg.h>
 #include <stdio.h>
@@ -16,29 +15,9 @@
 #include <string.h>
 #include <sys/mount.h>
 #include <sys/stat.h>
-#include <sys/statfs.h>
 #include <sys/sysmacros.h>
 #include <sys/wait.h>
 #include <unistd.h>
-
-enum { MEMORY_MAJOR = 1, MISC_MAJOR = 10 };
-
-/* The nodes that each command has. */
-static const struct {
-    const char *path;
-    unsigned major, minor;
-} nodes[] = {{"/dev/null", MEMORY_MAJOR, 3},   {"/dev/zero", MEMORY_MAJOR, 5},    {"/dev/full", MEMORY_MAJOR, 7},
-             {"/dev/random", MEMORY_MAJOR, 8}, {"/dev/urandom", MEMORY_MAJOR, 9}, {"/dev/tty", 5, 0}};
-
-/* What --device may add: device numbers of terminals, video, sound, serial ports and so on, and of /dev/net/tun,
-   /dev/fuse, /dev/kvm, vhost-net and vhost-vsock. None of them leads to storage or types for the user. */
-static const unsigned char added_majors[] = {4, 5, 29, 81, 108, 116, 136, 166, 188, 195, 204, 226, 229};
-static const unsigned char added_minors[] = {200, 229, 232, 238, 241};
-
-/* The file systems of the kernel. */
-static const unsigned kernels[] = {SYSFS_MAGIC,      PROC_SUPER_MAGIC,   DEBUGFS_MAGIC,       TRACEFS_MAGIC,
-                                   SECURITYFS_MAGIC, CGROUP_SUPER_MAGIC, CGROUP2_SUPER_MAGIC, EFIVARFS_MAGIC,
-                                   BPF_FS_MAGIC,     0x62656570};
 
 /* The file systems that hold files, and can be written as outside. All others, such as a second sysfs, are read-only.
  */
@@ -57,45 +36,6 @@ static const char rights[] = "--cap-drop ALL --cap-add CAP_CHOWN --cap-add CAP_D
                              " --cap-add CAP_AUDIT_WRITE";
 
 static int begins(const char *text, const char *beginning) { return strncmp(text, beginning, strlen(beginning)) == 0; }
-
-/* ---- what the command would inherit */
-
-static int is_listed(dev_t number) {
-    for (unsigned at = 0; at < sizeof nodes / sizeof *nodes; at++)
-        if (number == makedev(nodes[at].major, nodes[at].minor))
-            return 1;
-    return 0;
-}
-
-static int is_of_kernel(int file) {
-    struct statfs about;
-    int is_found = 0;
-    for (unsigned at = 0; fstatfs(file, &about) == 0 && at < sizeof kernels / sizeof *kernels; at++)
-        is_found |= (unsigned)about.f_type == kernels[at];
-    return is_found;
-}
-
-/* (a folder is refused because its entries may be nodes, and what is no file because it may stand for a process) */
-void check_file(int file, const char *name) {
-    struct stat about;
-    if (fstat(file, &about) < 0)
-        return;
-    if (!(about.st_mode & S_IFMT) || (S_ISREG(about.st_mode) && is_of_kernel(file)))
-        fail("%s leads to the kernel or to a process of this machine", name);
-    int is_device = S_ISBLK(about.st_mode) || (S_ISCHR(about.st_mode) && !is_listed(about.st_rdev) && !isatty(file));
-    /* (no message is written to a device) */
-    if (is_device && file == STDERR_FILENO)
-        exit(FAILED);
-    if (is_device || S_ISDIR(about.st_mode))
-        fail(is_device ? "%s is a device of this machine" : "%s is a folder", name);
-}
-
-void check_streams(void) {
-    static const char *const names[] = {"standard input", "standard output", "standard error"};
-    for (int file = STDERR_FILENO; file >= 0; file--)
-        if (!(fcntl(file, F_GETFL) & O_PATH))
-            check_file(file, names[file]);
-}
 
 const char *a_real_node(void) {
     static glob_t found;
@@ -150,6 +90,7 @@ static void add_below(const char *option, const char *path) {
 /* A line of the kernel's list of mounts. */
 struct mount {
     dev_t number;
+    uint64_t identifier;
     char path[PATH_MAX], options[1024], kind[64]; /* the kind of file system, between blanks */
 };
 
@@ -158,14 +99,17 @@ static int read_mount(FILE *mounts, struct mount *mount) {
     static char *line;
     static size_t room;
     unsigned numbers[2], byte;
+    unsigned long long identifier;
     if (getline(&line, &room, mounts) <= 0)
         return 0;
     const char *behind = strstr(line, " - ");
     if (!behind ||
-        sscanf(line, "%*d %*d %u:%u %*s %4095s %1023s", numbers, numbers + 1, mount->path, mount->options) != 4 ||
+        sscanf(line, "%llu %*d %u:%u %*s %4095s %1023s", &identifier, numbers, numbers + 1, mount->path,
+               mount->options) != 5 ||
         sscanf(behind, " - %61s", mount->kind + 1) != 1)
         fail("/proc/self/mountinfo can't be read");
     mount->number = makedev(numbers[0], numbers[1]);
+    mount->identifier = identifier;
     mount->kind[0] = ' ';
     strcat(mount->kind, " ");
     char *into = mount->path;
@@ -238,21 +182,6 @@ static void add_mounts(void) {
     fclose(mounts);
 }
 
-/* Returns where a device is that may be added, and fails if it may not. */
-static char *find_device(const char *path) {
-    char *whole = realpath(path, NULL);
-    struct stat about;
-    if (!whole || stat(whole, &about) < 0)
-        fail_by_errno(path);
-    int is_misc = major(about.st_rdev) == MISC_MAJOR;
-    const unsigned char *list = is_misc ? added_minors : added_majors;
-    size_t count = is_misc ? sizeof added_minors : sizeof added_majors;
-    unsigned number = is_misc ? minor(about.st_rdev) : major(about.st_rdev);
-    if (!begins(whole, "/dev/") || !S_ISCHR(about.st_mode) || number > UINT8_MAX || !memchr(list, (int)number, count))
-        fail("--device %s: this isn't a character device that is known to lead to no storage", path);
-    return whole;
-}
-
 /* Adds a /dev with the nodes that each command has, terminals of its own, and the caller's. (bwrap makes terminals only
    in a whole /dev, which is then covered, and calls what it makes /newroot.) */
 static void add_dev(uint64_t limit, const char *const *devices) {
@@ -260,10 +189,11 @@ static void add_dev(uint64_t limit, const char *const *devices) {
     add_words("--size %llu --tmpfs /dev --dev /dev/mqueue", (unsigned long long)limit);
     add_words("--dev-bind-try /proc/self/root/newroot/dev/mqueue/pts /dev/pts --symlink pts/ptmx /dev/ptmx");
     add_words("--symlink /proc/self/fd /dev/fd --symlink fd/0 /dev/stdin --symlink fd/1 /dev/stdout");
-    add_words("--symlink fd/2 /dev/stderr --perms 1777 --tmpfs /dev/shm --mqueue /dev/mqueue");
-    for (unsigned at = 0; at < sizeof nodes / sizeof *nodes; at++)
-        if (stat(nodes[at].path, &about) == 0 && S_ISCHR(about.st_mode) && is_listed(about.st_rdev))
-            bind_to("--dev-bind", nodes[at].path, nodes[at].path);
+    add_words("--symlink fd/2 /dev/stderr --mqueue /dev/mqueue --size %llu --perms 1777 --tmpfs /dev/shm",
+              (unsigned long long)limit);
+    for (const struct machine_node *node = machine_nodes; node < machine_nodes + MACHINE_NODES; node++)
+        if (stat(node->path, &about) == 0 && S_ISCHR(about.st_mode) && is_machine_node(about.st_rdev))
+            bind_to("--dev-bind", node->path, node->path);
     for (int file = 0; file <= STDERR_FILENO; file++)
         if (isatty(file) && ttyname(file)) {
             bind_to("--dev-bind-try", ttyname(file), "/dev/console");
@@ -273,10 +203,13 @@ static void add_dev(uint64_t limit, const char *const *devices) {
         add_below("--dev-bind", find_device(*devices));
 }
 
-/* Adds a /sys with what tools read of the machine, among it its network interfaces, and the command's own /proc. */
-static void add_sys(void) {
+/* Adds a /sys with what tools read of the machine, among it its network interfaces, and the command's own /proc. (A
+   model with few namespaces needs less than the least size.) */
+static void add_sys(uint64_t limit) {
+    const uint64_t least = 64 << 20;
     glob_t interfaces = {0};
-    add_words("--perms 0755 --tmpfs /sys --perms 0755 --dir /sys/fs --perms 0755 --dir " MODEL_FOLDER);
+    add_words("--size %llu --perms 0755 --tmpfs /sys --perms 0755 --dir /sys/fs --perms 0755 --dir " MODEL_FOLDER,
+              (unsigned long long)(limit > least ? limit : least));
     for (unsigned at = 0; at < sizeof shown / sizeof *shown; at++)
         add_below("--ro-bind-try", shown[at]);
     glob("/sys/class/net/*", 0, NULL, &interfaces);
@@ -290,22 +223,22 @@ static void add_sys(void) {
     add_proc("/proc");
 }
 
-/* Adds a copy of a program or of the library, which every user can read. */
-static void add_part(const char *path, const char *name) {
+/* Adds a copy of a program or of the library, with permissions for every user. */
+static void add_part(const char *path, unsigned permissions, const char *name) {
     int file = open(path, O_RDONLY);
     if (file < 0)
         fail_by_errno(path);
-    add_words("--perms 0555 --ro-bind-data %d %s", file, name);
+    add_words("--perms %04o --ro-bind-data %d %s", permissions, file, name);
 }
 
 static void compose(const struct sandbox *sandbox, char *const *arguments) {
     add("bwrap");
     add_mounts();
     add_dev(sandbox->limit, sandbox->devices);
-    add_sys();
-    add_part("/proc/self/exe", MODEL_FOLDER "/launcher");
-    add_part(sandbox->library, MODEL_FOLDER "/library.so");
-    add_part(sandbox->device, MODEL_FOLDER "/device");
+    add_sys(sandbox->limit);
+    add_part("/proc/self/exe", 0555, MODEL_FOLDER "/launcher");
+    add_part(sandbox->library, 0555, MODEL_FOLDER "/library.so");
+    add_part(sandbox->device, 0111, MODEL_FOLDER "/device"); /* (device.c says why) */
     add_words("--unshare-pid --as-pid-1 --unshare-ipc --chdir / %s -- " MODEL_FOLDER "/launcher",
               geteuid() == 0 ? rights : "");
     for (; *arguments; arguments++)
@@ -393,21 +326,28 @@ const char *why_no_sandbox(const struct sandbox *sandbox) {
 
 /* ---- what is checked inside, because bwrap leaves a mount as it is that it can't reach */
 
-/* Whether a path can be reached, or its user can make it so. */
-static int is_reachable(char *path, dev_t number) {
-    struct stat about;
-    if (lstat(path, &about) == 0)
-        return about.st_dev == number;
-    for (char *end; errno == EACCES && (end = strrchr(path, '/')) && end != path && lstat(path, &about) < 0;)
+/* Looks at a path without asking a server, which might not answer. */
+static int look_at(const char *path, struct statx *about) {
+    return statx(AT_FDCWD, path, AT_SYMLINK_NOFOLLOW | AT_NO_AUTOMOUNT | AT_STATX_DONT_SYNC,
+                 STATX_MNT_ID | STATX_UID, about);
+}
+
+/* Whether a mount can be reached, or its user can make it so. (Another mount may hide it.) */
+static int is_reachable(struct mount *mount) {
+    struct statx about;
+    char *path = mount->path;
+    if (look_at(path, &about) == 0)
+        return !(about.stx_mask & STATX_MNT_ID) || about.stx_mnt_id == mount->identifier;
+    for (char *end; errno == EACCES && (end = strrchr(path, '/')) && end != path && look_at(path, &about) < 0;)
         *end = '\0';
-    return errno == EACCES && lstat(path, &about) == 0 && (about.st_uid == geteuid() || geteuid() == 0);
+    return errno == EACCES && look_at(path, &about) == 0 && (about.stx_uid == geteuid() || geteuid() == 0);
 }
 
 void check_mounts(void) {
     static struct mount mount;
     FILE *mounts = open_mounts();
     while (read_mount(mounts, &mount))
-        if (!strstr(mount.options, ",nodev") && !is_replaced(mount.path) && is_reachable(mount.path, mount.number))
+        if (!strstr(mount.options, ",nodev") && !is_replaced(mount.path) && is_reachable(&mount))
             fail("%s is a mount of this machine that can't be kept from the command", mount.path);
     fclose(mounts);
 }

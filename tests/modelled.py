@@ -13,7 +13,8 @@ import sys
 from tests.support import DEMO, TOP, Case, process_folder, program, run, until
 
 CLIENT = TOP / 'client'
-PARTS = {'bin/nvme-model': ('launcher', 'relay', 'nodes', 'sysfs', 'sandbox', 'calls', 'filter', 'io'),
+PARTS = {'bin/nvme-model': ('launcher', 'relay', 'nodes', 'sysfs', 'sandbox', 'calls', 'filter', 'io', 'device',
+                            'inherited'),
          'lib/nvme-model/library.so': ('library',),
          'lib/nvme-model/qemu': ('qemu', 'function', 'memory', 'proxy', 'vfio_user')}
 WARNINGS = '-Wall', '-Wextra', '-Werror'

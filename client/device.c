@@ -1,0 +1,76 @@
+/* Starts the devices. A device has its streams and its subsystem file, and can make only the calls that its program
+   needs (filter.c). Nobody can trace it, because nobody can read its program. None of this is proved. */
+#define _GNU_SOURCE
+#include "launcher.h"
+#include <errno.h>
+#include <fcntl.h>
+#include <linux/capability.h>
+#include <linux/close_range.h>
+#include <string.h>
+#include <sys/prctl.h>
+#include <sys/resource.h>
+#include <sys/socket.h>
+#include <sys/syscall.h>
+#include <unistd.h>
+
+/* The descriptor of a device's subsystem file, and how many descriptors it can have. The one of its program is greater,
+   so the program can't run another one, which would need that descriptor. */
+enum { SUBSYSTEM_FILE = STDERR_FILENO + 1, MOST_OPEN = 64, MOST_WORDS = 24 };
+
+/* Becomes a program, without the rights by which root can read every file: Linux lets nobody trace a process whose
+   program it can't read. (The rights stay permitted, so they come back with the program.) */
+static void become(char *const *words) {
+    struct __user_cap_header_struct version = {_LINUX_CAPABILITY_VERSION_3, 0};
+    struct __user_cap_data_struct rights[2];
+    const struct rlimit most = {MOST_OPEN, MOST_OPEN};
+    int program = open(words[0], O_PATH | O_CLOEXEC);
+    if (program < 0 || dup3(program, PROGRAM_FILE, O_CLOEXEC) < 0 || setrlimit(RLIMIT_NOFILE, &most) < 0 ||
+        syscall(SYS_capget, &version, rights) < 0)
+        return;
+    rights[0].effective = rights[1].effective = 0;
+    if (syscall(SYS_capset, &version, rights) == 0 && confine_device() == 0)
+        syscall(SYS_execveat, PROGRAM_FILE, "", words, environ, AT_EMPTY_PATH);
+}
+
+/* Runs a device's program in a session of its own, so that signals from the terminal's keys don't end it. It is killed
+   when the launcher ends. */
+static void run_device(char *const *words, int file, int in_and_out, int said) {
+    const int files[] = {in_and_out, in_and_out, said, file};
+    int last = file < 0 ? STDERR_FILENO : SUBSYSTEM_FILE, is_ready = 1;
+    setsid();
+    prctl(PR_SET_PDEATHSIG, SIGKILL);
+    for (int number = 0; number <= last; number++)
+        is_ready &= dup2(files[number], number) >= 0;
+    if (is_ready && close_range((unsigned)last + 1, ~0U, CLOSE_RANGE_CLOEXEC) == 0)
+        become(words);
+    dprintf(STDERR_FILENO, "nvme-model: %s: %s\n", words[0], strerror(errno));
+    _exit(FAILED);
+}
+
+void start_device(char *const *given, int file, const char *name, const sigset_t *blocked) {
+    char *words[MOST_WORDS + 3];
+    int channel[2], said[2], count = 0;
+    struct device *device = devices + device_count++;
+    for (; given[count] && count < MOST_WORDS; count++)
+        words[count] = given[count];
+    if (file >= 0) {
+        words[count++] = "--subsystem";
+        words[count++] = "/proc/self/fd/3";
+    }
+    words[count] = NULL;
+    if (socketpair(AF_UNIX, SOCK_STREAM | SOCK_CLOEXEC, 0, channel) < 0 || pipe2(said, O_CLOEXEC) < 0)
+        fail_by_errno("a device can't be started");
+    *device = (struct device){.to_and_from = channel[0], .said = said[0]};
+    if (device_count > 1)
+        device->first = device[-1].first + device[-1].count;
+    device->process = fork();
+    if (device->process < 0)
+        fail_by_errno("fork");
+    if (device->process == 0) {
+        sigprocmask(SIG_SETMASK, blocked, NULL);
+        run_device(words, file, channel[1], said[1]);
+    }
+    close(channel[1]);
+    close(said[1]);
+    greet_device(device, name);
+}

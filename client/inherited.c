@@ -1,0 +1,176 @@
+/* What comes into the sandbox from outside: the standard streams, other open files, and devices. Each is on a list of
+   what may come, and all else is refused or closed. None of this is proved. */
+#define _GNU_SOURCE
+#include "launcher.h"
+#include <errno.h>
+#include <fcntl.h>
+#include <ftw.h>
+#include <linux/magic.h>
+#include <stdlib.h>
+#include <string.h>
+#include <sys/stat.h>
+#include <sys/statfs.h>
+#include <sys/sysmacros.h>
+#include <unistd.h>
+
+enum { MEMORY_MAJOR = 1, TERMINAL_MAJOR = 5, MISC_MAJOR = 10 };
+
+const struct machine_node machine_nodes[MACHINE_NODES] = {
+    {"/dev/null", MEMORY_MAJOR, 3},   {"/dev/zero", MEMORY_MAJOR, 5},    {"/dev/full", MEMORY_MAJOR, 7},
+    {"/dev/random", MEMORY_MAJOR, 8}, {"/dev/urandom", MEMORY_MAJOR, 9}, {"/dev/tty", TERMINAL_MAJOR, 0}};
+
+/* What --device may add: device numbers of terminals, video, sound, serial ports and so on, and of /dev/net/tun,
+   /dev/fuse, /dev/kvm, vhost-net and vhost-vsock. None of them leads to storage or types for the user. */
+static const unsigned char added_majors[] = {4, 5, 29, 81, 108, 116, 136, 166, 188, 195, 204, 226, 229};
+static const unsigned char added_minors[] = {200, 229, 232, 238, 241};
+
+/* The terminals: consoles and serial ports (4), the slaves of older (3) and of today's pseudoterminals (136 to 143),
+   and more serial ports and consoles of virtual machines. The console (5, 1) is one too, but not a master (5, 2). */
+static const unsigned char terminals[] = {3, 4, 136, 137, 138, 139, 140, 141, 142, 143, 166, 188, 204, 229};
+
+/* The file systems that hold files. */
+static const unsigned file_systems[] = {
+    EXT4_SUPER_MAGIC,      XFS_SUPER_MAGIC,      BTRFS_SUPER_MAGIC,    TMPFS_MAGIC,           RAMFS_MAGIC,
+    OVERLAYFS_SUPER_MAGIC, FUSE_SUPER_MAGIC,     NFS_SUPER_MAGIC,      SMB_SUPER_MAGIC,       CIFS_SUPER_MAGIC,
+    SMB2_SUPER_MAGIC,      V9FS_MAGIC,           F2FS_SUPER_MAGIC,     MSDOS_SUPER_MAGIC,     EXFAT_SUPER_MAGIC,
+    ISOFS_SUPER_MAGIC,     UDF_SUPER_MAGIC,      SQUASHFS_MAGIC,       EROFS_SUPER_MAGIC_V1,  CRAMFS_MAGIC,
+    NILFS_SUPER_MAGIC,     REISERFS_SUPER_MAGIC, OCFS2_SUPER_MAGIC,    ECRYPTFS_SUPER_MAGIC,  CEPH_SUPER_MAGIC,
+    AFS_SUPER_MAGIC,       AFS_FS_MAGIC,         CODA_SUPER_MAGIC,     HPFS_SUPER_MAGIC,      MINIX_SUPER_MAGIC,
+    MINIX_SUPER_MAGIC2,    MINIX2_SUPER_MAGIC,   MINIX2_SUPER_MAGIC2,  MINIX3_SUPER_MAGIC,    0x7275 /* romfs */,
+    0x4244 /* hfs */,      0x482b /* hfsplus */, 0x3153464a /* jfs */, 0x5346544e /* ntfs */, 0x7366746e /* ntfs3 */,
+    0x2fc12fc1 /* zfs */,  0x01161970 /* gfs2 */, 0xca451a4e /* bcachefs */, 0x0bd00bd0 /* lustre */,
+    0x61756673 /* aufs */, 0x786f4256 /* vboxsf */};
+
+int is_machine_node(dev_t number) {
+    for (unsigned at = 0; at < MACHINE_NODES; at++)
+        if (number == makedev(machine_nodes[at].major, machine_nodes[at].minor))
+            return 1;
+    return 0;
+}
+
+/* Whether a device may be added. */
+static int is_addable(dev_t number) {
+    int is_misc = major(number) == MISC_MAJOR;
+    unsigned sought = is_misc ? minor(number) : major(number);
+    size_t count = is_misc ? sizeof added_minors : sizeof added_majors;
+    return sought <= UINT8_MAX && memchr(is_misc ? added_minors : added_majors, (int)sought, count);
+}
+
+char *find_device(const char *path) {
+    char *whole = realpath(path, NULL);
+    struct stat about;
+    if (!whole || stat(whole, &about) < 0)
+        fail_by_errno(path);
+    if (strncmp(whole, "/dev/", 5) != 0 || !S_ISCHR(about.st_mode) || !is_addable(about.st_rdev))
+        fail("--device %s: this isn't a character device that is known to lead to no storage", path);
+    return whole;
+}
+
+static int is_terminal(dev_t number) {
+    return number == makedev(TERMINAL_MAJOR, 1) ||
+           (major(number) <= UINT8_MAX && memchr(terminals, (int)major(number), sizeof terminals));
+}
+
+/* The sandbox's own file systems in /dev. */
+static dev_t own_file_systems[4];
+
+/* (outside, a path may become another one after it was looked at, and before bwrap binds what it finds there) */
+static int check_node(const char *path, const struct stat *about, int type, struct FTW *walk) {
+    int is_own = 0;
+    (void)walk;
+    for (unsigned at = 0; at < sizeof own_file_systems / sizeof *own_file_systems; at++)
+        is_own |= about->st_dev == own_file_systems[at];
+    int is_listed = S_ISCHR(about->st_mode) ? is_machine_node(about->st_rdev) || is_addable(about->st_rdev) ||
+                                                  is_terminal(about->st_rdev)
+                                            : is_own && !S_ISBLK(about->st_mode);
+    if (type == FTW_NS || type == FTW_DNR || !is_listed)
+        fail("%s isn't the device that it was before the sandbox was made", path);
+    return 0;
+}
+
+void check_nodes(void) {
+    static const char *const mounts[] = {"/dev", "/dev/pts", "/dev/shm", "/dev/mqueue"};
+    struct stat about;
+    for (unsigned at = 0; at < sizeof mounts / sizeof *mounts; at++) {
+        if (stat(mounts[at], &about) < 0)
+            fail_by_errno(mounts[at]);
+        own_file_systems[at] = about.st_dev;
+    }
+    if (nftw("/dev", check_node, 16, FTW_PHYS) < 0)
+        fail_by_errno("/dev");
+}
+
+/* ---- open files */
+
+static int holds_files(int file) {
+    struct statfs about;
+    int is_found = 0;
+    for (unsigned at = 0; fstatfs(file, &about) == 0 && at < sizeof file_systems / sizeof *file_systems; at++)
+        is_found |= (unsigned)about.f_type == file_systems[at];
+    return is_found;
+}
+
+/* Returns why an open file may not come into the sandbox, or NULL. (The entries of a folder may be nodes.) */
+static const char *why_not(int file) {
+    struct stat about;
+    if (fcntl(file, F_GETFL) & O_PATH)
+        return "was opened as a path alone (O_PATH)";
+    if (fstat(file, &about) < 0)
+        return strerror(errno);
+    switch (about.st_mode & S_IFMT) {
+    case S_IFIFO:
+    case S_IFSOCK:
+        return NULL;
+    case S_IFREG:
+        return holds_files(file) ? NULL
+                                 : "leads to the kernel or to a process of this machine, or is in a file system that "
+                                   "isn't known to hold files";
+    case S_IFCHR:
+        return is_machine_node(about.st_rdev) || (is_terminal(about.st_rdev) && isatty(file))
+                   ? NULL
+                   : "is a device of this machine";
+    case S_IFBLK:
+        return "is a device of this machine";
+    case S_IFDIR:
+        return "is a folder";
+    default:
+        return "leads to the kernel or to a process of this machine";
+    }
+}
+
+void check_file(int file, const char *name) {
+    const char *reason = why_not(file);
+    if (reason)
+        fail("%s %s", name, reason);
+}
+
+/* (no message is written where it may not go) */
+void check_streams(void) {
+    static const char *const names[] = {"standard input", "standard output"};
+    if (fcntl(STDERR_FILENO, F_GETFD) >= 0 && why_not(STDERR_FILENO))
+        exit(FAILED);
+    for (int file = STDOUT_FILENO; file >= 0; file--)
+        if (fcntl(file, F_GETFD) >= 0)
+            check_file(file, names[file]);
+}
+
+/* Has a stream be /dev/null as a path alone, which nobody can use. */
+static void hold(int file) {
+    int null = open("/dev/null", O_PATH | O_NOFOLLOW);
+    if (null < 0 || (null != file && dup2(null, file) < 0))
+        fail_by_errno("/dev/null");
+    if (null != file)
+        close(null);
+}
+
+void hold_streams(void) {
+    for (int file = 0; file <= STDERR_FILENO; file++)
+        if (fcntl(file, F_GETFD) < 0)
+            hold(file);
+}
+
+void hold_streams_again(void) {
+    for (int file = 0; file <= STDERR_FILENO; file++)
+        if (fcntl(file, F_GETFL) & O_PATH)
+            hold(file);
+}

@@ -1,0 +1,115 @@
+"""Tries to make the launcher and the devices in the sandbox reach more than the command does, and the other ways by
+which a command could change something outside that isn't a file: keys, control groups, and memory."""
+
+import os
+import shutil
+import subprocess
+import unittest
+
+from tests.modelled import CLIENT, WARNINGS, ModelCase, process_folder
+from tests.support import TOP, run
+
+IS_ROOT = os.geteuid() == 0
+NOBODY = 'setpriv', '--reuid=65534', '--regid=65534', '--clear-groups'
+USERS = [(), NOBODY] if IS_ROOT else [()]
+
+
+def helper(name, *sources):
+    """Compiles a program of tests/, which all users can run."""
+    made = process_folder() / name
+    if not made.exists():
+        subprocess.run(['cc', '-g', *WARNINGS, '-I', CLIENT, '-o', made, TOP / f'tests/{name}.c', *sources], check=True)
+    return made
+
+
+# Calls of keys, with their names, by a program of 64 or of 32 bits. Each prints its error.
+KEYS = '''import ctypes
+call = ctypes.CDLL(None, use_errno=True).syscall
+for number, *words in (250, 0, -3), (248, b"user", b"name", b"data", 4, -3), (249, b"user", b"model-key", None, -3):
+    print(call(number, *words), ctypes.get_errno())
+'''
+# The caller has a key, runs the command given, and reads the key again.
+CALLER = '''import ctypes, subprocess, sys
+call = ctypes.CDLL(None, use_errno=True).syscall
+call(250, 1, None)
+key = call(248, b"user", b"model-key", b"secret", 6, -3)
+subprocess.run(sys.argv[1:])
+room = ctypes.create_string_buffer(8)
+print(key > 0, call(250, 11, key, room, 8), room.value)
+'''
+# What makes a namespace of control groups (clone, unshare, and clone3), without and then with one of users. Each prints
+# its error.
+GROUPS = '''import ctypes, os
+call = ctypes.CDLL(None, use_errno=True).syscall
+for number, flags in (56, 0x02000011), (272, 0x02000000), (56, 0x12000011), (272, 0x12000000), (435, 0):
+    result = call(number, flags, None, None, None)
+    if result == 0 and number == 56:
+        os._exit(0)
+    print(result if result < 0 else 0, ctypes.get_errno() if result < 0 else 0)
+'''
+
+
+class Confined(ModelCase):
+    def test_calls(self):
+        # the programs can be only compiled; what they call is in tests/confined.c
+        program = helper('confined', CLIENT / 'filter.c')
+        for which in 'launcher', 'device':
+            self.ends(run(program, which), 0, b'end\n', b'')
+
+    def test_other_processes(self):
+        pries = helper('pries')
+        script = ('test $(grep -h -c "^Seccomp:.2$" /proc/1/status /proc/2/status | sort -u) = 1 && '
+                  'grep -h "^NoNewPrivs:.1$" /proc/1/status /proc/2/status | wc -l; "$1" 1 2')
+        for user in USERS:
+            with self.subTest(user=user):
+                ended = run(*user, *self.command('sh', '-c', script, 'sh', pries))
+                self.ends(ended, 0, b'2\nend\n', b'')
+        if IS_ROOT:
+            self.ends(self.shell('setpriv --reuid=65534 --regid=65534 --clear-groups "$1" 1 2', pries), 0, b'end\n', b'')
+
+    def test_files_of_devices(self):
+        # a device has its streams and its subsystem file
+        for options in (), ('--trace=/dev/null',):
+            self.ends(run(*self.command('sh', '-c', 'ls /proc/2/fd', options=options)), 0 if IS_ROOT else 2,
+                      b'0\n1\n2\n3\n' if IS_ROOT else b'')
+
+
+class Outside(ModelCase):
+    def test_keys(self):
+        for user in USERS:
+            with self.subTest(user=user):
+                ended = run(*user, 'python3', '-c', CALLER, *self.command('python3', '-c', KEYS))
+                if ended.out.startswith(b'False'):
+                    self.skipTest('the kernel has no keys')
+                self.ends(ended, 0, b'-1 38\n' * 3 + b"True 6 b'secret'\n", b'')
+
+    def test_control_groups(self):
+        for user in USERS:
+            with self.subTest(user=user):
+                is_root = IS_ROOT and not user
+                ended = run(*user, *self.command('python3', '-c', GROUPS))
+                self.ends(ended, 0)
+                lines = ended.out.decode().splitlines()
+                # (root is refused, and without a right the kernel refuses what comes without a user namespace)
+                self.assertEqual(lines, ['-1 1', '-1 1', '-1 1', '-1 1', '-1 38'] if is_root else
+                                 ['-1 1', '-1 1', '0 0', '0 0', '-1 38'])
+        mount = ('unshare -UrmC true && echo made; for kind in cgroup2 cgroup; do '
+                 'unshare -Urm mount -t $kind x /mnt && echo mounted; done; echo end')
+        if IS_ROOT:
+            self.assertEqual(self.shell(mount).out, b'end\n')
+
+    def test_namespaces_of_users(self):
+        # a user can still make each kind of namespace at once, as bwrap does
+        script = 'bwrap --unshare-all --ro-bind / / true && echo made'
+        ended = run(*USERS[-1], *self.command('sh', '-c', script))
+        self.ends(ended, 0, b'made\n')
+
+    def test_sizes(self):
+        for options, sizes in (('--data-limit=4M',), b'4096\n4096\n65536\n'), (('--data-limit=128M',), b'131072\n' * 3):
+            ended = self.shell('for folder in /dev /dev/shm /sys; do df -k $folder | tail -n 1 | tr -s " " | '
+                               'cut -d " " -f 2; done', options=options)
+            self.ends(ended, 0, sizes, b'')
+
+
+if __name__ == '__main__':
+    unittest.main()

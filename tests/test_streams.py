@@ -1,0 +1,200 @@
+"""Starts ./nvme-model with standard streams of all kinds, as root and as another user. Only what is on a list comes
+into the sandbox, and process 1 there keeps nothing else of the machine."""
+
+import contextlib
+import ctypes
+import os
+import pathlib
+import pty
+import random
+import re
+import select
+import socket
+import subprocess
+import unittest
+
+from tests.modelled import ModelCase, installed, processes_of
+from tests.support import environment, until
+
+IS_ROOT = os.geteuid() == 0
+NOBODY = 'setpriv', '--reuid=65534', '--regid=65534', '--clear-groups'
+USERS = [(), NOBODY] if IS_ROOT else [()]
+NAMES = 'input', 'output', 'error'
+LIBC = ctypes.CDLL(None, use_errno=True)
+MEMFD_SECRET = 447
+
+# Why a stream is refused.
+PATH, FOLDER = 'was opened as a path', 'is a folder'
+DEVICE, KERNEL = 'is a device of this machine', 'leads to the kernel or to a process'
+
+
+def path_of(path, flags):
+    return lambda folder: [os.open(path, flags)]
+
+
+def file_in(name, flags=os.O_RDWR | os.O_CREAT):
+    return lambda folder: [os.open(folder / name, flags, 0o666)]
+
+
+def named_pipe(folder):
+    path = folder / 'fifo'
+    if not path.exists():
+        os.mkfifo(path)
+    return [os.open(path, os.O_RDWR)]
+
+
+def deleted_file(folder):
+    number = os.open(folder / 'deleted', os.O_RDWR | os.O_CREAT)
+    os.unlink(folder / 'deleted')
+    return [number]
+
+
+# The kinds of streams: a function that returns the descriptor, and others to be closed with it; and why it is refused,
+# or nothing. What is `closed` has no descriptor, and `messages` are read by the test.
+KINDS = {
+    'messages': (lambda folder: [os.memfd_create('messages')], ''),
+    'pipe': (lambda folder: os.pipe()[::-1], ''),
+    'named pipe': (named_pipe, ''),
+    'socket': (lambda folder: [end.detach() for end in socket.socketpair()], ''),
+    'file': (file_in('file'), ''),
+    'deleted file': (deleted_file, ''),
+    'terminal': (lambda folder: pty.openpty()[::-1], ''),
+    'null': (path_of('/dev/null', os.O_RDWR), ''),
+    'path of a folder': (path_of('/', os.O_PATH), PATH),
+    'path of a file': (path_of('/etc/passwd', os.O_PATH), PATH),
+    'path of a device': (path_of('/dev/null', os.O_PATH), PATH),
+    'folder': (path_of('/dev', os.O_RDONLY), FOLDER),
+    'device': (path_of('/dev/ptmx', os.O_RDWR | os.O_NOCTTY), DEVICE),
+    "terminal's master": (lambda folder: pty.openpty(), DEVICE),
+    'namespace': (path_of('/proc/self/ns/mnt', os.O_RDONLY), KERNEL),
+    'procfs': (path_of('/proc/version', os.O_RDONLY), KERNEL),
+    'sysfs': (path_of('/sys/kernel/mm/transparent_hugepage/enabled', os.O_RDONLY), KERNEL),
+    'kinds of programs': (path_of('/proc/sys/fs/binfmt_misc/status', os.O_RDONLY), KERNEL),
+    'process': (lambda folder: [os.pidfd_open(os.getpid())], KERNEL),
+    'polled files': (lambda folder: [os.dup(select.epoll().fileno())], KERNEL),
+    'counter': (lambda folder: [LIBC.eventfd(0, 0)], KERNEL),
+    'changes': (lambda folder: [LIBC.inotify_init1(0)], KERNEL),
+    'secret memory': (lambda folder: [LIBC.syscall(MEMFD_SECRET, 0)], KERNEL)}
+
+# What process 1 has open besides the streams, and whether it must be in one of the sandbox's own mounts.
+KEPT = {r'socket:\[\d+\]': False, r'pipe:\[\d+\]': False, 'anon_inode:.*(inotify|signalfd|seccomp notify).*': False,
+        r'/proc/\d+/status': False, '/sys(/.*)?': True}
+
+
+class StreamCase(ModelCase):
+    def setUp(self):
+        super().setUp()
+        self.folder.chmod(0o777)
+        self.seen = self.folder / 'seen'
+
+    def stream(self, kind, files):
+        """Opens a stream, and returns its descriptor, or None if it is closed or the kernel has no such thing."""
+        try:
+            opened = KINDS[kind][0](self.folder) if kind != 'closed' else []
+        except OSError:
+            return None
+        for number in opened:
+            if number >= 0:
+                files.callback(os.close, number)
+        return opened[0] if opened and opened[0] >= 0 else None
+
+    def start(self, user, streams):
+        """Starts a command that runs until the file `seen` is removed."""
+        def close():
+            for number in range(3):
+                if streams[number] is None:
+                    os.close(number)
+        script = ': > "$1"; while test -e "$1"; do sleep 0.02; done'
+        command = [*user, installed(), '--subsystem', self.subsystem, 'sh', '-c', script, 'sh', self.seen]
+        return subprocess.Popen(command, stdin=streams[0], stdout=streams[1], stderr=streams[2], preexec_fn=close,
+                                env=environment())
+
+    def process_one(self):
+        """Returns the folder in /proc of process 1."""
+        found = [pathlib.Path(f'/proc/{number}') for number in processes_of(self.subsystem)]
+        inside = [path for path in found if (path / 'cmdline').read_bytes().startswith(b'/sys/fs/nvme-model/')]
+        self.assertEqual(len(inside), 1, found)
+        return inside[0]
+
+    def check_kept(self, process, streams):
+        """Checks what process 1 has open: of a closed stream, /dev/null of the sandbox, which can't be used."""
+        mounts = {line.split()[0] for line in (process / 'mountinfo').read_text().splitlines()}
+        for entry in (process / 'fd').iterdir():
+            number, name = int(entry.name), os.readlink(entry)
+            about = (process / 'fdinfo' / entry.name).read_text()
+            flags, mount = (re.search(rf'(?m)^{word}:\s*(\d+)$', about).group(1) for word in ('flags', 'mnt_id'))
+            if number > 2:
+                known = [is_own for pattern, is_own in KEPT.items() if re.fullmatch(pattern, name)]
+                self.assertTrue(known, f'{number} is {name}')
+                self.assertTrue(not known[0] or mount in mounts, f'{number} is {name} of the machine')
+            elif streams[number] is None:
+                self.assertEqual((name, mount in mounts, bool(int(flags, 8) & os.O_PATH)), ('/dev/null', True, True))
+            else:
+                self.assertTrue(os.path.samestat(entry.stat(), os.fstat(streams[number])), f'{number} is {name}')
+
+    def try_streams(self, user, kinds):
+        """Starts a command with these kinds of streams, and checks whether it runs, and what process 1 has then."""
+        with contextlib.ExitStack() as files:
+            streams = [self.stream(kind, files) for kind in kinds]
+            reasons = [KINDS[kind][1] if number is not None else '' for kind, number in zip(kinds, streams)]
+            process = self.start(user, streams)
+            if any(reasons):
+                self.assertEqual(process.wait(60), 72, kinds)
+                self.assertFalse(self.seen.exists(), kinds)
+            else:
+                self.assertTrue(until(lambda: self.seen.exists() or process.poll() is not None))
+                self.assertIsNone(process.poll(), kinds)
+                self.check_kept(self.process_one(), streams)
+                self.seen.unlink()
+                self.assertEqual(process.wait(60), 0, kinds)
+            if kinds[2] == 'messages':
+                said = os.pread(streams[2], 4096, 0).decode()
+                refused = [at for at in range(3) if reasons[at]]
+                wanted = f'nvme-model: standard {NAMES[refused[-1]]} {reasons[refused[-1]]}.*\n' if refused else ''
+                self.assertRegex(said, f'^{wanted}$')
+
+
+class Streams(StreamCase):
+    def test_each_kind(self):
+        for kind in KINDS:
+            for user in USERS:
+                with self.subTest(kind, user=user):
+                    self.try_streams(user, [kind, 'messages', 'messages'])
+            with self.subTest(kind, stream='error'):
+                self.try_streams(USERS[-1], ['null', 'pipe', kind])
+
+    def test_random_kinds(self):
+        names = ['closed', 'closed', 'pipe', 'pipe', 'terminal', 'path of a folder', 'path of a device', 'folder',
+                 'device', "terminal's master", 'null']
+        chosen = random.Random(77)
+        for number in range(100):
+            kinds = [chosen.choice(names[:5] if chosen.random() < 0.6 else names) for _ in range(2)]
+            kinds.append(chosen.choice(['messages', 'closed', 'pipe', chosen.choice(names)]))
+            with self.subTest(number, kinds=kinds):
+                self.try_streams(USERS[number % len(USERS)], kinds)
+
+    def test_closed_for_the_command(self):
+        script = ('for n in 0 1 2; do test -e /proc/$$/fd/$n && echo $n; done > "$1"; '
+                  'head -c 1 /proc/1/fd/0/etc/passwd >> "$1"')
+        for user in USERS:
+            for closed, wanted in ((0,), b'1\n2\n'), ((1,), b'0\n1\n2\n'), ((0, 2), b'1\n'):
+                with self.subTest(user=user, closed=closed):
+                    by = [*user, 'sh', '-c', 'exec "$@" ' + ' '.join(f'{number}>&-' for number in closed), 'sh']
+                    found = self.folder / 'found'
+                    subprocess.run([*by, *self.command('sh', '-c', script, 'sh', found)], env=environment(),
+                                   check=False, capture_output=True)
+                    self.assertEqual(found.read_bytes(), wanted)
+                    found.unlink()
+
+    def test_files_of_options(self):
+        # a subsystem file or a trace is one of the same kinds
+        for options, said in (['--trace=/dev/ptmx'], DEVICE), (['--subsystem', '/proc/version'], KERNEL), (
+                ['--subsystem', '/proc/self/ns/mnt'], KERNEL), (['--subsystem', '/dev'], FOLDER):
+            with self.subTest(options):
+                ended = self.model('true', options=options)
+                self.ends(ended, 72, b'')
+                self.assertIn(said.encode(), ended.err)
+
+
+if __name__ == '__main__':
+    unittest.main()
