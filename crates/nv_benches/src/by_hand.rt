@@ -6,7 +6,7 @@ ghost use Rattle.nv_controller.specs.Machine.{bus_of};
 
 use anyhow::bail;
 use nv_controller::{Bus, Machine};
-use nv_host::{FlatMemory, HostMemory};
+use nv_host::{FlatMemory, PagedMemory};
 use nv_layout::{Cqe, Sqe};
 use nv_prp::{Buffer, ListPlace, build};
 use nv_register::offset;

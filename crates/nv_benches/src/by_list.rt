@@ -7,7 +7,7 @@ ghost use Rattle.nv_controller.specs.Machine.{bus_of};
 use crate::by_hand::enable;
 use anyhow::bail;
 use nv_controller::{Bus, Machine};
-use nv_host::{FlatMemory, HostMemory};
+use nv_host::{FlatMemory, PagedMemory};
 use nv_layout::{ErrorEntry, Sqe};
 use nv_register::offset;
 use nv_subsystem::{DEMO, Subsystem};

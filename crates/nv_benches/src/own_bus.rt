@@ -4,7 +4,7 @@ use anyhow::bail;
 use nv_command::{Command, Reply};
 use nv_controller::{Bus, Machine};
 use nv_driver::{AnswerSlot, Driver, Geometry};
-use nv_host::paged::PagedMemory;
+use nv_host::PagedMemory;
 use nv_subsystem::{DEMO, Subsystem};
 
 /// A bus that counts its turns.

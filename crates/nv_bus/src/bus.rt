@@ -5,7 +5,7 @@ ghost use Rattle.nv_register.specs.RegisterBank.{value_at, with_register_at};
 ghost use Rattle.nv_bus.specs.Bus.{BusValue, IsBus, bank_at, state_written};
 ghost use Rattle.nv_bus.specs.Turn.{TakesCount, Turn};
 
-use nv_host::paged::PagedMemory;
+use nv_host::PagedMemory;
 
 /// A bus to the controllers of a subsystem: their registers, and their turns over the host's
 /// memory.

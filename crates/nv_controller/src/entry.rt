@@ -25,7 +25,7 @@ use crate::reply_page::ReplyPage;
 use crate::scratch::{EntryData, Scratch};
 use nv_bus::Told;
 use nv_command::{Command, Decoded, LogQuery, Refusal, StatusCode, Transfer};
-use nv_host::paged::PagedMemory;
+use nv_host::PagedMemory;
 use nv_layout::{Cqe, CtrlList, Sqe, Status};
 use nv_prp::{PrpError, Spans, copy_out, view_in, walk, write_out};
 use nv_register::Rings;

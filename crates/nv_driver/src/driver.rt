@@ -30,7 +30,7 @@ use crate::queue_pair::{QueuePair, new_pairs};
 use crate::submitting::MOST_PAGES;
 use nv_bus::{Bus, Told};
 use nv_command::Command;
-use nv_host::{FlatMemory, HostMemory};
+use nv_host::{FlatMemory, PagedMemory};
 use nv_layout::Sqe;
 use nv_prp::Spans;
 use std::alloc::Global;

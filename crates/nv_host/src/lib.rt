@@ -22,13 +22,13 @@ mod error;
 mod lent;
 mod memory;
 mod page_set;
-pub mod paged;
+mod paged;
 
 pub use error::{Memory, OutOfMemoryRange};
 pub use lent::{LentBytes, LentMemory, Loan};
 pub use memory::{FlatMemory, HostMemory, are_pages, is_page_size, size_of_memory};
 pub use page_set::{PageNo, PageSet};
-pub use paged::Payload;
+pub use paged::{PagedMemory, Payload};
 
 /// States the laws of loads and stores: a load returns what was stored, and other bytes don't
 /// change. The call does nothing.

@@ -1,76 +1,38 @@
-//! What the memory of a host does, and one in a vector.
+//! A host's memory whose pages can be changed where they lie, and one in a vector.
 
-ghost use Rattle.std.specs.Prelude.{◌≡◌, ◌+◌, ◌*◌, ◌≤◌, ◌↔◌, ℕ, IfOk, IsOk, IsTrue, List, OnErr, OnOk};
+ghost use Rattle.std.specs.Prelude.{◌≡◌, ◌+◌, ◌*◌, ◌≤◌, ◌↔◌, ℕ, IfOk, IsOk, IsTrue, List};
 ghost use Rattle.std.specs.Prelude.{length, refl, replicate};
 ghost use Rattle.std.specs.Borrow.{sem, Array, Lends, u8 as byte};
 ghost use Rattle.nv_host.specs.Bytes.{bytes_at, with_bytes};
 ghost use Rattle.nv_host.specs.FlatMemory.{only_page, with_page};
 ghost use Rattle.nv_host.specs.Pages.{HasPage, IsPageSize, are_pages, is_page_size};
 
-use crate::paged::PagedMemory;
+use crate::paged::{PagedMemory, Payload};
 use crate::{Memory, OutOfMemoryRange};
 use std::alloc::Global;
 use std::marker::Model;
 
-/// The memory of a host, as its bytes in pages. Page n begins at address n times the page size.
-/// Section "Physical Region Page Entry and List".
-///
-/// Each `HostMemory` is also a [`PagedMemory`](crate::paged::PagedMemory), over which controllers, PRP
-/// lists and rings work.
-pub trait HostMemory {
-    /// All bytes, from address 0 on.
-    ghost bytes: { Self → List ℕ };
-
-    ghost page_len: { Self → ℕ };
-
+/// A host's memory that also lends its pages to be changed.
+pub trait HostMemory: PagedMemory {
     /// The memory after the bytes of a page have become these.
     ghost with_page: { Self → ℕ → List ℕ → Self };
-
-    /// How many bytes a page has: 4096, 8192, 16384, 32768 or 65536.
-    fn page_size(&self) -> u32
-        ensures value { result ≡ page_len self.now }
-        ensures one_of_five { IsPageSize result };
-
-    /// How many pages the memory has.
-    fn pages(&self) -> u32
-        ensures { result * page_len self.now ≡ length (bytes self.now) };
-
-    /// Reads the bytes from an address on. Where the range leaves the memory, nothing is read.
-    fn load(&self, addr: u64, out: &mut [u8]) -> Result<(), OutOfMemoryRange>
-        ensures inside { IsOk result ↔ (addr + length out.old ≤ length (bytes self.now)) }
-        ensures value { OnOk result (out.new ≡ bytes_at (bytes self.now) addr (length out.old)) }
-        ensures err { OnErr result (out.new ≡ out.old) };
-
-    /// Writes the bytes from an address on. Where the range leaves the memory, nothing is written.
-    fn store(&mut self, addr: u64, source: &[u8]) -> Result<(), OutOfMemoryRange>
-        ensures inside { IsOk result ↔ (addr + length source.now ≤ length (bytes self.old)) }
-        ensures value { OnOk result (bytes self.new ≡ with_bytes (bytes self.old) addr source.now) }
-        ensures err { OnErr result (bytes self.new ≡ bytes self.old) }
-        ensures page { page_len self.new ≡ page_len self.old };
-
-    /// The bytes of a page, whose number is less than `pages`.
-    fn page(&self, n: u32) -> &[u8]
-        requires { HasPage (bytes self.now) (page_len self.now) n }
-        ensures value { result.now ≡ bytes_at (bytes self.now) (n * page_len self.now)
-            (page_len self.now) }
-        ensures len { length result.now ≡ page_len self.now };
 
     /// Lends the bytes of a page, whose number is less than `pages`, to be changed. What is written
     /// there changes this page alone.
     fn page_mut(&mut self, n: u32) -> &mut [u8]
-        requires { HasPage (bytes self.old) (page_len self.old) n }
+        requires { HasPage (Self.bytes self.old) (Self.page_len self.old) n }
         ensures* writes_back { sem 𝓛 (Lends Self.row (Array byte 0) self.entry result
             (with_page self.old n)) }
-        ensures value { result.now ≡ bytes_at (bytes self.old) (n * page_len self.old)
-            (page_len self.old) }
-        ensures len { length result.now ≡ page_len self.old };
+        ensures value { result.now ≡ bytes_at (Self.bytes self.old) (n * Self.page_len self.old)
+            (Self.page_len self.old) }
+        ensures len { length result.now ≡ Self.page_len self.old };
 
-    ghost only_page: { (m : Self) (n : ℕ) (page : List ℕ) → HasPage (bytes m) (page_len m) n
-        → length page ≡ page_len m
-        → bytes (with_page m n page) ≡ with_bytes (bytes m) (n * page_len m) page };
+    ghost only_page: { (m : Self) (n : ℕ) (page : List ℕ) → HasPage (Self.bytes m) (Self.page_len m) n
+        → length page ≡ Self.page_len m
+        → Self.bytes (with_page m n page) ≡ with_bytes (Self.bytes m) (n * Self.page_len m) page };
 
-    ghost same_page_len: { (m : Self) (n : ℕ) (page : List ℕ) → page_len (with_page m n page)
-        ≡ page_len m };
+    ghost same_page_len: { (m : Self) (n : ℕ) (page : List ℕ) → Self.page_len (with_page m n page)
+        ≡ Self.page_len m };
 }
 
 /// Whether a page can have this many bytes.
@@ -159,16 +121,10 @@ impl FlatMemory {
 }
 
 #[tactic(auto, unfolding(crate::specs::Bytes::bytes_at, crate::specs::Bytes::with_bytes))]
-impl HostMemory for FlatMemory {
+impl PagedMemory for FlatMemory {
     ghost bytes = { λ m. m.bytes };
 
     ghost page_len = { λ m. m.page_size };
-
-    ghost with_page = { with_page };
-
-    ghost only_page = { only_page };
-
-    ghost same_page_len = { λ m n page. refl };
 
     fn page_size(&self) -> u32 {
         self.page_size
@@ -194,6 +150,20 @@ impl HostMemory for FlatMemory {
         let start = n as usize * self.page_size as usize;
         &self.bytes[start..start + self.page_size as usize]
     }
+
+    fn fill<P: Payload>(&mut self, n: u32, start: usize, payload: &P, from: usize, len: usize) {
+        let place = n as usize * self.page_size as usize + start;
+        payload.fill(from, &mut self.bytes[place..place + len]);
+    }
+}
+
+#[tactic(auto, unfolding(crate::specs::Bytes::bytes_at, crate::specs::Bytes::with_bytes))]
+impl HostMemory for FlatMemory {
+    ghost with_page = { with_page };
+
+    ghost only_page = { only_page };
+
+    ghost same_page_len = { λ m n page. refl };
 
     fn page_mut(&mut self, n: u32) -> &mut [u8] {
         let start = n as usize * self.page_size as usize;

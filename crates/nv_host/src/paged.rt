@@ -1,17 +1,18 @@
-//! What controllers, PRP lists and rings need of a host's memory. The trait isn't among the crate's
-//! other names, because its methods have the names of those of [`HostMemory`].
+//! What controllers, PRP lists and rings need of a host's memory.
 
 ghost use Rattle.std.specs.Prelude.{◌≡◌, ◌+◌, ◌*◌, ◌≤◌, ◌↔◌, ℕ, IsOk, List, OnErr, OnOk};
 ghost use Rattle.std.specs.Prelude.{drop, length, take};
 ghost use Rattle.nv_host.specs.Bytes.{bytes_at, with_bytes};
 ghost use Rattle.nv_host.specs.Pages.{HasPage, IsPageSize};
 
-use crate::{HostMemory, OutOfMemoryRange};
+use crate::OutOfMemoryRange;
 
-/// The memory of a host for which it is enough that pages are read where they lie and written part
-/// by part. Controllers, PRP lists and rings ask for no more, so they also work over a
-/// [`LentMemory`](crate::LentMemory), which can lend no page to be changed. You implement
-/// [`HostMemory`] instead.
+/// The memory of a host, as its bytes in pages, which are read where they lie and written part by
+/// part. Page n begins at address n times the page size. Section "Physical Region Page Entry and
+/// List".
+///
+/// Controllers, PRP lists and rings ask for no more, so they also work over a
+/// [`LentMemory`](crate::LentMemory), which can lend no page to be changed.
 pub trait PagedMemory {
     /// All bytes, from address 0 on.
     ghost bytes: { Self → List ℕ };
@@ -56,37 +57,6 @@ pub trait PagedMemory {
         ensures value { bytes self.new ≡ with_bytes (bytes self.old)
             (n * page_len self.old + start) (take len (drop from (P.bytes payload.now))) }
         ensures page { page_len self.new ≡ page_len self.old };
-}
-
-impl<M: HostMemory> PagedMemory for M {
-    ghost bytes = { M.HostMemory.bytes };
-
-    ghost page_len = { M.HostMemory.page_len };
-
-    fn page_size(&self) -> u32 {
-        HostMemory::page_size(self)
-    }
-
-    fn pages(&self) -> u32 {
-        HostMemory::pages(self)
-    }
-
-    fn load(&self, addr: u64, out: &mut [u8]) -> Result<(), OutOfMemoryRange> {
-        HostMemory::load(self, addr, out)
-    }
-
-    fn store(&mut self, addr: u64, source: &[u8]) -> Result<(), OutOfMemoryRange> {
-        HostMemory::store(self, addr, source)
-    }
-
-    fn page(&self, n: u32) -> &[u8] {
-        HostMemory::page(self, n)
-    }
-
-    fn fill<P: Payload>(&mut self, n: u32, start: usize, payload: &P, from: usize, len: usize) {
-        let page = self.page_mut(n);
-        payload.fill(from, &mut page[start..start + len]);
-    }
 }
 
 /// Bytes that are made part by part, so that they need not be stored as a whole.

@@ -4,8 +4,7 @@ ghost use Rattle.std.specs.Prelude.{◌≡◌, IsTrue, length};
 ghost use Rattle.nv_host.specs.Pages.{are_pages};
 
 use crate::checks::check_bytes;
-use nv_host::paged::PagedMemory;
-use nv_host::{LentBytes, LentMemory, Loan};
+use nv_host::{LentBytes, LentMemory, Loan, PagedMemory};
 use std::marker::Brand;
 use std::process::Abort;
 

@@ -10,8 +10,7 @@ ghost use Rattle.nv_prp.specs.Transfer.{room as room_of, transfer};
 
 use crate::pointer::{DataPointer, ListShape, page_address, qwords_in_page, store_qword};
 use crate::{Span, Spans};
-use nv_host::PageNo;
-use nv_host::paged::PagedMemory;
+use nv_host::{PageNo, PagedMemory};
 use std::cmp::min;
 
 /// A buffer in pages of the host's memory.

@@ -12,8 +12,7 @@ ghost use Rattle.nv_prp.specs.Transfer.{entry_fault, first_byte, list_place, mos
 ghost use Rattle.nv_prp.specs.Transfer.{qword};
 
 use crate::{PrpError, Span};
-use nv_host::paged::PagedMemory;
-use nv_host::{PageNo, size_of_memory};
+use nv_host::{PageNo, PagedMemory, size_of_memory};
 use std::cmp::min;
 
 /// The two PRP entries of a command, and the length of its transfer in bytes. Section "Data

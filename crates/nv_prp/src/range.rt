@@ -4,8 +4,7 @@ ghost use Rattle.std.specs.Prelude.{◌≡◌, ◌+◌, ◌*◌, ◌<◌, ◌≤
 ghost use Rattle.nv_host.specs.Bytes.{bytes_at, with_bytes};
 ghost use Rattle.nv_host.specs.Pages.{HasPage};
 
-use nv_host::paged::PagedMemory;
-use nv_host::{PageNo, Payload};
+use nv_host::{PageNo, PagedMemory, Payload};
 use std::cmp::min;
 
 /// Bytes of one page that follow one another.

@@ -7,8 +7,7 @@ ghost use Rattle.nv_prp.specs.Place.{LieIn, places, read_at, written_at};
 ghost use Rattle.nv_prp.specs.declared.spans.Span.{Span};
 
 use crate::range::{first_part, read_range, write_range};
-use nv_host::Payload;
-use nv_host::paged::PagedMemory;
+use nv_host::{PagedMemory, Payload};
 use std::fmt;
 use std::marker::Model;
 

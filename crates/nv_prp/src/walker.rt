@@ -12,7 +12,7 @@ ghost use Rattle.nv_prp.specs.Transfer.{transfer_places};
 
 use crate::pointer::{DataPointer, ListShape, check, load_page_address, qwords_in_page};
 use crate::{PrpError, Spans};
-use nv_host::paged::PagedMemory;
+use nv_host::PagedMemory;
 
 /// Finds the spans of the transfer that a command's PRP entries describe, one for each data page.
 /// The transfer has from 1 to 1,048,576 bytes. Section "Physical Region Page Entry and List".

@@ -11,8 +11,7 @@ ghost use Rattle.nv_queue.specs.Slots.{IsAwaitedThere, KeepsTags, awaited_comple
 ghost use Rattle.nv_queue.specs.Slots.{next_completion, with_completion};
 
 use crate::ring::Ring;
-use nv_host::paged::PagedMemory;
-use nv_host::size_of_memory;
+use nv_host::{PagedMemory, size_of_memory};
 use nv_layout::Cqe;
 use std::marker::Model;
 use thiserror::Error;

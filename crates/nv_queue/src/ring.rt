@@ -3,8 +3,7 @@
 ghost use Rattle.std.specs.Prelude.{◌≡◌, ◌+◌, ◌*◌, ◌<◌, ◌≤◌, ◌↔◌, IsTrue, false, length};
 ghost use Rattle.nv_queue.specs.Numbers.{IsDepth, IsSlotBetween, above, first_in_slot, next, number_of};
 
-use nv_host::paged::PagedMemory;
-use nv_host::size_of_memory;
+use nv_host::{PagedMemory, size_of_memory};
 
 /// A slot, and whether it is in the second of two passes over the ring.
 #[derive(Clone, Copy)]

@@ -8,7 +8,7 @@ ghost use Rattle.nv_queue.specs.Rings.{renewed_fetch, renewed_submit, rung_to, s
 ghost use Rattle.nv_queue.specs.Slots.{next_submission, submission_place, with_submission};
 
 use crate::ring::Ring;
-use nv_host::paged::PagedMemory;
+use nv_host::PagedMemory;
 use nv_layout::Sqe;
 use std::marker::Model;
 use thiserror::Error;

@@ -5,7 +5,7 @@ ghost use Rattle.nv_bus.specs.Bus.{IsBus};
 ghost use Rattle.nv_controller.specs.Machine.{bus_of};
 
 use nv_controller::{Bus, Machine};
-use nv_host::paged::PagedMemory;
+use nv_host::PagedMemory;
 use nv_script::{Geometry, OverRead, OverWrite, RunEnd, run};
 use nv_subsystem::Subsystem;
 use std::alloc::{AllocError, Global};

@@ -5,7 +5,7 @@ ghost use Rattle.nv_bus.specs.Bus.{IsBus};
 ghost use Rattle.nv_host.specs.FlatMemory.{only_page, with_page};
 
 use nv_controller::{Bus, Machine};
-use nv_host::{FlatMemory, HostMemory, Memory, OutOfMemoryRange};
+use nv_host::{FlatMemory, HostMemory, Memory, OutOfMemoryRange, PagedMemory, Payload};
 use nv_layout::{Cqe, Sqe};
 use nv_prp::{Buffer, ListPlace, Spans, build, copy_in, copy_out};
 use nv_queue::{CompletionRing, SubmitRing};
@@ -40,16 +40,10 @@ impl OwnMemory {
     }
 }
 
-impl HostMemory for OwnMemory {
+impl PagedMemory for OwnMemory {
     ghost bytes = { λ m. m.memory.bytes };
 
     ghost page_len = { λ m. m.memory.page_size };
-
-    ghost with_page = { λ m n page. record m { memory = with_page m.memory n page; lent = true } };
-
-    ghost only_page = { λ m n page. only_page m.memory n page };
-
-    ghost same_page_len = { λ m n page. refl };
 
     fn page_size(&self) -> u32 {
         self.memory.page_size()
@@ -71,6 +65,19 @@ impl HostMemory for OwnMemory {
     fn page(&self, n: u32) -> &[u8] {
         self.memory.page(n)
     }
+
+    fn fill<P: Payload>(&mut self, n: u32, start: usize, payload: &P, from: usize, len: usize) {
+        let page = self.page_mut(n);
+        payload.fill(from, &mut page[start..start + len]);
+    }
+}
+
+impl HostMemory for OwnMemory {
+    ghost with_page = { λ m n page. record m { memory = with_page m.memory n page; lent = true } };
+
+    ghost only_page = { λ m n page. only_page m.memory n page };
+
+    ghost same_page_len = { λ m n page. refl };
 
     fn page_mut(&mut self, n: u32) -> &mut [u8] {
         self.lent = true;
@@ -99,7 +106,7 @@ fn enable<B: Bus>(bus: &mut B)
 
 /// Has controller 0 of a bus that isn't enabled identify itself, and returns the completion.
 #[tactic(auto, using(nv_host::proofs::BytesLaws::length_with_bytes))]
-fn identify<B: Bus, M: HostMemory>(bus: &mut B, mem: &mut M) -> Option<Cqe>
+fn identify<B: Bus, M: PagedMemory>(bus: &mut B, mem: &mut M) -> Option<Cqe>
     requires bus { IsBus (B.meaning bus.old) }
     requires some { 0 < length (B.meaning bus.old).banks }
     requires page { M.page_len mem.old ≡ 4096 }
@@ -132,7 +139,7 @@ fn identify<B: Bus, M: HostMemory>(bus: &mut B, mem: &mut M) -> Option<Cqe>
 }
 
 /// Reads the first bytes of the buffer.
-fn read<M: HostMemory>(mem: &M, out: &mut [u8; 4096])
+fn read<M: PagedMemory>(mem: &M, out: &mut [u8; 4096])
     requires page { M.page_len mem.now ≡ 4096 }
     requires len { length (M.bytes mem.now) ≡ 65536 }
 {
@@ -142,7 +149,7 @@ fn read<M: HostMemory>(mem: &M, out: &mut [u8; 4096])
 }
 
 /// Writes the first bytes of the buffer.
-fn write<M: HostMemory>(mem: &mut M, bytes: &[u8; 4096])
+fn write<M: PagedMemory>(mem: &mut M, bytes: &[u8; 4096])
     requires page { M.page_len mem.old ≡ 4096 }
     requires len { length (M.bytes mem.old) ≡ 65536 }
     ensures page { M.page_len mem.new ≡ 4096 }

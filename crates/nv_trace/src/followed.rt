@@ -8,7 +8,7 @@ ghost use Rattle.nv_trace.specs.Followed.{is_running};
 ghost use Rattle.nv_trace.specs.inner.Followed.{IsTaken, as_read, rings_one};
 
 use nv_bus::Bus;
-use nv_host::paged::PagedMemory;
+use nv_host::PagedMemory;
 use nv_layout::{Cqe, Sqe};
 use nv_register::{AdminQueueAttributes, RegisterBank, Rings, offset};
 

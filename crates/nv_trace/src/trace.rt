@@ -14,7 +14,7 @@ use crate::taken::TakenEntry;
 use crate::voice::Voice;
 use crate::written::Written;
 use nv_bus::Bus;
-use nv_host::paged::PagedMemory;
+use nv_host::PagedMemory;
 use nv_register::{Readiness, RegisterBank, Rings};
 use nv_stream::Sink;
 use std::array;

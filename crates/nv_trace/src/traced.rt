@@ -5,7 +5,7 @@ ghost use Rattle.nv_trace.specs.Followed.{AreFollowed};
 
 use crate::trace::Trace;
 use nv_bus::Bus;
-use nv_host::paged::PagedMemory;
+use nv_host::PagedMemory;
 use nv_stream::Sink;
 
 /// A bus that writes lines to a sink: one for each register write, for each entry that a turn took

@@ -5,7 +5,7 @@ ghost use Rattle.nv_host.specs.Pages.{HasPage};
 ghost use Rattle.nv_prp.specs.Place.{AreDistinct, LieIn, places};
 ghost use Rattle.nv_prp.specs.Transfer.{most_bytes};
 
-use nv_host::{HostMemory, PageNo, size_of_memory};
+use nv_host::{PageNo, PagedMemory, size_of_memory};
 use nv_prp::{Span, Spans};
 
 /// Returns whether a transfer may have this many bytes.
@@ -16,14 +16,14 @@ pub(crate) fn is_length(len: u32) -> bool
 }
 
 /// Returns whether the memory has this page.
-pub(crate) fn has_page<M: HostMemory>(memory: &M, number: PageNo) -> bool
+pub(crate) fn has_page<M: PagedMemory>(memory: &M, number: PageNo) -> bool
     ensures { IsTrue result ↔ HasPage (M.bytes memory.now) (M.page_len memory.now) number }
 {
     (u64::from(number) + 1) * u64::from(memory.page_size()) <= size_of_memory(memory)
 }
 
 /// Returns whether the memory has all of these pages.
-pub(crate) fn has_pages<M: HostMemory>(memory: &M, pages: &[PageNo]) -> bool
+pub(crate) fn has_pages<M: PagedMemory>(memory: &M, pages: &[PageNo]) -> bool
     ensures { IsTrue result
         ↔ All (λ page. HasPage (M.bytes memory.now) (M.page_len memory.now) page) pages.now }
 {

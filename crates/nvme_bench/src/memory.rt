@@ -5,7 +5,7 @@ use crate::arguments::OperationArguments;
 use crate::error::OperationError;
 use crate::row::{MOST_MOVED, Row};
 use crate::session::Bench;
-use nv_host::{FlatMemory, HostMemory, is_page_size};
+use nv_host::{FlatMemory, PagedMemory, is_page_size};
 use std::alloc::Global;
 
 impl Bench {

@@ -10,7 +10,7 @@ use crate::conditions::{
 use crate::error::OperationError;
 use crate::row::{MOST_MOVED, Row};
 use crate::session::Bench;
-use nv_host::{FlatMemory, HostMemory, PageNo, size_of_memory};
+use nv_host::{FlatMemory, PageNo, PagedMemory, size_of_memory};
 use nv_prp::{Buffer, ListPlace, Spans, build, copy_in, copy_out, walk};
 use std::alloc::{AllocError, Global};
 

@@ -6,7 +6,7 @@ ghost use Rattle.nv_controller.specs.Machine.{bus_of};
 use crate::answer::{Answer, Answered};
 use crate::error::OperationError;
 use nv_controller::{Bus, Machine};
-use nv_host::paged::PagedMemory;
+use nv_host::PagedMemory;
 use nv_layout::Sqe;
 use nv_register::{Readiness, RegisterBank};
 use std::alloc::{AllocError, Global};

@@ -63,7 +63,7 @@ returns-clause-state g c = let i = c.loop-batch.invariant in
 
 pub returns-clause-paced : goal.returns-clause-paced
 returns-clause-paced g c = let i = c.loop-batch.invariant in
-    subst (λ x. IsPaced x (g.B.Bus.meaning c.tell.new.bus) (g.M.HostMemory.bytes c.loop-batch.host.mem))
+    subst (λ x. IsPaced x (g.B.Bus.meaning c.tell.new.bus) (g.M.PagedMemory.bytes c.loop-batch.host.mem))
     (sym c.requires.1.1.0)
     (ends_all c.requires.1.1.0 i.under_way (omega (arith, c.loop-batch-test.false)) c.tell.ensures.told
     c.requires.1.1.1.0.page_size).paced

@@ -13,7 +13,7 @@ ghost-turn g a = g.run
 abbrev pub invariant-loop-batch : goal.invariant-loop-batch
 invariant-loop-batch g l = record {
   under_way : IsUnderWay g.run l.batch.sent l.batch.collected l.batch (g.B.Bus.meaning l.bus) l.pair
-      (g.M.HostMemory.page_len l.host.mem) (g.M.HostMemory.bytes l.host.mem) l.host.taken;
+      (g.M.PagedMemory.page_len l.host.mem) (g.M.PagedMemory.bytes l.host.mem) l.host.taken;
   answers : HasAnswers g.run l.batch.collected l.answers;
   near : IsToldInTime g.run l.batch;
 }

@@ -14,10 +14,10 @@ invariant-loop-ctrl g l = record {
   below : (k : ℕ) → k < l.ctrl → bank_at (g.B.Bus.meaning l.bus).banks k
       ≡ idle_bank (mps_of l.geometry.page_size) l.geometry.page_size (pair_of l.geometry k);
   above : (k : ℕ) → l.ctrl ≤ k → bank_at (g.B.Bus.meaning l.bus).banks k ≡ bank_at (g.B.Bus.meaning l.fn.bus).banks k;
-  tags : (k : ℕ) → k < l.ctrl → HoldsTags (g.M.HostMemory.bytes l.mem) (pair_of l.geometry k).cq l.geometry.depth 0;
-  laid : All (IsLaid l.geometry.page_size (length (g.M.HostMemory.bytes l.mem)))
+  tags : (k : ℕ) → k < l.ctrl → HoldsTags (g.M.PagedMemory.bytes l.mem) (pair_of l.geometry k).cq l.geometry.depth 0;
+  laid : All (IsLaid l.geometry.page_size (length (g.M.PagedMemory.bytes l.mem)))
       (pairs_of l.geometry (length (g.B.Bus.meaning l.fn.bus).banks));
-  size : length (g.M.HostMemory.bytes l.mem) ≡ length (g.M.HostMemory.bytes l.fn.mem);
+  size : length (g.M.PagedMemory.bytes l.mem) ≡ length (g.M.PagedMemory.bytes l.fn.mem);
   steps : EnablesFirst g.B.Bus.was_written g.B.Bus.was_read l.geometry l.ctrl l.fn.bus l.bus;
-  page : g.M.HostMemory.page_len l.mem ≡ g.M.HostMemory.page_len l.fn.mem;
+  page : g.M.PagedMemory.page_len l.mem ≡ g.M.PagedMemory.page_len l.fn.mem;
 }

@@ -8,8 +8,8 @@ use Rattle.nv_driver.proofs.entry_data.receive.Goals as goal
 
 pub returns : goal.returns
 returns g c =
-    let mem = g.M.HostMemory.bytes c.args.mem.now in
-    let size = g.M.HostMemory.page_len c.args.mem.now in
+    let mem = g.M.PagedMemory.bytes c.args.mem.now in
+    let size = g.M.PagedMemory.page_len c.args.mem.now in
     let buffer = c.args.buffer.now in
     let n = length c.args.out.now in
     padded_read mem _ _ _ c.received_length-len.result c.min-count.result n _ _

@@ -75,8 +75,8 @@ returns-clause-exchanged g c =
     let u = (took begun c.from.ensures w.state w.banks w.bus t.turn t.bus t.len t.page).0 in
     let n = length c.args.out.now in
     let status = c.next_completion-completion.result.status in
-    let after = g.M.HostMemory.bytes c.turn.new.mem in
-    let size = g.M.HostMemory.page_len c.turn.new.mem in
+    let after = g.M.PagedMemory.bytes c.turn.new.mem in
+    let size = g.M.PagedMemory.page_len c.turn.new.mem in
     let buffer = c.new-place.result.buffer in
     let e = c.next_completion-completion.ensures in
     exchanged begun u e.value e.pair c.tell.ensures.told n (c.receive.ensures

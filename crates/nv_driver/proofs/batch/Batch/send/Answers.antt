@@ -61,14 +61,14 @@ submit-next-requires g c =
     ∙ ap (λ (q : Geometry). data_count q c.bytes-len.result) same
     ∙ ap (data_count g.run.geometry) c.bytes-len.ensures) in
     let place = place_of_set g.run.geometry c.loop-number.pair.pages (all_pages o)
-    (g.M.HostMemory.bytes c.loop-number.host.mem) (g.M.HostMemory.page_len c.loop-number.host.mem) len
+    (g.M.PagedMemory.bytes c.loop-number.host.mem) (g.M.PagedMemory.page_len c.loop-number.host.mem) len
     u.begun.geometry u.page_size (still_inside u) e.taken.own e.taken.distinct many in
     let slot = free_slot u (omega arith) in
     record {
       few = omega (arith, few);
       sent = search rules;
-      place = subst (λ p. IsPlaceFor (g.M.HostMemory.bytes c.loop-number.host.mem)
-          (g.M.HostMemory.page_len c.loop-number.host.mem) p len)
+      place = subst (λ p. IsPlaceFor (g.M.PagedMemory.bytes c.loop-number.host.mem)
+          (g.M.PagedMemory.page_len c.loop-number.host.mem) p len)
           (sym (c.place-place.ensures.place ∙ ap (λ (q : Geometry). place_in q (all_pages o)) same)) place;
       slot = record { serial = slot.serial; ring = slot.ring; free = slot.free };
     }
@@ -95,15 +95,15 @@ loop-number-preserved g c =
     (c.submit-next.ensures (Ok k)) in
     let one : IsSubmittedAt g.run.geometry.page_size (place_in g.run.geometry (all_pages o)) (request_of k)
     (record l { pages = without l.pages (all_pages o) }) c.submit-next.new.pair
-    (g.M.HostMemory.bytes c.loop-number.host.mem) (g.M.HostMemory.bytes c.submit-next.new.mem)
-    (g.M.HostMemory.page_len c.submit-next.new.mem) c.submit-next.result =
+    (g.M.PagedMemory.bytes c.loop-number.host.mem) (g.M.PagedMemory.bytes c.submit-next.new.mem)
+    (g.M.PagedMemory.page_len c.submit-next.new.mem) c.submit-next.result =
     subst (λ s. IsSubmittedAt g.run.geometry.page_size (place_in g.run.geometry (all_pages o)) (request_of k)
     (record l { pages = s }) c.submit-next.new.pair
-    (g.M.HostMemory.bytes c.loop-number.host.mem) (g.M.HostMemory.bytes c.submit-next.new.mem)
-    (g.M.HostMemory.page_len c.submit-next.new.mem) c.submit-next.result) e.set next in
+    (g.M.PagedMemory.bytes c.loop-number.host.mem) (g.M.PagedMemory.bytes c.submit-next.new.mem)
+    (g.M.PagedMemory.page_len c.submit-next.new.mem) c.submit-next.result) e.set next in
     let sub : IsSentIn g.run.geometry k o l c.submit-next.new.pair
-    (g.M.HostMemory.bytes c.loop-number.host.mem) (g.M.HostMemory.bytes c.submit-next.new.mem)
-    (g.M.HostMemory.page_len c.submit-next.new.mem) c.submit-next.result = record {
+    (g.M.PagedMemory.bytes c.loop-number.host.mem) (g.M.PagedMemory.bytes c.submit-next.new.mem)
+    (g.M.PagedMemory.page_len c.submit-next.new.mem) c.submit-next.result = record {
       many = e.count ∙ ap (λ m. m + 2) (n.pages ∙ ap (λ (q : Geometry). data_count q c.bytes-len.result) same
           ∙ ap (data_count g.run.geometry) (c.bytes-len.ensures ∙ ap length_of c.transfer.ensures));
       seven = e.seven;

@@ -6,7 +6,7 @@ use Rattle.nv_driver.proofs.batch.Batch.turn.Given as goal
 abbrev pub invariant-loop : goal.invariant-loop
 invariant-loop g l = record {
   under_way : IsUnderWay g.run l.self.sent (l.fn.self.collected + l.posted) l.self (g.B.Bus.meaning l.bus) l.pair
-      (g.M.HostMemory.page_len l.host.mem) (g.M.HostMemory.bytes l.host.mem) l.host.taken;
+      (g.M.PagedMemory.page_len l.host.mem) (g.M.PagedMemory.bytes l.host.mem) l.host.taken;
   answers : HasAnswers g.run l.self.collected l.answers;
   batch : l.self ≡ record l.fn.self { collected = l.self.collected; told = l.self.told };
   collected : l.self.collected ≡ l.fn.self.collected + l.counter;
