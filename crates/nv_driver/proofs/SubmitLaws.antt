@@ -18,6 +18,7 @@ use Rattle.nv_queue.specs.Rings.{SubmitNumbers}
 use Rattle.nv_driver.proofs.RegionLaws.{Stays, stays_apart, stays_beside, ChangesOnlyAt, buffer_data, completion_same}
 use Rattle.nv_driver.proofs.RegionLaws.{holds_sent_on, submission_keeps, submission_same}
 use Rattle.nv_driver.proofs.PointerLaws.{stays_in}
+use Rattle.nv_driver.proofs.SubmittingLaws.{others_kept}
 use Rattle.nv_driver.proofs.BatchLaws.{answers-append, length-answers}
 
 -- the memory after a submission
@@ -92,9 +93,13 @@ module _ (t : Setting) (s : State) (x : Sent) (w : World) (ready : List ℕ) (k 
   only_ring : ChangesOnly t.sq (64 * t.depth) ready next.mem
   only_ring from n apart = submission_keeps ready ring (entry x) from n some_slots inside apart
 
+  -- preparing the request changes only its pages
+  others : (from n : ℕ) → AreOutside t.page_size x from n → bytes_at ready from n ≡ bytes_at w.mem from n
+  others = others_kept t.page_size x w.mem ready k.placed.page_size may.buffer may.list may.distinct prepared
+
   -- the submission changes only the request's pages and the submission ring
   only : ChangesOnlyAt t x t.sq (64 * t.depth) w.mem next.mem
-  only from n outside apart = only_ring from n apart ∙ prepared.others from n outside
+  only from n outside apart = only_ring from n apart ∙ others from n outside
 
   -- the request's pages belong to it
   own : IsOwn t (length w.mem) x
@@ -133,7 +138,7 @@ module _ (t : Setting) (s : State) (x : Sent) (w : World) (ready : List ℕ) (k 
       let low = slot_inside t n some_slots in
       written.others (slot t n) low
       (λ e. slots_differ t n (length w.sent) below (omega (arith, c.few, c.collected)) (sym e))
-      ∙ submission_same t w.mem ready (slot t n) (prepared.others t.sq (64 * t.depth) may.submissions) low
+      ∙ submission_same t w.mem ready (slot t n) (others t.sq (64 * t.depth) may.submissions) low
       ∙ k.waiting n d from below)
       written.here
 

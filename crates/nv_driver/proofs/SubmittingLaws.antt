@@ -1,16 +1,22 @@
 -- The pages of a command, as `build` requires them.
 use Rattle.std.proofs.Common.{◌≡◌, ◌∙◌, ℕ, ◌^◌, ◌<◌, List, OnOk, Ok, Result, ap, ◌+◌, ◌*◌, ◌≤◌, arith, get_or, inl}
-use Rattle.std.proofs.Common.{length, subst, sym}
+use Rattle.std.proofs.Common.{◌-◌, ◌/◌, ◌%◌, inr, length, refl, subst, sym}
+use Rattle.std.proofs.lemmas.Grind.{div_ceil_times}
+use Rattle.std.specs.Int.{div_ceil}
 use Rattle.nv_host.specs.PageSets.{Pages}
 use Rattle.nv_host.specs.Pages.{IsPageSize}
 use Rattle.nv_queue.specs.Rings.{CollectNumbers, SubmitNumbers}
-use Rattle.nv_prp.specs.Buffer.{IsBuffer, KeepsOutside}
+use Rattle.nv_prp.specs.Buffer.{IsBuffer, IsListPlace, KeepsOutsideList}
 use Rattle.nv_prp.proofs.BufferLaws.{rest_distinct}
 use Rattle.nv_prp.specs.Place.{written_at}
+use Rattle.nv_prp.specs.Transfer.{data_pages, most_bytes, room}
+use Rattle.nv_prp.proofs.PageLaws.{at_most_257}
+use Rattle.nv_prp.proofs.WriteLaws.{lies_at, pages_kept}
 use Rattle.nv_driver.proofs.Words.{AreDistinct, AreOutside, Asked, Geometry, IsPrepared, IsSubmittedAt, KeepsList}
 use Rattle.nv_driver.proofs.Words.{QueuePairFields, Request, RequestPlace, Sent, Sqe, StaysNamed, Transfer, bytes_at}
 use Rattle.nv_driver.proofs.Words.{bytes_from_host, data_length, length-written_at, mul-le-mul_right, own_pages}
-use Rattle.nv_driver.proofs.Words.{page_size_bounds, places, pointed, sent_from}
+use Rattle.nv_driver.proofs.Words.{cases_lt, mod_below, page_size_bounds, places, pointed, sent_from}
+use Rattle.nv_driver.specs.Schedule.{ChangesList}
 use Rattle.nv_driver.specs.inner.Submitting.{pages_at}
 use Rattle.nv_driver.proofs.DataLaws.{ArePlaces, sent_back}
 use Rattle.nv_driver.proofs.RegionLaws.{written_list, buffer_data, data_keeps}
@@ -26,15 +32,66 @@ buffer_later same page is = rw page (record {
   inside = λ i d h. let has = is.inside i d h in omega (arith, has, same);
 })
 
+-- a transfer in more than two pages has data
+pub some_of : (size at len : ℕ) → 0 < size → 2 < div_ceil (at % size + len) size → 0 < len
+some_of size at len some many =
+    elim (cases_lt 0 len) [
+      | inl l ↦ l
+      | inr g ↦
+          let whole = div_ceil_times (at % size + len) size some in
+          absurd (omega (arith, mul-le-mul_right size many, whole, mod_below at size some, g))
+    ]
+
+-- a list that is built at its place is the command's
+pub changes_list : (page_size : ℕ) (x : Sent) (old new : List ℕ) → 0 < page_size
+    → (data_pages (pointed page_size x new) ≤ 2 → new ≡ old)
+    → (0 < data_length x → 2 < data_pages (pointed page_size x new) → x.prp2
+    ≡ x.first * page_size + x.list_offset)
+    → (0 < data_length x → 2 < data_pages (pointed page_size x new)
+    → KeepsOutsideList (room (pointed page_size x new)) x.prp2
+    (x.second * page_size) (data_pages (pointed page_size x new)) old new)
+    → ChangesList page_size x old new
+changes_list page_size x old new some no_list at kept = (
+  no_list,
+  λ many.
+      let data_too = some_of page_size x.prp1 (data_length x) some many in
+      subst (λ start. KeepsOutsideList ((page_size - start % page_size) / 8) start (x.second * page_size)
+      (data_pages (pointed page_size x new)) old new) (at data_too many) (kept data_too many),
+)
+
+-- bytes outside the pages of a prepared command don't change
+pub others_kept : (page_size : ℕ) (x : Sent) (old new : List ℕ) → IsPageSize page_size
+    → IsBuffer old page_size x.pages x.offset (data_length x)
+    → IsListPlace old page_size x.first x.second x.list_offset → AreDistinct (own_pages x)
+    → IsPrepared page_size x old new → (from n : ℕ) → AreOutside page_size x from n
+    → bytes_at new from n ≡ bytes_at old from n
+others_kept page_size x old new is buffer place distinct prepared from n outside =
+    let some : 0 < page_size = omega (arith, page_size_bounds page_size is) in
+    let t = pointed page_size x prepared.listed in
+    let start = x.first * page_size + x.list_offset in
+    let space = (page_size - start % page_size) / 8 in
+    ap (λ q. bytes_at q from n) prepared.written
+    ∙ data_keeps page_size x prepared.listed x.request.sends from n some buffer.enough outside
+    ∙ elim (cases_lt 2 (data_pages t)) [
+      | inl many ↦
+          pages_kept page_size space start x.first x.second (data_pages t) old prepared.listed
+          (lies_at old page_size x.first x.second x.list_offset start space is place
+          (distinct 0 1 0 (omega arith) (omega arith)) refl refl)
+          (at_most_257 (x.prp1 % page_size) (data_length x) page_size is (mod_below x.prp1 page_size some)
+          prepared.few)
+          (prepared.list.1 many) from n (outside 0 0 (omega arith)) (outside 1 0 (omega arith))
+      | inr few ↦ ap (λ q. bytes_at q from n) (prepared.list.0 few)
+    ]
+
 -- after `build` and after the data of the host was written, the command is prepared
 pub prepared_by : (page_size : ℕ) (x : Sent) (old built new : List ℕ) → IsPageSize page_size
     → length x.request.sends ≡ bytes_from_host x.request.transfer
     → IsBuffer old page_size x.pages x.offset (data_length x) → AreDistinct (own_pages x)
-    → x.prp1 < 2 ^ 64 → x.prp2 < 2 ^ 64 → StaysNamed page_size x built
-    → KeepsOutside page_size x.first x.second old built → length built ≡ length old
+    → data_length x ≤ most_bytes → x.prp1 < 2 ^ 64 → x.prp2 < 2 ^ 64 → StaysNamed page_size x built
+    → ChangesList page_size x old built → length built ≡ length old
     → new ≡ written_at built (places page_size x) x.request.sends
     → IsPrepared page_size x old new
-prepared_by page_size x old built new is sends buffer distinct first second stays others same put =
+prepared_by page_size x old built new is sends buffer distinct few first second stays list same put =
     let some : 0 < page_size = omega (arith, page_size_bounds page_size is) in
     let m = x.request.transfer in
     let at = places page_size x in
@@ -44,10 +101,10 @@ prepared_by page_size x old built new is sends buffer distinct first second stay
     let theirs = subst (λ n. ArePlaces m n at) (sym same)
     (buffer_data page_size x old some buffer (rest_distinct x.first x.second x.pages distinct)) in
     record {
-      others = λ from n outside.
-          ap (λ q. bytes_at q from n) put
-          ∙ data_keeps page_size x built xs from n some buffer.enough outside
-          ∙ others from n (outside 0 0 (omega arith)) (outside 1 0 (omega arith));
+      listed = built;
+      list = list;
+      written = put;
+      few = few;
       len = size ∙ same;
       prp1 = first;
       prp2 = second;

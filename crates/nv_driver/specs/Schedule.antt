@@ -1,6 +1,6 @@
 -- Schedules of one controller's commands: submit, ring the tail doorbell, turn, collect, ring the
 -- head doorbell, in any order.
-use Rattle.std.specs.Prelude.{◌≡◌, ◌-◌, ◌≢◌, ◌⊎◌, ◌↔◌, ℕ, ◌+◌, ◌*◌, ◌<◌, ◌≤◌, ◌^◌, ◌==◌, ◌&&◌, Bool}
+use Rattle.std.specs.Prelude.{◌≡◌, ◌≢◌, ◌⊎◌, ◌↔◌, ℕ, ◌+◌, ◌-◌, ◌*◌, ◌/◌, ◌%◌, ◌<◌, ◌≤◌, ◌^◌, ◌==◌, ◌&&◌, Bool}
 use Rattle.std.specs.Prelude.{false, All, List, [], ◌∷◌, ◌++◌, if◌then◌else◌, length, map, min, not}
 use Rattle.std.specs.Prelude.{slice_index_or, take, Ok, Err}
 use Rattle.nv_host.specs.Bytes.{bytes_at}
@@ -8,9 +8,9 @@ use Rattle.nv_host.specs.Pages.{IsPageSize}
 use Rattle.nv_layout.specs.declared.cqe.Cqe.{Cqe}
 use Rattle.nv_layout.specs.declared.sqe.Sqe.{Sqe}
 use Rattle.nv_layout.specs.declared.cqe.Status.{Status}
-use Rattle.nv_prp.specs.Buffer.{IsApart, IsBuffer, IsListPlace, IsOutside, StaysFor, buffer_places}
-use Rattle.nv_prp.specs.Place.{AreDistinct, read_at}
-use Rattle.nv_prp.specs.Transfer.{PrpTransfer, transfer}
+use Rattle.nv_prp.specs.Buffer.{IsApart, IsBuffer, IsListPlace, IsOutside, KeepsOutsideList, StaysFor, buffer_places}
+use Rattle.nv_prp.specs.Place.{AreDistinct, read_at, written_at}
+use Rattle.nv_prp.specs.Transfer.{PrpTransfer, data_pages, most_bytes, transfer}
 use Rattle.nv_queue.specs.Numbers.{IsDepth, kept_number, slot_of}
 use Rattle.nv_queue.specs.Rings.{CollectNumbers, SubmitNumbers}
 use Rattle.nv_queue.specs.Slots.{HoldsTags, IsAwaitedThere, awaited_completion, completion_at}
@@ -214,10 +214,22 @@ abbrev pub StaysNamed : ℕ → Sent → List ℕ → Type 0
 StaysNamed page_size x mem =
     0 < data_length x → StaysFor (pointed page_size x mem) x.pages x.offset x.first x.second
 
--- the command's pages are prepared: they hold what the host sends, and its data pointer describes them
+-- only bytes of the command's list change, and nothing if its data pointer has no list
+abbrev pub ChangesList : ℕ → Sent → List ℕ → List ℕ → Type 0
+ChangesList page_size x old new =
+    let pages = data_pages (pointed page_size x new) in
+    let start = x.first * page_size + x.list_offset in
+    (pages ≤ 2 → new ≡ old)
+    × (2 < pages → KeepsOutsideList ((page_size - start % page_size) / 8) start (x.second * page_size)
+    pages old new)
+
+-- the command's pages are prepared: its list and then what the host sends were written, and its data pointer
+-- describes them
 pub record IsPrepared (page_size : ℕ) (x : Sent) (old new : List ℕ) : Type 0 where
-  pub others : (from n : ℕ) → AreOutside page_size x from n → bytes_at new from n
-      ≡ bytes_at old from n
+  pub listed : List ℕ
+  pub list : ChangesList page_size x old listed
+  pub written : new ≡ written_at listed (places page_size x) x.request.sends
+  pub few : data_length x ≤ most_bytes
   pub len : length new ≡ length old
   pub prp1 : x.prp1 < 2 ^ 64
   pub prp2 : x.prp2 < 2 ^ 64

@@ -2,9 +2,9 @@
 //! submitted.
 
 ghost use Rattle.std.specs.Prelude.{◌≡◌, ◌+◌, ◌*◌, ◌<◌, ◌≤◌, ◌^◌, length};
-ghost use Rattle.nv_prp.specs.Buffer.{IsBuffer, KeepsOutside, StaysFor, buffer_places};
+ghost use Rattle.nv_prp.specs.Buffer.{IsBuffer, KeepsOutsideList, StaysFor, buffer_places};
 ghost use Rattle.nv_prp.specs.Place.{written_at};
-ghost use Rattle.nv_prp.specs.Transfer.{data_pages, transfer};
+ghost use Rattle.nv_prp.specs.Transfer.{data_pages, room, transfer};
 ghost use Rattle.nv_command.specs.Command.{bytes_from_host};
 ghost use Rattle.nv_bus.specs.Call.{HasRoom, length_of};
 ghost use Rattle.nv_model.specs.Conditions.{greatest_limit};
@@ -171,7 +171,8 @@ impl<'a> DataPlace<'a> {
 }
 
 /// Returns the data pointer, PRP1 and PRP2, of `len` bytes at a place, or 0 and 0 if there are
-/// none. Writes its list if it has one. Section "Physical Region Page Entry and List".
+/// none. Writes its list if it has one, and nothing else. Section "Physical Region Page Entry and
+/// List".
 pub(crate) fn point_to<M: HostMemory>(mem: &mut M, place: &DataPlace, len: u32) -> (u64, u64)
     requires limit { len ≤ greatest_limit }
     requires place { IsPlaceFor (M.bytes mem.old) (M.page_len mem.old) (place_of place.now) len }
@@ -182,8 +183,12 @@ pub(crate) fn point_to<M: HostMemory>(mem: &mut M, place: &DataPlace, len: u32) 
     ensures list { 0 < len → 2 < data_pages (transfer (M.page_len mem.new)
         (M.bytes mem.new) result.0 result.1 len) → result.1
         ≡ (place_of place.now).first * M.page_len mem.new + (place_of place.now).list_offset }
-    ensures others { KeepsOutside (M.page_len mem.old) (place_of place.now).first
-        (place_of place.now).second (M.bytes mem.old) (M.bytes mem.new) }
+    ensures no_list { let t = transfer (M.page_len mem.new) (M.bytes mem.new) result.0 result.1 len in
+        data_pages t ≤ 2 → M.bytes mem.new ≡ M.bytes mem.old }
+    ensures only_list { let t = transfer (M.page_len mem.new) (M.bytes mem.new) result.0 result.1 len in
+        0 < len → 2 < data_pages t → KeepsOutsideList (room t) result.1
+        ((place_of place.now).second * M.page_len mem.new) (data_pages t)
+        (M.bytes mem.old) (M.bytes mem.new) }
     ensures len { length (M.bytes mem.new) ≡ length (M.bytes mem.old) }
     ensures page { M.page_len mem.new ≡ M.page_len mem.old }
 {

@@ -1,8 +1,8 @@
-use Rattle.std.proofs.Common.{rules, ◌≡◌, ◌∙◌, refl}
+use Rattle.std.proofs.Common.{rules, ◌≡◌, ◌∙◌, ◌<◌, arith, refl}
 use Rattle.nv_prp.specs.Place.{written_at}
-use Rattle.nv_driver.proofs.Words.{places, sent_at}
+use Rattle.nv_driver.proofs.Words.{page_size_bounds, places, sent_at}
 use Rattle.nv_driver.specs.inner.Submitting.{place_of, request_as}
-use Rattle.nv_driver.proofs.SubmittingLaws.{buffer_later, on_ok, pairs_same, prepared_by}
+use Rattle.nv_driver.proofs.SubmittingLaws.{buffer_later, changes_list, on_ok, pairs_same, prepared_by}
 use Rattle.nv_driver.proofs.submitting.submit.Goals as goal
 
 pub write_sent-requires-clause-buffer : goal.write_sent-requires-clause-buffer
@@ -25,12 +25,15 @@ returns g c asked =
     let len = c.bytes-len.ensures in
     let put : ready ≡ written_at built (places size x) q.sends = rw b.page at c.write_sent.ensures.bytes in
     let ok = c.unwrap-tail.ensures in
+    let some : 0 < size = omega (arith, page_size_bounds size place.is_size) in
     record {
       prp1 = pointer.0;
       prp2 = pointer.1;
       ready = ready;
       prepared = prepared_by size x before built ready place.is_size c.requires.sent place.buffer place.distinct
-          (search rules) (search rules) (rw (b.page, len) at b.stays) b.others b.len put;
+          c.requires.few (search rules) (search rules) (rw (b.page, len) at b.stays)
+          (changes_list size x before built some (rw (b.page, len) at b.no_list) (rw (b.page, len) at b.list)
+          (rw (b.page, len) at b.only_list)) b.len put;
       list = rw (b.page, len) at b.list;
       pointer = λ none. b.none (len ∙ none);
       mem = on_ok c.push.result c.unwrap-tail.result ok c.push.ensures.bytes;
