@@ -1,0 +1,142 @@
+"""What the tests of nvme-describe share: random subsystem files, and files as values, with every default filled in."""
+
+import json
+import re
+
+# The keys of each table with their defaults. Those that are required have none.
+DEFAULTS = {
+    'top': {'mc': 0},
+    'format': {'ms': 0, 'rp': 0},
+    'controller': {'vid': 0, 'ssvid': 0, 'rab': 0, 'ieee': 0, 'mdts': 5, 'elpe': 63, 'wctemp': 343, 'cctemp': 353,
+                   'vwc': 0, 'crypto_erase': False},
+    'feature': {'default': 0, 'saveable': False, 'changeable': True},
+    'smart': {key: 0 for key in (
+        'critical_warning', 'temperature', 'avail_spare', 'spare_thresh', 'percent_used', 'data_units_read',
+        'data_units_written', 'host_read_commands', 'host_write_commands', 'controller_busy_time', 'power_cycles',
+        'power_on_hours', 'unsafe_shutdowns', 'media_errors', 'warning_temp_time', 'critical_comp_time')},
+    'namespace': {'extended': False, 'shared': False, 'controllers': []},
+}
+MASKS = {1: 0xffffff07, 2: 0xe0, 5: 0x1ffff, 6: 1, 8: 0xffff, 10: 1, 11: 0x7fff}
+GREATEST = 2 ** 63 - 1
+
+
+def tables_of(text):
+    """Returns the tables of a subsystem file as pairs of a name and a dictionary, in the order of the file. The file
+    has a key in each line, with a value that JSON has too."""
+    tables = [('top', {})]
+    for line in text.splitlines():
+        heading = re.fullmatch(r'\[\[?(?:controller\.)?(\w+)\]\]?', line)
+        if heading:
+            tables.append((heading[1], {}))
+        elif line and not line.startswith('#'):
+            key, value = line.split(' = ', 1)
+            tables[-1][1][key] = json.loads(value)
+    return tables
+
+
+def filled(name, keys, wctemp):
+    """Returns the keys of a table with its defaults."""
+    if name == 'feature' and keys['fid'] == 4:
+        keys = {'over': [wctemp] + 8 * [65535], 'under': 9 * [0], **keys}
+        return {**DEFAULTS[name], **keys, 'default': 0}
+    if name == 'smart':
+        keys = {**keys, 'sensors': (keys.get('sensors', []) + 8 * [0])[:8]}
+    return {**DEFAULTS[name], **keys}
+
+
+def meaning(text):
+    """Returns what a subsystem file says: the keys of each table, by the names of tables. It leaves out what has no
+    effect: the order of namespaces and of their controllers, version 2 without thresholds, a cache that isn't there,
+    and Error Recovery of a controller without a namespace, which no command reports."""
+    said, place, wctemp = {}, -1, 343
+    for name, keys in tables_of(text):
+        if name == 'controller':
+            place, wctemp = place + 1, keys.get('wctemp', 343)
+            said.update({('feature', place, fid): filled('feature', {'fid': fid}, wctemp) for fid in MASKS})
+            said['smart', place] = filled('smart', {}, wctemp)
+        number = {'feature': (place, keys.get('fid')), 'namespace': (keys.get('nsid'),), 'top': (),
+                  'format': (sum(one[0] == 'format' for one in said),)}.get(name, (place,))
+        said[(name, *number)] = filled(name, keys, wctemp)
+    for key, keys in said.items():
+        if key[0] == 'namespace':
+            keys['controllers'] = sorted(keys['controllers'])
+    said['top',].pop('version')
+    having = {cntlid for key, keys in said.items() if key[0] == 'namespace' for cntlid in keys['controllers']}
+    for at in range(place + 1):
+        controller = said['controller', at]
+        if not controller['vwc'] & 1:
+            del said['feature', at, 6]
+        if controller['cntlid'] not in having:
+            del said['feature', at, 5]
+    return said
+
+
+def text_of(random, most):
+    """Returns a random text of printable ASCII that doesn't end with a space."""
+    alphabet = [chr(byte) for byte in range(0x20, 0x7f)] if random.random() < 0.3 else list('abcXYZ0189-. ')
+    return ''.join(random.choices(alphabet, k=random.randint(0, most - 1))) + random.choice('aZ9"\\~')
+
+
+def line(key, value):
+    return f'{key} = {json.dumps(value)}\n'
+
+
+def some(random, **keys):
+    """Returns lines of some of these keys, in a random order."""
+    chosen = random.sample(sorted(keys.items()), random.randint(0, len(keys)))
+    return ''.join(line(key, value) for key, value in chosen)
+
+
+def numbers(random, most, count):
+    return [random.choice([0, most, random.randint(0, most)]) for _ in range(count)]
+
+
+def random_feature(random, fid):
+    text = '\n[[controller.feature]]\n' + line('fid', fid)
+    if fid == 4:
+        return text + some(random, over=numbers(random, 65535, 9), under=numbers(random, 65535, 9),
+                           saveable=random.random() < 0.5, changeable=random.random() < 0.5)
+    return text + some(random, default=random.getrandbits(32) & MASKS[fid], changeable=random.random() < 0.5,
+                       saveable=fid != 5 and random.random() < 0.5)
+
+
+def random_controller(random, cntlid, version):
+    text = '\n[[controller]]\n' + line('cntlid', cntlid)
+    text += ''.join(line(key, text_of(random, most)) for key, most in (('sn', 20), ('mn', 40), ('fr', 8)))
+    text += some(random, vid=random.getrandbits(16), ssvid=random.getrandbits(16), rab=random.getrandbits(8),
+                 ieee=random.getrandbits(24), mdts=random.randint(2, 8), elpe=random.getrandbits(8),
+                 wctemp=random.getrandbits(16), cctemp=random.getrandbits(16), vwc=random.randint(0, 7),
+                 crypto_erase=random.random() < 0.5)
+    fids = sorted({*MASKS, *[4] * (version == 2)})
+    for fid in random.sample(fids, random.randint(0, len(fids))):
+        text += random_feature(random, fid)
+    if random.random() < 0.7:
+        keys = {key: random.choice([0, 1, 255, random.getrandbits(8)]) for key in DEFAULTS['smart']}
+        keys.update({key: random.choice([GREATEST, random.getrandbits(40)]) for key in list(keys)[5:14]})
+        keys['sensors'] = numbers(random, 65535, random.randint(0, 8))
+        text += '\n[controller.smart]\n' + some(random, **keys)
+    return text
+
+
+def random_file(random, controllers, namespaces):
+    """Returns a random valid subsystem file with up to as many controllers and namespaces."""
+    version, mc = random.choice([1, 2]), random.randint(0, 3)
+    formats = [(random.randint(9, 16), random.choice([0, 8, 65535])) for _ in range(random.randint(1, 16))]
+    identifiers = random.sample(range(65520), random.randint(1, controllers))
+    nn = random.randint(1, namespaces)
+    tables, used = [], 0
+    for nsid in random.sample(range(1, nn + 1), random.choice([0, nn, random.randint(0, nn)])):
+        place = random.randrange(len(formats))
+        size = random.choice([1 << formats[place][0], random.randint(1 << formats[place][0], 2 ** 44)])
+        is_shared = random.random() < 0.5
+        having = random.sample(identifiers, random.randint(0, len(identifiers) if is_shared else 1))
+        used += size
+        tables.append('\n[[namespace]]\n' + line('nsid', nsid) + line('bytes', size) + line('format', place)
+                      + line('extended', mc & 1 == 1 and formats[place][1] > 0 and random.random() < 0.5)
+                      + line('shared', is_shared) + line('controllers', having))
+    text = line('version', version) + line('nn', nn) + line('tnvmcap', random.choice([used, used + 12345, GREATEST]))
+    text += line('mc', mc) + line('subnqn', text_of(random, random.choice([5, 223])))
+    for power, metadata in formats:
+        text += '\n[[format]]\n' + line('lbads', power) + some(random, ms=metadata, rp=random.randint(0, 3)) \
+            if metadata == 0 else '\n[[format]]\n' + line('lbads', power) + line('ms', metadata)
+    return text + ''.join(random_controller(random, cntlid, version) for cntlid in identifiers) + ''.join(tables)
