@@ -74,7 +74,11 @@ stage:
 	    ! $(call is_current,nvme_$$name) || \
 	        install -m 755 crates/nvme_$$name/out/nvme_$$name $(STAGE)/bin/nvme-$$name || exit; \
 	done
-	install -D -m 644 docs/nvme-script.bash $(STAGE)/share/bash-completion/completions/nvme-script
+	install -m 755 nvme-describe $(STAGE)/bin/nvme-describe
+	install -d $(STAGE)/share/bash-completion/completions
+	for name in script describe; do \
+	    install -m 644 docs/nvme-$$name.bash $(STAGE)/share/bash-completion/completions/nvme-$$name || exit; \
+	done
 	install -d $(STAGE)/share/man/man1
 	for page in docs/*.1; do $(with_version) $$page > $(STAGE)/share/man/man1/$${page#docs/} || exit; done
 	@$(MAKE) --no-print-directory stage-pages
@@ -83,7 +87,7 @@ stage:
 	fi
 
 # (a link to what isn't installed becomes its text, and each page says what its names of files mean here)
-note = Here, `./nvme-script` is `nvme-script` and `./nvme-model` is `nvme-model`, both built. Files of `crates`, `client`, \
+note = Here, `./nvme-script` is `nvme-script`, and so on, all built. Files of `crates`, `client`, \
     `library`, `tests` and `tools` are in the repository.
 .PHONY: stage-pages
 stage-pages:

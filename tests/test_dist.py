@@ -25,7 +25,8 @@ PROGRAMS = {'nvme_script': 'bin/nvme-script', 'nvme_trace': 'bin/nvme-trace', 'n
 LIBRARIES = 'usr/lib/x86_64-linux-gnu'
 # What each package must have.
 WANTED = {
-    'nvme-script': ['usr/bin/nvme-script', 'usr/bin/nvme-trace', 'usr/bin/nvme-model', 'usr/lib/nvme-model/nvme_device',
+    'nvme-script': ['usr/bin/nvme-script', 'usr/bin/nvme-trace', 'usr/bin/nvme-model', 'usr/bin/nvme-describe',
+                    'usr/lib/nvme-model/nvme_device', 'usr/share/man/man1/nvme-describe.1.gz',
                     'usr/lib/nvme-model/library.so', 'usr/lib/nvme-model/qemu', 'usr/share/man/man1/nvme-script.1.gz',
                     'usr/share/man/man1/nvme-trace.1.gz', 'usr/share/man/man1/nvme-model.1.gz',
                     'usr/share/bash-completion/completions/nvme-script', 'usr/share/doc/nvme-script/GUIDE.md',
