@@ -1,12 +1,12 @@
 -- The first check that fails, of checks one after the other.
 use Rattle.std.proofs.Common.{◌≡◌, ◌∙◌, inl, inr, Bool, true, false, if◌then◌else◌, List, [], ◌∷◌, ◌++◌, Option}
-use Rattle.std.proofs.Common.{Some, None, Result, Ok, Err, refl, sym, ap}
+use Rattle.std.proofs.Common.{Some, None, IfSome, Result, Ok, Err, refl, subst, sym, ap}
 use Rattle.std.specs.Option.{option_map_or}
 use Rattle.nv_file.specs.declared.error.SubsystemError.{SubsystemError}
 use Rattle.nv_file.specs.declared.error.SubsystemError.TheVariants.{Memory}
 use Rattle.nv_file.specs.Check.{Check, check, checked, first_fault}
 use Rattle.nv_layout.specs.UnlessMemory.{IsUnlessMemory}
-use Rattle.nv_file.specs.inner.Reading.{IsCheckedUnlessMemory}
+use Rattle.nv_file.specs.inner.Reading.{IsCheckedUnlessMemory, IsToldFirst}
 
 -- the first of two faults, or else the second
 abbrev pub or_else : Option SubsystemError → Option SubsystemError → Option SubsystemError
@@ -46,6 +46,21 @@ pub fails_first : (cs ds : List Check) (e : SubsystemError) → first_fault cs �
 fails_first cs ds e fails = faults_append cs ds ∙ ap (λ f. or_else f (first_fault ds)) fails
 
 pub ruleset faults = (faults_append, faults_none, fault_of)
+
+-- if a value was returned, no check failed whose fault is returned regardless of memory
+none_by : {X : Type 0} (o : Option SubsystemError) (r : Result X SubsystemError) (x : X) → r ≡ Ok x
+    → IfSome o (λ e. r ≡ Err e) → o ≡ None
+none_by None r x is told = refl
+none_by (Some e) r x is told = absurd (cc)
+
+pub none_told : {X : Type 0} (checks : List Check) (r : Result X SubsystemError) (x : X) → r ≡ Ok x
+    → IsToldFirst checks r → first_fault checks ≡ None
+none_told checks r x is told = none_by (first_fault checks) r x is told
+
+-- nothing is told if no check fails
+pub told_none : {X : Type 0} (checks : List Check) (r : Result X SubsystemError) → first_fault checks ≡ None
+    → IsToldFirst checks r
+told_none checks r none = subst (λ o. IfSome o (λ e. r ≡ Err e)) (sym none) tt
 
 -- ---- the same as a result
 

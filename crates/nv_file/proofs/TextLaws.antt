@@ -1,5 +1,5 @@
 -- Bytes that aren't UTF-8, and texts of white space and comments alone.
-use Rattle.std.proofs.Common.{◌≡◌, ℕ, List, Bool, true, false, Some, Err}
+use Rattle.std.proofs.Common.{◌≡◌, ◌∙◌, ℕ, List, Bool, true, false, [], ◌++◌, Some, Err, ap, append_assoc, append-nil, sym}
 use Rattle.std.proofs.lemmas.Str.{IsUtf8-from_is_utf8, is_utf8-from_IsUtf8}
 use Rattle.std.specs.Option.{ok_or}
 use Rattle.std.specs.Str.{IsUtf8, is_utf8}
@@ -25,3 +25,13 @@ no_text bytes false is never = rw is
 pub blank_document : (text : List ℕ) → IsBlank text → parse_document text ≡ Some no_members
 unfolding parse_document lines
 blank_document text blank = rw blank
+
+-- ---- the parts of a fault's text
+
+-- a text about a table has two parts
+pub of_table : (what table : List ℕ) → what ++ (table ++ ([] ++ [])) ≡ what ++ table
+of_table what table = ap (λ x. what ++ x) (append-nil table)
+
+-- a text about a key has four
+pub of_key : (what table dot key : List ℕ) → what ++ (table ++ (dot ++ key)) ≡ what ++ (table ++ dot ++ key)
+of_key what table dot key = ap (λ x. what ++ x) (sym (append_assoc table dot key))

@@ -78,9 +78,9 @@ unfoldable pub defaults_checks : ℕ → Members → List Check
 defaults_checks version m =
     if version == 1 then [] else thresholds key.Over m ++ thresholds key.Under m
 
--- the checks of a feature, with the identifiers of the features before it
-unfoldable pub feature_checks : ℕ → List ℕ → Members → List Check
-feature_checks version before m =
+-- the keys before the lists of thresholds
+abbrev pub first_feature_checks : ℕ → List ℕ → Members → List Check
+first_feature_checks version before m =
     integer table.Feature key.Fid 0 255 m
     ++ in_limits table.Feature key.Fid (is_some (feature.feature_of (fid_of m)))
     ++ in_limits table.Feature key.Fid (not ((version == 1) && (fid_of m == 0x04)))
@@ -90,6 +90,11 @@ feature_checks version before m =
     ++ flag table.Feature key.Saveable m
     ++ in_limits table.Feature key.Saveable (not (is_saveable m && (fid_of m == 0x05)))
     ++ flag table.Feature key.Changeable m
+
+-- the checks of a feature, with the identifiers of the features before it
+unfoldable pub feature_checks : ℕ → List ℕ → Members → List Check
+feature_checks version before m =
+    first_feature_checks version before m
     ++ defaults_checks version m
     ++ no_other table.Feature (feature_keys version) m
 
@@ -141,13 +146,18 @@ counter_keys =
 unfoldable pub counters_checks : Members → List Check
 counters_checks m = optional_integers table.Smart counter_keys 0 greatest_integer m
 
--- the checks of a health log
-unfoldable pub smart_checks : Members → List Check
-smart_checks m =
+-- the keys before the list of sensors
+abbrev pub first_smart_checks : Members → List Check
+first_smart_checks m =
     optional_integers table.Smart byte_keys 0 255 m
     ++ optional_integer table.Smart key.Temperature 0 65535 m
     ++ counters_checks m
     ++ optional_integers table.Smart (key.WarningTempTime ∷ key.CriticalCompTime ∷ []) 0 4294967295 m
+
+-- the checks of a health log
+unfoldable pub smart_checks : Members → List Check
+smart_checks m =
+    first_smart_checks m
     ++ optional_list table.Smart key.Sensors 8 65535 m
     ++ no_other table.Smart (keys_of table.Smart) m
 
@@ -200,12 +210,17 @@ numbers_checks m =
     ++ optional_integers table.Controller (key.Wctemp ∷ key.Cctemp ∷ []) 0 65535 m
     ++ optional_integer table.Controller key.Vwc 0 7 m
 
--- the checks of a controller's identity, with the identifiers of the controllers before it
-unfoldable pub identity_checks : List ℕ → Members → List Check
-identity_checks before m =
+-- the keys up to the first text
+abbrev pub first_identity_checks : List ℕ → Members → List Check
+first_identity_checks before m =
     integer table.Controller key.Cntlid 0 65519 m
     ++ not_repeated table.Controller key.Cntlid before (cntlid_of m)
     ++ text table.Controller key.Sn 20 m
+
+-- the checks of a controller's identity, with the identifiers of the controllers before it
+unfoldable pub identity_checks : List ℕ → Members → List Check
+identity_checks before m =
+    first_identity_checks before m
     ++ text table.Controller key.Mn 40 m
     ++ text table.Controller key.Fr 8 m
     ++ numbers_checks m

@@ -1,4 +1,5 @@
 -- Definitions that only contracts of private functions use.
+pub mod FirstChecks
 pub mod IsFile
 pub mod Reading
 pub mod SectionView

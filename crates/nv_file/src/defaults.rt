@@ -1,12 +1,14 @@
 //! The default values of the features of a file.
 ghost use Rattle.std.specs.Prelude.{◌≡◌, ◌==◌, ◌&&◌, ◌≤◌, ℕ, true, not, All, IfOk, IsSomeAnd, length};
+ghost use Rattle.toml.specs.Data.{as_array};
 ghost use Rattle.toml.specs.View.{table_view};
 ghost use Rattle.nv_layout.specs.Feature.{feature_of, is_value};
 ghost use Rattle.nv_model.specs.Values.{AreDefaults, AreThresholds, are_lists, default_at};
-ghost use Rattle.nv_file.specs.TableChecks.{default_over, defaults_checks, defaults_value, fid_of, nine};
-ghost use Rattle.nv_file.specs.TableChecks.{thresholds, thresholds_at};
-ghost use Rattle.nv_file.specs.KeyChecks.{number_at};
-ghost use Rattle.nv_file.specs.inner.Reading.{IsCheckedUnlessMemory};
+ghost use Rattle.nv_file.specs.TableChecks.{default_over, defaults_checks, defaults_value, fid_of};
+ghost use Rattle.nv_file.specs.TableChecks.{nine, thresholds, thresholds_at};
+ghost use Rattle.nv_file.specs.inner.FirstChecks.{first_defaults_checks};
+ghost use Rattle.nv_file.specs.KeyChecks.{number_at, of_kind};
+ghost use Rattle.nv_file.specs.inner.Reading.{IsCheckedUnlessMemory, IsToldFirst};
 
 use crate::error::SubsystemError;
 use crate::key::Key;
@@ -47,6 +49,8 @@ fn thresholds_or(
     requires default { AreThresholds default }
     ensures exact { IsCheckedUnlessMemory (λ n. n) (thresholds key (table_view table.now))
         (thresholds_at key default (table_view table.now)) result }
+    ensures told { IsToldFirst
+        (of_kind TableName.Feature key as_array (table_view table.now)) result }
     ensures sound { IfOk result AreThresholds }
 {
     let section = Section {
@@ -86,6 +90,7 @@ pub(crate) fn defaults_of(
     requires in_version { not ((version == 1) && (fid == 0x04)) ≡ true }
     ensures exact { IsCheckedUnlessMemory (λ d. d) (defaults_checks version (table_view table.now))
         (defaults_value wctemp (table_view table.now)) result }
+    ensures told { IsToldFirst (first_defaults_checks version (table_view table.now)) result }
     ensures sound { IfOk result AreDefaults }
     ensures lists { IfOk result (λ d. are_lists d ≡ (fid == 0x04)) }
     ensures values { IfOk result (λ d. IsSomeAnd (feature_of fid)

@@ -1,7 +1,8 @@
 //! Why a subsystem file was refused.
-ghost use Rattle.std.specs.Prelude.{◌≡◌, IfOk, true};
+ghost use Rattle.std.specs.Prelude.{◌≡◌, ◌++◌, IfOk, true};
 ghost use Rattle.nv_file.specs.declared.error.SubsystemError.TheVariants.{Memory};
 ghost use Rattle.nv_file.specs.Check.{check};
+ghost use Rattle.nv_file.specs.FaultText.{fault_text, place_text};
 ghost use Rattle.nv_file.specs.inner.Reading.{IsPassed};
 
 use crate::key::Key;
@@ -40,16 +41,48 @@ impl fmt::Display for SubsystemError {
     ghost output = { λ fault. Some (fault_text fault) };
 
     fn fmt<W: fmt::Write>(&self, f: &mut fmt::Formatter<W>) -> fmt::Result {
-        match self {
-            SubsystemError::NotToml => write!(f, "not TOML"),
-            SubsystemError::Missing { table, key } => write!(f, "missing {table}.{key}"),
-            SubsystemError::Kind { table, key } => write!(f, "wrong kind {table}.{key}"),
-            SubsystemError::Range { table, key } => write!(f, "out of range {table}.{key}"),
-            SubsystemError::Repeated { table, key } => write!(f, "repeated {table}.{key}"),
-            SubsystemError::Unknown { table } => write!(f, "unknown key in {table}"),
-            SubsystemError::Capacity => write!(f, "capacity"),
-            SubsystemError::Attachment => write!(f, "attachment"),
-            SubsystemError::Memory => write!(f, "out of memory"),
+        let (what, table, dot, key) = self.parts();
+        write!(f, "{what}{table}{dot}{key}")
+    }
+}
+
+/// The parts of a text, which follow one another.
+pub type TextParts = (&'static str, &'static str, &'static str, &'static str);
+
+/// Returns the parts of a text about a table, or about nothing.
+#[tactic(auto, using(crate::proofs::TextLaws::of_table))]
+fn about(what: &'static str, table: &'static str) -> TextParts
+    ensures { result.0.now ++ (result.1.now ++ (result.2.now ++ result.3.now))
+        ≡ what.now ++ table.now }
+{
+    (what, table, "", "")
+}
+
+/// Returns the parts of a text about a key of a table.
+#[tactic(auto, using(crate::proofs::TextLaws::of_key))]
+fn about_key(what: &'static str, table: TableName, key: Key) -> TextParts
+    ensures { result.0.now ++ (result.1.now ++ (result.2.now ++ result.3.now))
+        ≡ what.now ++ place_text table key }
+{
+    (what, table.text(), ".", key.text())
+}
+
+impl SubsystemError {
+    /// Returns the parts of the fault's text. Together they are what its `Display` writes.
+    pub fn parts(&self) -> TextParts
+        ensures { result.0.now ++ (result.1.now ++ (result.2.now ++ result.3.now))
+            ≡ fault_text self.now }
+    {
+        match *self {
+            SubsystemError::NotToml => about("not TOML", ""),
+            SubsystemError::Missing { table, key } => about_key("missing ", table, key),
+            SubsystemError::Kind { table, key } => about_key("wrong kind ", table, key),
+            SubsystemError::Range { table, key } => about_key("out of range ", table, key),
+            SubsystemError::Repeated { table, key } => about_key("repeated ", table, key),
+            SubsystemError::Unknown { table } => about("unknown key in ", table.text()),
+            SubsystemError::Capacity => about("capacity", ""),
+            SubsystemError::Attachment => about("attachment", ""),
+            SubsystemError::Memory => about("out of memory", ""),
         }
     }
 }

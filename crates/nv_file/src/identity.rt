@@ -3,8 +3,9 @@ ghost use Rattle.std.specs.Prelude.{◌≡◌, ◌==◌, map, IfOk, false};
 ghost use Rattle.nv_file.specs.KeyChecks.{is_among};
 ghost use Rattle.toml.specs.View.{table_view};
 ghost use Rattle.nv_model.specs.Codes.{identity_view};
-ghost use Rattle.nv_file.specs.TableChecks.{identity_checks, identity_value, numbers_checks, numbers_value};
-ghost use Rattle.nv_file.specs.inner.Reading.{IsChecked, IsCheckedUnlessMemory};
+ghost use Rattle.nv_file.specs.TableChecks.{first_identity_checks, identity_checks, identity_value};
+ghost use Rattle.nv_file.specs.TableChecks.{numbers_checks, numbers_value};
+ghost use Rattle.nv_file.specs.inner.Reading.{IsChecked, IsCheckedUnlessMemory, IsToldFirst};
 ghost use Rattle.nv_model.specs.Ranges.{IsIdentityNumbers, IsIdentity};
 
 use crate::controller::ControllerEntry;
@@ -66,6 +67,9 @@ pub(crate) fn identity_of(
     ensures exact { IsCheckedUnlessMemory identity_view
         (identity_checks (map (λ c. c.identity.cntlid) before.now) (table_view table.now))
         (identity_value (table_view table.now)) result }
+    ensures told { IsToldFirst
+        (first_identity_checks (map (λ c. c.identity.cntlid) before.now) (table_view table.now))
+        result }
     ensures sound { IfOk result (λ i. IsIdentity (identity_view i)) }
     ensures new { IfOk result
         (λ i. is_among (map (λ c. c.identity.cntlid) before.now) i.cntlid ≡ false) }

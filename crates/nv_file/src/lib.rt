@@ -39,7 +39,7 @@ mod top;
 
 pub use controller::ControllerEntry;
 pub use demo::DEMO;
-pub use error::SubsystemError;
+pub use error::{SubsystemError, TextParts};
 pub use file::File;
 pub use key::Key;
 pub use namespace::NamespaceEntry;

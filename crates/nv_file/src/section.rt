@@ -199,13 +199,16 @@ impl<'a> Section<'a> {
         key: Key,
         value: &'a Value,
     ) -> Result<Vec<&'a Table>, SubsystemError>
-        ensures { IsCheckedUnlessMemory (λ v. tables_view v.items)
+        ensures exact { IsCheckedUnlessMemory (λ v. tables_view v.items)
             (check (is_some (row.as_tables (view value.now))) (SubsystemError.Kind self.now.name key))
             (unwrap_or (row.as_tables (view value.now)) []) result }
+        ensures told { IsToldFirst
+            (check (is_some (as_array (view value.now))) (SubsystemError.Kind self.now.name key))
+            result }
     {
-        let values: &[Value] = value.as_array().ok_or(self.wrong_kind(key))?;
+        let items: &[Value] = value.as_array().ok_or(self.wrong_kind(key))?;
         let mut tables = Vec::new(alloc);
-        for item in values {
+        for item in items {
             tables.push(item.as_table().ok_or(self.wrong_kind(key))?)?;
         }
         Ok(tables)
@@ -349,9 +352,11 @@ impl<'a> Section<'a> {
         most: usize,
         high: u16,
     ) -> Result<Vec<u16>, SubsystemError>
-        ensures { IsCheckedUnlessMemory (λ v. v.items)
+        ensures exact { IsCheckedUnlessMemory (λ v. v.items)
             (row.optional_list self.now.name key most high (table_view self.now.table.now))
             (map number (row.integers_at key (table_view self.now.table.now))) result }
+        ensures told { IsToldFirst
+            (row.of_kind self.now.name key as_array (table_view self.now.table.now)) result }
     {
         let integers = self.integers_or_none(alloc, key)?;
         self.in_limits(key, integers.len() <= most)?;

@@ -1,5 +1,10 @@
-use Rattle.std.proofs.Common.{arith}
+use Rattle.std.proofs.Common.{◌≡◌, ◌++◌, None, Ok, arith, map, refl, rules}
 use Rattle.std.proofs.lemmas.Grind.{common_steps}
+use Rattle.toml.specs.View.{table_view}
+use Rattle.nv_file.specs.Check.{first_fault}
+use Rattle.nv_file.specs.TableChecks.{first_feature_checks}
+use Rattle.nv_file.specs.inner.FirstChecks.{first_defaults_checks}
+use Rattle.nv_file.proofs.CheckLaws.{faults, none_told, past, told_none}
 use Rattle.nv_file.proofs.feature_rule.feature_of.Goals as goal
 
 pub returns-clause-sound : goal.returns-clause-sound
@@ -9,3 +14,13 @@ returns-clause-sound c = record {
   default = c.in_ok-defaults.ensures.values;
   saveable = grind (arith, common_steps);
 }
+
+pub returns-in_err-only-clause-told : goal.returns-in_err-only-clause-told
+returns-in_err-only-clause-told c =
+    let m = table_view c.args.table.now in
+    let defaults = first_defaults_checks c.args.version m in
+    let told = none_told defaults (Ok c.in_ok-defaults.defaults) c.in_ok-defaults.defaults refl
+    c.in_ok-defaults.ensures.told in
+    let first : first_fault (first_feature_checks c.args.version (map (λ r. r.fid) c.args.before.now) m) ≡ None =
+    search (rules, faults) in
+    told_none _ _ (past _ _ _ first told)

@@ -13,7 +13,7 @@ returns-then-is_count-clause-exact c =
     let found = tables_view c.in_ok-tables.tables.items in
     let there : get_member (key_text c.args.key) (table_view c.args.self.now.table.now)
     ≡ Some (view c.in_ok-value.value.now) = search rules in
-    let is = list_of_kind _ _ found c.in_ok-tables.ensures.0 c.in_ok-tables.ensures.1 in
+    let is = list_of_kind _ _ found c.in_ok-tables.ensures.exact.0 c.in_ok-tables.ensures.exact.1 in
     let law = tables_there c.args.self.now.name c.args.key c.args.most _ _ found there is in
     let many : length found ≡ c.len.result = grind (arith, common_steps) in
     let counts : (nat_le 1 (length found) && nat_le (length found) c.args.most) ≡ c.is_count.result =
@@ -25,7 +25,7 @@ returns-clause-exact c =
     let found = tables_view c.in_ok-tables.tables.items in
     let there : get_member (key_text c.args.key) (table_view c.args.self.now.table.now)
     ≡ Some (view c.in_ok-value.value.now) = search rules in
-    let is = list_of_kind _ _ found c.in_ok-tables.ensures.0 c.in_ok-tables.ensures.1 in
+    let is = list_of_kind _ _ found c.in_ok-tables.ensures.exact.0 c.in_ok-tables.ensures.exact.1 in
     let law = tables_there c.args.self.now.name c.args.key c.args.most _ _ found there is in
     let many : length found ≡ c.len.result = grind (arith, common_steps) in
     let counts : (nat_le 1 (length found) && nat_le (length found) c.args.most) ≡ c.is_count.result =

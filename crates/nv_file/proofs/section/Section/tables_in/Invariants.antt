@@ -7,4 +7,4 @@ use Rattle.nv_file.proofs.section.Section.tables_in.Given as goal
 
 abbrev pub invariant-loop-item : goal.invariant-loop-item
 invariant-loop-item l = items_as as_table (tables_view l.tables.items)
-    (items_view (drop l.item-index l.values)) ≡ items_as as_table [] (items_view l.values)
+    (items_view (drop l.item-index l.items)) ≡ items_as as_table [] (items_view l.items)
