@@ -1,0 +1,178 @@
+"""Tests nvme-describe over ./nvme-model: 200 random subsystem files and the largest come back, what it sends is in a
+trace, and what a script left is in the file, or in the commands at its end."""
+
+import random
+import re
+
+from tests.described import MASKS, meaning, random_file, tables_of
+from tests.modelled import ModelCase, installed
+from tests.support import TOP, program, run
+from tests.test_subsystem_files import largest
+
+DESCRIBE = TOP / 'nvme-describe'
+FILES, MOST_AT_ONCE, SEED = 200, 16, 1
+
+# Sends Set Features by ioctl: controller, feature, NSID, value and whether it is saved.
+SETTER = '''
+import fcntl, struct, sys
+for line in sys.stdin:
+    controller, fid, nsid, value, save = map(int, line.split())
+    command = bytearray(struct.pack('=BBHIIIQQII8I', 9, 0, 0, nsid, 0, 0, 0, 0, 0, 0, fid | save << 31, value, *6 * [0]))
+    with open(f'/dev/nvme{controller}', 'rb', buffering=0) as node:
+        fcntl.ioctl(node, 0xc0484e41, command)
+'''
+
+
+def controllers_in(text):
+    return text.count('\n[[controller]]\n')
+
+
+class RoundTrip(ModelCase):
+    def described(self, texts, limit=600):
+        """Returns the files of the subsystems of these files, each described by its controllers."""
+        files = [self.file(f'{number}.toml', text.encode()) for number, text in enumerate(texts)]
+        first, script = 0, ''
+        for path, text in zip(files, texts):
+            count = controllers_in(text)
+            nodes = [f'/dev/nvme{number}' for number in range(first, first + count)]
+            names = '/dev/nvme*' if len(texts) == 1 else ' '.join(nodes)
+            script += f'"$1" {names} > {path}.out || exit\n'
+            first += count
+        options = [word for path in files for word in ('--subsystem', path)]
+        self.ends(run(installed(), *options, 'sh', '-c', script, 'sh', DESCRIBE, limit=limit), 0, b'', b'')
+        return [path.with_suffix('.toml.out').read_text() for path in files]
+
+    def comes_back(self, text, found):
+        wanted, got = meaning(text), meaning(found)
+        self.assertEqual(wanted.keys(), got.keys(), found)
+        for key in wanted:
+            self.assertEqual(wanted[key], got[key], key)
+        self.ends(run(program('nvme_script'), '--subsystem', self.file('found.toml', found.encode())), 0, b'', b'')
+        # (nothing differs, but for the log entry of a threshold and Error Recovery without a namespace)
+        comments = [line for line in found.splitlines() if line.startswith('#')]
+        for line in comments[2:]:
+            self.assertRegex(line, r'^# (/dev/nvme\d+ is /dev/nvme\d+ in the model|The drive does not report feature 5)')
+
+    def test_random_files(self):
+        source = random.Random(SEED)
+        for _ in range(0, FILES, MOST_AT_ONCE):
+            texts = [random_file(source, source.choice([1, 2, 3, 16]), source.choice([1, 4, 8, 100]))
+                     for _ in range(MOST_AT_ONCE)]
+            for text, found in zip(texts, self.described(texts)):
+                self.comes_back(text, found)
+
+    def test_single_files(self):
+        """All nodes are named, and some are those of namespaces."""
+        source = random.Random(SEED)
+        for _ in range(4):
+            text = random_file(source, 4, 8)
+            self.comes_back(text, *self.described([text]))
+
+    def test_the_largest_file(self):
+        text = largest()
+        self.comes_back(text, *self.described([text]))
+
+    def test_one_of_two_controllers(self):
+        ended = self.model(DESCRIBE, '/dev/nvme1')
+        self.ends(ended, 0, err=b'')
+        self.assertIn(b'# On the drive (and in the model): CMIC 0x2 (0x0).\n', ended.out)
+        self.assertEqual(ended.out.count(b'[[controller]]'), 1)
+
+
+class Sends(ModelCase):
+    def test_trace(self):
+        """What is sent is only Identify, Get Features and Get Log Page, the latter with RAE."""
+        trace = self.folder / 'trace'
+        ended = self.model('sh', '-c', '"$1" /dev/nvme*', 'sh', DESCRIBE, options=[f'--trace={trace}'])
+        self.ends(ended, 0, err=b'')
+        taken = re.findall(r'(?m)^nvme\d taken .* \((0x\w+)\) .*?(?: cdw10=(\w+).*)?$', trace.read_text())
+        self.assertEqual({opcode for opcode, _ in taken}, {'0x02', '0x06', '0x0a'})
+        self.assertEqual({dword10 for opcode, dword10 in taken if opcode == '0x02'}, {f'{2 | 1 << 15 | 127 << 16:#x}'})
+
+    def test_log_entries(self):
+        """One command of each controller is refused, and enters the error log."""
+        ended = self.shell('"$1" /dev/nvme* > /dev/null; "$1" /dev/nvme*', DESCRIBE)
+        counts = re.findall(rb'num_err_log_entries .*', ended.out)
+        self.assertEqual(counts, [b'num_err_log_entries 0x1 (0x0). (Likewise /dev/nvme1.)'], ended)
+
+
+def operations(source, text):
+    """Returns random changes of the features that a file's controllers have, each as SETTER takes it."""
+    tables = tables_of(text)
+    controllers = [keys for name, keys in tables if name == 'controller']
+    for _ in range(source.randint(1, 30)):
+        place = source.randrange(len(controllers))
+        fid = source.choice([*MASKS, 4])
+        cntlid = controllers[place]['cntlid']
+        having = [keys['nsid'] for name, keys in tables if name == 'namespace' and cntlid in keys.get('controllers', [])]
+        nsid = source.choice([*having, 0xffffffff]) if fid == 5 else 0
+        value = source.getrandbits(32) & MASKS.get(fid, 0xffff)
+        if fid == 4:
+            value |= source.choice([*range(9), *range(16, 25), 15, 31]) << 16
+        yield place, fid, nsid, value, source.randint(0, 1)
+
+
+class Left(ModelCase):
+    """What is set in the model is in the file that is described then, or in the commands at its end."""
+
+    def values(self, text, lines, selects):
+        """Returns all values of features in the subsystem of a file after these lines of a script."""
+        asked = []
+        for place in range(controllers_in(text)):
+            asked += [f'get-feature /dev/nvme{place} -f {fid} -s {select}' for fid in MASKS for select in selects]
+            asked += [f'get-feature /dev/nvme{place} -f 4 -s {select} -c {selector << 16}'
+                      for selector in (*range(9), *range(16, 25)) for select in selects]
+            asked += [f'get-feature /dev/nvme{place} -n {nsid} -f 5 -s {select}' for nsid in range(1, 9)
+                      for select in selects]
+        path = self.file('values.toml', text.encode())
+        ended = run(program('nvme_script'), '--subsystem', path, source='\n'.join([*lines, *asked]).encode())
+        for message in ended.err.decode().splitlines():
+            number = int(re.match(r'line (\d+): ', message)[1])
+            self.assertGreater(number, len(lines), f'{lines[number - 1:number]}: {message}')
+        return re.findall(r'get-feature:.*', ended.out.decode())
+
+    def test_features(self):
+        source = random.Random(SEED)
+        for _ in range(12):
+            text = random_file(source, 3, 8)
+            asked = list(operations(source, text))
+            given = self.file('given', ''.join(f'{" ".join(map(str, one))}\n' for one in asked).encode())
+            path, setter = self.file('left.toml', text.encode()), self.file('setter.py', SETTER.encode())
+            script = '/usr/bin/python3 "$1" < "$2" && "$3" /dev/nvme* && echo "# END" && "$3" --current /dev/nvme*'
+            ended = run(installed(), '--subsystem', path, 'sh', '-c', script, 'sh', setter, given, DESCRIBE)
+            self.ends(ended, 0, err=b'')
+            done = [f'set-feature /dev/nvme{place} -f {fid} -n {nsid} -v {value}' + ' -s' * save
+                    for place, fid, nsid, value, save in asked]
+            # (some are refused, which the values don't show)
+            wanted = {select: self.wanted(text, done, select) for select in range(4)}
+            for found, selects in zip(ended.out.decode().split('# END\n'), ((0, 1, 2, 3), (0, 2, 3))):
+                lines = re.findall(r'(?m)^# (nvme set-feature .*)$', found)
+                for select in selects:
+                    got = self.values(found, lines, [select])
+                    self.assertEqual(len(wanted[select]), len(got), found)
+                    values = list(zip(wanted[3], wanted[select], got))
+                    # (the saved value of a feature that can't be saved is its default, which is now another one)
+                    if select == 2 and 1 not in selects:
+                        values = [row for row in values if int(row[0].rpartition(':')[2], 0) & 1]
+                    self.assertEqual([row[1] for row in values], [row[2] for row in values], (asked, found))
+
+    def wanted(self, text, done, select):
+        """Returns the values after commands of which some may be refused."""
+        path = self.file('wanted.toml', text.encode())
+        ended = run(program('nvme_script'), '--subsystem', path, source='\n'.join(done).encode())
+        refused = {int(number) for number in re.findall(r'(?m)^line (\d+): ', ended.err.decode())}
+        return self.values(text, [line for number, line in enumerate(done, 1) if number not in refused], [select])
+
+    def test_example(self):
+        """The example's file has what its script made. Its commands work, by nvme-cli too, and then the next script has
+        all that the first one left."""
+        left = self.model('sh', TOP / 'examples/keep.sh')
+        self.ends(left, 0, (TOP / 'examples/keep.txt').read_bytes(), b'')
+        restored = b'\n'.join(re.findall(rb'(?m)^# (nvme set-feature .*)$', left.out))
+        self.assertEqual(restored, b'nvme set-feature /dev/nvme0 -f 6 --value 0x0')
+        after, script = self.file('after.toml', left.out), restored + b'\nnvme list-ns /dev/nvme1; nvme id-ns /dev/nvme1n2; ' \
+            b'nvme get-feature /dev/nvme0 -f 6; nvme get-feature /dev/nvme0 -f 6 -s 1; nvme smart-log /dev/nvme0\n'
+        ended = run(installed(), '--subsystem', after, 'sh', self.file('next.sh', script))
+        self.ends(ended, 0, err=b'')
+        for text in (rb'\[   0\]:0x2\n', rb'\nnsze *: 0x400\n', rb'Current value:00000000\n', rb'Default value:0x00000001\n'):
+            self.assertRegex(ended.out, text)
