@@ -143,10 +143,12 @@ class StreamCase(ModelCase):
                 self.assertFalse(self.seen.exists(), kinds)
             else:
                 self.assertTrue(until(lambda: self.seen.exists() or process.poll() is not None))
-                self.assertIsNone(process.poll(), kinds)
-                self.check_kept(self.process_one(), streams)
-                self.seen.unlink()
-                self.assertEqual(process.wait(60), 0, kinds)
+                try:
+                    self.assertIsNone(process.poll(), kinds)
+                    self.check_kept(self.process_one(), streams)
+                finally:
+                    self.seen.unlink(missing_ok=True)
+                    self.assertEqual(process.wait(60), 0, kinds)
             if kinds[2] == 'messages':
                 said = os.pread(streams[2], 4096, 0).decode()
                 refused = [at for at in range(3) if reasons[at]]

@@ -1,0 +1,104 @@
+"""Runs ./nvme-model where what the sandbox is made of changes, is hidden or doesn't answer, as root and as another
+user."""
+
+import contextlib
+import os
+import shutil
+import stat
+import unittest
+
+from tests.modelled import ModelCase
+from tests.support import run
+from tests.test_machine import NOBODY, Machine, MachineCase
+
+# A bwrap that first puts another file in a device's place, unless it is only tried.
+EXCHANGES = '''#!/bin/sh
+case "$*" in *--help) ;; *) mv /dev/open/node /dev/open/kept && mv /dev/open/other /dev/open/node ;; esac
+PATH=${PATH#*:} exec bwrap "$@"
+'''
+
+# Mounts a file system whose server never answers, and runs a command there for a minute at most.
+HANGS = '''import ctypes, os, subprocess, sys
+libc = ctypes.CDLL(None, use_errno=True)
+server = os.open("/dev/fuse", os.O_RDWR)
+options = b"fd=%d,rootmode=40000,user_id=0,group_id=0,allow_other" % server
+if libc.mount(b"hung", sys.argv[1].encode(), b"fuse", 0, options) < 0:
+    sys.exit(77)
+ended = subprocess.Popen(sys.argv[2:])
+try:
+    status = ended.wait(60)
+except subprocess.TimeoutExpired:
+    status = 99
+os.close(server)
+ended.kill()
+sys.exit(status)
+'''
+
+
+@unittest.skipUnless(os.geteuid() == 0, 'root alone can make nodes and mounts')
+class Mounts(MachineCase):
+    def exchange(self, machine, user, other):
+        """Runs a command whose added device becomes another file before bwrap binds it."""
+        place = machine.root / 'dev/open'
+        shutil.rmtree(place, ignore_errors=True)
+        place.mkdir()
+        place.chmod(0o777)
+        os.mknod(place / 'node', stat.S_IFCHR | 0o666, os.makedev(10, 200))
+        other(place / 'other')
+        tools = 'env', f'PATH={self.folder / "tools"}:{os.environ["PATH"]}'
+        return machine.model('stat -c %t:%T /dev/open/node; ls /dev/open/node; echo end', user,
+                             ['--device', '/dev/open/node'], by=tools)
+
+    def test_devices_that_are_exchanged(self):
+        (self.folder / 'tools').mkdir()
+        self.file('tools/bwrap', EXCHANGES.encode()).chmod(0o755)
+        with contextlib.closing(Machine(self, 'devices')) as machine:
+            block = os.stat(machine.root / 'dev/nvme0n1').st_rdev
+            ways = {'loop-control': lambda path: os.mknod(path, stat.S_IFCHR | 0o666, os.makedev(10, 237)),
+                    'a block device': lambda path: os.mknod(path, stat.S_IFBLK | 0o666, block),
+                    'a folder': lambda path: path.mkdir(),
+                    'a file': lambda path: path.write_bytes(b''),
+                    'a link': lambda path: path.symlink_to('/dev/nvme0n1')}
+            for user in (), NOBODY:
+                for name, other in ways.items():
+                    with self.subTest(name, user=user):
+                        ended = self.exchange(machine, user, other)
+                        self.ends(ended, 72, b'')
+                        self.assertRegex(ended.err, rb"nvme-model: /dev/open/node\S* isn't the device that it was")
+                # a device that may be added can take its place
+                with self.subTest('fuse', user=user):
+                    ended = self.exchange(machine, user, lambda path: os.mknod(path, stat.S_IFCHR, os.makedev(10, 229)))
+                    self.ends(ended, 0, b'a:e5\n/dev/open/node\nend\n')
+
+    def test_mounts_that_are_hidden(self):
+        ways = {'a folder': 'mount --bind "$place/gone" "$place/gone" && mount --bind "$place/gone" "$place/gone"',
+                'a file system': 'mount -t tmpfs x "$place/gone" && mount --bind "$place/gone" "$place/gone"',
+                'a view of /dev': 'mount --bind /dev "$place/gone" && mount --bind "$place/gone" "$place/gone"'}
+        script = ('head -c 7 "$place/gone/nvme0n1" 2> /dev/null; '
+                  'unshare -Urm sh -c \'umount "$place/gone"; head -c 7 "$place/gone/nvme0n1"\' 2> /dev/null; echo end')
+        for user in (), NOBODY:
+            for name, way in ways.items():
+                with self.subTest(name, user=user), contextlib.closing(Machine(self, 'devices')) as machine:
+                    by = 'unshare', '-m', 'sh', '-c', f'{way} && exec "$@"', 'sh', *user
+                    self.ends(machine.model(script, by=by), 0, b'end\n', b'')
+                    machine.is_unchanged()
+
+
+@unittest.skipUnless(os.geteuid() == 0 and os.path.exists('/dev/fuse'), 'root alone can mount, and /dev/fuse is needed')
+class Hung(ModelCase):
+    def test_start(self):
+        place, user_of_files = self.folder / 'hung', ('setpriv', '--reuid=54321', '--regid=54321', '--clear-groups')
+        for user in (), user_of_files:
+            for mode in 0o755, 0o700:
+                with self.subTest(user=user, mode=oct(mode)):
+                    (place / 'inner').mkdir(exist_ok=True, parents=True)
+                    place.chmod(mode)
+                    ended = run('unshare', '-m', 'python3', '-c', HANGS, place / 'inner', *user,
+                                *self.command('echo', 'started'))
+                    if ended.status == 77:
+                        self.skipTest('no file system of a user can be mounted here')
+                    self.ends(ended, 0, b'started\n', b'')
+
+
+if __name__ == '__main__':
+    unittest.main()
