@@ -84,6 +84,24 @@ class Mounts(MachineCase):
                     machine.is_unchanged()
 
 
+    def test_folders_that_are_removed(self):
+        # a mount that comes later outside goes when its folder is removed inside
+        for user in (), NOBODY:
+            with self.subTest(user=user), contextlib.closing(Machine(self, 'devices')) as machine:
+                place = self.folder / 'open/later'
+                place.mkdir(parents=True, exist_ok=True)
+                place.parent.chmod(0o777)
+                for name in 'started', 'go':
+                    (self.folder / name).unlink(missing_ok=True)
+                script = ('echo > "$place/started"; until test -e "$place/go"; do sleep 0.1; done; '
+                          'rmdir "$place/open/later" && echo removed')
+                mounting = ('"$@" & until test -e "$place/started"; do sleep 0.1; done; '
+                            'mount -t tmpfs later "$place/open/later"; : > "$place/go"; wait; '
+                            'grep -c "^later " /proc/self/mounts')
+                ended = machine.model(script, by=('sh', '-c', mounting, 'sh', *user))
+                self.assertEqual(ended.out, b'removed\n0\n', ended)
+
+
 @unittest.skipUnless(os.geteuid() == 0 and os.path.exists('/dev/fuse'), 'root alone can mount, and /dev/fuse is needed')
 class Hung(ModelCase):
     def test_start(self):

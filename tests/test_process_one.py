@@ -7,7 +7,7 @@ import subprocess
 import unittest
 
 from tests.modelled import CLIENT, WARNINGS, ModelCase, process_folder
-from tests.support import TOP, run
+from tests.support import TOP, Running, run
 
 IS_ROOT = os.geteuid() == 0
 NOBODY = 'setpriv', '--reuid=65534', '--regid=65534', '--clear-groups'
@@ -37,8 +37,8 @@ subprocess.run(sys.argv[1:])
 room = ctypes.create_string_buffer(8)
 print(key > 0, call(250, 11, key, room, 8), room.value)
 '''
-# What makes a namespace of control groups (clone, unshare, and clone3), without and then with one of users. Each prints
-# its error.
+# What makes a namespace of control groups (clone, unshare, and clone3), without one of users and then with it. Each
+# prints its error.
 GROUPS = '''import ctypes, os
 call = ctypes.CDLL(None, use_errno=True).syscall
 for number, flags in (56, 0x02000011), (272, 0x02000000), (56, 0x12000011), (272, 0x12000000), (435, 0):
@@ -65,7 +65,7 @@ class Confined(ModelCase):
                 ended = run(*user, *self.command('sh', '-c', script, 'sh', pries))
                 self.ends(ended, 0, b'2\nend\n', b'')
         if IS_ROOT:
-            self.ends(self.shell('setpriv --reuid=65534 --regid=65534 --clear-groups "$1" 1 2', pries), 0, b'end\n', b'')
+            self.ends(self.model(*NOBODY, pries, '1', '2'), 0, b'end\n', b'')
 
     def test_files_of_devices(self):
         # a device has its streams and its subsystem file
@@ -74,7 +74,47 @@ class Confined(ModelCase):
                       b'0\n1\n2\n3\n' if IS_ROOT else b'')
 
 
+# Types into a terminal, by two ioctls. Each prints its error.
+TYPES = '''import ctypes
+libc = ctypes.CDLL(None, use_errno=True)
+for request in 0x5412, 0x541c, 0x100005412:
+    for text in b"x", b"\\2x":
+        print(libc.ioctl(0, ctypes.c_ulong(request), text), ctypes.get_errno())
+'''
+
+
 class Outside(ModelCase):
+    def old(self, user, *calls):
+        """Returns what calls of programs of 32 bits answer, or skips the test where the kernel has none."""
+        program = helper('old', '-O1')
+        if run(program, '20').status != 0:
+            self.skipTest('the kernel runs no programs of 32 bits')
+        script = 'program=$1; shift; for call; do "$program" $call; done'
+        ended = run(*user, *self.command('sh', '-c', script, 'sh', program, *calls))
+        self.ends(ended, 0, err=b'')
+        return ended.out.decode().split()
+
+    def test_terminals(self):
+        program = helper('old', '-O1')
+        for user in USERS:
+            with self.subTest(user=user):
+                script = 'python3 -c "$1"; "$2" 54 0 0x5412 x; "$2" 54 0 0x541c x; echo end'
+                with_terminal = Running(*user, *self.command('sh', '-c', script, 'sh', TYPES, program), terminal=True)
+                with_terminal.comes(b'end\n')
+                with_terminal.end()
+                self.assertEqual(with_terminal.heard.replace(b'\r', b''), b'-1 1\n' * 6 + b'-1\n-1\nend\n')
+
+    def test_calls_of_32_bits(self):
+        for user in USERS:
+            with self.subTest(user=user):
+                is_root = IS_ROOT and not user
+                keys = '288 0 -3', '286 user name data 4 -3', '287 user name name -3'
+                others = '425 1 0', '435 0 0', '438 -1 0 0', '310 0x02000000', '310 0x12000000', '120 0x12000011'
+                answers = self.old(user, *keys, *others)
+                self.assertEqual(answers[:7], ['-38'] * 5 + ['-1', '-1'])
+                # (a process that was made prints its 0 as well)
+                self.assertEqual(answers[7:] == ['-1', '-1'] if is_root else answers.count('0') == 2, True, answers)
+
     def test_keys(self):
         for user in USERS:
             with self.subTest(user=user):
