@@ -314,8 +314,10 @@ class Debian(Packages):
     def test_lintian(self):
         ended = run('lintian', '--allow-root', '--fail-on=none', '--show-overrides', *dist().glob('*.deb'), limit=600)
         lines = ended.out.decode().splitlines()
-        self.assertEqual([line for line in lines if line.startswith('E: ')], [], ended)
-        self.assertEqual({line.split()[2] for line in lines if line.startswith('O: ')}, {'unstripped-binary-or-object'})
+        self.assertEqual([line for line in lines if line[:3] in ('E: ', 'W: ')], [], ended)
+        overridden = {line.split()[2] for line in lines if line.startswith('O: ')}
+        self.assertEqual(overridden, {'unstripped-binary-or-object', 'link-to-shared-library-in-wrong-package',
+                                      'package-name-doesnt-match-sonames'})
 
 
 class Proved(Packages):
