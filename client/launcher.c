@@ -188,15 +188,21 @@ static void prepend(const char *name, const char *value) {
     free(whole);
 }
 
-/* (the new process shares the table of open files until it runs the command, so the launcher has what the filter opens
-   as `calls`; and a stream that is closed for the command is one that can't be used) */
+/* Starts a process that stops before it becomes the command, and waits for that. (It shares the table of open files
+   until then, so the launcher has what the filter opens as `calls`; and a stream that is closed for the command is one
+   that can't be used.) */
 static void start_command(char **arguments) {
+    int how;
     calls = open("/dev/null", O_RDONLY | O_CLOEXEC);
-    command = calls < 0 ? -1 : (pid_t)syscall(SYS_clone, CLONE_FILES | CLONE_VFORK | SIGCHLD, NULL, NULL, NULL, 0L);
+    command = calls < 0 ? -1 : (pid_t)syscall(SYS_clone, CLONE_FILES | SIGCHLD, NULL, NULL, NULL, 0L);
     if (command < 0)
         fail_by_errno("fork");
-    if (command > 0)
+    if (command > 0 && waitpid(command, &how, WUNTRACED) == command && WIFSTOPPED(how))
         return;
+    if (command > 0) {
+        end_devices();
+        exit(FAILED); /* (it said why) */
+    }
     prepend("LD_PRELOAD", library);
     /* (the address sanitizer wants to be the first library, and udev that /sys is a file system of the kernel) */
     prepend("ASAN_OPTIONS", "verify_asan_link_order=0");
@@ -207,6 +213,7 @@ static void start_command(char **arguments) {
     umask(creation_mask);
     sigprocmask(SIG_SETMASK, &mask, NULL);
     filter_calls();
+    kill(getpid(), SIGSTOP);
     execvp(arguments[0], arguments);
     int is_found = errno != ENOENT && errno != ENOTDIR;
     fprintf(stderr, "nvme-model: %s: %s\n", arguments[0], strerror(errno));
@@ -362,6 +369,7 @@ static int run(char **arguments) {
     }
     if (has_sandbox)
         confine_launcher();
+    kill(command, SIGCONT);
     await_end();
     end_devices();
     return status;
