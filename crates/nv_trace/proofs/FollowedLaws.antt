@@ -5,7 +5,7 @@ use Rattle.std.proofs.lemmas.Bool.{cases_eq, cases_lt}
 use Rattle.std.proofs.lemmas.Bool.Decides.{nat_tests}
 use Rattle.std.proofs.lemmas.List.{get_or-set_other, get_or-set_same, set_past}
 use Rattle.std.proofs.Math.ListN.{get_or-eq_default}
-use Rattle.std.specs.Prelude.{Option, Some, None, if◌then◌else◌, slice_index_or, slice_set}
+use Rattle.std.specs.Prelude.{Option, Some, None, if◌then◌else◌, is_some, slice_index_or, slice_set}
 use Rattle.std.specs.Option.{ForSome, option_map, option_map_or}
 use Rattle.nv_register.specs.Dwords.{aqa_dword, aqa_of_dword, cc_of_dword, csts_dword}
 use Rattle.nv_register.specs.Readiness.{is_enabled, is_fatal, is_ready, with_rings}
@@ -30,6 +30,7 @@ use Rattle.nv_bus.proofs.TurnLaws.{can_means, length_one}
 use Rattle.nv_trace.specs.Followed.{AreFollowed, Follows, is_running}
 use Rattle.nv_trace.specs.inner.Followed.{AreOthers, AreTaken, AreTakenBy, FollowsWritten, IsTaken, as_read}
 use Rattle.nv_trace.specs.inner.Followed.{rings_after, turned}
+use Rattle.nv_trace.specs.Said.{Begins, IsTraced}
 
 -- for the attributes of src/: an element of a list of which one was set
 pub ruleset elements = (get_or-set_same, get_or-set_other, get_or-eq_default)
@@ -285,6 +286,68 @@ written kept kept' banks banks' c offset x has is new others further at =
     changed (λ p. with_register_at p offset x) kept kept' banks banks' c p' is new others
     (λ m there on. further m there offset x (sym (ap (λ (p : RegisterBank). is_running p.readiness) set) ∙ on)
     ∙ sym set) at
+
+-- a change of what is kept keeps something
+mapped_is_some : (change : RegisterBank → RegisterBank) (o : Option RegisterBank)
+    → is_some (option_map change o) ≡ is_some o
+mapped_is_some change None = refl
+mapped_is_some change (Some m) = refl
+
+-- if only what is kept of one controller changed, each controller that was traced still is
+pub still_traced : (change : RegisterBank → RegisterBank) (kept kept' : List (Option RegisterBank)) (c : ℕ)
+    → slice_index_or kept' c None ≡ option_map change (slice_index_or kept c None) → AreOthers c kept kept'
+    → (d : ℕ) → IsTraced kept d → IsTraced kept' d
+still_traced change kept kept' c new others d there =
+    elim (cases_eq d c) [
+      | inl e ↦
+          ap (λ n. is_some (slice_index_or kept' n None)) e ∙ ap (λ o. is_some o) new
+          ∙ mapped_is_some change (slice_index_or kept c None)
+          ∙ ap (λ n. is_some (slice_index_or kept n None)) (sym e) ∙ there
+      | inr apart ↦ ap (λ o. is_some o) (others d apart) ∙ there
+    ]
+
+-- each controller that was traced still is after the registers of one were kept
+read_traced : (kept read : List (Option RegisterBank)) (c : ℕ) (p : RegisterBank)
+    → read ≡ slice_set kept c (Some p) → (d : ℕ) → IsTraced kept d → IsTraced read d
+read_traced kept read c p as_is d there =
+    elim (cases_eq d c) [
+      | inl e ↦
+          elim (cases_lt c (length kept)) [
+            | inl few ↦
+                ap (λ y. is_some (slice_index_or y d None)) as_is
+                ∙ ap (λ n. is_some (slice_index_or (slice_set kept c (Some p)) n None)) e
+                ∙ ap (λ o. is_some o) (get_or-set_same kept c (Some p) None few)
+            | inr past ↦
+                ap (λ y. is_some (slice_index_or y d None)) (as_is ∙ set_past kept c (Some p) past) ∙ there
+          ]
+      | inr apart ↦
+          ap (λ y. is_some (slice_index_or y d None)) as_is
+          ∙ ap (λ o. is_some o) (get_or-set_other kept c d (Some p) None apart) ∙ there
+    ]
+
+module _ (kept read kept' : List (Option RegisterBank)) (banks : List RegisterBank) (c offset x : ℕ)
+    (off : is_running (bank_at banks c).readiness ≡ false
+    → read ≡ slice_set kept c (Some (as_read (bank_at banks c))))
+    (on : is_running (bank_at banks c).readiness ≡ true → read ≡ kept)
+    (new : slice_index_or kept' c None ≡ option_map (λ p. with_register_at p offset x) (slice_index_or read c None))
+    (others : AreOthers c read kept') where
+  -- each controller that was traced still is after the registers of one were read
+  read_still : (running : Bool) → is_running (bank_at banks c).readiness ≡ running → (d : ℕ) → IsTraced kept d
+      → IsTraced read d
+  read_still true is d there = ap (λ y. is_some (slice_index_or y d None)) (on is) ∙ there
+  read_still false is d there = read_traced kept read c (as_read (bank_at banks c)) (off is) d there
+
+  -- a write begins the trace of a controller that took no entries, and ends none
+  pub begun : Begins c banks kept kept'
+  begun = record {
+    begins = λ is few.
+        ap (λ o. is_some o) new ∙ mapped_is_some (λ p. with_register_at p offset x) (slice_index_or read c None)
+        ∙ ap (λ y. is_some (slice_index_or y c None)) (off is)
+        ∙ ap (λ o. is_some o) (get_or-set_same kept c (Some (as_read (bank_at banks c))) None few);
+    stays = λ d there.
+        still_traced (λ p. with_register_at p offset x) read kept' c new others d
+        (read_still (is_running (bank_at banks c).readiness) refl d there);
+  }
 
 module _ (page_size c most count : ℕ) (b b' : BusValue) (bytes bytes' : List ℕ)
     (turn : Turn page_size c most count b bytes b' bytes') (kept : List (Option RegisterBank))

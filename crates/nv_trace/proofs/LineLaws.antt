@@ -7,7 +7,7 @@ use Rattle.std.proofs.lemmas.List.{length-take, length-take-le, same_lists, set_
 use Rattle.std.proofs.lemmas.Slice.{take-put_mid}
 use Rattle.std.specs.Fmt.{WritesText}
 use Rattle.std.specs.List.{FoldsTo, concat}
-use Rattle.nv_trace.specs.inner.Said.{IsLineOf}
+use Rattle.nv_trace.specs.Said.{IsLineOf}
 use borrow.Rule.Slice.PartMut.{put_mid}
 
 -- the first n + k elements of n elements and others after them are the n elements and k of the others

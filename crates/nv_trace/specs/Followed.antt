@@ -1,9 +1,11 @@
 -- What a trace keeps of controllers: their registers and rings.
 use Rattle.std.specs.Prelude.{◌≡◌, ℕ, Bool, true, false, not, List, Option, None, slice_index_or}
 use Rattle.std.specs.Option.{ForSome}
+use Rattle.nv_queue.specs.Rings.{fetched_one, posted_one}
 use Rattle.nv_register.specs.declared.readiness.Readiness.{Readiness}
 use Rattle.nv_register.specs.declared.readiness.Readiness.TheVariants.{Off, Failed, Ready}
 use Rattle.nv_register.specs.declared.register_bank.RegisterBank.{RegisterBank}
+use Rattle.nv_register.specs.declared.rings.Rings.{Rings}
 use Rattle.nv_bus.specs.Bus.{bank_at}
 
 -- the controller takes entries: it is ready, and has no fatal status
@@ -19,3 +21,7 @@ Follows m p = is_running p.readiness ≡ true → m ≡ p
 -- this holds for each controller whose registers are kept
 abbrev pub AreFollowed : List (Option RegisterBank) → List RegisterBank → Type 0
 AreFollowed kept banks = (c : ℕ) → ForSome (slice_index_or kept c None) (λ m. Follows m (bank_at banks c))
+
+-- the rings after one entry
+abbrev pub rings_one : Rings → Rings
+rings_one r = record r { submission = fetched_one r.submission; completion = posted_one r.completion }

@@ -1,4 +1,3 @@
 -- What no public contract reaches. Contracts of private functions use it, in other crates too.
 pub mod Followed
 pub mod Marked
-pub mod Said

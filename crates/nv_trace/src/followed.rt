@@ -4,8 +4,8 @@ ghost use Rattle.std.specs.Prelude.{◌≡◌, ◌+◌, ◌*◌, ◌^◌, ◌<�
 ghost use Rattle.nv_queue.specs.Slots.{next_completion, next_submission};
 ghost use Rattle.nv_register.specs.RegisterBank.{value_at};
 ghost use Rattle.nv_bus.specs.Bus.{bank_at};
-ghost use Rattle.nv_trace.specs.Followed.{is_running};
-ghost use Rattle.nv_trace.specs.inner.Followed.{IsTaken, as_read, rings_one};
+ghost use Rattle.nv_trace.specs.Followed.{is_running, rings_one};
+ghost use Rattle.nv_trace.specs.inner.Followed.{IsTaken, as_read};
 
 use nv_bus::Bus;
 use nv_host::PagedMemory;

@@ -7,6 +7,7 @@ ghost use Rattle.nv_bus.specs.Bus.{bank_at};
 ghost use Rattle.nv_trace.specs.Followed.{AreFollowed, is_running};
 ghost use Rattle.nv_trace.specs.inner.Followed.{AreOthers, AreTaken, AreTakenBy, FollowsWritten};
 ghost use Rattle.nv_trace.specs.inner.Followed.{as_read, rings_after, turned};
+ghost use Rattle.nv_trace.specs.Said.{Says, SaysAll, ring_texts, turn_texts, write_text};
 
 use crate::followed::{Exchange, is_running, next_exchange, registers_of};
 use crate::posted::Posted;
@@ -41,7 +42,9 @@ fn say_all<M: PagedMemory, S: Sink>(
     count: u16,
 )
     requires { AreTaken count (length (M.bytes mem.now)) rings.old }
-    ensures { rings.new ≡ rings_after count rings.old }
+    ensures rings { rings.new ≡ rings_after count rings.old }
+    ensures said { SaysAll S.state (ring_texts ctrl (M.bytes mem.now) count rings.old)
+        voice.old.sink voice.new.sink }
 {
     for _ in 0..count {
         let Exchange { entry, completion } = next_exchange(rings, mem);
@@ -53,7 +56,8 @@ fn say_all<M: PagedMemory, S: Sink>(
 impl<S: Sink> Trace<S> {
     pub(crate) fn new(sink: S) -> Trace<S>
         requires { (S.state sink).has_failed ≡ false }
-        ensures { (c : ℕ) → slice_index_or result.banks c None ≡ None }
+        ensures sink { result.voice.sink ≡ sink }
+        ensures banks { (c : ℕ) → slice_index_or result.banks c None ≡ None }
     {
         Trace {
             voice: Voice::new(sink),
@@ -70,7 +74,8 @@ impl<S: Sink> Trace<S> {
 
     /// Keeps the registers of a controller.
     fn keep(&mut self, ctrl: u16, bank: RegisterBank)
-        ensures { self.new.banks ≡ slice_set self.old.banks ctrl (Some bank) }
+        ensures banks { self.new.banks ≡ slice_set self.old.banks ctrl (Some bank) }
+        ensures sink { self.new.voice.sink ≡ self.old.voice.sink }
     {
         let ctrl = usize::from(ctrl);
         if ctrl < MOST_CONTROLLERS {
@@ -91,6 +96,7 @@ impl<S: Sink> Trace<S> {
         ensures followed { AreFollowed self.new.banks (B.meaning bus.now).banks }
         ensures further { ForSome (slice_index_or self.new.banks ctrl None)
             (λ p. FollowsWritten p (bank_at (B.meaning bus.now).banks ctrl)) }
+        ensures sink { self.new.voice.sink ≡ self.old.voice.sink }
     {
         if !is_running(bus, ctrl) {
             self.keep(ctrl, registers_of(bus, ctrl));
@@ -104,6 +110,8 @@ impl<S: Sink> Trace<S> {
             ≡ option_map (λ p. with_register_at p offset dword)
             (slice_index_or self.old.banks ctrl None) }
         ensures others { AreOthers ctrl self.old.banks self.new.banks }
+        ensures said { Says S.state (write_text ctrl offset dword)
+            self.old.voice.sink self.new.voice.sink }
     {
         let written = Written {
             ctrl,
@@ -127,6 +135,9 @@ impl<S: Sink> Trace<S> {
         ensures own { slice_index_or self.new.banks ctrl None
             ≡ option_map (turned count) (slice_index_or self.old.banks ctrl None) }
         ensures others { AreOthers ctrl self.old.banks self.new.banks }
+        ensures said { SaysAll S.state (turn_texts ctrl (M.bytes mem.now) count
+            (slice_index_or self.old.banks ctrl None))
+            self.old.voice.sink self.new.voice.sink }
     {
         let at = usize::from(ctrl);
         if at < MOST_CONTROLLERS

@@ -28,7 +28,8 @@ impl<B: Bus, S: Sink> Traced<B, S> {
     /// are traced only once it is enabled again.
     pub fn new(bus: B, sink: S) -> Traced<B, S>
         requires { (S.state sink).has_failed ≡ false }
-        ensures { ⟦<Traced<B, S> as Bus>⟧.meaning result ≡ B.meaning bus }
+        ensures bus { ⟦<Traced<B, S> as Bus>⟧.meaning result ≡ B.meaning bus }
+        ensures sink { result.trace.voice.sink ≡ sink }
     {
         Traced {
             bus,
@@ -45,7 +46,25 @@ impl<B: Bus, S: Sink> Traced<B, S> {
 }
 
 impl<B: Bus, S: Sink> Bus for Traced<B, S> {
+    ghost use Rattle.std.specs.Prelude.{ℕ, None, slice_index_or};
+    ghost use Rattle.nv_bus.specs.Bus.{bank_at};
+    ghost use Rattle.nv_trace.specs.Said.{Begins, Says, SaysAll, IsTraced, turn_texts, write_text};
+
     ghost meaning = { λ t. B.meaning t.bus };
+
+    // The line of the write is in the sink, and the controller is traced if it took no entries.
+    ghost was_written = { λ t ctrl offset dword u. B.was_written t.bus ctrl offset dword u.bus
+        × Says S.state (write_text ctrl offset dword) t.trace.voice.sink u.trace.voice.sink
+        × Begins ctrl (B.meaning t.bus).banks t.trace.banks u.trace.banks };
+
+    ghost was_read = { λ t ctrl offset dword. B.was_read t.bus ctrl offset dword };
+
+    // The lines of the entries that were taken and of their completions are in the sink, if the
+    // controller is traced.
+    ghost was_turned = { λ t bytes ctrl most count u bytes'. B.was_turned t.bus bytes ctrl most count u.bus bytes'
+        × SaysAll S.state (turn_texts ctrl bytes' count (slice_index_or t.trace.banks ctrl None))
+        t.trace.voice.sink u.trace.voice.sink
+        × ((c : ℕ) → IsTraced t.trace.banks c → IsTraced u.trace.banks c) };
 
     fn controllers(&self) -> u16 {
         self.bus.controllers()

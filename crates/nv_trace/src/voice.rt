@@ -1,7 +1,7 @@
 //! Writes lines to a sink, up to its first failure.
 
 ghost use Rattle.std.specs.Prelude.{◌≡◌, false, true};
-ghost use Rattle.nv_trace.specs.inner.Said.{IsLineOf, IsSaid};
+ghost use Rattle.nv_trace.specs.Said.{IsLineOf, IsSaid};
 
 use crate::line_text::LineText;
 use nv_stream::{Sink, write_all};
@@ -30,6 +30,7 @@ pub(crate) struct Voice<S: Sink> {
 impl<S: Sink> Voice<S> {
     pub(crate) fn new(sink: S) -> Voice<S>
         requires { (S.state sink).has_failed ≡ false }
+        ensures { result.sink ≡ sink }
     {
         Voice {
             sink,

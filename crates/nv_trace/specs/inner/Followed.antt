@@ -2,7 +2,6 @@
 -- reaches.
 use Rattle.std.specs.Prelude.{◌≡◌, ◌≢◌, ℕ, zero, suc, ◌+◌, ◌-◌, ◌≤◌, List, Option, None, slice_index_or}
 use Rattle.nv_queue.specs.Numbers.{above}
-use Rattle.nv_queue.specs.Rings.{fetched_one, posted_one}
 use Rattle.nv_queue.specs.Slots.{completion_place, submission_place}
 use Rattle.nv_register.specs.Dwords.{aqa_dword, aqa_of_dword}
 use Rattle.nv_register.specs.Readiness.{with_rings}
@@ -11,7 +10,7 @@ use Rattle.nv_register.specs.declared.readiness.Readiness.{Readiness}
 use Rattle.nv_register.specs.declared.readiness.Readiness.TheVariants.{Off, Failed, Ready}
 use Rattle.nv_register.specs.declared.register_bank.RegisterBank.{RegisterBank}
 use Rattle.nv_register.specs.declared.rings.Rings.{Rings}
-use Rattle.nv_trace.specs.Followed.{Follows}
+use Rattle.nv_trace.specs.Followed.{Follows, rings_one}
 
 -- the registers of the queues as they are read, of a controller that is off
 abbrev pub as_read : RegisterBank → RegisterBank
@@ -26,10 +25,6 @@ abbrev pub AreOthers : ℕ → List (Option RegisterBank) → List (Option Regis
 AreOthers c old new = (d : ℕ) → d ≢ c → slice_index_or new d None ≡ slice_index_or old d None
 
 -- ---- entries that were taken
-
--- the rings after one entry, and after this number of entries
-abbrev pub rings_one : Rings → Rings
-rings_one r = record r { submission = fetched_one r.submission; completion = posted_one r.completion }
 
 -- the rings after this number of entries
 abbrev pub rings_after : ℕ → Rings → Rings

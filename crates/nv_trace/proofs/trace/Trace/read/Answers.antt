@@ -6,7 +6,7 @@ pub returns-then-not-is_running-clause-further : goal.returns-then-not-is_runnin
 returns-then-not-is_running-clause-further g c =
     let kept = c.args.self.now.banks in
     read_further kept c.keep.new.self.banks (g.B.Bus.meaning c.args.bus.now).banks c.args.ctrl
-    (c.keep.ensures ∙ ap (λ p. slice_set kept c.args.ctrl (Some p)) c.registers_of.ensures)
+    (c.keep.ensures.banks ∙ ap (λ p. slice_set kept c.args.ctrl (Some p)) c.registers_of.ensures)
     (sym c.if-not-is_running.ensures)
 
 pub returns-else-not-is_running-clause-further : goal.returns-else-not-is_running-clause-further

@@ -1,4 +1,5 @@
-use Rattle.nv_trace.proofs.FollowedLaws.{turn_takes, turned_on}
+use Rattle.nv_trace.specs.inner.Followed.{turned}
+use Rattle.nv_trace.proofs.FollowedLaws.{still_traced, turn_takes, turned_on}
 use Rattle.nv_trace.proofs.traced.TracedBus.turn.Goals as goal
 
 pub turned-requires : goal.turned-requires
@@ -16,3 +17,11 @@ invariant_of-self g c = record {
       c.args.self.now.trace.banks c.args.self.now.followed c.turned.new.self.banks c.turned.ensures.own
       c.turned.ensures.others;
 }
+
+pub returns-clause-turned : goal.returns-clause-turned
+returns-clause-turned g c = (
+  c.turn-count.ensures.turned,
+  c.turned.ensures.said,
+  still_traced (turned c.turn-count.result) c.args.self.now.trace.banks c.turned.new.self.banks c.args.ctrl
+      c.turned.ensures.own c.turned.ensures.others,
+)
