@@ -1,12 +1,17 @@
 /* A controller as a PCI function: its configuration space, registers, rings and interrupts. A guest's writes come here,
    so no number in them is trusted. None of this is proved. */
+#define _GNU_SOURCE
 #include "function.h"
-#include <sys/time.h>
+#include <linux/aio_abi.h>
+#include <sys/syscall.h>
+#include <sys/uio.h>
+#include <time.h>
 
 /* Registers of the configuration space, and their bits. */
 enum { COMMAND = 4, STATUS = 6, CAPABILITY = 0x34, MESSAGES = 0x42 };
 enum { IS_MASTER = 1 << 2, HAS_NO_PIN = 1 << 2, IS_WAITING = 1 << 3, SENDS_MESSAGES = 1 };
-enum { MOST_WAIT = 20000 }; /* how many microseconds an event counter may hold this process up */
+enum { PIN_WAIT = 10 };    /* after how many milliseconds the pin is raised again if no completion was taken */
+enum { MOST_EVENTS = 64 }; /* of the kernel's queue that adds to event counters */
 
 /* The configuration after a reset: QEMU's own numbers, class 010802h, INTA, and a capability of one message (MSI). */
 static const unsigned char config_at_reset[CONFIG_SIZE] = {
@@ -25,39 +30,71 @@ int is_counter(int file) {
     return readlink(path, name, sizeof name) == sizeof wanted - 1 && memcmp(name, wanted, sizeof wanted - 1) == 0;
 }
 
-/* Puts a copy of an event counter, or none (-1), in the place of the former one. */
+static aio_context_t events;
+static int sink;
+
+/* Prepares what `add_one` needs, and leaves no descriptor of a standard stream free for something else. */
+void prepare_counters(void) {
+    while ((sink = open("/dev/null", O_RDWR | O_CLOEXEC)) >= 0 && sink <= STDERR_FILENO)
+        ;
+    if (sink < 0 || syscall(SYS_io_setup, MOST_EVENTS, &events) < 0)
+        err(FAILED, "/dev/null, with asynchronous writes");
+}
+
+/* Adds 1 to an event counter, as the kernel does at the end of an asynchronous write, here of nothing. Unlike a write
+   to the counter, this never waits, whatever the other process made of it. */
+static void add_one(int counter) {
+    struct iocb nothing = {
+        .aio_lio_opcode = IOCB_CMD_PWRITE, .aio_fildes = (uint32_t)sink, .aio_buf = (uintptr_t)&sink};
+    struct iocb *all = &nothing;
+    struct io_event ended[MOST_EVENTS];
+    nothing.aio_flags = IOCB_FLAG_RESFD;
+    nothing.aio_resfd = (uint32_t)counter;
+    while (syscall(SYS_io_submit, events, 1L, &all) < 0 && errno == EAGAIN)
+        syscall(SYS_io_getevents, events, 1L, (long)MOST_EVENTS, ended, NULL);
+}
+
+/* Puts an event counter, or none (-1), in the place of the former one. */
 void set_counter(struct function *function, int *counter, int file) {
     if (*counter >= 0)
         close(*counter);
-    *counter = fcntl(file, F_DUPFD_CLOEXEC, 0);
+    *counter = file;
     function->is_masked &= counter != &function->pin;
 }
 
-/* Adds 1 to an event counter, or clears it. If the other process made it so that this waits, the timer interrupts, and
-   the counter is dropped. */
-static void use_counter(struct function *function, int *counter, int is_write) {
-    const struct itimerval limit = {{0, MOST_WAIT}, {0, MOST_WAIT}}, none = {{0, 0}, {0, 0}};
-    uint64_t count = 1;
-    setitimer(ITIMER_REAL, &limit, NULL);
-    ssize_t length = is_write ? write(*counter, &count, sizeof count) : read(*counter, &count, sizeof count);
-    if (length < 0 && errno != EAGAIN)
-        set_counter(function, counter, -1);
-    setitimer(ITIMER_REAL, &none, NULL);
+/* Raises the pin if completions wait. Each access of the guest to a register lowers and unmasks it, even before its
+   processor has seen it. So it is raised again once the guest has taken completions, or else after a while. Returns in
+   how many milliseconds that is, or -1. */
+int raise_pin(struct function *function) {
+    int is_off = function->config[COMMAND + 1] & HAS_NO_PIN || function->config[MESSAGES] & SENDS_MESSAGES;
+    struct timespec time;
+    if (function->posted == function->head || function->pin < 0 || function->bell >= 0 || is_off || function->is_masked)
+        return -1;
+    clock_gettime(CLOCK_MONOTONIC, &time);
+    int64_t now = time.tv_sec * 1000 + time.tv_nsec / 1000000, left = function->raised_at + PIN_WAIT - now;
+    if (left > 0 && !function->has_taken)
+        return (int)left;
+    function->is_masked = 1;
+    function->has_taken = 0;
+    function->raised_at = now;
+    add_one(function->pin);
+    return -1;
 }
 
 /* Raises the interrupt if completions wait: by a message, or by the pin. What can't be raised yet is later. */
 void raise_interrupt(struct function *function) {
-    int has_message = function->bell >= 0, *counter = has_message ? &function->bell : &function->pin;
-    int is_off = function->config[COMMAND + 1] & HAS_NO_PIN || function->config[MESSAGES] & SENDS_MESSAGES;
-    if (function->posted == function->head || *counter < 0 || (!has_message && (is_off || function->is_masked)))
-        return;
-    function->is_masked |= !has_message;
-    use_counter(function, counter, 1);
+    if (function->bell < 0)
+        raise_pin(function);
+    else if (function->posted != function->head)
+        add_one(function->bell);
 }
 
 /* The other process has seen the pin's interrupt. */
 void see_interrupt(struct function *function) {
-    use_counter(function, &function->unmask, 0);
+    uint64_t count;
+    struct iovec into = {&count, sizeof count};
+    if (preadv2(function->unmask, &into, 1, -1, RWF_NOWAIT) < 0 && errno != EAGAIN)
+        set_counter(function, &function->unmask, -1);
     function->is_masked = 0;
     raise_interrupt(function);
 }
@@ -87,16 +124,20 @@ static void ring_doorbell(struct function *function, uint32_t offset, uint32_t v
         return;
     if (offset == NVME_TAIL_DOORBELL && value <= (less_one & 0xfff))
         function->tail = value;
-    else if (offset == NVME_HEAD_DOORBELL && value < slots && (value + slots - function->head) % slots <= waiting)
+    else if (offset == NVME_HEAD_DOORBELL && value < slots && (value + slots - function->head) % slots <= waiting) {
         function->head = value;
+        function->has_taken = 1;
+    }
     take_turn(function);
+    raise_pin(function);
 }
 
 static void write_register(struct function *function, uint32_t offset, uint32_t value) {
     nvme_machine_write32(function->machine, function->number, offset, value);
-    if (offset == NVME_CC && !(value & 1))
+    if (offset == NVME_CC && !(value & 1)) {
         function->fetched = function->tail = function->posted = function->head = 0;
-    else if (offset == NVME_TAIL_DOORBELL || offset == NVME_HEAD_DOORBELL)
+        function->has_taken = 1;
+    } else if (offset == NVME_TAIL_DOORBELL || offset == NVME_HEAD_DOORBELL)
         ring_doorbell(function, offset, value);
 }
 

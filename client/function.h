@@ -1,5 +1,5 @@
 /* A controller as a PCI function of a virtual machine (function.c), the machine's memory (memory.c), and the protocols
-   by which programs such as QEMU reach the function (vfio_user.c, proxy.c), whose messages qemu.c reads and sends. */
+   by which programs such as QEMU reach the function (vfio_user.c, proxy.c), with their messages (messages.c). */
 #ifndef FUNCTION_H
 #define FUNCTION_H
 #include "nvme_controller.h"
@@ -12,28 +12,41 @@
 
 /* The most functions, sections of a machine's memory, descriptors with a message, and bytes of an access. */
 enum { MOST_FUNCTIONS = 16, MOST_SECTIONS = 256, MOST_FILES = 8, MOST_ACCESS = 0x4000 };
-enum { FAILED = 72, HEADER = 16, MOST_MESSAGE = HEADER + 16 + MOST_ACCESS };
+enum { FAILED = 72, HEADER = 16, MOST_MESSAGE = HEADER + 16 + MOST_ACCESS, BATCH = 256 /* bytes of small messages */ };
 enum { BAR_SIZE = MOST_ACCESS, CONFIG_SIZE = 256, SMALL_PAGE = 4096 };
 
-/* A piece of the machine's memory, in a file. What has none (-1) is a hole. */
+/* A piece of the machine's memory, in a file that is mapped. What has none (-1) is a hole. */
 struct section {
     uint64_t address, size, offset;
     int file, is_writable;
+    unsigned char *bytes;
+};
+
+/* Descriptors that came with a message, and whether others couldn't be kept. */
+struct files {
+    int at[MOST_FILES], has_lost;
+    unsigned count;
 };
 
 struct function {
     const struct protocol *protocol;
     nvme_machine *machine;
-    uint16_t number;                     /* of the controller in its machine */
-    int socket, listener;                /* or -1 */
-    unsigned char message[MOST_MESSAGE]; /* the one that comes, and then its answer */
-    uint32_t come, sent, to_send;        /* how much of either has come, was sent, and is to be sent in all */
-    int files[MOST_FILES];               /* the descriptors that came with it, and -1 */
+    uint16_t number;                           /* of the controller in its machine */
+    int socket, listener;                      /* or -1 */
+    pid_t receiver;                            /* the process that takes the client's descriptors, or 0 */
+    int to_receiver, is_asked;                 /* the socket to it, or -1, and whether it is to answer */
+    int is_paused;                             /* whether no client could be taken */
+    unsigned char message[MOST_MESSAGE];       /* the message that is served, and then its answer */
+    unsigned char input[MOST_MESSAGE + BATCH]; /* what has come, from the beginning of a message on */
+    uint32_t come, sent, to_send;
+    struct files files; /* what came with the message that comes first */
     unsigned char config[CONFIG_SIZE];
     struct section sections[MOST_SECTIONS];
-    unsigned file_count, section_count;
+    unsigned section_count;
     int pin, bell, unmask;  /* event counters for the pin, for messages, and of the pin's being seen; or -1 */
     int is_masked;          /* whether the pin waits to be seen */
+    int has_taken;          /* whether the guest wrote a head since the pin was raised */
+    int64_t raised_at;      /* when that was, in milliseconds */
     int has_more;           /* whether more entries may wait after the last turn */
     uint32_t fetched, tail; /* the place of the next entry, and the tail that the guest wrote */
     uint32_t posted, head;  /* the place of the next completion, and the head that the guest wrote */
@@ -49,11 +62,21 @@ void reset(struct function *function);
 int use(struct function *function, int is_config, uint64_t offset, uint64_t count, unsigned char *bytes, int is_write);
 void take_turn(struct function *function);
 int is_counter(int file);
+void prepare_counters(void);
 void set_counter(struct function *function, int *counter, int file);
 void raise_interrupt(struct function *function);
+int raise_pin(struct function *function);
 void see_interrupt(struct function *function);
 void reserve_memory(void);
-int add_section(struct function *function, struct section section);
+int add_section(struct function *function, struct section section, int *file);
 int drop_sections(struct function *function, uint64_t address, uint64_t size);
 int turn(struct function *function, uint64_t entry, uint64_t slot, uint32_t page);
+int take_file(struct function *function, unsigned number);
+void let_go(struct function *function, int file);
+int begin(struct function *function, int client);
+void serve_messages(struct function *function);
+void send_rest(struct function *function);
+void receive(struct function *function);
+void take_answer(struct function *function);
+void lose(struct function *function);
 #endif

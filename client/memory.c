@@ -1,16 +1,18 @@
 /* The memory of a virtual machine. A turn of a controller works in memory that nothing else may write meanwhile, but
    the guest's processors go on. So the library is lent addresses without memory. Where it touches a page, a fault
-   brings a copy of the guest's, and what changed is written back after the turn. The guest's memory is a file that
-   isn't mapped here, so that nobody who takes it away can end this process. None of this is proved. */
+   brings a copy of the guest's, and what changed is written back after the turn. The guest's memory is a file that is
+   mapped here, and whose pages can be taken away at any time. As on a PC's bus, what isn't there reads as FFh, and
+   loses what is written. None of this is proved. */
+#define _GNU_SOURCE
 #include "function.h"
-#include <linux/magic.h>
+#include <setjmp.h>
+#include <stdatomic.h>
 #include <sys/mman.h>
 #include <sys/stat.h>
-#include <sys/vfs.h>
 
-/* More pages than an entry touches, whose data has at most 1 MiB, and how many are kept for the next turn; the opcode
-   of Get Log Page, which alone has so much data; and how the lent addresses are mapped. */
-enum { MOST_PAGES = 512, MOST_KEPT = 4, GET_LOG_PAGE = 2, LENT = MAP_PRIVATE | MAP_ANONYMOUS | MAP_NORESERVE };
+/* More pages than an entry touches, whose data has at most 1 MiB; how many are kept for the next turn; and how the lent
+   addresses are mapped. */
+enum { MOST_PAGES = 512, MOST_KEPT = 4, LENT = MAP_PRIVATE | MAP_ANONYMOUS | MAP_NORESERVE };
 #define MOST_MEMORY ((uint64_t)128 << 30) /* the addresses that a controller reaches */
 
 static unsigned char *lent;                          /* the addresses that are lent, from the guest's 0 on */
@@ -18,29 +20,53 @@ static const struct function *user;                  /* the function that has it
 static uint64_t pages[MOST_PAGES];                   /* the pages that it has touched */
 static unsigned char before[MOST_PAGES][SMALL_PAGE]; /* and what the guest's held at the beginning of the turn */
 static unsigned page_count;
+static volatile sig_atomic_t is_copying;
+static sigjmp_buf copying;
 
 static const struct section *section_at(const struct function *function, uint64_t address) {
     for (const struct section *at = function->sections; at < function->sections + function->section_count; at++)
-        if (at->file >= 0 && address >= at->address && address - at->address < at->size)
+        if (at->bytes && address >= at->address && address - at->address < at->size)
             return at;
     return NULL;
 }
 
-/* Writes bytes of one page of the guest. What isn't memory that can be written loses them. */
-static void store(uint64_t address, const unsigned char *bytes, size_t length) {
-    const struct section *at = section_at(user, address);
-    if (at && at->is_writable)
-        (void)!pwrite(at->file, bytes, length, (off_t)(at->offset + address - at->address));
+/* Copies bytes of one page from or to a file. Returns whether it has the page. */
+static int copy(unsigned char *to, const unsigned char *from, size_t length) {
+    is_copying = 1;
+    if (sigsetjmp(copying, 0) != 0)
+        return is_copying;
+    atomic_signal_fence(memory_order_seq_cst);
+    memcpy(to, from, length);
+    atomic_signal_fence(memory_order_seq_cst);
+    is_copying = 0;
+    return 1;
 }
 
-/* Copies one of the pages from the guest's. Where there is no memory, its bytes are FFh. */
+/* Ends a copy from or to a page that the file doesn't have. Any other such fault ends this process. */
+static void miss(int number) {
+    if (!is_copying) {
+        signal(number, SIG_DFL);
+        return;
+    }
+    is_copying = 0;
+    siglongjmp(copying, 1);
+}
+
+/* Writes bytes of one page of the guest, after all that was written before. */
+static void store(uint64_t address, const unsigned char *bytes, size_t length) {
+    const struct section *at = section_at(user, address);
+    atomic_thread_fence(memory_order_release);
+    if (at && at->is_writable)
+        copy(at->bytes + (address - at->address), bytes, length);
+}
+
+/* Copies one of the pages from the guest's. */
 static void load(unsigned number) {
-    unsigned char *copy = lent + pages[number];
+    unsigned char *page = lent + pages[number];
     const struct section *at = section_at(user, pages[number]);
-    ssize_t count = at ? pread(at->file, copy, SMALL_PAGE, (off_t)(at->offset + pages[number] - at->address)) : 0;
-    count = count < 0 ? 0 : count;
-    memset(copy + count, 0xff, SMALL_PAGE - count);
-    memcpy(before[number], copy, SMALL_PAGE);
+    if (!at || !copy(page, at->bytes + (pages[number] - at->address), SMALL_PAGE))
+        memset(page, 0xff, SMALL_PAGE);
+    memcpy(before[number], page, SMALL_PAGE);
 }
 
 /* Brings the page that was touched. Any other fault ends this process. */
@@ -55,52 +81,35 @@ static void bring(int number, siginfo_t *about, void *context) {
         signal(number, SIG_DFL);
 }
 
-/* In the copy of an entry or list, replaces an address whose page isn't all memory by one that is never reached. */
-static void check_address(uint64_t place, uint32_t page) {
-    uint64_t address = number_at(lent + place, 8), first = address - address % page;
-    unsigned number = 0;
-    if (section_at(user, first) && section_at(user, first + page - 1))
-        return;
-    address = -(uint64_t)page | address % page;
-    put_dwords(lent + place, (uint32_t[]){address, address >> 32}, 2);
-    while (pages[number] != place - place % SMALL_PAGE)
-        number++;
-    memcpy(before[number] + place % SMALL_PAGE, lent + place, sizeof address);
-}
-
-/* Checks the addresses of an entry's data, and of its list's first page. (Only a log is so long that it has one.) */
-static void check_entry(uint64_t entry, uint32_t page) {
-    const unsigned char *copy = lent + entry;
-    uint64_t room = 2 * page - number_at(copy + 24, 8) % page, list = number_at(copy + 32, 8) / SMALL_PAGE * SMALL_PAGE;
-    int has_list = copy[0] == GET_LOG_PAGE && 4 * (number_at(copy + 42, 4) + 1) > room && section_at(user, list);
-    check_address(entry + 24, page);
-    check_address(entry + 32, page);
-    for (unsigned byte = 0; has_list && byte < SMALL_PAGE; byte += 8)
-        check_address(list + byte, page);
-}
-
 void reserve_memory(void) {
     lent = mmap(NULL, MOST_MEMORY, PROT_NONE, LENT, -1, 0);
     if (lent == MAP_FAILED || sysconf(_SC_PAGESIZE) != SMALL_PAGE)
         err(FAILED, "128 GiB of addresses, in pages of 4,096 bytes");
     sigaction(SIGSEGV, &(struct sigaction){.sa_sigaction = bring, .sa_flags = SA_SIGINFO}, NULL);
-    signal(SIGXFSZ, SIG_IGN);
+    sigaction(SIGBUS, &(struct sigaction){.sa_handler = miss, .sa_flags = SA_NODEFER}, NULL);
 }
 
-/* Returns 0, or why a file can't be memory. It must lie in memory, so that no access waits for another process. */
-static int fault_of(const struct section *section) {
-    struct statfs system;
+/* Maps a section's file, which a receiver has passed on, if a controller can reach it. (Receivers don't inherit it.)
+   Returns 0 or the number of an error. */
+static int map_file(struct section *section) {
     struct stat about;
-    int mode = fcntl(section->file, F_GETFL) & O_ACCMODE;
-    if (fstatfs(section->file, &system) < 0 || fstat(section->file, &about) < 0 || system.f_type != TMPFS_MAGIC ||
-        !S_ISREG(about.st_mode) || (uint64_t)about.st_size < section->size ||
+    int mode = fcntl(section->file, F_GETFL) & O_ACCMODE, access = PROT_READ | (section->is_writable ? PROT_WRITE : 0);
+    if (fstat(section->file, &about) < 0 || !S_ISREG(about.st_mode) || (uint64_t)about.st_size < section->size ||
         (uint64_t)about.st_size - section->size < section->offset)
         return EINVAL;
-    return mode == O_RDWR || (mode == O_RDONLY && !section->is_writable) ? 0 : EACCES;
+    if (mode != O_RDWR && (mode != O_RDONLY || section->is_writable))
+        return EACCES;
+    if (section->address + section->size - 1 >= MOST_MEMORY)
+        return 0;
+    void *bytes = mmap(NULL, section->size, access, MAP_SHARED, section->file, (off_t)section->offset);
+    if (bytes == MAP_FAILED || madvise(bytes, section->size, MADV_DONTFORK) < 0)
+        return errno;
+    section->bytes = bytes;
+    return 0;
 }
 
-/* Adds a section, with a copy of its file. Returns 0 or the number of an error. */
-int add_section(struct function *function, struct section section) {
+/* Adds a section, which takes the descriptor if it needs it. Returns 0 or the number of an error. */
+int add_section(struct function *function, struct section section, int *file) {
     uint64_t last = section.address + section.size - 1;
     uint64_t bits = section.address | section.size | section.offset;
     if (bits % SMALL_PAGE != 0 || section.size == 0 || last < section.address)
@@ -108,10 +117,12 @@ int add_section(struct function *function, struct section section) {
     for (const struct section *at = function->sections; at < function->sections + function->section_count; at++)
         if (section.address <= at->address + at->size - 1 && at->address <= last)
             return EEXIST;
-    int fault = function->section_count == MOST_SECTIONS ? ENOSPC : section.file < 0 ? 0 : fault_of(&section);
+    section.file = *file;
+    int fault = function->section_count == MOST_SECTIONS ? ENOSPC : section.file < 0 ? 0 : map_file(&section);
     if (fault)
         return fault;
-    section.file = last < MOST_MEMORY ? fcntl(section.file, F_DUPFD_CLOEXEC, 0) : -1;
+    if (section.bytes)
+        *file = -1; /* (which it keeps) */
     function->sections[function->section_count++] = section;
     return 0;
 }
@@ -122,8 +133,10 @@ int drop_sections(struct function *function, uint64_t address, uint64_t size) {
     for (const struct section *at = function->sections; at < end; at++)
         if (size > 0 && (at->address != address || at->size != size))
             *to++ = *at;
-        else if (at->file >= 0)
-            close(at->file);
+        else if (at->bytes) {
+            munmap(at->bytes, at->size);
+            let_go(function, at->file);
+        }
     function->section_count = to - function->sections;
     return size > 0 && to == end ? ENOENT : 0;
 }
@@ -162,8 +175,6 @@ int turn(struct function *function, uint64_t entry, uint64_t slot, uint32_t page
     user = function;
     for (unsigned number = 0; number < page_count; number++)
         load(number);
-    if (count > 0)
-        check_entry(entry, page);
     int is_taken = nvme_machine_turn(function->machine, function->number, lent, count, page, 1) == 1;
     if (is_taken)
         store_all(slot);

@@ -13,19 +13,21 @@ static uint64_t length(const unsigned char *header) {
 
 /* Takes the memory anew: eight addresses, sizes and offsets. If a section isn't valid, there is none. */
 static void set_memory(struct function *function, const unsigned char *body) {
-    int fault = drop_sections(function, 0, 0);
-    for (unsigned at = 0; at < function->file_count && !fault; at++)
-        fault = add_section(function, (struct section){number_at(body + 8 * at, 8), number_at(body + 64 + 8 * at, 8),
-                                                       number_at(body + 128 + 8 * at, 8), function->files[at], 1});
+    int fault = drop_sections(function, 0, 0) | function->files.has_lost;
+    for (unsigned at = 0; at < function->files.count && !fault; at++) {
+        struct section section = {number_at(body + 8 * at, 8), number_at(body + 64 + 8 * at, 8),
+                                  number_at(body + 128 + 8 * at, 8), .is_writable = 1};
+        fault = add_section(function, section, function->files.at + at);
+    }
     if (fault)
         drop_sections(function, 0, 0);
 }
 
 static void set_interrupt(struct function *function) {
-    int *files = function->files;
-    int are_valid = function->file_count == 2 && is_counter(files[0]) && is_counter(files[1]);
-    set_counter(function, &function->pin, are_valid ? files[0] : -1);
-    set_counter(function, &function->unmask, are_valid ? files[1] : -1);
+    const struct files *files = &function->files;
+    int are_valid = files->count == 2 && is_counter(files->at[0]) && is_counter(files->at[1]);
+    set_counter(function, &function->pin, are_valid ? take_file(function, 0) : -1);
+    set_counter(function, &function->unmask, are_valid ? take_file(function, 1) : -1);
     raise_interrupt(function);
 }
 

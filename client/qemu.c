@@ -1,5 +1,5 @@
 /* Gives the controllers of the proved library to virtual machines: to QEMU, which it starts, or to clients of vfio-user
-   that come and go. This file reads the options and the messages. None of this is proved. */
+   that come and go. None of this is proved. */
 #define _GNU_SOURCE
 #include "function.h"
 #include <getopt.h>
@@ -12,14 +12,15 @@
 #include <sys/un.h>
 #include <sys/wait.h>
 
-/* Statuses, and the most bytes of a subsystem's file, memory of a machine, and clients that wait at a socket. */
-enum { NOT_EXECUTABLE = 126, NOT_FOUND = 127, MOST_FILE = 1 << 20, MOST_GIBIBYTES = 64, MOST_WAITING = 4 };
+/* Statuses; the most bytes of a subsystem's file, memory of a machine, and clients that wait at a socket; and how many
+   milliseconds a client waits that couldn't be taken. */
+enum { NOT_EXECUTABLE = 126, NOT_FOUND = 127, MOST_FILE = 1 << 20, MOST_GIBIBYTES = 64, MOST_WAITING = 4, PAUSE = 100 };
 
 static int is_server, has_summary; /* the values of the options */
 static const char *paths[MOST_FUNCTIONS], *memory = "128M";
 static unsigned path_count, function_count;
 static struct function functions[MOST_FUNCTIONS];
-static int far_ends[MOST_FUNCTIONS];                       /* of socket pairs, which are QEMU's */
+static int far_ends[MOST_FUNCTIONS];                       /* QEMU's: ends of socket pairs, or its ways to sockets */
 static char folder[] = "/tmp/nvme-model.XXXXXX", *sockets; /* for QEMU's sockets, and how the paths of all begin */
 static pid_t qemu;
 
@@ -30,90 +31,42 @@ static struct sockaddr_un address_of(unsigned number) {
     return made;
 }
 
+/* Removes the names of the sockets, once. (Later, they may be names of something else.) */
 static void remove_sockets(void) {
-    for (unsigned at = 0; at < function_count; at++)
+    for (unsigned at = 0; sockets && at < function_count; at++)
         if (functions[at].listener >= 0)
             unlink(address_of(at).sun_path);
     if (sockets && !is_server)
         rmdir(folder);
+    sockets = NULL;
 }
 
-/* Takes the descriptors of a piece of a message, and closes those that are too many. */
-static void take_files(struct function *function, struct msghdr *piece) {
-    for (struct cmsghdr *part = CMSG_FIRSTHDR(piece); part; part = CMSG_NXTHDR(piece, part))
-        for (int *file = (int *)CMSG_DATA(part); (char *)(file + 1) <= (char *)part + part->cmsg_len; file++)
-            if (function->file_count < MOST_FILES)
-                function->files[function->file_count++] = *file;
-            else
-                close(*file);
-}
-
-static void end_message(struct function *function) {
-    while (function->file_count > 0)
-        close(function->files[--function->file_count]);
-    memset(function->files, -1, sizeof function->files);
-    function->come = 0;
-}
-
-/* At a stream's end, or at a message that isn't valid, another client can come. (There is no other QEMU.) */
-static void lose(struct function *function, int is_in_message) {
-    if (function->listener < 0 && is_in_message)
-        errx(FAILED, "QEMU sent a message that isn't known here");
-    end_message(function);
-    close(function->socket);
-    function->socket = -1;
-    set_counter(function, &function->pin, -1);
-    set_counter(function, &function->bell, -1);
-    set_counter(function, &function->unmask, -1);
-    drop_sections(function, 0, 0);
-    reset(function);
-}
-
-/* Sends what is left of an answer. (If the other end is closed, the next read finds it.) */
-static void send_rest(struct function *function) {
-    uint32_t rest = function->to_send - function->sent;
-    ssize_t count = send(function->socket, function->message + function->sent, rest, MSG_NOSIGNAL | MSG_DONTWAIT);
-    function->sent += count < 0 ? 0 : (uint32_t)count;
-    if (count == rest || (count < 0 && errno != EAGAIN && errno != EINTR))
-        function->to_send = 0;
-}
-
-/* Reads more of a message, and no byte of the next one, to which other descriptors belong. Serves it if it is whole. */
-static void receive(struct function *function) {
-    uint64_t whole = function->come < HEADER ? HEADER : function->protocol->length(function->message);
-    _Alignas(struct cmsghdr) char control[CMSG_SPACE(MOST_FILES * sizeof(int))];
-    struct iovec rest = {function->message + function->come, whole - function->come};
-    struct msghdr piece = {.msg_iov = &rest, .msg_iovlen = 1, .msg_control = control, .msg_controllen = sizeof control};
-    ssize_t count = recvmsg(function->socket, &piece, MSG_DONTWAIT | MSG_CMSG_CLOEXEC);
-    if (count < 0 && (errno == EAGAIN || errno == EINTR))
-        return;
-    if (count > 0) {
-        take_files(function, &piece);
-        function->come += (uint32_t)count;
-        whole = function->come < HEADER ? HEADER : function->protocol->length(function->message);
-    }
-    if (count <= 0 || whole == 0)
-        lose(function, count > 0 || function->come > 0);
-    else if (function->come == whole) {
-        function->sent = 0;
-        function->to_send = function->protocol->serve(function);
-        end_message(function);
-        if (function->to_send > 0)
-            send_rest(function);
-    } else if (function->come == HEADER)
-        receive(function); /* (most often, the rest has come as well) */
-}
-
-/* Serves what came: a client, more of a message, that the client reads, or that it saw the pin. */
+/* Serves what came: that the pin was seen, what the receiver took, a client, that it reads, or more of a message. From
+   a client whose receiver was asked, only its end comes. */
 static void serve(struct function *function, const struct pollfd awaited[2]) {
     if (awaited[1].revents)
-        see_interrupt(function);
+        (function->is_asked ? take_answer : see_interrupt)(function);
     if (function->has_more)
         take_turn(function);
-    if (awaited[0].revents && function->socket < 0)
-        function->socket = accept4(function->listener, NULL, NULL, SOCK_CLOEXEC);
-    else if (awaited[0].revents)
-        (function->to_send > 0 ? send_rest : receive)(function);
+    if (awaited[0].revents && awaited[0].fd == function->listener)
+        function->is_paused = !begin(function, accept4(function->listener, NULL, NULL, SOCK_CLOEXEC));
+    else if (awaited[0].revents && awaited[0].fd == function->socket)
+        (function->is_asked ? lose : function->to_send > 0 ? send_rest : receive)(function);
+    serve_messages(function);
+}
+
+/* Sets what a function waits for, and returns for how many milliseconds it may, or -1 if there is no limit. The next
+   client waits until the receiver of the former one has ended. */
+static int await(struct function *function, struct pollfd awaited[2]) {
+    int counter = function->is_masked ? function->unmask : -1, wait = raise_pin(function);
+    int event = function->is_asked ? 0 : function->to_send > 0 ? POLLOUT : POLLIN, is_paused = function->is_paused;
+    if (function->socket < 0 && function->receiver > 0 && waitpid(function->receiver, NULL, WNOHANG) != 0)
+        function->receiver = 0;
+    int listener = is_paused || function->receiver > 0 ? -1 : function->listener;
+    awaited[0] = (struct pollfd){function->socket >= 0 ? function->socket : listener, event, 0};
+    awaited[1] = (struct pollfd){function->is_asked ? function->to_receiver : counter, POLLIN, 0};
+    function->is_paused = 0;
+    return function->has_more ? 0 : is_paused ? PAUSE : wait;
 }
 
 /* Serves until QEMU ends, and returns its status as a shell does, or until a signal ends this process, and returns
@@ -123,22 +76,18 @@ static int serve_all(int signals) {
     struct signalfd_siginfo about = {.ssi_signo = SIGCHLD};
     int how = 0;
     while (about.ssi_signo == SIGCHLD || (!is_server && (about.ssi_signo == SIGINT || about.ssi_signo == SIGQUIT))) {
-        if (!is_server && waitpid(qemu, &how, WNOHANG) != 0)
-            return WIFEXITED(how) ? WEXITSTATUS(how) : 128 + WTERMSIG(how);
         int wait = -1;
         for (unsigned at = 0; at < function_count; at++) {
-            const struct function *function = functions + at;
-            int file = function->socket >= 0 ? function->socket : function->listener;
-            awaited[1 + 2 * at] = (struct pollfd){file, function->to_send > 0 ? POLLOUT : POLLIN, 0};
-            awaited[2 + 2 * at] = (struct pollfd){function->unmask, POLLIN, 0};
-            wait = function->has_more ? 0 : wait;
+            int its = await(functions + at, awaited + 1 + 2 * at);
+            wait = its >= 0 && (wait < 0 || its < wait) ? its : wait;
         }
         if (poll(awaited, 1 + 2 * function_count, wait) < 0)
             continue;
         for (unsigned at = 0; at < function_count; at++)
             serve(functions + at, awaited + 1 + 2 * at);
-        if (awaited[0].revents)
-            (void)!read(signals, &about, sizeof about);
+        if (awaited[0].revents && read(signals, &about, sizeof about) > 0 && !is_server &&
+            waitpid(qemu, &how, WNOHANG) != 0)
+            return WIFEXITED(how) ? WEXITSTATUS(how) : 128 + WTERMSIG(how);
     }
     return -(int)about.ssi_signo;
 }
@@ -172,34 +121,31 @@ static void run_qemu(char **options, unsigned count, const sigset_t *mask, pid_t
     char *arguments[sizeof first / sizeof *first + 2 * MOST_FUNCTIONS + count + 1];
     char **next = mempcpy(arguments, first, sizeof first);
     const char *device = "{\"driver\":\"vfio-user-pci\",\"id\":\"nvme-model-%u\",\"socket\":{\"type\":\"unix\","
-                         "\"path\":\"%s%u\"}}";
+                         "\"path\":\"/proc/self/fd/%d\"}}";
     int length = asprintf(next - 1, "memory-backend-memfd,id=nvme-model-ram,share=on,size=%s", memory);
     for (unsigned at = 0; length >= 0 && at < function_count; at++) {
         *next++ = "-device";
-        length = far_ends[at] < 0 ? asprintf(next++, device, at, sockets, at)
-                                  : asprintf(next++, "x-pci-proxy-dev,fd=%d", far_ends[at]);
+        length = functions[at].protocol == &vfio_user ? asprintf(next++, device, at, far_ends[at])
+                                                      : asprintf(next++, "x-pci-proxy-dev,fd=%d", far_ends[at]);
     }
     memcpy(next, options, (count + 1) * sizeof *options);
-    signal(SIGXFSZ, SIG_DFL);
     sigprocmask(SIG_SETMASK, mask, NULL);
     if (length >= 0 && prctl(PR_SET_PDEATHSIG, SIGKILL) == 0 && getppid() == parent)
         execvp(*arguments, arguments);
     err(errno == ENOENT ? NOT_FOUND : NOT_EXECUTABLE, "%s", *arguments);
 }
 
-static void note_time(int number) { (void)number; }
-
-/* Returns a descriptor from which signals are read, except for those that were ignored, and the timer's. */
+/* Returns a descriptor from which signals are read, except for those that were ignored. */
 static int watch_signals(sigset_t *mask) {
     static const int numbers[] = {SIGCHLD, SIGTERM, SIGHUP, SIGINT, SIGQUIT};
     struct sigaction former;
     sigset_t watched;
     sigemptyset(&watched);
+    signal(SIGCHLD, SIG_DFL);
     for (unsigned at = 0; at < sizeof numbers / sizeof *numbers; at++)
         if (sigaction(numbers[at], NULL, &former) == 0 && former.sa_handler != SIG_IGN)
             sigaddset(&watched, numbers[at]);
     sigprocmask(SIG_BLOCK, &watched, mask);
-    sigaction(SIGALRM, &(struct sigaction){.sa_handler = note_time}, NULL); /* (it interrupts a call) */
     return signalfd(-1, &watched, SFD_CLOEXEC | SFD_NONBLOCK);
 }
 
@@ -236,18 +182,31 @@ static void make_functions(const char *path, const struct protocol *protocol) {
         errx(FAILED, "%s", *fault ? fault : "out of memory");
     for (uint16_t number = 0; number < nvme_machine_controllers(machine); number++, function_count++) {
         struct function *function = functions + function_count;
-        int ends[2] = {-1, -1};
         if (function_count == MOST_FUNCTIONS)
             errx(FAILED, "there are more than %d controllers", MOST_FUNCTIONS);
-        if (protocol == &proxy &&
-            (socketpair(AF_UNIX, SOCK_STREAM, 0, ends) < 0 || fcntl(*ends, F_SETFD, FD_CLOEXEC) < 0))
-            err(FAILED, "socketpair");
-        *function = (struct function){protocol, machine, number, .socket = *ends, .pin = -1, .bell = -1, .unmask = -1};
-        function->listener = protocol == &vfio_user ? listen_at(function_count) : -1;
-        far_ends[function_count] = ends[1];
-        end_message(function);
+        *function = (struct function){protocol, machine, number, .socket = -1, .listener = -1, .to_receiver = -1};
+        function->pin = function->bell = function->unmask = -1;
+        memset(function->files.at, -1, sizeof function->files.at);
         reset(function);
     }
+}
+
+/* Makes the sockets: for QEMU's older device, pairs. For the other one, they have names only until there are other ways
+   to them, so that none are left if this process is killed. */
+static void make_sockets(void) {
+    int has_folder = !is_server && functions->protocol == &vfio_user, ends[2];
+    if (has_folder && (!mkdtemp(folder) || asprintf(&sockets, "%s/", folder) < 0))
+        err(FAILED, "%s", folder);
+    for (unsigned at = 0; at < function_count; at++) {
+        struct function *function = functions + at;
+        if (function->protocol == &proxy && (socketpair(AF_UNIX, SOCK_STREAM, 0, ends) < 0 ||
+                                             fcntl(*ends, F_SETFD, FD_CLOEXEC) < 0 || !begin(function, *ends)))
+            err(FAILED, "socketpair");
+        function->listener = function->protocol == &vfio_user ? listen_at(at) : -1;
+        far_ends[at] = has_folder ? open(address_of(at).sun_path, O_PATH) : is_server ? -1 : ends[1];
+    }
+    if (has_folder)
+        remove_sockets();
 }
 
 /* Prints how many commands each controller has had, and its error log. */
@@ -313,15 +272,15 @@ int main(int count, char **arguments) {
     arguments[0] = program_invocation_short_name = "nvme-model";
     unsigned at = read_options(count, arguments);
     const struct protocol *protocol = is_server ? &vfio_user : choose(arguments + at);
+    prepare_counters();
     int signals = watch_signals(&mask);
     if (getrlimit(RLIMIT_NOFILE, &files) == 0)
         setrlimit(RLIMIT_NOFILE, &(struct rlimit){files.rlim_max, files.rlim_max});
     reserve_memory();
-    atexit(remove_sockets);
-    if (!is_server && protocol == &vfio_user && (!mkdtemp(folder) || asprintf(&sockets, "%s/", folder) < 0))
-        err(FAILED, "%s", folder);
     for (unsigned path = 0; path < path_count || path == 0; path++)
         make_functions(paths[path], protocol);
+    atexit(remove_sockets);
+    make_sockets();
     pid_t self = getpid();
     if (!is_server && (qemu = fork()) == 0)
         run_qemu(arguments + at, (unsigned)count - at, &mask, self);

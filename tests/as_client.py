@@ -11,7 +11,7 @@ import socket
 import struct
 import time
 
-PAGE = 4096
+PAGE, REACHED = 4096, 128 << 30
 (VERSION, DMA_MAP, DMA_UNMAP, DEVICE_INFO, REGION_INFO, IRQ_INFO, SET_IRQS, REGION_READ, REGION_WRITE,
  RESET) = 1, 2, 3, 4, 5, 7, 8, 9, 10, 13
 REQUEST, ANSWER, WANTS_NONE, ERROR = 0, 1, 0x10, 0x20
@@ -176,11 +176,14 @@ class Piece:
 
 class Guest(Client):
     """A client with memory and a driver. Beside it there may be a machine of the library, to which the same is done;
-    `ctrl` is the controller's number in it."""
+    `ctrl` is the controller's number in it. The machine is lent all that a controller reaches. These of its pages are
+    no memory, but hold FFh at the beginning of each turn."""
 
-    def __init__(self, path, machine=None, ctrl=0, layout=((0, 64 * PAGE),), command=MASTER):
+    def __init__(self, path, machine=None, ctrl=0, layout=((0, 64 * PAGE),), command=MASTER, holes=()):
         super().__init__(path)
-        self.machine, self.ctrl, self.pieces = machine, ctrl, []
+        self.machine, self.ctrl, self.pieces, self.holes = machine, ctrl, [], holes
+        if machine:
+            self.flat = mmap.mmap(-1, REACHED, flags=mmap.MAP_PRIVATE | mmap.MAP_ANONYMOUS | 0x4000)  # (MAP_NORESERVE)
         self.greet()
         for address, length in layout:
             self.add(Piece(address, length))
@@ -195,9 +198,6 @@ class Guest(Client):
     def add(self, piece):
         self.pieces.append(piece)
         assert self.map(piece.address, piece.length, piece.file) == 0
-        end = max(piece.address + piece.length for piece in self.pieces)
-        flags = mmap.MAP_PRIVATE | mmap.MAP_ANONYMOUS | 0x4000  # (MAP_NORESERVE)
-        self.flat = mmap.mmap(-1, end, flags=flags)
 
     def at(self, address, length):
         """Returns the bytes of the guest's memory at an address, which can be written."""
@@ -215,13 +215,13 @@ class Guest(Client):
             return
         for piece in self.pieces:
             self.flat[piece.address:piece.address + piece.length] = piece.bytes[:]
+        for hole in self.holes:
+            self.flat[hole:hole + PAGE] = b'\xff' * PAGE
         self.set_register(offset, value, size)
         for part in range(0, size, 4):
             self.machine.write32(self.ctrl, offset + part, value >> 8 * part & 0xffff_ffff)
         if offset in (TAIL, HEAD):
-            page = PAGE << (self.machine.read32(self.ctrl, CC) >> 7 & 15)
-            whole = len(self.flat) // page * page
-            self.machine.turn(self.ctrl, memoryview(self.flat)[:whole], page)
+            self.machine.turn(self.ctrl, self.flat, PAGE << (self.machine.read32(self.ctrl, CC) >> 7 & 15))
         self.agree()
 
     def agree(self):

@@ -16,7 +16,7 @@ CLIENT = TOP / 'client'
 PARTS = {'bin/nvme-model': ('launcher', 'relay', 'nodes', 'sysfs', 'sandbox', 'calls', 'filter', 'io', 'device',
                             'inherited'),
          'lib/nvme-model/library.so': ('library',),
-         'lib/nvme-model/qemu': ('qemu', 'function', 'memory', 'proxy', 'vfio_user')}
+         'lib/nvme-model/qemu': ('qemu', 'messages', 'function', 'memory', 'proxy', 'vfio_user')}
 WARNINGS = '-Wall', '-Wextra', '-Werror'
 VERSION = (TOP / 'VERSION').read_text().strip()
 

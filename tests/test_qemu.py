@@ -1,6 +1,6 @@
 """Tests ./nvme-model --qemu: valid and invalid messages of x-pci-proxy-dev, which tests/as_qemu.py sends in QEMU's
 place, and SeaBIOS and Linux with nvme-cli over the controllers, if QEMU, a kernel and a static busybox are installed:
-by vfio-user-pci where QEMU has it. tests/test_vfio_user.py tests the messages of that. NVME_TEST_KERNEL names a kernel
+by vfio-user-pci where QEMU has it. tests/test_vfio_*.py test the messages of that. NVME_TEST_KERNEL names a kernel
 instead of the newest one in /boot, and NVME_TEST_MODULES the folder with its modules."""
 
 import functools
@@ -17,7 +17,7 @@ import subprocess
 
 from tests.as_qemu import BROKEN
 from tests.modelled import CLIENT, PARTS, ModelCase, installed, is_there
-from tests.support import DEMO, TOP, Case, Running, difference, library, process_folder, run
+from tests.support import DEMO, TOP, Case, Running, difference, library, process_folder, run, until
 
 SCENARIOS = ('configuration', 'registers', 'commands', 'page_sizes', 'bus_master', 'interrupts', 'holes',
              'sections', 'gone')
@@ -81,6 +81,16 @@ dmesg | grep -E 'nvme.*(timeout|[Tt]imed|dead|Abort)'
 echo END
 echo b > /proc/sysrq-trigger
 sleep 60
+'''
+
+# What a stand-in does with the sockets that it is given: the server must answer at each.
+REACH = '''
+import re, socket, struct, sys
+for path in re.findall('"path":"([^"]+)"', ' '.join(sys.argv)):
+    with socket.socket(socket.AF_UNIX) as function:
+        function.connect(path)
+        function.sendall(struct.pack('<HHIIIHH', 1, 1, 20, 0, 0, 0, 0))
+        print('max_msg_fds' in function.recv(1000).decode(errors='replace'))
 '''
 
 
@@ -185,15 +195,20 @@ class Messages(Case):
         words = '--memory', '2G', '--', '-x', 'y z'
         self.assertRegex(self.ended(b'echo "$*"', *words).out,
                          rb'-object \S+,share=on,size=2G( -device x-pci-proxy-dev,fd=\d+){2} -x y z\n')
-        said = self.ended(b'echo "$*"; ls /tmp/nvme-model.*', *words, devices='vfio-user-pci').out.decode()
+        # (the sockets have no names, and yet can be reached)
+        folders = set(glob.glob('/tmp/nvme-model.*'))
+        self.file('reach.py', REACH.encode())
+        said = self.ended(b'echo "$*"; exec python3 "${0%/*}/reach.py" "$@"', *words, devices='vfio-user-pci').out.decode()
         device = (r'-device \{"driver":"vfio-user-pci","id":"nvme-model-%d",'
-                  r'"socket":\{"type":"unix","path":"(\S+)/%d"\}\}')
-        found = re.search(rf'-object \S+,share=on,size=2G {device % (0, 0)} {device % (1, 1)} -x y z\n', said)
-        self.assertTrue(found, said)
-        # (the sockets were there, and aren't left)
-        self.assertEqual(found[1], found[2])
-        self.assertRegex(said, r'(?m)^0\n1$')
-        self.assertFalse(os.path.exists(found[1]))
+                  r'"socket":\{"type":"unix","path":"/proc/self/fd/\d+"\}\}')
+        self.assertRegex(said, rf'-object \S+,share=on,size=2G {device % 0} {device % 1} -x y z\nTrue\nTrue\n$')
+        # (nothing is left by a program that is killed)
+        self.stand_in(b'echo runs >&2; exec sleep 1000', devices='vfio-user-pci')
+        running = Running(program(), env={'PATH': f'{self.folder}:{os.environ["PATH"]}'})
+        running.comes(b'runs\n')
+        running.process.kill()
+        running.end()
+        self.assertTrue(until(lambda: set(glob.glob('/tmp/nvme-model.*')) <= folders, 10))
 
     def test_other_versions(self):
         # where it can't be done, one sentence says so

@@ -1,0 +1,184 @@
+/* The messages of a function's client, with which it may send any descriptors. Who closes the last one of a file or
+   socket can have to wait, so this process takes none itself. It looks whether any come, and has the function's
+   receiver take these bytes: a process that passes on event counters and files in memory. Only its own client waits for
+   it. None of this is proved. */
+#define _GNU_SOURCE
+#include "function.h"
+#include <linux/magic.h>
+#include <sys/socket.h>
+#include <sys/vfs.h>
+
+enum { CLIENT, SERVER, OTHERS }; /* the descriptors of a receiver */
+
+/* Takes bytes, and adds the descriptors that come with them, as far as there is room. */
+static ssize_t take(int from, void *bytes, size_t most, int flags, struct files *files) {
+    _Alignas(struct cmsghdr) char control[CMSG_SPACE(sizeof files->at)] = {0};
+    struct iovec into = {bytes, most};
+    struct msghdr piece = {.msg_iov = &into, .msg_iovlen = 1, .msg_control = control};
+    piece.msg_controllen = CMSG_LEN((MOST_FILES - files->count) * sizeof(int));
+    ssize_t count = recvmsg(from, &piece, flags | MSG_CMSG_CLOEXEC);
+    const struct cmsghdr *part = count > 0 ? CMSG_FIRSTHDR(&piece) : NULL;
+    size_t length = part ? part->cmsg_len - CMSG_LEN(0) : 0;
+    memcpy(files->at + files->count, control + CMSG_LEN(0), length);
+    files->count += length / sizeof(int);
+    files->has_lost |= piece.msg_flags & MSG_CTRUNC && files->count < MOST_FILES;
+    return count;
+}
+
+/* Sends a packet with descriptors. Returns whether there was room for it. */
+static int give(int to, void *bytes, size_t length, const int *files, unsigned count) {
+    _Alignas(struct cmsghdr) char control[CMSG_SPACE(MOST_FILES * sizeof *files)] = {0};
+    struct iovec from = {bytes, length};
+    struct msghdr packet = {.msg_iov = &from, .msg_iovlen = 1, .msg_control = count > 0 ? control : NULL};
+    packet.msg_controllen = count > 0 ? CMSG_LEN(count * sizeof *files) : 0;
+    *(struct cmsghdr *)control = (struct cmsghdr){CMSG_LEN(count * sizeof *files), SOL_SOCKET, SCM_RIGHTS};
+    for (unsigned at = 0; at < count; at++)
+        ((int *)(control + CMSG_LEN(0)))[at] = files[at];
+    return sendmsg(to, &packet, MSG_DONTWAIT | MSG_NOSIGNAL) == (ssize_t)length;
+}
+
+/* Returns whether a file lies in memory. (Most others have no seals, and no file system is asked about them.) */
+static int is_memory(int file) {
+    struct statfs system;
+    return fcntl(file, F_GET_SEALS) >= 0 && fstatfs(file, &system) == 0 && system.f_type == TMPFS_MAGIC;
+}
+
+/* Takes as many bytes as the server wants, and closes what it no longer needs, until the server closes its end. In the
+   place of a descriptor that isn't passed on, the client's own socket is, which is neither counter nor file. */
+__attribute__((noreturn)) static void run_receiver(int client, int server) {
+    static unsigned char bytes[MOST_MESSAGE];
+    uint32_t wanted;
+    if (dup2(client, CLIENT) < 0 || dup2(server, SERVER) < 0)
+        _exit(FAILED);
+    for (;;) {
+        struct files files = {0};
+        close_range(OTHERS, ~0u, 0);
+        if (take(SERVER, &wanted, sizeof wanted, 0, &files) != sizeof wanted)
+            _exit(0);
+        close_range(OTHERS, ~0u, 0);
+        ssize_t count = wanted > 0 ? take(CLIENT, bytes, wanted, MSG_DONTWAIT, memset(&files, 0, sizeof files)) : 0;
+        for (unsigned at = 0; at < files.count; at++)
+            if (!is_counter(files.at[at]) && !is_memory(files.at[at]))
+                files.at[at] = CLIENT;
+        if (wanted > 0 && (count <= 0 || !give(SERVER, bytes, (size_t)count, files.at, files.count)))
+            _exit(FAILED);
+    }
+}
+
+/* Begins to serve a client, with a receiver of its own, or closes it. Returns whether it could begin. (A byte out of
+   band must be one like all others, or it would be taken, with its descriptors, unseen.) */
+int begin(struct function *function, int client) {
+    int ends[2] = {-1, -1}, on = 1;
+    int is_ready = client >= 0 && socketpair(AF_UNIX, SOCK_SEQPACKET | SOCK_CLOEXEC, 0, ends) == 0 &&
+                   setsockopt(client, SOL_SOCKET, SO_OOBINLINE, &on, sizeof on) == 0;
+    pid_t receiver = is_ready ? fork() : -1;
+    if (receiver == 0)
+        run_receiver(client, ends[1]);
+    close(ends[1]);
+    if (receiver < 0) {
+        close(ends[0]);
+        close(client);
+        return 0;
+    }
+    function->receiver = receiver;
+    function->socket = client;
+    function->to_receiver = ends[0];
+    return 1;
+}
+
+/* Has the receiver close a descriptor, because with the last one all memory of a file may have to be freed. */
+void let_go(struct function *function, int file) {
+    uint32_t nothing = 0;
+    if (file >= 0)
+        give(function->to_receiver, &nothing, sizeof nothing, &file, 1);
+    close(file);
+}
+
+/* Takes one of the message's descriptors out of it, or -1 if it has none. */
+int take_file(struct function *function, unsigned number) {
+    int file = number < function->files.count ? function->files.at[number] : -1;
+    function->files.at[number] = -1;
+    return file;
+}
+
+static void end_message(struct function *function) {
+    for (unsigned at = 0; at < function->files.count; at++)
+        let_go(function, take_file(function, at));
+    function->files.count = function->files.has_lost = 0;
+}
+
+/* At a stream's end, or at a message that isn't valid, another client can come. (There is no other QEMU.) */
+void lose(struct function *function) {
+    if (function->listener < 0 && function->come > 0)
+        errx(FAILED, "QEMU sent a message that isn't known here");
+    end_message(function);
+    close(function->socket);
+    set_counter(function, &function->pin, -1);
+    set_counter(function, &function->bell, -1);
+    set_counter(function, &function->unmask, -1);
+    drop_sections(function, 0, 0);
+    close(function->to_receiver);
+    if (function->receiver > 0)
+        kill(function->receiver, SIGKILL);
+    function->socket = function->to_receiver = -1;
+    function->come = function->to_send = function->is_asked = 0;
+    reset(function);
+}
+
+/* Returns the length of the message that comes first, as far as it is known, or 0 if it isn't valid. */
+static uint32_t whole(const struct function *function) {
+    return function->come < HEADER ? HEADER : (uint32_t)function->protocol->length(function->input);
+}
+
+/* Sends what is left of an answer. (If the other end is closed, the next read finds it.) */
+void send_rest(struct function *function) {
+    uint32_t rest = function->to_send - function->sent;
+    ssize_t count = send(function->socket, function->message + function->sent, rest, MSG_NOSIGNAL | MSG_DONTWAIT);
+    function->sent += count < 0 ? 0 : (uint32_t)count;
+    if (count == rest || (count < 0 && errno != EAGAIN && errno != EINTR))
+        function->to_send = 0;
+}
+
+/* Serves the messages that are whole, as long as the client takes the answers. */
+void serve_messages(struct function *function) {
+    while (function->socket >= 0 && function->to_send == 0 && function->come >= HEADER) {
+        uint32_t length = whole(function);
+        if (length == 0)
+            lose(function);
+        if (length == 0 || function->come < length)
+            return;
+        memcpy(function->message, function->input, length);
+        function->come -= length;
+        memmove(function->input, function->input + length, function->come);
+        function->sent = 0;
+        function->to_send = function->protocol->serve(function);
+        end_message(function);
+        if (function->to_send > 0)
+            send_rest(function);
+    }
+}
+
+/* Takes what waits. If descriptors are among it, the receiver is asked to take the rest of the message that comes
+   first, and no more, so that it is known to which one they belong. */
+void receive(struct function *function) {
+    uint32_t rest = whole(function) - function->come;
+    struct iovec into = {function->input + function->come, rest > BATCH ? rest : BATCH};
+    struct msghdr seen = {.msg_iov = &into, .msg_iovlen = 1};
+    ssize_t count = recvmsg(function->socket, &seen, MSG_PEEK | MSG_DONTWAIT);
+    if (count > 0 && seen.msg_flags & MSG_CTRUNC)
+        count = function->is_asked = give(function->to_receiver, &rest, sizeof rest, NULL, 0);
+    else if (count > 0 && (count = recv(function->socket, into.iov_base, (size_t)count, MSG_DONTWAIT)) > 0)
+        function->come += (uint32_t)count;
+    if (count == 0 || (count < 0 && errno != EAGAIN))
+        lose(function);
+}
+
+/* Takes what the receiver took. */
+void take_answer(struct function *function) {
+    unsigned char *end = function->input + function->come;
+    ssize_t count = take(function->to_receiver, end, MOST_MESSAGE, MSG_DONTWAIT, &function->files);
+    function->come += count > 0 ? (uint32_t)count : 0;
+    function->is_asked = 0;
+    if (count <= 0)
+        lose(function);
+}

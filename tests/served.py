@@ -1,0 +1,79 @@
+"""What the tests of ./nvme-model --vfio-user share: a server in which each memory access is checked, and clients of it
+(tests/as_client.py)."""
+
+import os
+import pathlib
+import re
+import signal
+
+from tests.as_client import PAGE, Client, Guest, machine_of, until
+from tests.support import Case, Running, library
+from tests.test_qemu import SANITIZERS, program
+
+IDENTIFY, GET_LOG, CREATE, ATTACH = 6, 2, 0x0d, 0x15
+TRANSFER_ERROR, INVALID_OFFSET = 4, 0x13
+EINVAL, EEXIST, EACCES, ENOENT, ENOSPC, ENOTSUP, EMFILE = 22, 17, 13, 2, 28, 95, 24
+NOWHERE, EVERY, GIBIBYTE = 2 ** 64 - PAGE, 2 ** 32 - 1, 1 << 30
+
+
+class Served(Case):
+    """A server over the demonstration subsystem, in which each memory access is checked."""
+
+    def setUp(self):
+        super().setUp()
+        self.path = self.folder / 's'
+        self.server = self.start()
+
+    def start(self, *options, last=1, by=()):
+        """Starts a server, through another command if one is named. It listens at the last of its sockets."""
+        running = Running(*by, program(*SANITIZERS), '--vfio-user', '--socket', self.path, '--summary', *options)
+        running.comes(f's{last}\n'.encode())
+        return running
+
+    def stop(self, running, number=signal.SIGTERM):
+        """Ends a server, and returns what it said. It must not have ended by itself."""
+        self.assertIsNone(running.process.poll(), running.end)
+        running.process.send_signal(number)
+        ended = running.end()
+        self.assertEqual(ended.status, -number, ended)
+        self.assertFalse(list(self.folder.glob('s*')), 'sockets were left')
+        return ended.out.decode()
+
+    def tearDown(self):
+        self.stop(self.server)
+
+    def client(self, ctrl=0):
+        client = Client(f'{self.path}{ctrl}')
+        self.addCleanup(client.close)
+        return client
+
+    def greeted(self, ctrl=0):
+        client = self.client(ctrl)
+        client.greet()
+        return client
+
+    def guest(self, ctrl=0, machine=None, **more):
+        guest = Guest(f'{self.path}{ctrl}', machine, ctrl, **more)
+        self.addCleanup(guest.close)
+        return guest
+
+    def machine(self):
+        return machine_of(library())
+
+    def kept(self):
+        """Returns how many descriptors the server has."""
+        return len(os.listdir(f'/proc/{self.server.process.pid}/fd'))
+
+    def spent(self):
+        """Returns how many seconds of a processor the server has had. (This doesn't depend on the machine's load.)"""
+        stat = pathlib.Path(f'/proc/{self.server.process.pid}/stat').read_text()
+        return sum(map(int, stat.rpartition(')')[2].split()[11:13])) / os.sysconf('SC_CLK_TCK')
+
+    def woken(self):
+        """Returns how often the server has slept."""
+        return int(re.search(r'(?m)^voluntary_ctxt_switches:\s*(\d+)',
+                             pathlib.Path(f'/proc/{self.server.process.pid}/status').read_text())[1])
+
+    def keeps(self, count):
+        """Checks how many descriptors the server has. (It closes those of a message after its answer.)"""
+        self.assertTrue(until(lambda: self.kept() == count), (self.kept(), count))

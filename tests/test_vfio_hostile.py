@@ -1,0 +1,260 @@
+"""Tests ./nvme-model --vfio-user with clients that send anything, in any order and pieces, or that come and go."""
+
+import os
+import random
+import signal
+import socket
+import struct
+import time
+
+from tests.as_client import (
+    BAR, BIND, BIND_UNMASK, CC, COMMAND, CONFIG, CSTS, DEVICE_INFO, DMA_MAP, DMA_UNMAP, HEAD, IRQ_INFO, MASK, PAGE,
+    REGION_INFO, REGION_READ, REGION_WRITE, RESET, SET_IRQS, TAIL, UNBIND, UNMASK, VERSION, WANTS_NONE, counter,
+    memory_file)
+from tests.served import ATTACH, CREATE, EINVAL, ENOENT, ENOTSUP, EVERY, GET_LOG, IDENTIFY, Served
+from tests.support import DEMO, run
+from tests.test_qemu import SANITIZERS, program
+
+SEEDS, MESSAGES_OF_A_SEED = range(8), 13000
+COMMANDS = (DMA_MAP, DMA_UNMAP, DEVICE_INFO, REGION_INFO, IRQ_INFO, SET_IRQS, REGION_READ, *[REGION_WRITE] * 4, RESET,
+            VERSION, 99)
+
+
+class Hostile(Served):
+    def test_broken_messages(self):
+        # the connection is closed, and the next client is served
+        whole = struct.pack('<HHIII', 1, VERSION, 16, 0, 0)
+        for data in (struct.pack('<HHIII', 1, VERSION, 15, 0, 0), struct.pack('<HHIII', 1, VERSION, 0, 0, 0),
+                     struct.pack('<HHIII', 1, REGION_WRITE, 16 + 16 + 0x4001, 0, 0),
+                     struct.pack('<HHIII', 1, REGION_WRITE, 2 ** 32 - 1, 0, 0),
+                     struct.pack('<HHIII', 1, VERSION, 16, 1, 0), struct.pack('<HHIII', 1, VERSION, 16, 0xf, 0)):
+            client = self.client()
+            client.socket.sendall(data)
+            self.assertTrue(client.is_closed(), data)
+        for length in range(1, 16):
+            client = self.client()
+            client.socket.sendall(whole[:length])
+            client.socket.shutdown(socket.SHUT_WR)
+            self.assertTrue(client.is_closed(), length)
+        client = self.client()
+        client.socket.sendall(struct.pack('<HHIII', 1, REGION_WRITE, 100, 0, 0) + bytes(40))
+        client.close()
+        self.assertEqual(self.greeted().config(0), 0x0010_1b36)
+
+    def test_refused_messages(self):
+        client = self.client()
+        for payload in b'', bytes(3), b'\1\0\0\0{}\0', bytes(4) + b'{}':
+            self.assertEqual(client.refusal(VERSION, payload), EINVAL, payload)
+        for payload in bytes(4), b'\0\0\7\0{}\0':
+            self.assertEqual(client.ask(VERSION, payload), client.greet())
+        sizes = {DMA_MAP: 32, DMA_UNMAP: 24, DEVICE_INFO: 16, REGION_INFO: 32, IRQ_INFO: 16, SET_IRQS: 20,
+                 REGION_READ: 16, RESET: 0}
+        for command, size in sizes.items():
+            for wrong in size - 1, size + 1, size + 4, size + 10000:
+                self.assertEqual(client.refusal(command, bytes(max(wrong, 1))), EINVAL, (command, wrong))
+        for command in 0, 6, 11, 12, 14, 15, 99, 0xffff:
+            self.assertEqual(client.refusal(command, bytes(32)), ENOTSUP, command)
+        for region, offset, count in ((CONFIG, 256, 1), (CONFIG, 0, 257), (CONFIG, 255, 2), (CONFIG, 2 ** 64 - 1, 2),
+                                      (BAR, 0x4000, 1), (BAR, 0, 0x4001), (BAR, 2 ** 64 - 4, 8), (BAR, 0, 2 ** 32 - 1),
+                                      (1, 0, 1), (8, 0, 1), (9, 0, 1), (2 ** 32 - 1, 0, 1), (BAR, 0, 0),
+                                      (CONFIG, 0, 0)):
+            head = struct.pack('<QII', offset, region, count)
+            self.assertEqual(client.refusal(REGION_READ, head), EINVAL, (region, offset, count))
+            self.assertEqual(client.refusal(REGION_WRITE, head + bytes(min(count, 0x4000))), EINVAL, (region, count))
+        for count, length in (4, 3), (4, 5), (4, 0), (0x4000, 4):
+            self.assertEqual(client.refusal(REGION_WRITE, struct.pack('<QII', 0, BAR, count) + bytes(length)), EINVAL)
+        self.assertEqual(client.config(0), 0x0010_1b36)
+
+    def test_descriptors(self):
+        # descriptors that no message needs are closed
+        client = self.greeted()
+        file, kept = memory_file(PAGE), self.kept()
+        for count in 1, 2, 8, 9, 100:
+            client.say(REGION_READ, struct.pack('<QII', 0, CONFIG, 4), files=[file] * count)
+            self.assertEqual(client.heard()[4][16:], bytes.fromhex('361b1000'))
+            self.assertEqual(client.refusal(DMA_MAP, struct.pack('<IIQQQ', 32, 3, 0, 0, PAGE), files=[file] * count),
+                             0 if count == 1 else EINVAL)
+            self.assertEqual(client.unmap(0, PAGE), 0 if count == 1 else ENOENT)
+        # (they may come with any byte)
+        message = struct.pack('<HHIIIQII', 1, REGION_READ, 32, 0, 0, 0, CONFIG, 4)
+        for byte in message:
+            client.socket.sendmsg([bytes([byte])], [(socket.SOL_SOCKET, socket.SCM_RIGHTS, struct.pack('=i', file))])
+        client.heard()
+        self.keeps(kept)
+        # the descriptor of a message among others is its own, also after a byte out of band
+        others, first = message * 3, struct.pack('<HHIIIIIQQQ', 2, DMA_MAP, 48, 0, 0, 32, 3, 0, 0, PAGE)
+        for flag in 0, socket.MSG_OOB:
+            client.socket.send(others[:-1])
+            client.socket.send(others[-1:], flag)
+            client.socket.sendmsg([first], [(socket.SOL_SOCKET, socket.SCM_RIGHTS, struct.pack('=i', file))])
+            client.socket.sendall(others)
+            answers = [client.heard() for _ in range(7)]
+            self.assertEqual([(command, error) for _, command, _, error, _ in answers],
+                             [(REGION_READ, 0)] * 3 + [(DMA_MAP, 0)] + [(REGION_READ, 0)] * 3)
+            self.keeps(kept + 1)
+            self.assertEqual(client.unmap(0, PAGE), 0)
+
+    def test_half_message(self):
+        # a client that says half a message, or doesn't read, holds up no other one
+        half, deaf = self.greeted(0), self.greeted(1)
+        half.socket.sendall(struct.pack('<HHIII', 1, REGION_READ, 32, 0, 0) + bytes(7))
+        deaf.socket.settimeout(1)
+        try:
+            while True:
+                deaf.say(REGION_READ, struct.pack('<QII', 0, BAR, 0x4000))
+        except socket.timeout:
+            pass
+        half.socket.sendall(struct.pack('<QII', 0, CONFIG, 4)[7:])
+        begun_at = time.monotonic()
+        half.socket.recv(64)
+        self.assertEqual(half.config(0), 0x0010_1b36)
+        self.assertLess(time.monotonic() - begun_at, 5)
+        # (all its answers come, in their order)
+        deaf.socket.settimeout(10)
+        for number in range(2, deaf.number - 1):
+            self.assertEqual(deaf.heard()[0], number)
+
+    def test_long_turns(self):
+        # a guest with many long commands at once holds up no client of another controller
+        file = DEMO.read_bytes().replace(b'cntlid = 0\n', b'cntlid = 0\nmdts = 8\n')
+        self.stop(self.server)
+        self.server = self.start('--subsystem', self.file('long.toml', file))
+        guest, other = self.guest(layout=[(0, 512 * PAGE)]), self.greeted(1)
+        guest.enable(rings=(0, 64 * PAGE), slots=(4096, 4096))
+        guest.at(100 * PAGE, 8 * 255)[:] = struct.pack('<255Q', *((200 + at) * PAGE for at in range(255)))
+        for _ in range(100):
+            guest.put(GET_LOG, 199 * PAGE, 100 * PAGE, EVERY, 1 | 0xffff_0000, 3, rings=False)
+        guest.set_register(TAIL, guest.tail)
+        waits = []
+        while not guest.at(64 * PAGE + 16 * 99, 16)[14] & 1:
+            begun_at = self.spent()
+            self.assertEqual(other.config(0), 0x0010_1b36)
+            waits.append(self.spent() - begun_at)
+        self.assertLess(max(waits), 0.5)
+        self.assertGreater(len(waits), 10)
+        self.assertEqual({guest.take() for _ in range(10)}, {0})
+
+    def test_slow_pieces(self):
+        client = self.greeted()
+        for piece in struct.pack('<HHIIIQII', 7, REGION_READ, 32, 0, 0, 0, CONFIG, 4):
+            client.socket.sendall(bytes([piece]))
+            time.sleep(0.001)
+        self.assertEqual(client.heard(), (7, REGION_READ, 1, 0, struct.pack('<QII', 0, CONFIG, 4) + b'\x36\x1b\x10\0'))
+        # many messages at once are answered one after the other
+        client.socket.sendall(b''.join(struct.pack('<HHIIIQII', at, REGION_READ, 32, 0, 0, at, CONFIG, 1)
+                                       for at in range(200)))
+        self.assertEqual([client.heard()[0] for _ in range(200)], list(range(200)))
+
+    def test_clients_come_and_go(self):
+        # the function is reset, and the subsystem stays
+        first = self.guest(0, self.machine())
+        first.enable()
+        first.at(4 * PAGE, 27)[:] = struct.pack('<QQ10xB', 2048, 2048, 0)
+        self.assertEqual(first.status_of(CREATE, 4 * PAGE), 0)
+        self.assertEqual(first.status_of(IDENTIFY, 3 * PAGE, dword10=0x10), 0)
+        listed = bytes(first.at(3 * PAGE, PAGE))
+        second = self.client()
+        second.say(VERSION, bytes(4))
+        self.assertTrue(second.is_silent())
+        kept = self.kept()
+        first.close()
+        self.assertEqual(second.heard()[1], VERSION)
+        self.assertLess(self.kept(), kept)
+        self.assertEqual([second.register(at) for at in (CC, CSTS)], [0, 0])
+        self.assertEqual(second.config(COMMAND, 2), 0)
+        second.close()
+        third = self.guest(1)
+        third.enable()
+        self.assertEqual(third.status_of(IDENTIFY, 3 * PAGE, dword10=0x10), 0)
+        self.assertEqual(bytes(third.at(3 * PAGE, PAGE)), listed)
+
+    def test_taken_socket(self):
+        # a server that still runs keeps its sockets, and those of one that was killed are replaced
+        ended = run(program(*SANITIZERS), '--vfio-user', '--socket', self.path)
+        self.ends(ended, 72, b'', f'nvme-model: {self.path}0: Address already in use\n'.encode())
+        self.server.process.kill()
+        self.server.end()
+        self.server = self.start()
+        self.assertEqual(self.greeted().config(0), 0x0010_1b36)
+
+    def test_other_files_at_the_path(self):
+        # a file that isn't a socket is never removed, although a connection to it is refused as to a dead one
+        kept = self.folder / 'kept'
+        for make in (lambda path: path.write_text('precious'), lambda path: path.symlink_to('kept'), os.mkfifo):
+            kept.write_text('precious')
+            path = self.folder / 'file0'
+            make(path)
+            ended = run(program(*SANITIZERS), '--vfio-user', '--socket', self.folder / 'file')
+            self.ends(ended, 72, b'', f'nvme-model: {path}: Address already in use\n'.encode())
+            self.assertTrue(os.path.lexists(path))
+            path.unlink()
+            self.assertEqual(kept.read_text(), 'precious')
+
+    def test_several_subsystems(self):
+        self.stop(self.server, signal.SIGINT)
+        self.server = self.start('--subsystem', DEMO, '--subsystem', DEMO, last=3)
+        guests = [self.guest(number) for number in range(4)]
+        for guest in guests:
+            guest.enable()
+        self.assertEqual([guest.serial() for guest in guests], ['S0', 'S1'] * 2)
+
+    def test_random_messages(self):
+        for seed in SEEDS:
+            with self.subTest(seed):
+                self.random_messages(random.Random(seed))
+        self.assertEqual(self.greeted().config(0), 0x0010_1b36)
+
+    def random_messages(self, lot):
+        files = [memory_file(64 * PAGE), memory_file(PAGE), counter(), os.open('/dev/null', os.O_RDWR)]
+        self.addCleanup(lambda: [os.close(file) for file in files])
+        for turn in range(MESSAGES_OF_A_SEED):
+            if turn % 1000 == 0:
+                if turn:
+                    guest.close()
+                guest = self.guest(turn // 1000 % 2)
+                guest.enable()
+            if turn % 20 == 0:
+                guest.at(0, 2 * PAGE)[:] = random_ring(lot)
+            command, flags = lot.choice(COMMANDS), lot.choice((0, 0, 0, 0, WANTS_NONE, WANTS_NONE | 0xffe0))
+            payload = random_payload(lot, command)
+            guest.say(command, payload, lot.choices(files, k=lot.choice((0, 0, 0, 1, 1, 2, 9))), flags)
+            if flags & WANTS_NONE:
+                continue
+            number, answered, kind, error, reply = guest.heard()
+            self.assertEqual((number, answered), (guest.number, command))
+            self.assertEqual((kind, not reply) if error else (kind, error), (0x21, True) if error else (1, 0))
+            self.assertTrue(command in (REGION_READ, VERSION) or len(reply) <= len(payload))
+        guest.close()
+
+
+def chosen(lot, bits):
+    """Returns a number that is likely to be wrong, or to be right."""
+    near = lot.choice((0, 0, 1, 2, 4, 7, 0x14, 0x24, 0x28, 0x30, 0x1000, 0x1004, PAGE, 64 * PAGE, 1 << 31, 1 << 63))
+    return lot.choice((near, near, lot.getrandbits(64), lot.getrandbits(12), near + lot.randrange(-8, 9))) % 2 ** bits
+
+
+def random_ring(lot):
+    """Returns two pages: entries of a submission ring, most of them with data that may lie anywhere, and zeros."""
+    entries = (struct.pack('<BBHIQQQQ6I', lot.choice((IDENTIFY, GET_LOG, CREATE, ATTACH, lot.randrange(256))), 0, at,
+                           lot.choice((0, 1, EVERY)), 0, 0, chosen(lot, 64), chosen(lot, 64), lot.choice((1, 0x10, 0)),
+                           *[0] * 5) for at in range(64))
+    return b''.join(entries) + bytes(PAGE)
+
+
+def random_payload(lot, command):
+    if lot.random() < 0.05:
+        return lot.randbytes(lot.randrange(60))
+    if command == DMA_MAP:
+        return struct.pack('<IIQQQ', 32, lot.choice((3, 3, 1, chosen(lot, 32))), *(chosen(lot, 64) for _ in range(3)))
+    if command == DMA_UNMAP:
+        return struct.pack('<IIQQ', 24, lot.choice((0, 0, 0, 2)), chosen(lot, 64), chosen(lot, 64))
+    if command == SET_IRQS:
+        return struct.pack('<5I', 20, lot.choice((BIND, UNBIND, MASK, UNMASK, BIND_UNMASK, lot.getrandbits(7))),
+                           lot.choice((0, 1, chosen(lot, 32))), lot.choice((0, 0, chosen(lot, 32))),
+                           lot.choice((0, 1, 2)))
+    if command in (REGION_READ, REGION_WRITE):
+        region, count = lot.choice((BAR, BAR, CONFIG, chosen(lot, 32))), lot.choice((4, 4, 8, 1, 256, chosen(lot, 14)))
+        offset = lot.choice((TAIL, HEAD, CC, COMMAND, chosen(lot, 64), lot.randrange(256)))
+        data = lot.choice((lot.randrange(16).to_bytes(4, 'little'), b'\1\0\x46\0', lot.randbytes(4))) * 5000
+        return struct.pack('<QII', offset, region, count) + (data[:count] if command == REGION_WRITE else b'')
+    return struct.pack('<8I', *(chosen(lot, 32) for _ in range(8)))[:lot.choice((16, 32, 0))]

@@ -1,0 +1,251 @@
+"""Tests the interrupts of ./nvme-model --vfio-user: each completion raises one, none is lost, and there are few more."""
+
+import os
+import random
+import struct
+import time
+
+from tests.as_client import (
+    BIND, BIND_UNMASK, COMMAND, CSTS, HEAD, MASK, MASTER, MESSAGE_CONTROL, MESSAGES, NO_INTERRUPT, PAGE, PIN, SET_IRQS,
+    STATUS, TAIL, UNBIND, UNMASK, counter, is_raised, memory_file)
+from tests.served import EINVAL, IDENTIFY, Served
+from tests.support import DEMO
+
+
+class Processors:
+    """A guest with two processes that send commands one by one, and a handler of its interrupt, in any order. QEMU is
+    between it and the server: after an access to a register, it lowers the pin if that was raised, and unmasks it. An
+    interrupt that was lowered may have been seen, or not."""
+
+    def __init__(self, driver, pin, lot):
+        self.driver, self.pin, self.lot = driver, pin, lot
+        self.is_high = self.is_seen = False
+        self.sent = self.ended = self.interrupts = 0
+
+    def access(self, offset, value=None):
+        """Writes or reads a register."""
+        if value is None:
+            self.driver.register(offset)
+        else:
+            self.driver.set_register(offset, value)
+        self.look()
+        if self.is_high:
+            self.is_high = False
+            self.is_seen |= self.lot.random() < 0.9
+            assert self.driver.set_irqs(UNMASK, PIN) == 0
+
+    def look(self, seconds=0):
+        """Raises the pin if the server did."""
+        if is_raised(self.pin, seconds):
+            self.is_high = True
+            self.interrupts += 1
+
+    def send(self):
+        """A process sends a command. Another one looks at a register meanwhile."""
+        self.driver.put(IDENTIFY, 2 * PAGE, dword10=1, rings=False)
+        self.sent += 1
+        self.access(TAIL, self.driver.tail)
+        self.access(CSTS)
+
+    def handle(self):
+        """The handler takes all completions, and says so."""
+        self.is_seen = False
+        taken = 0
+        while self.driver.completion():
+            self.driver.head += 1
+            taken += 1
+            if self.driver.head == self.driver.slots[1]:
+                self.driver.head, self.driver.phase = 0, 1 - self.driver.phase
+        self.ended += taken
+        self.access(HEAD, self.driver.head) if taken else None
+
+    def run(self, count):
+        begun_at = time.monotonic()
+        while self.ended < count and time.monotonic() < begun_at + 120:
+            # (if both processes wait, only an interrupt goes on)
+            waits = self.sent - self.ended == 2 or self.sent == count
+            self.look(0.05 if waits and not (self.is_high or self.is_seen) else 0)
+            if (self.is_high or self.is_seen) and (waits or self.lot.random() < 0.5):
+                self.handle()
+            elif not waits:
+                self.send()
+
+
+class Interrupts(Served):
+    def setUp(self):
+        super().setUp()
+        self.driver = self.guest()
+        self.driver.enable()
+
+    def put(self):
+        self.driver.put(IDENTIFY, 2 * PAGE, dword10=1)
+
+    def test_messages(self):
+        # one for each completion, and one that finds no counter is kept until there is one
+        pin, message = self.driver.counters()
+        self.driver.set_config(MESSAGE_CONTROL, 1, 2)
+        for _ in range(100):
+            self.put()
+            self.assertTrue(is_raised(message))
+            self.assertEqual(self.driver.take(), 0)
+            self.assertFalse(is_raised(message))
+        self.assertEqual(self.driver.set_irqs(UNBIND, MESSAGES, count=0), 0)
+        self.put()
+        self.assertFalse(is_raised(message) or is_raised(pin))
+        self.assertEqual(self.driver.set_irqs(BIND, MESSAGES, file=message), 0)
+        self.assertTrue(is_raised(message))
+        # (a binding without a descriptor unbinds, and a new counter replaces the former one)
+        self.assertEqual(self.driver.set_irqs(BIND, MESSAGES), 0)
+        other = counter()
+        self.assertEqual(self.driver.set_irqs(BIND, MESSAGES, file=other), 0)
+        self.assertTrue(is_raised(other))
+        self.put()
+        self.assertTrue(is_raised(other))
+        self.assertFalse(is_raised(message) or is_raised(pin))
+
+    def test_pin(self):
+        # raised until it is seen, again if completions wait then, and not while it is disabled
+        pin = counter()
+        self.assertEqual(self.driver.set_irqs(BIND, PIN, file=pin), 0)
+        self.put()
+        self.assertTrue(is_raised(pin))
+        self.assertEqual(self.driver.config(STATUS, 2), 0x18)
+        self.put()
+        self.assertFalse(is_raised(pin))
+        self.assertEqual(self.driver.set_irqs(UNMASK, PIN), 0)
+        self.assertTrue(is_raised(pin, 10))
+        self.driver.take(), self.driver.take()
+        self.assertEqual(self.driver.config(STATUS, 2), 0x10)
+        self.assertEqual(self.driver.set_irqs(UNMASK, PIN), 0)
+        self.assertFalse(is_raised(pin))
+        self.driver.set_config(COMMAND, MASTER | NO_INTERRUPT, 2)
+        self.put()
+        self.assertFalse(is_raised(pin))
+        self.driver.set_config(COMMAND, MASTER, 2)
+        self.assertTrue(is_raised(pin, 10))
+        # (a mask holds it back, and so do enabled messages)
+        self.assertEqual(self.driver.set_irqs(MASK, PIN), 0)
+        self.assertEqual(self.driver.set_irqs(UNMASK, PIN), 0)
+        self.assertTrue(is_raised(pin, 10))
+        self.assertEqual(self.driver.set_irqs(MASK, PIN), 0)
+        self.put()
+        self.assertFalse(is_raised(pin, 0.1))
+        self.driver.set_config(MESSAGE_CONTROL, 1, 2)
+        self.assertEqual(self.driver.set_irqs(UNMASK, PIN), 0)
+        self.assertFalse(is_raised(pin, 0.1))
+
+    def test_pin_that_was_lowered(self):
+        # an access lowers the pin before the processor has seen it: it is raised again, and once for several accesses
+        pin = counter()
+        self.assertEqual(self.driver.set_irqs(BIND, PIN, file=pin), 0)
+        for _ in range(20):
+            self.put()
+            self.assertTrue(is_raised(pin))
+            for _ in range(5):
+                self.put()
+                self.assertEqual(self.driver.set_irqs(UNMASK, PIN), 0)
+            self.assertTrue(is_raised(pin, 10))
+            # (a head frees some of the completions, and the pin is raised at once for the others)
+            self.assertEqual(self.driver.set_irqs(UNMASK, PIN), 0)
+            self.driver.take()
+            self.assertTrue(is_raised(pin))
+            for _ in range(5):
+                self.driver.take()
+            self.assertEqual(self.driver.set_irqs(UNMASK, PIN), 0)
+            self.assertFalse(is_raised(pin))
+
+    def test_idle_pin(self):
+        # completions that nobody takes raise the pin once, and nothing wakes the server while it is masked or disabled
+        pin = counter()
+        self.assertEqual(self.driver.set_irqs(BIND, PIN, file=pin), 0)
+        self.put()
+        self.assertTrue(is_raised(pin))
+        for _ in range(2):
+            self.assertFalse(is_raised(pin, 0.3))
+            before = self.woken()
+            self.assertFalse(is_raised(pin, 0.3))
+            self.assertEqual(self.woken(), before)
+            self.driver.set_config(COMMAND, MASTER | NO_INTERRUPT, 2)
+            self.assertEqual(self.driver.set_irqs(UNMASK, PIN), 0)
+
+    def test_two_submitters(self):
+        # two processes and an interrupt handler, with QEMU between them: no interrupt is lost, and there are few
+        pin = counter()
+        self.assertEqual(self.driver.set_irqs(BIND, PIN, file=pin), 0)
+        machine = Processors(self.driver, pin, random.Random(1))
+        machine.run(2000)
+        self.assertEqual(machine.ended, 2000)
+        self.assertLess(machine.interrupts, 2200)
+        self.assertFalse(is_raised(pin, 0.3))
+
+    def test_unmask_counter(self):
+        # with KVM, a counter tells that the pin was seen
+        pin, seen = counter(), counter()
+        self.assertEqual(self.driver.set_irqs(MASK, PIN), 0)
+        self.assertEqual(self.driver.set_irqs(BIND, PIN, file=pin), 0)
+        self.assertEqual(self.driver.set_irqs(BIND_UNMASK, PIN, file=seen), 0)
+        self.assertEqual(self.driver.set_irqs(UNMASK, PIN), 0)
+        self.put()
+        self.assertTrue(is_raised(pin))
+        os.write(seen, struct.pack('=Q', 1))
+        self.assertTrue(is_raised(pin, 10))
+        self.driver.take()
+        os.write(seen, struct.pack('=Q', 1))
+        self.assertFalse(is_raised(pin, 0.3))
+
+    def test_invalid_requests(self):
+        kept = self.kept()
+        pipe = os.pipe()
+        for flags, index, count, file, start in (
+                (BIND, 2, 1, counter(), 0), (BIND, MESSAGES, 1, counter(), 1), (BIND, MESSAGES, 2, counter(), 0),
+                (BIND, PIN, 0, None, 0), (BIND, MESSAGES, 1, pipe[1], 0), (BIND, PIN, 1, memory_file(8), 0),
+                (UNBIND, PIN, 0, counter(), 0), (UNBIND, PIN, 1, None, 0), (MASK, MESSAGES, 1, None, 0),
+                (UNMASK, PIN, 0, None, 0), (0x22, PIN, 1, None, 0), (0x23, PIN, 1, None, 0), (0x64, PIN, 1, None, 0),
+                (0x38, PIN, 1, None, 0), (0, PIN, 1, None, 0), (BIND, 0xffff_ffff, 1, counter(), 0),
+                (BIND, MESSAGES, 0xffff_ffff, counter(), 1), (BIND_UNMASK, MESSAGES, 1, counter(), 0),
+                (BIND_UNMASK, PIN, 1, pipe[0], 0)):
+            self.assertEqual(self.driver.set_irqs(flags, index, count, file, start), EINVAL, (flags, index, count))
+        payload = struct.pack('<5I', 20, BIND, PIN, 0, 1)
+        self.assertEqual(self.driver.refusal(SET_IRQS, payload, files=[counter()] * 2), EINVAL)
+        self.keeps(kept)
+
+    def test_full_counter(self):
+        # a counter on which a write waits doesn't hold up the server, and is raised once it is read
+        full = counter()
+        os.set_blocking(full, True)
+        self.assertEqual(self.driver.set_irqs(BIND, MESSAGES, file=full), 0)
+        os.write(full, struct.pack('=Q', 2 ** 64 - 2))
+        begun_at = time.monotonic()
+        self.put()
+        self.assertEqual(self.driver.take(), 0)
+        self.assertEqual(self.greeted(1).config(0), 0x0010_1b36)
+        self.assertLess(time.monotonic() - begun_at, 5)
+        self.assertEqual(os.read(full, 8), struct.pack('=Q', 2 ** 64 - 1))
+        self.put()
+        self.assertTrue(is_raised(full))
+
+    def test_many_full_counters(self):
+        # fifteen of them don't slow down the commands of another client
+        self.driver.close()
+        self.stop(self.server)
+        self.server = self.start(*['--subsystem', DEMO] * 8, last=15)
+        guests = [self.guest(number) for number in range(16)]
+        waits = []
+        for guest in guests:
+            guest.enable()
+        for _ in range(20):
+            for guest in guests[1:]:
+                full = counter()
+                os.set_blocking(full, True)
+                self.assertEqual(guest.set_irqs(BIND, MESSAGES, file=full), 0)
+                os.write(full, struct.pack('=Q', 2 ** 64 - 2))
+                os.close(full)
+                guest.put(IDENTIFY, 2 * PAGE, dword10=1, rings=False)
+            for guest in guests[1:]:
+                guest.set_register(TAIL, guest.tail)
+            begun_at = time.monotonic()
+            self.assertEqual(guests[0].serial(), 'S0')
+            waits.append(time.monotonic() - begun_at)
+            for guest in guests[1:]:
+                guest.take()
+        self.assertLess(min(waits), 0.1)

@@ -1,0 +1,178 @@
+"""Tests that no client of ./nvme-model --vfio-user makes the server wait, and with it the others: by descriptors whose
+closing waits, by pages that never come, or because no descriptors are left."""
+
+import contextlib
+import ctypes
+import fcntl
+import mmap
+import os
+import socket
+import struct
+import sys
+import threading
+import time
+
+from tests.as_client import BIND, DMA_MAP, MESSAGES, PAGE, PIN, VERSION, counter, memory_file
+from tests.modelled import works
+from tests.served import EINVAL, EMFILE, ENOENT, Served
+from tests.support import Running
+
+USERFAULTFD, UFFDIO_API, UFFDIO_REGISTER = 323, 0xc018_aa3f, 0xc020_aa00
+LIBC = ctypes.CDLL(None, use_errno=True)
+
+
+class AbsentPage:
+    """A page of this process that doesn't come until this is closed. What is copied from it waits."""
+
+    def __init__(self, case):
+        self.file = LIBC.syscall(USERFAULTFD, os.O_CLOEXEC)
+        if self.file < 0:
+            case.skipTest(f'userfaultfd: {os.strerror(ctypes.get_errno())}')
+        self.memory = mmap.mmap(-1, PAGE)
+        self.at = ctypes.addressof(ctypes.c_char.from_buffer(self.memory))
+        fcntl.ioctl(self.file, UFFDIO_API, struct.pack('=3Q', 0xaa, 0, 0))
+        fcntl.ioctl(self.file, UFFDIO_REGISTER, struct.pack('=4Q', self.at, PAGE, 1, 0))
+        self.threads = []
+        case.addCleanup(self.close)
+
+    def write(self, file):
+        """Writes the page to a file in a thread, which holds the file's lock from then on."""
+        self.threads.append(threading.Thread(target=LIBC.write, args=(file, ctypes.c_void_p(self.at), PAGE)))
+        self.threads[-1].start()
+        time.sleep(0.1)
+
+    def close(self):
+        if self.file >= 0:
+            os.close(self.file)
+        self.file = -1
+        for thread in self.threads:
+            thread.join()
+
+
+class Waiting(Served):
+    def goes_on(self, ctrl=1):
+        """Checks that another client is served at once."""
+        begun_at = time.monotonic()
+        other = self.guest(ctrl)
+        other.enable()
+        self.assertEqual(other.serial(), f'S{ctrl}')
+        other.close()
+        self.assertLess(time.monotonic() - begun_at, 3)
+
+    def test_file_system(self):
+        # a file of a file system that doesn't answer is refused, and only its own client waits until it is closed
+        if not os.path.exists('/dev/fuse'):
+            self.skipTest('there is no /dev/fuse')
+        private = next((words for words in (('unshare', '-m'), ('unshare', '-Urm')) if works(*words)), None)
+        if private is None:
+            self.skipTest('no mount namespace can be made here')
+        running = Running(*private, sys.executable, '-m', 'tests.as_filesystem', f'{self.path}0')
+        with contextlib.suppress(AssertionError):
+            running.comes(b'\n')
+        if b'mount: ' in running.heard:
+            self.skipTest('no file system can be mounted here')
+        running.comes(f'answered {EINVAL}\n'.encode())
+        self.goes_on()
+        # the server ends although its receiver can't
+        begun_at = time.monotonic()
+        self.stop(self.server)
+        self.assertLess(time.monotonic() - begun_at, 3)
+        self.server = self.start()
+        running.process.kill()
+        running.end()
+
+    def test_locked_memory(self):
+        # memory whose lock is held is read and written
+        guest = self.guest()
+        guest.enable()
+        page = AbsentPage(self)
+        page.write(guest.pieces[0].file)
+        begun_at = time.monotonic()
+        self.assertEqual(guest.serial(), 'S0')
+        self.assertLess(time.monotonic() - begun_at, 3)
+        self.goes_on()
+
+    def test_locked_pipe(self):
+        # the end of a pipe can't be closed while a write to it waits, whatever message it came with
+        page = AbsentPage(self)
+        for flags in 0, socket.MSG_OOB:
+            client = self.greeted()
+            ends = os.pipe()
+            page.write(ends[1])
+            rights = [(socket.SOL_SOCKET, socket.SCM_RIGHTS, struct.pack('=i', ends[0]))]
+            client.number += 1
+            message = struct.pack('<HHIIIIIQQQ', client.number, DMA_MAP, 48, 0, 0, 32, 3, 0, 0, PAGE)
+            client.socket.sendmsg([message[:1]], rights, flags)
+            os.close(ends[0])
+            client.socket.sendall(message[1:])
+            self.assertEqual(client.heard()[3], EINVAL)
+            self.goes_on()
+            # (the next client of this controller waits until it is closed)
+            client.close()
+            self.goes_on()
+            client = self.client()
+            client.say(VERSION, bytes(4))
+            self.assertTrue(client.is_silent())
+            page.close()
+            self.assertEqual(client.heard()[1], VERSION)
+            client.close()
+            page = AbsentPage(self)
+
+    def test_lingering_socket(self):
+        # the last copy of a socket that waits until its data is read
+        listener = socket.create_server(('127.0.0.1', 0))
+        lingering = socket.create_connection(listener.getsockname())
+        accepted, _ = listener.accept()
+        lingering.setsockopt(socket.SOL_SOCKET, socket.SO_LINGER, struct.pack('=ii', 1, 60))
+        lingering.setblocking(False)
+        with contextlib.suppress(BlockingIOError):
+            while True:
+                lingering.send(bytes(1 << 20))
+        client = self.greeted()
+        file = os.dup(lingering.fileno())
+        lingering.close()
+        client.say(DMA_MAP, struct.pack('<IIQQQ', 32, 3, 0, 0, PAGE), [file])
+        os.close(file)
+        self.assertEqual(client.heard()[3], EINVAL)
+        self.goes_on()
+        accepted.close()
+        listener.close()
+
+    def test_few_descriptors(self):
+        # where none is left, a request is refused by EMFILE, or a client waits, and the server goes on
+        outcomes = set()
+        for most in range(9, 15):
+            self.stop(self.server)
+            self.server = self.start(by=('sh', '-c', 'ulimit -n "$0"; exec "$@"', str(most)))
+            outcomes.add(self.mapped())
+            before = self.spent()
+            time.sleep(0.5)
+            self.assertLess(self.spent() - before, 0.2)
+        self.assertGreater(len(outcomes), 3, outcomes)
+
+    def mapped(self):
+        """Returns how many pieces of memory a client could map, or 0 if it is never served. All of them are there."""
+        guest = self.client()
+        guest.socket.settimeout(0.5)
+        try:
+            guest.greet()
+        except (socket.timeout, ConnectionError):
+            return 0
+        finally:
+            guest.close()
+        guest = self.guest(layout=())
+        answers = [guest.map(at * 64 * PAGE, 64 * PAGE, memory_file(64 * PAGE)) for at in range(8)]
+        count = answers.count(0)
+        self.assertEqual(answers, [0] * count + [EMFILE] * (8 - count))
+        for request in PIN, MESSAGES:
+            self.assertEqual(guest.set_irqs(BIND, request, file=counter()), EMFILE)
+        self.assertEqual(guest.unmap(0, 64 * PAGE), 0 if count else ENOENT)
+        self.assertEqual(guest.set_irqs(BIND, MESSAGES, file=counter()), 0 if count else EMFILE)
+        guest.close()
+        guest = self.guest(layout=[(at * 64 * PAGE, 64 * PAGE) for at in range(count)])
+        if count:
+            guest.enable()
+            for at in range(count):
+                self.assertEqual(guest.serial((64 * at + 8) * PAGE), 'S0')
+        guest.close()
+        return count
