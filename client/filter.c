@@ -20,7 +20,7 @@
 #endif
 
 enum { CHANGES = O_WRONLY | O_RDWR | O_TRUNC | O_DIRECT };
-enum { OLD_IOCTL = 54, TAKE_FILE = 438, X32_BIT = 0x40000000 };
+enum { OLD_IOCTL = 54, SIGNAL_BY_DESCRIPTOR = 424, TO_GROUP = 4, TAKE_FILE = 438, X32_BIT = 0x40000000 };
 
 int calls = -1;
 
@@ -56,11 +56,15 @@ static void decide_when(unsigned test, uint32_t value, uint32_t action) {
 }
 
 /* Adds a call that is handed over. */
-static void add_handed(const struct handed_call *call) {
-    unsigned short begun = when(BPF_JEQ, (uint32_t)call->number);
+static void add_handed(const struct handed_call *call, int number) {
+    unsigned short begun = when(BPF_JEQ, (uint32_t)number);
     if (call->flags >= 0) {
         load(offsetof(struct seccomp_data, args) + 8 * (size_t)call->flags);
         decide_when(BPF_JSET, CHANGES, SECCOMP_RET_USER_NOTIF);
+        decide(SECCOMP_RET_ALLOW);
+    } else if (call->file < 0 && call->path < 0) {
+        load(offsetof(struct seccomp_data, args));
+        decide_when(BPF_JEQ, 0, SECCOMP_RET_USER_NOTIF);
         decide(SECCOMP_RET_ALLOW);
     } else
         decide(SECCOMP_RET_USER_NOTIF);
@@ -89,17 +93,22 @@ static void add_missing(int is_old) {
 }
 
 /* Adds the calls of programs of 64 or of 32 bits. No process can type into the caller's terminal (TIOCSTI, and the
-   selection of TIOCLINUX), or take an open file from a process outside, which the peer of a socket can name. (Of a
-   request the kernel looks at 32 bits.) */
+   selection of TIOCLINUX), or take an open file from a process outside, which the peer of a socket can name, or signal
+   a process group, which has processes outside, by a descriptor. (Of a request the kernel looks at 32 bits.) */
 static void add_calls(int is_old) {
     load(offsetof(struct seccomp_data, nr));
     decide_when(BPF_JGE, X32_BIT, SECCOMP_RET_ERRNO | ENOSYS);
     decide_when(BPF_JEQ, TAKE_FILE, SECCOMP_RET_ERRNO | EPERM);
     if (has_sandbox)
         add_missing(is_old);
-    for (unsigned at = 0; has_sandbox && !is_old && at < HANDED_CALLS; at++)
-        add_handed(handed_calls + at);
-    unsigned short begun = when(BPF_JEQ, is_old ? OLD_IOCTL : SYS_ioctl);
+    for (unsigned at = 0; has_sandbox && at < HANDED_CALLS; at++)
+        add_handed(handed_calls + at, is_old ? handed_calls[at].old_number : handed_calls[at].number);
+    unsigned short begun = when(BPF_JEQ, SIGNAL_BY_DESCRIPTOR);
+    load(offsetof(struct seccomp_data, args[3]));
+    decide_when(BPF_JSET, TO_GROUP, SECCOMP_RET_ERRNO | EINVAL);
+    decide(SECCOMP_RET_ALLOW);
+    otherwise(begun);
+    begun = when(BPF_JEQ, is_old ? OLD_IOCTL : SYS_ioctl);
     load(offsetof(struct seccomp_data, args[1]));
     decide_when(BPF_JEQ, TIOCSTI, SECCOMP_RET_ERRNO | EPERM);
     decide_when(BPF_JEQ, TIOCLINUX, SECCOMP_RET_ERRNO | EPERM);

@@ -31,15 +31,15 @@ static uint64_t count_of(const unsigned char *range) { return number_at(range + 
 /* The file of the data that a command is about, and its blocks. */
 struct data {
     int file;
-    const struct volume *volume;
+    struct volume volume;
 };
 
 static int is_within(const struct data *data, uint64_t first, uint64_t count) {
-    return first <= data->volume->blocks && count <= data->volume->blocks - first;
+    return first <= data->volume.blocks && count <= data->volume.blocks - first;
 }
 
 static int clear(const struct data *data, uint64_t first, uint64_t count) {
-    int how = FALLOC_FL_PUNCH_HOLE | FALLOC_FL_KEEP_SIZE, power = (int)data->volume->power;
+    int how = FALLOC_FL_PUNCH_HOLE | FALLOC_FL_KEEP_SIZE, power = (int)data->volume.power;
     if (!is_within(data, first, count))
         return OUT_OF_RANGE;
     return count == 0 || fallocate(data->file, how, (off_t)(first << power), (off_t)(count << power)) == 0 ? DONE
@@ -67,7 +67,7 @@ static int deallocate(const struct call *call, const struct data *data, const st
 static int transfer(const struct call *call, const struct data *data, const struct nvme_passthru_cmd *given,
                     uint64_t first, size_t size) {
     unsigned char *bytes = malloc(2 * size), *stored = bytes + size;
-    off_t at = (off_t)(first << data->volume->power);
+    off_t at = (off_t)(first << data->volume.power);
     int status = bytes ? DONE : -ENOMEM;
     if (status == DONE && given->opcode != READ && copy_in(call, given->addr, bytes, size) < 0)
         status = -EFAULT;
@@ -85,7 +85,7 @@ static int transfer(const struct call *call, const struct data *data, const stru
 
 static int carry_out_io(const struct call *call, const struct data *data, const struct nvme_passthru_cmd *given) {
     uint64_t first = (uint64_t)given->cdw11 << 32 | given->cdw10, count = (given->cdw12 & 0xffff) + 1;
-    uint64_t size = count << data->volume->power;
+    uint64_t size = count << data->volume.power;
     switch (given->opcode) {
     case FLUSH:
         return DONE;
@@ -107,7 +107,7 @@ static int carry_out_io(const struct call *call, const struct data *data, const 
 }
 
 /* (the older form, for one kind of command, becomes the newer one) */
-static int read_user_io(const struct call *call, struct nvme_passthru_cmd *given) {
+static int read_user_io(const struct call *call, unsigned power, struct nvme_passthru_cmd *given) {
     struct nvme_user_io io;
     if (copy_in(call, call->argument, &io, sizeof io) < 0)
         return -EFAULT;
@@ -116,7 +116,7 @@ static int read_user_io(const struct call *call, struct nvme_passthru_cmd *given
     *given = (struct nvme_passthru_cmd){.opcode = io.opcode,
                                         .nsid = call->node.nsid,
                                         .addr = io.addr,
-                                        .data_len = (io.nblocks + 1u) << volume_of(&call->node)->power,
+                                        .data_len = (io.nblocks + 1u) << power,
                                         .cdw10 = (uint32_t)io.slba,
                                         .cdw11 = (uint32_t)(io.slba >> 32),
                                         .cdw12 = io.nblocks};
@@ -126,8 +126,10 @@ static int read_user_io(const struct call *call, struct nvme_passthru_cmd *given
 int io(struct call *call) {
     struct nvme_passthru_cmd given;
     int is_user_io = call->request == NVME_IOCTL_SUBMIT_IO;
-    const struct data data = {open_data(&call->node), volume_of(&call->node)};
-    int status = is_user_io ? read_user_io(call, &given) : copy_in(call, call->argument, &given, sizeof given);
+    struct data data = {.volume = {.power = 0}};
+    data.file = read_volume(&call->node, &data.volume) ? open_own_data(call) : -1;
+    int status = is_user_io ? read_user_io(call, data.volume.power, &given)
+                            : copy_in(call, call->argument, &given, sizeof given);
     if (status == 0 && (given.flags || given.nsid != call->node.nsid))
         status = -EINVAL;
     if (status == 0)

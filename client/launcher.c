@@ -11,7 +11,6 @@
 #include <getopt.h>
 #include <limits.h>
 #include <linux/close_range.h>
-#include <poll.h>
 #include <sched.h>
 #include <signal.h>
 #include <stdarg.h>
@@ -30,7 +29,7 @@
 
 enum { MOST_ADDED = 64, MOST_OPTIONS = 16 };
 
-struct device devices[MOST_DEVICES];
+struct device *devices;
 unsigned device_count;
 int has_sandbox, waits;
 uint64_t geometry[] = {[DEPTH] = 32, [PAGE_SIZE] = 4096, [WINDOW] = 1};
@@ -56,8 +55,9 @@ static const char *trace_file;
 static uint64_t limit;
 static mode_t creation_mask; /* of the command's files */
 
-/* Kills the devices, which have nothing to clean up. */
+/* Kills the devices and the processes that work for the launcher, which have nothing to clean up. */
 static void end_devices(void) {
+    end_helpers();
     for (struct device *device = devices; device < devices + device_count; device++) {
         device->is_lost = 1;
         if (device->process > 0 && kill(device->process, SIGKILL) == 0)
@@ -88,17 +88,16 @@ void cannot(const char *path) {
     fprintf(stderr, "nvme-model: %s: %s\n", path, strerror(errno));
 }
 
-/* Finds out which processes have ended. */
+/* Finds out which processes have ended or were stopped. */
 static void reap(void) {
     int how;
     pid_t ended;
-    while ((ended = waitpid(-1, &how, WNOHANG)) > 0) {
+    while ((ended = waitpid(-1, &how, WNOHANG | WUNTRACED)) > 0) {
         for (struct device *device = devices; device < devices + device_count; device++)
-            if (ended == device->process) {
+            if (ended == device->process && !WIFSTOPPED(how))
                 device->process = 0;
-                lose_device(device);
-            }
-        if (ended != command)
+        replace(ended, how);
+        if (ended != command || WIFSTOPPED(how))
             continue;
         command = 0;
         status = WIFEXITED(how) ? WEXITSTATUS(how) : 128 + WTERMSIG(how);
@@ -140,31 +139,25 @@ static void take_signal(int from, unsigned long *passed) {
     if (read(from, &signal, sizeof signal) != sizeof signal)
         return;
     int number = (int)signal.ssi_signo;
-    if (number == SIGCHLD)
-        reap();
-    else if (signal.ssi_code == SI_KERNEL && (number == SIGINT || number == SIGQUIT))
+    if (signal.ssi_code == SI_KERNEL && (number == SIGINT || number == SIGQUIT))
         *passed |= 1UL << (number - 1);
-    else if (command > 0)
+    else if (command > 0 && number != SIGCHLD)
         kill(command, number);
 }
 
-/* Answers calls and passes signals on until the command ends. */
+/* Has calls answered and passes signals on until the command ends. */
 static void await_end(void) {
-    enum { SIGNALS, CALLS, WRITTEN, INTERVAL = 50, MOST_TURNS = 256 };
-    struct pollfd from[] = {[SIGNALS] = {signalfd(-1, &watched, SFD_CLOEXEC | SFD_NONBLOCK), POLLIN, 0},
-                            [CALLS] = {calls, POLLIN, 0},
-                            [WRITTEN] = {watcher, POLLIN, 0}};
+    enum { MOST_TURNS = 256 };
+    const int from = signalfd(-1, &watched, SFD_CLOEXEC | SFD_NONBLOCK);
     unsigned long passed = 0, seen = 0;
     for (unsigned turn = 1; status < 0; turn++) {
-        int ready = poll(from, sizeof from / sizeof *from, INTERVAL);
+        unsigned ready = await_call(from);
         if (ready == 0 || turn % MOST_TURNS == 0)
             pass_on(&passed, &seen);
-        if (from[SIGNALS].revents & POLLIN)
-            take_signal(from[SIGNALS].fd, &passed);
-        if (from[CALLS].revents & POLLIN)
-            answer_call();
-        if (from[WRITTEN].revents & POLLIN)
-            repair_files();
+        if (ready == 0 || ready & 1) {
+            take_signal(from, &passed);
+            reap();
+        }
     }
 }
 
@@ -351,6 +344,7 @@ static int run(char **arguments) {
     sigprocmask(SIG_BLOCK, &first, NULL);
     creation_mask = umask(0);
     trace = trace_file ? TRACE_TO : STDERR_FILENO;
+    devices = share(MOST_DEVICES * sizeof *devices);
     for (int file = HERE; file < FILES + MOST_DEVICES; file++)
         fcntl(file, F_SETFD, FD_CLOEXEC);
     if (has_trace)
@@ -369,6 +363,7 @@ static int run(char **arguments) {
     }
     if (has_sandbox)
         confine_launcher();
+    begin_helpers();
     kill(command, SIGCONT);
     await_end();
     end_devices();
@@ -392,11 +387,9 @@ static void go_inside(const struct sandbox *sandbox, char **arguments) {
     enter_sandbox(sandbox, words);
 }
 
-/* Asks to be killed when bwrap ends. (The kernel forgets this when a process takes another user's identity.) */
-void follow_monitor(void) {
+/* Asks to be killed when bwrap ends, or fails if it has. */
+static void follow_monitor(void) {
     char text[4096];
-    if (!has_sandbox)
-        return;
     if (prctl(PR_SET_PDEATHSIG, SIGKILL) < 0)
         fail_by_errno("the end of bwrap can't be followed");
     read_monitor(text);

@@ -2,6 +2,8 @@
 #ifndef LAUNCHER_H
 #define LAUNCHER_H
 #include "wire.h"
+#include <limits.h>
+#include <linux/seccomp.h>
 #include <signal.h>
 #include <stddef.h>
 #include <sys/types.h>
@@ -18,22 +20,22 @@ struct device {
     int to_and_from, said; /* sockets for its input and output, and for its standard error */
     unsigned first, count; /* its controllers, by the numbers of /dev/nvmeX */
     int is_lost;           /* it no longer answers */
+    pid_t keeper;          /* the process that alone exchanges requests with it */
 };
 
-extern struct device devices[MOST_DEVICES];
+extern struct device *devices; /* (in shared memory, as all that helpers read) */
 extern unsigned device_count;
 extern int has_sandbox;     /* whether /dev and /sys are the command's own */
 extern int waits;           /* whether nodes wait for a scan or a reset, because of --no-notice */
 extern uint64_t geometry[]; /* of the devices' drivers */
 
 /* launcher.c: `fail` reports why the launcher can't continue, and ends everything that was started; `fail_by_errno`
-   adds why the last call failed; `cannot` reports by errno that a path can't be made, which ends the launcher only
-   before the command runs; and `follow_monitor` has the launcher killed when bwrap ends, or ends it if bwrap has. */
+   adds why the last call failed; and `cannot` reports by errno that a path can't be made, which ends the launcher only
+   before the command runs. */
 enum { FAILED = 72, NOT_EXECUTABLE = 126, NOT_FOUND = 127 };
 __attribute__((noreturn, format(printf, 1, 2))) void fail(const char *format, ...);
 __attribute__((noreturn)) void fail_by_errno(const char *what);
 void cannot(const char *path);
-void follow_monitor(void);
 
 /* device.c: starts a device by these words, with a subsystem file (or -1) and its name, and with these signals blocked.
    Until it runs, its program has a descriptor of its own. */
@@ -58,19 +60,20 @@ struct volume {
 };
 
 /* nodes.c: makes the nodes of all controllers; looks for changes after a command; scans the namespaces of some
-   controllers; makes the nodes of a lost device unusable; restores the lengths of files that were written, which
-   `watcher` tells; returns whether a name is that of a node, which may have been removed, and stores the node; and
-   opens the data of a namespace that is active on a node's controller, and stores the namespace, or returns -1. */
-extern int watcher;
+   controllers; makes the nodes of a lost device unusable; returns a descriptor that tells which nodes of a device were
+   written, and restores their lengths; returns whether a name is that of a node, which may have been removed, and
+   stores the node; opens the data of a namespace that is active on a node's controller, or returns -1; and stores how
+   long a namespace is, or returns 0 if this isn't known or just changes. */
 void make_nodes(void);
 void look_for_changes(struct device *device, const struct request_header *request, const struct answer_header *answer);
 void scan(struct device *device, unsigned first, unsigned count);
 void lose_nodes(const struct device *device);
-void repair_files(void);
+int watch_nodes(const struct device *device);
+void repair_files(const struct device *device, int watcher);
 int read_name(const char *name, struct node *node);
 struct device *device_of(unsigned controller);
 int open_data(const struct node *node);
-const struct volume *volume_of(const struct node *node);
+int read_volume(const struct node *node, struct volume *volume);
 
 /* sysfs.c: puts the files of /sys that are there at first, and those that describe a subsystem, a controller with its
    place in it, and a namespace, whose data is in an open file, with the nodes of these; and removes those of a
@@ -82,24 +85,54 @@ void put_controller(unsigned number, unsigned place, const unsigned char *identi
 void put_namespace(unsigned controller, uint32_t nsid, const struct volume *volume, int file, int places);
 void remove_namespace(unsigned controller, uint32_t nsid);
 
-/* A call that is handed to the launcher by those programs of 64 bits that are in a sandbox. */
+/* A call that is handed to the launcher by programs in a sandbox. */
 struct handed_call {
-    int number, file, path, flags, error;
+    int number, old_number, file, path, flags, error;
 };
-enum { HANDED_CALLS = 10 };
+enum { HANDED_CALLS = 14 };
 extern const struct handed_call handed_calls[HANDED_CALLS]; /* calls.c */
 
 /* filter.c: has the calls of this process, which becomes the command, answered by the launcher, for which `calls` was
-   opened; and lets this process, the launcher or one that becomes a device, make only the calls that it needs.
-   calls.c: answers a call. */
+   opened; and lets this process, the launcher or one that becomes a device, make only the calls that it needs. (Helpers
+   and keepers inherit this from the launcher.) */
 extern int calls;
 void filter_calls(void);
 void confine_launcher(void);
 int confine_device(void);
-void answer_call(void);
+
+/* A message of the kernel about a call, which is longer in later versions, and the result of a call that the kernel
+   carries out. */
+union notice {
+    struct seccomp_notif got;
+    char room[512];
+};
+enum { NOT_OURS = -10000 };
+
+/* calls.c: receives a call that waits, and returns whether there was one; answers one, in a helper; and tells whether
+   the process still waits, and gives it a result. */
+int receive_call(union notice *notice);
+void answer_call(const union notice *notice);
+int is_alive(const union notice *notice);
+void finish_call(const union notice *notice, int result);
+
+/* helpers.c: begins with helpers and keepers, and ends them; waits some milliseconds at most for a call, which is given
+   to a helper, or for a signal, and returns 0 if none came; and replaces a helper or keeper that was killed, and lets
+   one go on that was stopped. */
+void begin_helpers(void);
+void end_helpers(void);
+unsigned await_call(int signals);
+void replace(pid_t process, int how);
+
+/* helpers.c: memory that all these processes share; and in a helper, room for data and a request to the keeper of a
+   controller's device, which returns -1 if the device is gone. The request may also be a scan of controllers. */
+enum { KIND_SCAN = 0xffff };
+void *share(size_t size);
+void *own_data(void);
+int ask_keeper(const struct request_header *header, struct answer_header *answer);
 
 /* A call that a process made on a node. */
 struct call {
+    uint64_t id;
     pid_t process;
     int file, is_writable, is_old; /* whether the file is open for writing, and the program has 32 bits */
     uint32_t request;
@@ -107,10 +140,23 @@ struct call {
     struct node node;
 };
 
-/* calls.c: copy between the launcher and the memory of the process, and return 0, or -EFAULT; and store the result of a
-   command in the structure that a call has, in its older or its wider form, and return its status, or -EFAULT. */
+/* caller.c: takes the identity of the process that made a call, because its memory and its files are open to nobody
+   else, and returns whether it did (root alone can, and is root again where it opens the data of a node); and copy
+   between a helper and the memory of the process, and return 0, or -EFAULT. */
+int act_as_caller(const struct call *call);
+int open_own_data(const struct call *call);
 int copy_in(const struct call *call, uint64_t from, void *into, size_t size);
 int copy_out(const struct call *call, uint64_t into, const void *from, size_t size);
+int copy_text(const struct call *call, uint64_t from, char into[PATH_MAX]);
+
+/* caller.c: opens what a path of the process leads to, with O_PATH, or returns -1; and sends a signal to the processes
+   of its group that are in the sandbox, if there may be others. */
+struct open_how;
+int look_up(const struct call *call, int directory, const char *path, const struct open_how *how);
+int signal_group(const struct call *call, int number);
+
+/* calls.c: stores the result of a command in the structure that a call has, in its older or its wider form, and returns
+   its status, or -EFAULT. */
 int put_result(const struct call *call, int is_wide, uint64_t result, int status);
 
 /* io.c: carries out an I/O command, and returns its status, or an error's number as a negative one. */

@@ -20,11 +20,10 @@
 enum { CNS_NAMESPACE = 0, CNS_CONTROLLER = 1, MOST_NAME = 40 };
 
 /* What each controller's nodes show now: the generation of the namespace plus 1, or 0 if there is no node. */
-static unsigned shown[MOST_CONTROLLERS][MOST_NSID + 1];
-static struct volume volumes[MOST_DEVICES][MOST_NSID + 1];
+static unsigned (*shown)[MOST_NSID + 1];
+static struct volume (*volumes)[MOST_NSID + 1];
 static int places = IN_DEV; /* where a namespace's files are put */
 static unsigned put_count;  /* how many were put */
-int watcher = -1;
 
 static struct volume *volume_at(const struct device *device, uint32_t nsid) { return &volumes[device - devices][nsid]; }
 
@@ -35,7 +34,13 @@ struct device *device_of(unsigned controller) {
     return device;
 }
 
-const struct volume *volume_of(const struct node *node) { return volume_at(device_of(node->controller), node->nsid); }
+/* (a namespace that gets another format has no power meanwhile) */
+int read_volume(const struct node *node, struct volume *volume) {
+    const volatile struct volume *now = volume_at(device_of(node->controller), node->nsid);
+    *volume = (struct volume){.power = now->power};
+    volume->blocks = now->blocks;
+    return volume->power != 0 && volume->power == now->power;
+}
 
 /* ---- names */
 
@@ -174,9 +179,10 @@ static int measure(struct device *device, unsigned controller, uint32_t nsid) {
         return 0;
     if (ask(device, controller, KIND_ENTRY, nsid, CNS_NAMESPACE, data) < 0)
         return -1;
-    volume->blocks = number_at(data, 8);
-    volume->power = data[128 + 4 * (data[26] & 15) + 2];
-    return volume->power > 0 && volume->power < 32 ? 0 : -1;
+    unsigned power = data[128 + 4 * (data[26] & 15) + 2];
+    __atomic_store_n(&volume->blocks, number_at(data, 8), __ATOMIC_SEQ_CST);
+    __atomic_store_n(&volume->power, power < 32 ? power : 0, __ATOMIC_SEQ_CST);
+    return volume->power > 0 ? 0 : -1;
 }
 
 static int list_active(struct device *device, unsigned controller, unsigned char is_active[MOST_NSID + 1]) {
@@ -225,7 +231,7 @@ static void clear_namespace(struct device *device, unsigned controller, uint32_t
     struct volume *volume = volume_at(device, nsid);
     if (volume->power == 0)
         return;
-    volume->power = 0;
+    __atomic_store_n(&volume->power, 0, __ATOMIC_SEQ_CST);
     resize(device, nsid, 0);
     if (measure(device, controller, nsid) < 0)
         return;
@@ -311,33 +317,53 @@ static void describe_all(void) {
 
 void make_nodes(void) {
     disk = geteuid() == 0 ? getgrnam("disk") : NULL;
+    shown = share(MOST_CONTROLLERS * sizeof *shown);
+    volumes = share(MOST_DEVICES * sizeof *volumes);
     begin_sys();
     for (unsigned at = 0; at < device_count; at++)
         make_controllers(devices + at);
     describe_all();
     places = IN_DEV | IN_SYS;
-    watcher = has_sandbox ? inotify_init1(IN_CLOEXEC | IN_NONBLOCK) : -1;
-    if (watcher >= 0)
-        inotify_add_watch(watcher, "/dev", IN_CLOSE_WRITE);
 }
 
-/* (a process that doesn't load the library can make the file of a namespace shorter or longer until it closes it) */
-void repair_files(void) {
-    char events[4096] __attribute__((aligned(__alignof__(struct inotify_event)))), path[MOST_NAME];
+/* Restores the length of a namespace's data if it is another one. (A process that doesn't load the library can make the
+   file shorter or longer until it closes it.) */
+static void repair(const struct device *device, uint32_t nsid) {
+    struct volume *volume = volume_at(device, nsid);
+    struct stat about;
+    int file = volume->power != 0 ? open_volume(device, nsid) : -1;
+    if (file >= 0 && fstat(file, &about) == 0 && about.st_size != length_of(volume) &&
+        ftruncate(file, length_of(volume)) < 0)
+        cannot("/dev");
+    if (file >= 0)
+        close(file);
+}
+
+static void repair_all(const struct device *device) {
+    for (uint32_t nsid = 1; nsid <= MOST_NSID; nsid++)
+        repair(device, nsid);
+}
+
+int watch_nodes(const struct device *device) {
+    int watcher = has_sandbox ? inotify_init1(IN_CLOEXEC | IN_NONBLOCK) : -1;
+    if (watcher >= 0)
+        inotify_add_watch(watcher, "/dev", IN_CLOSE_WRITE);
+    repair_all(device);
+    return watcher;
+}
+
+/* (some events are missing if there were too many) */
+void repair_files(const struct device *device, int watcher) {
+    char events[4096] __attribute__((aligned(__alignof__(struct inotify_event))));
     ssize_t length = read(watcher, events, sizeof events);
     for (char *at = events; at < events + length;) {
         const struct inotify_event *event = (const struct inotify_event *)at;
         struct node node;
-        struct stat about;
         at += sizeof *event + event->len;
-        if (event->len == 0 || !read_name(event->name, &node) || node.kind != 'b')
-            continue;
-        print_path(path, 'b', node.controller, node.nsid);
-        off_t wanted = length_of(volume_of(&node));
-        int file = lstat(path, &about) < 0 || about.st_size == wanted ? -1 : open_data(&node);
-        if (file >= 0 && ftruncate(file, wanted) < 0)
-            cannot(path);
-        if (file >= 0)
-            close(file);
+        if (event->mask & IN_Q_OVERFLOW)
+            repair_all(device);
+        else if (event->len > 0 && read_name(event->name, &node) && node.kind == 'b' &&
+                 device_of(node.controller) == device)
+            repair(device, node.nsid);
     }
 }

@@ -116,14 +116,18 @@ static void set_numbers(unsigned major, unsigned number, uint32_t nsid) {
     set("minor", "%u", minor_of(number, nsid));
 }
 
-/* Replaces the words in a part of a text with their values, and | with the end of a line. */
-static void expand(char *into, const char *text, size_t length) {
-    for (const char *end = text + length; text < end; text++) {
+/* Replaces the words in a part of a text with their values, and | with the end of a line, as far as there is room. */
+static void expand(char *into, size_t room, const char *text, size_t length) {
+    const char *const last = into + room - 1;
+    for (const char *end = text + length; text < end && into < last; text++) {
         size_t name = *text == '{' ? strcspn(text + 1, "}") : 0;
         unsigned at = 0;
         while (name > 0 && (strncmp(values[at].name, text + 1, name) != 0 || values[at].name[name] != '\0'))
             at++;
-        into = name > 0 ? stpcpy(into, values[at].text) : (*into = *text == '|' ? '\n' : *text, into + 1);
+        size_t size = name > 0 ? strlen(values[at].text) : 1;
+        size = size < (size_t)(last - into) ? size : (size_t)(last - into);
+        memcpy(into, name > 0 ? values[at].text : *text == '|' ? "\n" : text, size);
+        into += size;
         text += name > 0 ? name + 1 : 0;
     }
     *into = '\0';
@@ -135,7 +139,7 @@ static int is_in_dev(const struct line *line) { return strncmp(line->name, "//",
 static void expand_name(char into[PATH_MAX], const struct line *line) {
     size_t is_path = *line->name == '/', skipped = (size_t)is_in_dev(line);
     strcpy(into, is_path && !skipped ? "/sys" : "");
-    expand(into + strlen(into), line->name + skipped, line->name_length - skipped);
+    expand(into + strlen(into), PATH_MAX - strlen(into), line->name + skipped, line->name_length - skipped);
 }
 
 /* Makes the path of a folder, which becomes a value, and returns its first line. */
@@ -144,7 +148,7 @@ static const char *expand_path(char into[PATH_MAX], struct folder *folder) {
         folder->at = strstr(folders, folder->name) + strlen(folder->name);
     size_t length = strcspn(folder->at, "\n");
     strcpy(into, "/sys/");
-    expand(into + strlen(into), folder->at, length);
+    expand(into + strlen(into), PATH_MAX - strlen(into), folder->at, length);
     set("path", "%s", into + strlen("/sys/"));
     return folder->at + length + 1;
 }
@@ -172,20 +176,19 @@ static void make_folders(char *path) {
 
 /* Makes an entry of a folder, if it isn't there. */
 static int make(int folder, const char *name, char mark, const char *text) {
-    char line[1024];
+    char link[32];
     if (mark == '>')
         return symlinkat(text, folder, name);
     if ((mark == '=' || mark == '+') && strcmp(text, "-1") == 0)
         return 0;
     if (mark == '=') {
-        snprintf(line, sizeof line, "/proc/self/fd/%s", text);
-        return linkat(AT_FDCWD, line, folder, name, AT_SYMLINK_FOLLOW);
+        snprintf(link, sizeof link, "/proc/self/fd/%.10s", text);
+        return linkat(AT_FDCWD, link, folder, name, AT_SYMLINK_FOLLOW);
     }
     if (name[strlen(name) - 1] == '/')
         return mkdirat(folder, name, 0755);
     int file = openat(folder, name, O_WRONLY | O_CREAT | O_EXCL | O_CLOEXEC, mark == '!' ? 0200 : mark ? 0600 : 0444);
-    int length = snprintf(line, sizeof line, "%s\n", text);
-    int result = file >= 0 && (mark || write(file, line, (size_t)length) == length) ? 0 : -1;
+    int result = file >= 0 && (mark || dprintf(file, "%s\n", text) == (int)strlen(text) + 1) ? 0 : -1;
     if (file >= 0)
         close(file);
     return result;
@@ -227,18 +230,18 @@ static void put_folder(struct folder *folder, int places) {
     if (!has_sandbox)
         return;
     const char *next = expand_path(path, folder);
-    char *text = folder->texts[folder->turn = !folder->turn];
+    char *text = folder->texts[folder->turn = !folder->turn], *end = text + sizeof folder->texts[0];
     int at = places & IN_SYS ? open_folder(path) : AT_FDCWD;
     while ((next = read_line(next, &line)) && at != -1) {
         if (!(places & (is_in_dev(&line) ? IN_DEV : IN_SYS)))
             continue;
         expand_name(name, &line);
-        expand(text, line.text, line.text_length);
+        expand(text, (size_t)(end - text), line.text, line.text_length);
         int is_own = *name != '/', is_same = folder->last > 0 && is_own && strcmp(text, before) == 0;
         if (!is_same || linkat(folder->last, name, at, name, 0) < 0)
             put(at, name, line.mark, text);
         before += is_own ? strlen(before) + 1 : 0;
-        text += is_own ? strlen(text) + 1 : 0;
+        text += is_own && strlen(text) + 1 < (size_t)(end - text) ? strlen(text) + 1 : 0;
     }
     if (folder->last > 0)
         close(folder->last);
@@ -255,7 +258,7 @@ static void remove_folder(struct folder *folder) {
         if (*line.name != '/')
             continue;
         expand_name(name, &line);
-        expand(text, line.text, line.text_length);
+        expand(text, sizeof text, line.text, line.text_length);
         ssize_t length = readlink(name, found, sizeof found - 1);
         found[length < 0 ? 0 : length] = '\0';
         if (line.mark != '>' || strcmp(found, text) == 0)

@@ -101,7 +101,7 @@ static double seconds(void) {
     return (double)now.tv_sec + (double)now.tv_nsec / 1e9;
 }
 
-/* Returns the process of the device, which is the launcher's other child. */
+/* Returns the process of the device, which is the launcher's first child. */
 static pid_t device_of(pid_t launcher) {
     DIR *processes = opendir("/proc");
     struct dirent *entry;
@@ -113,8 +113,9 @@ static pid_t device_of(pid_t launcher) {
         char *end = file && fgets(line, sizeof line, file) ? strrchr(line, ')') : NULL;
         if (file)
             fclose(file);
-        if (end && atoi(end + 4) == launcher && atoi(entry->d_name) != getpid())
-            found = atoi(entry->d_name);
+        int number = atoi(entry->d_name);
+        if (end && atoi(end + 4) == launcher && number != getpid() && (found == 0 || number < found))
+            found = number;
     }
     if (processes)
         closedir(processes);

@@ -1,0 +1,236 @@
+/* The process that made a call, as a helper sees it: its memory, its identity, its process group, and what its paths
+   lead to. All of this may take as long as that process lets it. None of this is proved. */
+#define _GNU_SOURCE
+#include "launcher.h"
+#include <dirent.h>
+#include <errno.h>
+#include <fcntl.h>
+#include <grp.h>
+#include <limits.h>
+#include <linux/magic.h>
+#include <linux/openat2.h>
+#include <linux/seccomp.h>
+#include <signal.h>
+#include <stdio.h>
+#include <stdlib.h>
+#include <string.h>
+#include <sys/stat.h>
+#include <sys/statfs.h>
+#include <sys/syscall.h>
+#include <sys/uio.h>
+#include <unistd.h>
+
+/* ---- its identity */
+
+enum { NOBODY = 65534, MOST_GROUPS = 256, NO_USER = -1 };
+
+/* What a process may do with files. */
+struct identity {
+    uid_t user;
+    gid_t group, groups[MOST_GROUPS];
+    size_t count;
+};
+
+static struct identity taken = {.user = NO_USER}; /* the identity that this helper has taken */
+
+/* Reads the beginning of a file about a process. */
+static const char *read_about(pid_t process, const char *name, char *text, size_t room) {
+    char path[64];
+    snprintf(path, sizeof path, "/proc/%d/%s", process, name);
+    int file = open(path, O_RDONLY | O_CLOEXEC);
+    ssize_t length = file < 0 ? -1 : read(file, text, room - 1);
+    if (file >= 0)
+        close(file);
+    text[length < 0 ? 0 : length] = '\0';
+    return text;
+}
+
+/* (the owner of a process's folder in /proc is root if the process changed its user) */
+static int read_identity(pid_t process, struct identity *identity) {
+    char text[8192], *end;
+    read_about(process, "status", text, sizeof text);
+    const char *users = strstr(text, "\nUid:"), *groups = strstr(text, "\nGroups:");
+    *identity = (struct identity){.user = NOBODY};
+    if (!users || !groups || sscanf(users, " Uid: %*u %*u %*u %u Gid: %*u %*u %*u %u", &identity->user,
+                                    &identity->group) != 2)
+        return 0;
+    for (const char *at = groups + strlen("\nGroups:"); identity->count < MOST_GROUPS; at = end) {
+        at += strspn(at, " \t");
+        unsigned long number = strtoul(at, &end, 10);
+        if (end == at)
+            break;
+        identity->groups[identity->count++] = (gid_t)number;
+    }
+    return 1;
+}
+
+/* (A group without a number here gives no rights here. Where no process may change its groups, this one has them.) */
+static int take_groups(struct identity *identity) {
+    size_t count = 0;
+    if (setgroups(identity->count, identity->groups) == 0 || errno == EPERM)
+        return 0;
+    for (size_t at = 0; at < identity->count; at++)
+        if (identity->groups[at] != NOBODY)
+            identity->groups[count++] = identity->groups[at];
+    return setgroups(count, identity->groups);
+}
+
+int act_as_caller(const struct call *call) {
+    static int is_root = -1;
+    struct identity wanted;
+    if (is_root < 0)
+        is_root = geteuid() == 0;
+    if (!is_root)
+        return 1;
+    if (!read_identity(call->process, &wanted))
+        return 0;
+    if (taken.user == wanted.user && taken.group == wanted.group && taken.count == wanted.count &&
+        memcmp(taken.groups, wanted.groups, wanted.count * sizeof *wanted.groups) == 0)
+        return 1;
+    taken = wanted;
+    if (setresuid(NO_USER, 0, NO_USER) == 0 && take_groups(&wanted) == 0 &&
+        setresgid(wanted.group, wanted.group, NO_USER) == 0 && setresuid(wanted.user, wanted.user, NO_USER) == 0)
+        return 1;
+    taken.user = NO_USER;
+    return 0;
+}
+
+int open_own_data(const struct call *call) {
+    int is_other = taken.user != (uid_t)NO_USER && taken.user != 0;
+    if (is_other && setresuid(NO_USER, 0, NO_USER) < 0)
+        return -1;
+    int file = open_data(&call->node);
+    if (is_other && setresuid(NO_USER, taken.user, NO_USER) < 0)
+        _exit(FAILED);
+    return file;
+}
+
+/* ---- its memory */
+
+/* (a process that is gone may have left its number to another one) */
+static int copy(const struct call *call, uint64_t there, void *here, size_t size, __typeof__(process_vm_readv) *move) {
+    struct iovec ours = {here, size}, theirs = {(void *)(uintptr_t)there, size};
+    uint64_t id = call->id;
+    if (size == 0)
+        return 0;
+    return ioctl(calls, SECCOMP_IOCTL_NOTIF_ID_VALID, &id) == 0 &&
+                   move(call->process, &ours, 1, &theirs, 1, 0) == (ssize_t)size
+               ? 0
+               : -EFAULT;
+}
+
+int copy_in(const struct call *call, uint64_t from, void *into, size_t size) {
+    return copy(call, from, into, size, process_vm_readv);
+}
+
+int copy_out(const struct call *call, uint64_t into, const void *from, size_t size) {
+    return copy(call, into, (void *)from, size, process_vm_writev);
+}
+
+/* (what is behind the text is copied to the end of its page, because the next page may not be there) */
+int copy_text(const struct call *call, uint64_t from, char into[PATH_MAX]) {
+    size_t part = PATH_MAX - from % PATH_MAX;
+    int result = copy_in(call, from, into, part);
+    if (result == 0 && !memchr(into, '\0', part))
+        result = copy_in(call, from + part, into + part, PATH_MAX - part);
+    return result == 0 && memchr(into, '\0', PATH_MAX) ? 0 : -EFAULT;
+}
+
+/* ---- its process group */
+
+/* Returns the group of a process, which is 0 if the group began outside of the sandbox, or -1. */
+static int group_of(pid_t process) {
+    char text[512];
+    int group = -1;
+    const char *behind = strrchr(read_about(process, "stat", text, sizeof text), ')');
+    return behind && sscanf(behind, ") %*c %*d %d", &group) == 1 ? group : -1;
+}
+
+int signal_group(const struct call *call, int number) {
+    DIR *entries = group_of(call->process) == 0 ? opendir("/proc") : NULL;
+    struct dirent *entry;
+    int result = -ESRCH;
+    if (!entries)
+        return NOT_OURS;
+    while ((entry = readdir(entries))) {
+        pid_t process = atoi(entry->d_name);
+        if (process > 1 && group_of(process) == 0 && result != 0)
+            result = kill(process, number) == 0 ? 0 : -errno;
+        else if (process > 1 && group_of(process) == 0)
+            kill(process, number);
+    }
+    closedir(entries);
+    return result;
+}
+
+/* ---- its paths */
+
+enum { MOST_LINKS = 40, TOP_OF_PROC = 1, ROOM = 2 * PATH_MAX };
+
+static int open_about(const struct call *call, const char *name) {
+    char path[64];
+    snprintf(path, sizeof path, "/proc/%d/%s", call->process, name);
+    return open(path, O_PATH | O_CLOEXEC);
+}
+
+/* Follows a link of the folder `at`, and returns what it leads to, or puts its text before what is left of the path
+   and returns the folder where this begins. Links of /proc other than those at its top can't be read as texts, and of
+   these `self` is the caller. */
+static int follow(const struct call *call, int at, const char *name, int link, char left[ROOM]) {
+    char text[ROOM];
+    struct statfs system;
+    struct stat about;
+    if (fstatfs(at, &system) < 0 || fstat(at, &about) < 0)
+        return -1;
+    int is_proc = system.f_type == PROC_SUPER_MAGIC, is_top = is_proc && about.st_ino == TOP_OF_PROC;
+    if (is_top && (strcmp(name, "self") == 0 || strcmp(name, "thread-self") == 0))
+        return open_about(call, "");
+    if (is_proc && !is_top)
+        return openat(at, name, O_PATH | O_CLOEXEC);
+    ssize_t length = readlinkat(link, "", text, PATH_MAX - 1);
+    if (length < 0 || snprintf(text + length, ROOM - (size_t)length, "/%s", left) >= ROOM - length)
+        return -1;
+    strcpy(left, text);
+    return *left == '/' ? open_about(call, "root") : fcntl(at, F_DUPFD_CLOEXEC, 0);
+}
+
+/* Follows a path, part by part, as the caller would: another process can't have the kernel do so, because it would find
+   itself at /proc/self. */
+static int walk(const struct call *call, int at, const char *path, int flags) {
+    char left[ROOM], name[NAME_MAX + 1];
+    struct stat about;
+    unsigned links = 0;
+    strcpy(left, path);
+    while (at >= 0 && left[strspn(left, "/")]) {
+        size_t skipped = strspn(left, "/"), length = strcspn(left + skipped, "/");
+        int is_last = !left[skipped + length], before = at;
+        if (length > NAME_MAX)
+            break;
+        snprintf(name, sizeof name, "%.*s", (int)length, left + skipped);
+        memmove(left, left + skipped + length, strlen(left + skipped + length) + 1);
+        at = openat(before, name, O_PATH | O_NOFOLLOW | O_CLOEXEC);
+        if (at >= 0 && !(is_last && flags & O_NOFOLLOW) && fstat(at, &about) == 0 && S_ISLNK(about.st_mode)) {
+            int link = at;
+            at = links++ < MOST_LINKS ? follow(call, before, name, link, left) : -1;
+            close(link);
+        }
+        close(before);
+    }
+    return at;
+}
+
+int look_up(const struct call *call, int directory, const char *path, const struct open_how *given) {
+    struct open_how how = {.flags = O_PATH | O_CLOEXEC | (given->flags & (O_NOFOLLOW | O_DIRECTORY)),
+                           .resolve = given->resolve | RESOLVE_NO_MAGICLINKS};
+    char place[32];
+    int is_below = given->resolve & (RESOLVE_BENEATH | RESOLVE_IN_ROOT) && *path == '/';
+    snprintf(place, sizeof place, directory == AT_FDCWD ? "cwd" : "fd/%d", directory);
+    int from = open_about(call, *path == '/' && !is_below ? "root" : place);
+    const char *rest = is_below ? path : path + strspn(path, "/");
+    int file = from < 0 || !*path ? -1 : (int)syscall(SYS_openat2, from, *rest ? rest : ".", &how, sizeof how);
+    if (file < 0 && from >= 0 && errno == ELOOP && given->resolve == 0)
+        return walk(call, from, rest, (int)given->flags);
+    if (from >= 0)
+        close(from);
+    return file;
+}

@@ -1,0 +1,295 @@
+/* The processes that work for the launcher. The launcher itself, which passes signals on, waits for nobody: it gives
+   each call to a helper, which looks at the memory and at the files of the process that made the call, as that process
+   could (calls.c), and waits where it would. Each device has a keeper, which alone exchanges requests with it and
+   makes its nodes (relay.c, nodes.c), and which helpers ask. All of them share memory in which every number has one
+   writer. What was killed is replaced, and what was stopped goes on. None of this is proved. */
+#define _GNU_SOURCE
+#include "launcher.h"
+#include <errno.h>
+#include <linux/futex.h>
+#include <signal.h>
+#include <sys/eventfd.h>
+#include <sys/mman.h>
+#include <sys/prctl.h>
+#include <sys/select.h>
+#include <sys/syscall.h>
+#include <sys/wait.h>
+#include <unistd.h>
+
+/* Helpers that stay, and the most at one time. Those above the usual number take one call each. */
+enum { USUAL_HELPERS = 8, MOST_HELPERS = 64 };
+
+struct helper {
+    pid_t process;               /* 0 if there is none */
+    unsigned given, begun, done; /* calls that it was given, that it has begun, and that it has answered */
+    unsigned asked, answered;    /* the numbers of its last request to a keeper, and of the last one with an answer */
+    int result;                  /* of the last request: 0, or -1 if the device is gone */
+    struct request_header request;
+    struct answer_header answer;
+    union notice notice;
+    unsigned char data[MOST_DATA];
+};
+
+static pid_t launcher;                /* the process that gives calls to helpers */
+static struct helper *helpers, *self; /* (`self` only in a helper) */
+static int at_end = -1;               /* where a helper that has nothing to do tells it, if it waits for one */
+static int asks[MOST_DEVICES];        /* where keepers are told that there is a request */
+
+/* What they share besides: the number of requests, and whether the launcher waits for a helper. */
+static struct {
+    unsigned requests, is_awaited;
+} *shared;
+
+static unsigned load(const unsigned *number) { return __atomic_load_n(number, __ATOMIC_SEQ_CST); }
+
+static void store(unsigned *number, unsigned value) {
+    __atomic_store_n(number, value, __ATOMIC_SEQ_CST);
+    syscall(SYS_futex, number, FUTEX_WAKE, 1, NULL, NULL, 0);
+}
+
+/* Waits until a number isn't this one any more. (Where no sandbox ends this process, its parent's end does.) */
+static void await_change(const unsigned *number, unsigned value) {
+    const struct timespec limit = {.tv_sec = 1};
+    while (load(number) == value) {
+        syscall(SYS_futex, number, FUTEX_WAIT, value, has_sandbox ? NULL : &limit, NULL, 0);
+        if (!has_sandbox && getppid() != launcher)
+            _exit(0);
+    }
+}
+
+/* Waits until one of these files, apart from those of -1, can be read, or for some milliseconds, unless they are -1.
+   Returns a bit for each that can. (Unlike `poll`, `select` works whatever limit of open files others give this
+   process.) */
+static unsigned await_files(const int *files, unsigned count, int milliseconds) {
+    struct timeval limit = {milliseconds / 1000, milliseconds % 1000 * 1000};
+    unsigned ready = 0;
+    int most = -1;
+    fd_set set;
+    FD_ZERO(&set);
+    for (unsigned at = 0; at < count; at++)
+        if (files[at] >= 0) {
+            FD_SET(files[at], &set);
+            most = files[at] > most ? files[at] : most;
+        }
+    int found = select(most + 1, &set, NULL, NULL, milliseconds < 0 ? NULL : &limit);
+    if (found < 0 && errno != EINTR)
+        usleep(1000);
+    for (unsigned at = 0; at < count && found > 0; at++)
+        ready |= (unsigned)(files[at] >= 0 && FD_ISSET(files[at], &set)) << at;
+    return ready;
+}
+
+void *share(size_t size) {
+    void *shared = mmap(NULL, size, PROT_READ | PROT_WRITE, MAP_SHARED | MAP_ANONYMOUS | MAP_NORESERVE, -1, 0);
+    if (shared == MAP_FAILED)
+        fail_by_errno("memory can't be shared");
+    return shared;
+}
+
+static void tell(int file) { (void)!write(file, &(uint64_t){1}, sizeof(uint64_t)); }
+static void hear(int file) { (void)!read(file, &(uint64_t){0}, sizeof(uint64_t)); }
+
+/* ---- keepers */
+
+/* Returns the helper whose request to a device came first, or NULL. */
+static struct helper *find_request(const struct device *device) {
+    struct helper *first = NULL;
+    for (struct helper *helper = helpers; helper < helpers + MOST_HELPERS; helper++)
+        if (load(&helper->asked) != helper->answered && device_of(helper->request.controller) == device &&
+            (!first || (int)(helper->asked - first->asked) < 0))
+            first = helper;
+    return first;
+}
+
+/* Carries out the requests of helpers that are for a device, one after another. */
+static void serve(struct device *device) {
+    for (struct helper *helper; (helper = find_request(device));) {
+        helper->result = 0;
+        if (helper->request.kind == KIND_SCAN)
+            scan(device, helper->request.controller, helper->request.length);
+        else
+            helper->result = carry_out(&helper->request, helper->data, &helper->answer);
+        store(&helper->answered, helper->asked);
+    }
+}
+
+/* Begins a process that isn't reached by signals of a terminal's keys or of a process group. */
+static void begin_process(void) {
+    setsid();
+    prctl(PR_SET_PDEATHSIG, SIGKILL);
+    if (getppid() != launcher)
+        _exit(0);
+}
+
+/* (a keeper that is killed may leave half an exchange, so its device is lost with it) */
+static void start_keeper(struct device *device, int is_lost) {
+    pid_t process = fork();
+    if (process != 0) {
+        device->keeper = process;
+        device->is_lost |= process < 0;
+        if (process < 0)
+            serve(device);
+        return;
+    }
+    begin_process();
+    signal(SIGXFSZ, SIG_IGN);
+    if (is_lost)
+        lose_device(device);
+    for (int watcher = watch_nodes(device);;) {
+        const int files[] = {asks[device - devices], device->is_lost ? -1 : device->to_and_from, watcher};
+        serve(device);
+        unsigned ready = await_files(files, 3, -1);
+        if (ready & 1)
+            hear(files[0]);
+        if (ready & 2)
+            lose_device(device);
+        if (ready & 4)
+            repair_files(device, watcher);
+    }
+}
+
+int ask_keeper(const struct request_header *header, struct answer_header *answer) {
+    const struct device *device = device_of(header->controller);
+    unsigned before = self->answered;
+    if (device->is_lost)
+        return -1;
+    self->request = *header;
+    store(&self->asked, __atomic_add_fetch(&shared->requests, 1, __ATOMIC_SEQ_CST));
+    tell(asks[device - devices]);
+    await_change(&self->answered, before);
+    *answer = self->answer;
+    return self->result;
+}
+
+void *own_data(void) { return self->data; }
+
+/* ---- helpers */
+
+/* Answers calls, one after another. */
+__attribute__((noreturn)) static void help(struct helper *helper) {
+    self = helper;
+    begin_process();
+    for (;;) {
+        await_change(&helper->given, helper->done);
+        helper->begun = helper->given;
+        answer_call(&helper->notice);
+        store(&helper->done, helper->given);
+        if (load(&shared->is_awaited))
+            tell(at_end);
+        if (helper - helpers >= USUAL_HELPERS)
+            _exit(0);
+    }
+}
+
+/* Has a new process take the call of a helper. If there can be none, the kernel carries the call out. */
+static void start_helper(struct helper *helper) {
+    pid_t process = fork();
+    if (process == 0)
+        help(helper);
+    helper->process = process > 0 ? process : 0;
+    if (process < 0) {
+        finish_call(&helper->notice, NOT_OURS);
+        helper->done = helper->given;
+    }
+}
+
+/* Kills the helpers whose callers no longer wait. */
+static void drop_helpers(void) {
+    for (struct helper *helper = helpers; helper < helpers + MOST_HELPERS; helper++)
+        if (helper->process > 0 && load(&helper->done) != helper->given && !is_alive(&helper->notice))
+            kill(helper->process, SIGKILL);
+}
+
+/* Returns a helper that has nothing to do, or a place for one, or NULL. */
+static struct helper *find_helper(unsigned most) {
+    struct helper *place = NULL;
+    for (struct helper *helper = helpers; helper < helpers + most; helper++)
+        if (load(&helper->asked) != load(&helper->answered) || load(&helper->done) != helper->given)
+            continue;
+        else if (helper->process > 0 && helper - helpers < USUAL_HELPERS)
+            return helper;
+        else if (helper->process == 0 && !place)
+            place = helper;
+    return place;
+}
+
+/* Gives a call that waits to a helper, unless all are at work. If they are so for long, others help, and if there are
+   too many of these, the kernel carries the call out. Returns whether this was done. */
+static int give_call(int is_late) {
+    static union notice spare;
+    struct helper *helper = find_helper(USUAL_HELPERS);
+    __atomic_store_n(&shared->is_awaited, !helper, __ATOMIC_SEQ_CST);
+    if (!helper)
+        helper = find_helper(is_late ? MOST_HELPERS : USUAL_HELPERS);
+    if (!helper && !is_late)
+        return 0;
+    if (!receive_call(helper ? &helper->notice : &spare))
+        return 1;
+    if (!helper) {
+        finish_call(&spare, NOT_OURS);
+        drop_helpers();
+    } else if (helper->process > 0)
+        store(&helper->given, helper->given + 1);
+    else {
+        helper->given++;
+        start_helper(helper);
+    }
+    return 1;
+}
+
+unsigned await_call(int signals) {
+    enum { INTERVAL = 50, PATIENCE = 5 };
+    static int is_full;
+    const int files[] = {signals, is_full ? at_end : calls};
+    unsigned ready = await_files(files, 2, is_full ? PATIENCE : INTERVAL);
+    if (is_full && ready & 2)
+        hear(at_end);
+    if (is_full || ready & 2)
+        is_full = !give_call(is_full && ready == 0);
+    return ready;
+}
+
+void replace(pid_t process, int how) {
+    int is_stopped = WIFSTOPPED(how);
+    for (struct helper *helper = helpers; helper < helpers + MOST_HELPERS; helper++)
+        if (helper->process == process && is_stopped)
+            kill(process, SIGCONT);
+        else if (helper->process == process) {
+            helper->process = 0;
+            if (helper->done != helper->given && helper->begun != helper->given)
+                start_helper(helper);
+            else if (helper->done != helper->given) {
+                finish_call(&helper->notice, -EIO);
+                helper->done = helper->given;
+            }
+        }
+    for (struct device *device = devices; device < devices + device_count; device++)
+        if (device->keeper == process && is_stopped)
+            kill(process, SIGCONT);
+        else if (device->keeper == process) {
+            if (device->process > 0)
+                kill(device->process, SIGKILL);
+            start_keeper(device, 1);
+        }
+}
+
+void begin_helpers(void) {
+    launcher = getpid();
+    helpers = share(MOST_HELPERS * sizeof *helpers);
+    shared = share(sizeof *shared);
+    at_end = eventfd(0, EFD_CLOEXEC | EFD_NONBLOCK);
+    for (unsigned at = 0; at < device_count; at++)
+        asks[at] = eventfd(0, EFD_CLOEXEC | EFD_NONBLOCK);
+    for (unsigned at = 0; at < device_count; at++)
+        start_keeper(devices + at, 0);
+    start_helper(helpers);
+}
+
+void end_helpers(void) {
+    for (struct helper *helper = helpers; helper && helper < helpers + MOST_HELPERS; helper++)
+        if (helper->process > 0)
+            kill(helper->process, SIGKILL);
+    for (struct device *device = devices; device < devices + device_count; device++)
+        if (device->keeper > 0)
+            kill(device->keeper, SIGKILL);
+}
