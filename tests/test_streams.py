@@ -77,7 +77,7 @@ KINDS = {
     'secret memory': (lambda folder: [LIBC.syscall(MEMFD_SECRET, 0)], KERNEL)}
 
 # What process 1 has open besides the streams, and whether it must be in one of the sandbox's own mounts.
-KEPT = {r'socket:\[\d+\]': False, r'pipe:\[\d+\]': False, 'anon_inode:.*(inotify|signalfd|seccomp notify).*': False,
+KEPT = {r'socket:\[\d+\]': False, r'pipe:\[\d+\]': False, 'anon_inode:.*(eventfd|signalfd|seccomp notify).*': False,
         r'/proc/\d+/status': False, '/sys(/.*)?': True}
 
 
@@ -112,7 +112,7 @@ class StreamCase(ModelCase):
     def process_one(self):
         """Returns the folder in /proc of process 1."""
         found = [pathlib.Path(f'/proc/{number}') for number in processes_of(self.subsystem)]
-        inside = [path for path in found if (path / 'cmdline').read_bytes().startswith(b'/sys/fs/nvme-model/')]
+        inside = [path for path in found if re.search(r'(?m)^NSpid:.*\t1$', (path / 'status').read_text())]
         self.assertEqual(len(inside), 1, found)
         return inside[0]
 
