@@ -63,13 +63,14 @@ void start_device(char *const *given, int file, const char *name, const sigset_t
     *device = (struct device){.to_and_from = channel[0], .said = said[0]};
     if (device_count > 1)
         device->first = device[-1].first + device[-1].count;
-    device->process = fork();
-    if (device->process < 0)
+    const pid_t process = fork();
+    if (process < 0)
         fail_by_errno("fork");
-    if (device->process == 0) {
+    if (process == 0) {
         sigprocmask(SIG_SETMASK, blocked, NULL);
         run_device(words, file, channel[1], said[1]);
     }
+    device->process = process;
     close(channel[1]);
     close(said[1]);
     greet_device(device, name);

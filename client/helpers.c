@@ -104,11 +104,12 @@ static struct helper *find_request(const struct device *device) {
 /* Carries out the requests of helpers that are for a device, one after another. */
 static void serve(struct device *device) {
     for (struct helper *helper; (helper = find_request(device));) {
+        struct request_header request = helper->request;
         helper->result = 0;
-        if (helper->request.kind == KIND_SCAN)
-            scan(device, helper->request.controller, helper->request.length);
+        if (request.kind == KIND_SCAN)
+            scan(device, request.controller, request.length);
         else
-            helper->result = carry_out(&helper->request, helper->data, &helper->answer);
+            helper->result = carry_out(&request, helper->data, &helper->answer);
         store(&helper->answered, helper->asked);
     }
 }

@@ -64,7 +64,8 @@ __attribute__((noreturn)) static void fail_by_device(struct device *device, cons
     char text[2048], *line = text;
     size_t length = 0;
     ssize_t count;
-    kill(device->process, SIGKILL);
+    if (device->process > 0)
+        kill(device->process, SIGKILL);
     fcntl(device->said, F_SETFL, 0);
     while ((count = read(device->said, text + length, sizeof text - 1 - length)) > 0)
         length += (size_t)count;
