@@ -13,6 +13,7 @@ import sys
 from tests.support import DEMO, TOP, Case, process_folder, program, run, until
 
 CLIENT = TOP / 'client'
+PROGRAMS = TOP / 'tests/programs'
 PARTS = {'bin/nvme-model': ('launcher', 'relay', 'nodes', 'sysfs', 'sandbox', 'calls', 'caller', 'filter', 'helpers',
                             'io', 'device', 'inherited'),
          'lib/nvme-model/library.so': ('library',),
@@ -74,11 +75,11 @@ def installed():
     return place / 'bin/nvme-model'
 
 
-def static_program(text):
-    """Compiles these lines of C to a program that is linked statically."""
-    made = process_folder() / f'static{abs(hash(text))}'
+def static_program(name, *options):
+    """Compiles a program of tests/programs that is linked statically."""
+    made = process_folder() / '-'.join((name, *options))
     if not made.exists():
-        subprocess.run(['cc', *WARNINGS, '-static', '-o', made, '-x', 'c', '-'], input=text.encode(), check=True)
+        subprocess.run(['cc', *WARNINGS, '-static', *options, '-o', made, PROGRAMS / f'{name}.c'], check=True)
     return made
 
 

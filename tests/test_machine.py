@@ -82,10 +82,6 @@ TRIES = {
     'a user without rights': ('unshare -Ur true; cat /proc/self/status | grep NoNewPrivs', b'NoNewPrivs:\t1\n'),
     'signals to the launcher': ('for n in KILL STOP SEGV ALRM; do kill -$n 1; done; test -c /dev/nvme0; echo $?', b'0\n')}
 
-# Takes an open file from another process (pidfd_getfd).
-TAKES = ('#include <errno.h>\n#include <stdio.h>\n#include <unistd.h>\n#include <sys/syscall.h>\n'
-         'int main(void) { int taken = (int)syscall(438, -1, 0, 0); return printf("%d %d\\n", taken, errno) < 0; }\n')
-
 
 class Machine:
     """A machine with nodes: `devices`, `files` or `none`."""
@@ -156,7 +152,7 @@ class MachineCase(ModelCase):
         self.folder.chmod(0o1777)
         for script in 'attack.sh', 'caller.sh':
             shutil.copy(TOP / 'tests' / script, self.folder)
-        shutil.copy(static_program(TAKES), self.folder / 'takes')
+        shutil.copy(static_program('takes'), self.folder / 'takes')
         (self.folder / 'link').symlink_to('/dev/nvme0n1')
         (self.folder / 'chain').symlink_to('/dev/disk/by-id/nvme-machine')
 

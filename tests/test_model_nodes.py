@@ -9,100 +9,13 @@ import sys
 import textwrap
 import unittest
 
-from tests.modelled import WARNINGS, ModelCase, installed, static_program
+from tests.modelled import PROGRAMS, WARNINGS, ModelCase, installed, static_program
 from tests.support import TOP, run
 
-# Run by the model's command: calls that write to a node, with their expected results.
-CALLS = """
-def fails(number, call, *words):
-    try:
-        print(call, words, 'gave', call(*words))
-    except OSError as error:
-        if error.errno != number:
-            print(call, words, error)
-f = os.open('/dev/nvme0n3', os.O_RDWR | os.O_TRUNC | os.O_CREAT)
-a = os.open('/dev/nvme0n3', os.O_RDWR | os.O_APPEND)
-x = os.open('/etc/passwd', os.O_RDONLY)
-fails(errno.ENOSPC, os.pwrite, f, b'x', 4608)
-fails(errno.ENOSPC, os.pwritev, f, [b'x'], 4608)
-fails(errno.ENOSPC, os.pwritev, f, [b'x'], 4608, os.RWF_DSYNC)
-fails(errno.ENOSPC, os.write, a, b'x')
-fails(errno.EINVAL, os.ftruncate, f, 5)
-fails(errno.EINVAL, os.truncate, '/dev/nvme0n3', 9999)
-fails(errno.EEXIST, os.open, '/dev/nvme0n3', os.O_RDWR | os.O_CREAT | os.O_EXCL)
-fails(errno.ENODEV, os.posix_fallocate, f, 0, 9999)
-fails(errno.EXDEV, os.copy_file_range, x, f, 50, 0, 4600)
-fails(errno.EINVAL, os.sendfile, f, x, 0, 9)
-m = mmap.mmap(f, 4096)
-m[:5] = b'mmaps'
-m.flush()
-os.fsync(f)
-print(os.pread(f, 5, 0), os.writev(f, [b'', b'ab', b'c']), os.pread(f, 5, 0), os.lseek(f, 0, 2))
-os.lseek(f, 4600, 0)
-print(os.fstat(f).st_size, os.writev(f, [b'abcd'] * 9) in (4, 8))
-r, w = os.pipe()
-os.write(w, b's' * 99)
-os.lseek(f, 4600, 0)
-libc = ctypes.CDLL(None, use_errno=True)
-print(libc.splice(r, None, f, None, 99, 0) == 8 or ctypes.get_errno() in (errno.EINVAL, errno.ENOSPC))
-print(os.lseek(f, 0, 2))
-"""
-
-# Run by the model's command: the numbers in /sys are those of the nodes.
-NUMBERS = """
-names = set()
-for folder in glob.glob('/sys/dev/*/409*') + glob.glob('/sys/class/nvme*/n*') + glob.glob('/sys/block/nvme*'):
-    if 'subsys' in folder:
-        continue
-    number = open(folder + '/dev').read().strip()
-    name, = [line[8:-1] for line in open(folder + '/uevent') if line.startswith('DEVNAME=')]
-    about, kind = os.stat('/dev/' + name), 'block' if name.startswith('nvme') and 'n' in name[4:] else 'char'
-    assert number == f'{os.major(about.st_rdev)}:{os.minor(about.st_rdev)}', folder
-    assert os.path.realpath(folder) == os.path.realpath(f'/sys/dev/{kind}/{number}'), folder
-    assert os.path.basename(os.path.realpath(folder)) == name, folder
-    names.add(name)
-print(*sorted(names))
-"""
-
-
-# Sends I/O commands, and prints for each its status or the name of its error. (A block has 512 bytes.)
-SENT = '''
-import fcntl, struct
-def sent(opcode, first=0, count=1, data=b"", path="/dev/nvme0n1", nsid=1, request=0xc0484e43, flags=0, cdw11=0):
-    room = ctypes.create_string_buffer(data, max(len(data), 1))
-    fields = [opcode, flags, 0, nsid, 0, 0, 0, ctypes.addressof(room), 0, len(data), first, cdw11, count - 1, 0, 0, 0, 0, 0]
-    if request == 0xc0504e48:
-        fields += [0]
-    command = bytearray(struct.pack("<BBHIIIQQIIIIIIIIII" + "Q" * (len(fields) - 18), *fields))
-    if request == 0x40304e42:
-        command = bytearray(struct.pack("<BBHHHQQQIIHH", opcode, flags, 0, count - 1, 0, 0, fields[7], first, 0, 0, 0, 0))
-    file = os.open(path, os.O_RDONLY)
-    try:
-        said = f"{fcntl.ioctl(file, request, command):x}"
-    except OSError as error:
-        said = errno.errorcode[error.errno]
-    os.close(file)
-    print(said, room.raw[:3].decode() if opcode == 2 and said == "0" and data else "", end=";")
-    return room.raw
-'''
-IO = SENT + '''
-block, zeros = b"abc" + bytes(509), bytes(512)
-sent(1, 5, data=block); sent(2, 5, data=zeros); sent(2, 5, data=zeros, path="/dev/ng0n1")
-sent(2, 5, data=zeros, request=0xc0504e48); sent(2, 5, data=zeros, request=0x40304e42)
-assert os.pread(os.open("/dev/nvme0n1", os.O_RDONLY), 3, 5 * 512) == b"abc"
-sent(5, 5, data=block); sent(5, 6, data=block); sent(0); sent(0x0c, 2047); sent(0x0c, 2047, 2)
-sent(1, 2048, data=block); sent(1, 2047, 2, bytes(1024)); sent(1, 0, 2, data=zeros); sent(2, 0, 4096, bytes(1 << 21))
-sent(8, 5); sent(5, 5, data=zeros); sent(1, 5, data=block); sent(9, 0, data=struct.pack("<IIQ", 0, 1, 5), cdw11=4)
-sent(5, 5, data=zeros); sent(9, 0, data=struct.pack("<IIQ", 0, 2, 2047), cdw11=4); sent(9, 1, data=zeros[:16])
-sent(0x7f); sent(2, data=zeros, nsid=3); sent(2, data=zeros, flags=1); sent(2, data=zeros, path="/dev/nvme0")
-sent(9, request=0x40304e42); os.system("nvme detach-ns /dev/nvme0 -n 1 -c 0 > /dev/null")
-'''
+# What programs/io_commands.py prints.
 IO_ANSWERS = (b'0 ;0 abc;0 abc;0 abc;0 abc;0 ;4285 ;0 ;0 ;4080 ;4080 ;4080 ;4002 ;4002 ;0 ;0 ;0 ;0 ;0 ;4080 ;4002 ;4001 ;EINVAL ;'
               b'EINVAL ;ENOTTY ;EINVAL ;')
-IO_TO_THE_LIMIT = SENT + '''
-for first in 0, 512, 1024:
-    sent(1, first, 512, bytes(range(256)) * 1024)
-'''
+
 
 class Nodes(ModelCase):
     def test_listed(self):
@@ -264,7 +177,7 @@ class Nodes(ModelCase):
         self.assertEqual(ended.out.splitlines(), [b'32784', b'16384', b'1024', b'%d' % (16384 * 17), b'16384'])
 
     def test_sys_agrees_with_nodes(self):
-        self.ends(self.python(NUMBERS), 0, b'ng0n1 ng0n3 nvme0 nvme0n1 nvme0n3 nvme1\n', b'')
+        self.ends(self.model(sys.executable, PROGRAMS / 'numbers.py'), 0, b'ng0n1 ng0n3 nvme0 nvme0n1 nvme0n3 nvme1\n', b'')
 
     @unittest.skipUnless(os.geteuid() == 0, 'root alone can become another user')
     def test_other_users_see_them(self):
@@ -329,32 +242,24 @@ class Data(ModelCase):
         self.ends(self.shell(script), 0, b'4608\n1\n2\n', b'')
 
     def test_calls(self):
-        ended = self.python(CALLS)
+        ended = self.model(sys.executable, PROGRAMS / 'writes.py')
         self.ends(ended, 0, b"b'mmaps' 2 b'abaps' 4608\n0 True\nTrue\n4608\n", b'')
 
     def test_static_programs(self):
-        writes = static_program('#include <errno.h>\n#include <fcntl.h>\n#include <stdio.h>\n#include <unistd.h>\n'
-                                'int main(int n, char **a) { int f = open(a[n - 1], O_RDWR | O_TRUNC); '
-                                'printf("%d ", f >= 0 && ftruncate(f, 9) < 0 && errno == EINVAL); '
-                                'printf("%d\\n", truncate(a[1], 9) < 0 && errno == EINVAL); '
-                                'return pwrite(f, "s", 1, 1) < 0 || pwrite(f, "s", 1, 9999) < 0; }\n')
+        writes = static_program('writes')
         script = ('echo abc > /dev/nvme0n3; "$0" /dev/nvme0n3; echo $?; sleep 0.3; head -c 3 /dev/nvme0n3; echo; '
                   'wc -c < /dev/nvme0n3; busybox stat -c "%F %s" /dev/nvme0n3')
         self.ends(self.model('sh', '-c', script, writes), 0, b'1 1\n0\nasc\n4608\nregular file 4608\n', b'')
         # the ioctls of a static program are answered too
-        asks = static_program('#include <fcntl.h>\n#include <stdio.h>\n#include <sys/ioctl.h>\n'
-                              'int main(int n, char **a) { int f = open(a[n - 1], O_RDWR); long long size = 0; '
-                              'int id = ioctl(f, 0x4e40), told = ioctl(f, 0x80081272, &size); '
-                              'printf("%d %d %lld\\n", id, told, size); '
-                              'return 0; }\n')
+        asks = static_program('asks')
         self.ends(self.model(asks, '/dev/nvme0n3'), 0, b'3 0 4608\n', b'')
         self.ends(self.model(asks, '/dev/nvme0'), 0, b'-1 -1 0\n', b'')
         self.ends(self.model('env', '-i', asks, '/dev/nvme0n3'), 0, b'3 0 4608\n', b'')
         self.ends(self.shell('strace -o /dev/null -f "$1" /dev/nvme0n3', asks), 0, b'3 0 4608\n', b'')
 
     def test_io_commands(self):
-        self.ends(self.python(IO), 0, IO_ANSWERS, b'')
-        ended = self.python(IO_TO_THE_LIMIT, options=['--data-limit=600K'])
+        self.ends(self.model(sys.executable, PROGRAMS / 'io_commands.py'), 0, IO_ANSWERS, b'')
+        ended = self.model(sys.executable, PROGRAMS / 'io_commands.py', 'fill', options=['--data-limit=600K'])
         self.ends(ended, 0, b'0 ;0 ;4081 ;', b'')
 
     def test_limit(self):
@@ -408,45 +313,16 @@ class Library(ModelCase):
 
     def test_exec_and_vfork(self):
         program = self.folder / 'runs'
-        text = ('#define _GNU_SOURCE\n#include <fcntl.h>\n#include <sys/wait.h>\n#include <unistd.h>\n'
-                'int main(void) {\n'
-                'char *none[] = {0}, *words[] = {"test", "-b", "/dev/nvme0n1", 0}, *file = "/usr/bin/test";\n'
-                'for (int way = 0, how = 0; way < 8; way++) {\nif (vfork() == 0) {\nswitch (way) {\n'
-                'case 0: execve(file, words, none);\ncase 1: execle(file, "test", "-b", words[2], NULL, none);\n'
-                'case 2: execvpe("test", words, none);\ncase 3: execv(file, words);\ncase 4: execvp("test", words);\n'
-                'case 5: fexecve(open(file, O_RDONLY), words, none);\n'
-                'case 6: execveat(AT_FDCWD, file, words, none, 0);\n'
-                'default: execlp("test", "test", "-b", words[2], NULL);\n}\n_exit(9);\n}\nwait(&how);\n'
-                'if (how)\nreturn way + 1;\n}\nreturn 0; }\n')
-        subprocess.run(['cc', *WARNINGS, '-Wno-implicit-fallthrough', '-o', program, '-x', 'c', '-'],
-                       input=text.encode(), check=True)
+        subprocess.run(['cc', *WARNINGS, '-o', program, PROGRAMS / 'runs.c'], check=True)
         self.ends(self.model(program), 0, b'', b'')
         self.ends(self.shell('unset LD_PRELOAD; exec env -i "$1"', program), 0, b'', b'')
 
     def test_other_calls(self):
         # descriptors without a path, a stream that is opened anew, no environment, and the address sanitizer
-        text = ('''#define _GNU_SOURCE
-#include <fcntl.h>
-#include <stdio.h>
-#include <sys/stat.h>
-#include <unistd.h>
-int main(int count, char **words) {
-    struct stat about;
-    struct statx more;
-    char text[5] = "", *no = count > 9 ? words[9] : NULL, *test[] = {"/usr/bin/test", "-b", "/dev/nvme0n3", NULL};
-    int file = open("/dev/nvme0n3", O_RDWR);
-    printf("%d ", fstatat(file, no, &about, AT_EMPTY_PATH) == 0 && S_ISBLK(about.st_mode));
-    printf("%d ", statx(file, no, AT_EMPTY_PATH, STATX_TYPE, &more) == 0 && S_ISBLK(more.stx_mode));
-    int is_done = pwrite(file, "data", 4, 100) == 4 && freopen("/dev/nvme0n3", "w", stdin) != NULL;
-    printf("%d %d %s\\n", is_done, (int)pread(file, text, 4, 100), text);
-    fflush(stdout);
-    return execve(test[0], test, (char **)no);
-}
-''').replace('\\\\n', '\\n')
         for options in (), ('-fsanitize=address',):
             with self.subTest(options):
                 made = self.folder / 'calls'
-                subprocess.run(['cc', '-w', *options, '-o', made, '-x', 'c', '-'], input=text.encode(), check=True)
+                subprocess.run(['cc', '-w', *options, '-o', made, PROGRAMS / 'other_calls.c'], check=True)
                 self.ends(self.model(made), 0, b'1 1 1 4 data\n', b'')
 
     def test_preloaded_already(self):

@@ -1,0 +1,40 @@
+"""Makes calls that write to a node, and prints what isn't as expected."""
+
+import ctypes
+import errno
+import mmap
+import os
+
+
+def fails(number, call, *words):
+    try:
+        print(call, words, 'gave', call(*words))
+    except OSError as error:
+        if error.errno != number:
+            print(call, words, error)
+f = os.open('/dev/nvme0n3', os.O_RDWR | os.O_TRUNC | os.O_CREAT)
+a = os.open('/dev/nvme0n3', os.O_RDWR | os.O_APPEND)
+x = os.open('/etc/passwd', os.O_RDONLY)
+fails(errno.ENOSPC, os.pwrite, f, b'x', 4608)
+fails(errno.ENOSPC, os.pwritev, f, [b'x'], 4608)
+fails(errno.ENOSPC, os.pwritev, f, [b'x'], 4608, os.RWF_DSYNC)
+fails(errno.ENOSPC, os.write, a, b'x')
+fails(errno.EINVAL, os.ftruncate, f, 5)
+fails(errno.EINVAL, os.truncate, '/dev/nvme0n3', 9999)
+fails(errno.EEXIST, os.open, '/dev/nvme0n3', os.O_RDWR | os.O_CREAT | os.O_EXCL)
+fails(errno.ENODEV, os.posix_fallocate, f, 0, 9999)
+fails(errno.EXDEV, os.copy_file_range, x, f, 50, 0, 4600)
+fails(errno.EINVAL, os.sendfile, f, x, 0, 9)
+m = mmap.mmap(f, 4096)
+m[:5] = b'mmaps'
+m.flush()
+os.fsync(f)
+print(os.pread(f, 5, 0), os.writev(f, [b'', b'ab', b'c']), os.pread(f, 5, 0), os.lseek(f, 0, 2))
+os.lseek(f, 4600, 0)
+print(os.fstat(f).st_size, os.writev(f, [b'abcd'] * 9) in (4, 8))
+r, w = os.pipe()
+os.write(w, b's' * 99)
+os.lseek(f, 4600, 0)
+libc = ctypes.CDLL(None, use_errno=True)
+print(libc.splice(r, None, f, None, 99, 0) == 8 or ctypes.get_errno() in (errno.EINVAL, errno.ENOSPC))
+print(os.lseek(f, 0, 2))
