@@ -1,0 +1,221 @@
+"""Tests which calls the launcher answers in a sandbox, and by whose rights: other spellings of paths, openat2, programs of
+32 bits, identities, and signals to process groups, each as root and as another user."""
+
+import os
+import pathlib
+import shutil
+import subprocess
+import sys
+import time
+import unittest
+
+from tests.modelled import PROGRAMS, WARNINGS, ModelCase, process_folder, static_program, works
+from tests.support import environment, run
+
+IS_ROOT = os.geteuid() == 0
+NOBODY = 'setpriv', '--reuid=65534', '--regid=65534', '--clear-groups'
+USERS = [(), NOBODY] if IS_ROOT else [()]
+# Fills a node of 4,608 bytes, and tells whether it is still as long and has the same bytes.
+FILL = 'yes | head -c 4608 > /dev/nvme0n3; '
+LOOK = 'echo $(wc -c < /dev/nvme0n3) $(yes | head -c 4608 | cmp - /dev/nvme0n3 && echo same)\n'
+
+
+@unittest.skipUnless(shutil.which('setpriv'), 'setpriv is not installed')
+class CallCase(ModelCase):
+    def setUp(self):
+        super().setUp()
+        self.folder.chmod(0o777)
+
+    def as_users(self, script, *words):
+        """Runs a shell script over the demonstration file as each user, and as another user inside of root's sandbox.
+        Returns how each run ended."""
+        ways = [(user, ()) for user in USERS] + [((), NOBODY)] * IS_ROOT
+        return [run(*user, *self.command(*inside, 'sh', '-c', script, 'sh', *words), limit=120) for user, inside in ways]
+
+    def program(self, name):
+        """Returns a program of tests/programs in a place that every user can read."""
+        made = process_folder() / name
+        shutil.copy(PROGRAMS / name, made)
+        return made
+
+
+class Paths(CallCase):
+    def test_own_links(self):
+        # whatever leads to an open file of one's own, a node isn't truncated by it
+        links = {'link': '/proc/self/fd/7', 'other': '/dev/fd/7', 'third': 'link', 'proc': '/proc', 'self': '/proc/self'}
+        for name, target in links.items():
+            (self.folder / name).symlink_to(target)
+        paths = ('/proc/self/fd/7', '/proc//self/fd/7', '/proc/./self/fd/7', '//proc/self//fd/7', '/proc/self/fd/../fd/7',
+                 '/proc/thread-self/fd/7', '/proc/self/task/../fd/7', '/proc/../proc/self/fd/7', '/dev/fd/7', '/dev//fd/7',
+                 '/dev/../dev/fd/7', '"$1/link"', '"$1/other"', '"$1/third"', '"$1/proc/self/fd/7"', '"$1/self/fd/7"',
+                 '/proc/self/root/proc/self/fd/7', '/proc/self/cwd/proc/self/fd/7', '/proc/$$/fd/7')
+        script = 'cd /; ' + FILL + 'exec 7<> /dev/nvme0n3; for p in %s; do : > "$p"; done; ' % ' '.join(paths)
+        script += ('cd /proc; : > self/fd/7; : > ./self/fd/7; cd self; : > fd/7; cd fd; : > 7; cd /proc/self/task; : > ../fd/7; '
+                   'cd "$1"; : > link; : > ./third; cd /; ') + LOOK
+        for user in USERS:
+            with self.subTest(user=user):
+                self.ends(run(*user, *self.command('sh', '-c', script, 'sh', self.folder)), 0, b'4608 same\n', b'')
+
+    def test_own_links_of_users(self):
+        # (another user in root's sandbox has a node open that it couldn't open itself)
+        script = FILL + 'chmod 666 /dev/nvme0n3; exec 7<> /dev/nvme0n3; exec "$@"'
+        inner = 'cd /proc; for p in /proc/self/fd/7 self/fd/7 /dev/fd/7 /dev/nvme0n3; do : > "$p"; done; ' + LOOK
+        for user in [NOBODY] * IS_ROOT + [()]:
+            self.ends(self.shell(script, *user, 'sh', '-c', inner), 0, b'4608 same\n', b'')
+
+    def test_other_links(self):
+        # links in circles, long names and missing ones give what Linux gives, and streams are written as ever
+        (self.folder / 'circle').symlink_to('circle')
+        (self.folder / 'up').symlink_to('/proc/self/fd/7/..')
+        script = ('cd "$1"; { for p in circle up none/x $(printf %0300d 1); do (: > $p); done; echo one > /dev/stdout; '
+                  'echo two > /proc/self/fd/1; echo three >> /dev/stderr; } 2>&1 | sed "s/.*: //"; : > made-$$ && rm made-$$')
+        for ended in self.as_users(script, self.folder):
+            self.ends(ended, 0, b'Too many levels of symbolic links\nDirectory nonexistent\nDirectory nonexistent\n'
+                      b'File name too long\none\ntwo\nthree\n', b'')
+
+    def test_openat2(self):
+        self.folder.chmod(0o777)
+        for user in USERS:
+            place = self.folder / f'place{len(user)}'
+            script = FILL + 'python3 "$1" "$2"; ' + LOOK
+            command = self.command('sh', '-c', script, 'sh', self.program('openat2.py'), place)
+            self.ends(run(*user, *command), 0, b'215 0 4608\n4608 same\n', b'')
+
+    def test_old_programs(self):
+        # (-1 is the ioctl by which a terminal would get a character)
+        wanted = '0 0 0 0 0 -22 -22 -22 -22 -19 -13 -13 -13 -1 \n4608 same\n0\n'
+        for bits in '32', '64':
+            made = process_folder() / f'old{bits}'
+            ended = run('gcc', f'-m{bits}', *WARNINGS, '-nostdlib', '-static', '-fno-pic', '-no-pie', '-fno-stack-protector',
+                        '-o', made, PROGRAMS / 'old_calls.c')
+            if ended.status != 0 or run(made).status != 0:
+                self.skipTest(f'programs of {bits} bits can make no call of 32 bits here')
+            script = FILL + '"$1" < /dev/nvme0n3; echo; ' + LOOK + 'cat /sys/block/nvme0n1/ro'
+            for user in USERS:
+                with self.subTest(bits=bits, user=user):
+                    ended = run(*user, *self.command('sh', '-c', script, 'sh', made))
+                    self.ends(ended, 0, wanted.encode(), b'')
+
+    def test_files_of_sys(self):
+        # numbers that no controller has, in folders that anybody can make
+        numbers = '4294967295 4294967296 4294967297 256 2 99999999999999999999 -1 00 0x0 +0 "" 0n1 1/../nvme4294967295'
+        script = ('cd /sys/devices; for n in %s; do mkdir -p "a/b/nvme/nvme$n"; for f in rescan_controller reset_controller; do '
+                  ': > "a/b/nvme/nvme$n/$f"; echo 1 > "a/b/nvme/nvme$n/$f"; done; done; '
+                  'echo text > a/own; echo > a/own; wc -c < a/own; test -c /dev/nvme0 && nvme list-ns /dev/nvme1; echo $?' % numbers)
+        for user in USERS:
+            ended = run(*user, *self.command('sh', '-c', script))
+            self.ends(ended, 0, b'1\n0\n', b'')
+
+
+class Identities(CallCase):
+    @unittest.skipUnless(IS_ROOT and works('unshare', '-U', 'true'), 'root alone can map several users')
+    def test_groups_without_a_number(self):
+        # a user namespace in which few users and groups have numbers; the others can't be taken by the launcher
+        begin = 'until test -e "$1"; do sleep 0.02; done; shift; exec "$@"'
+        for groups, inside in (('--groups=5', '--keep-groups'), ('--groups=5,12,65534', '--keep-groups'),
+                               ('--clear-groups', '--clear-groups')):
+            for user in ('--reuid=1000', '--regid=0'), ('--reuid=1000', '--regid=7'), ('--regid=7',):
+                with self.subTest(groups=groups, user=user):
+                    go, file = self.folder / 'go', self.folder / 'file'
+                    file.write_bytes(b'')
+                    file.chmod(0o666)
+                    script = 'echo x > "$1"; echo x >> "$1"; wc -l < "$1"; (: > /sys/block/nvme0n1/ro) 2>&1 | tail -c 18; echo end'
+                    inner = self.command('setpriv', *user, inside, 'sh', '-c', script, 'sh', file)
+                    process = subprocess.Popen(['setpriv', groups, 'unshare', '-U', 'sh', '-c', begin, 'sh', go, *inner],
+                                               stdout=subprocess.PIPE, stderr=subprocess.PIPE, env=environment())
+                    time.sleep(0.3)
+                    number = pathlib.Path(f'/proc/{process.pid}')
+                    (number / 'uid_map').write_text('0 0 2000\n')
+                    (number / 'gid_map').write_text('0 0 1\n7 7 1\n')
+                    go.write_bytes(b'')
+                    out, err = process.communicate(timeout=60)
+                    go.unlink()
+                    self.assertEqual((process.returncode, out), (0, b'2\nPermission denied\nend\n'), err)
+
+    @unittest.skipUnless(IS_ROOT, 'root alone can become another user')
+    def test_signals_of_users(self):
+        # a user whose calls are answered can't signal the launcher, by which root's command would get the signal
+        script = ('trap "echo signalled" TERM; setpriv --reuid=65534 --regid=65534 --clear-groups python3 -c "$1" "$2"; echo end')
+        tries = ('import os, signal, sys, threading, time\n'
+                 'end, got = time.monotonic() + 2, 0\n'
+                 'def call():\n'
+                 '    while time.monotonic() < end:\n'
+                 '        os.close(os.open(sys.argv[1], os.O_WRONLY))\n'
+                 'threading.Thread(target=call).start()\n'
+                 'while time.monotonic() < end:\n'
+                 '    try:\n'
+                 '        os.kill(1, signal.SIGTERM)\n'
+                 '        got += 1\n'
+                 '    except PermissionError:\n'
+                 '        pass\n'
+                 'print(got)\n')
+        file = self.file('file', b'')
+        file.chmod(0o666)
+        self.ends(self.shell(script, tries, file), 0, b'0\nend\n', b'')
+
+    @unittest.skipUnless(IS_ROOT, 'root alone can become another user')
+    def test_many_users(self):
+        # each call is answered by its own user's rights, however they mix
+        script = ('for n in 1000 1001 1002 0; do (i=0; while test $i -lt 60; do setpriv --reuid=$n --regid=$n --clear-groups sh -c '
+                  '"echo x >> \\"\\$1/by-$n\\"; (: > \\"\\$1/by-1000\\") 2> /dev/null && echo opened-$n" sh "$1"; i=$((i + 20)); done) & '
+                  'done; wait')
+        for number in 1000, 1001, 1002, 0:
+            file = self.file(f'by-{number}', b'')
+            os.chown(file, number, number)
+            file.chmod(0o600)
+        ended = self.shell(script, self.folder)
+        self.assertEqual(set(ended.out.split()), {b'opened-1000', b'opened-0'}, ended)
+        self.assertEqual([(self.folder / f'by-{number}').read_bytes() for number in (1001, 1002)], [b'x\n' * 3] * 2)
+
+
+class Groups(CallCase):
+    def test_signals_to_the_group(self):
+        # they reach the processes inside, but no process of the caller's group outside
+        for number, trap in ('USR1', 'USR1'), ('0', 'USR1'), ('HUP', 'HUP'):
+            inside = (f'trap "echo inside" {trap}; sh -c \'trap "echo child" {trap}; sleep 0.5; :\' & sleep 0.2; '
+                      f'kill -{number} 0; wait; sleep 0.2; echo end')
+            outside = f'trap "echo outside" USR1 HUP TERM; "$@"; sleep 0.2'
+            for user in USERS:
+                with self.subTest(number, user=user):
+                    ended = run('setsid', '-w', 'sh', '-c', outside, 'sh', *user, *self.command('sh', '-c', inside))
+                    wanted = b'end\n' if number == '0' else b'child\nend\ninside\n'
+                    self.assertEqual((ended.status, sorted(ended.out.split())), (0, sorted(wanted.split())), ended)
+
+    def test_ends_with_the_group(self):
+        outside = 'trap "echo outside" TERM KILL; "$@"; echo $?'
+        for signal, status in ('TERM', b'143\n'), ('KILL', b'137\n'):
+            for user in USERS:
+                inside = f'sleep 100 & kill -{signal} 0; sleep 100'
+                ended = run('setsid', '-w', 'sh', '-c', outside, 'sh', *user, *self.command('sh', '-c', inside), limit=60)
+                self.ends(ended, 0, status)
+
+    def test_other_ways(self):
+        # a group that began inside is the kernel's; one that has no number inside can't be named; a descriptor of a process
+        # stands for no group
+        calls = ('import ctypes, errno, os, signal\n'
+                 'call = ctypes.CDLL(None, use_errno=True).syscall\n'
+                 'def told(result):\n'
+                 '    print(errno.errorcode[ctypes.get_errno()] if result < 0 else result)\n'
+                 'told(call(424, os.pidfd_open(os.getpid()), 0, None, 4))\n'
+                 'told(call(424, os.pidfd_open(os.getpid()), 0, None, 0))\n'
+                 'told(call(62, 0, 99))\n'
+                 'told(call(62, 0, -1))\n'
+                 'told(call(62, 0, 0))\n'
+                 'os.setpgid(0, 0)\n'
+                 'told(call(62, 0, 0))\n'
+                 'told(call(62, -os.getpgrp(), 0))\n')
+        for user in USERS:
+            ended = run(*user, *self.command('python3', '-c', calls))
+            self.ends(ended, 0, b'EINVAL\n0\nEINVAL\nEINVAL\n0\n0\n0\n', b'')
+
+
+class Times(CallCase):
+    def test_times(self):
+        # (a few microseconds, unless the machine has much else to do; this finds what takes a hundred times as long)
+        for ended in self.as_users('"$1" "$2/$$-$(id -u)"', static_program('times'), self.folder):
+            self.ends(ended, 0, err=b'')
+            self.assertLess(max(map(float, ended.out.split()[1::2])), 1000, ended)
+
+
+if __name__ == '__main__':
+    unittest.main()
