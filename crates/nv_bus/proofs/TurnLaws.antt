@@ -13,9 +13,9 @@ use Rattle.nv_command.specs.Reply.{data_of}
 use Rattle.nv_command.specs.declared.command.Command.{Command}
 use Rattle.nv_command.specs.declared.reply.Reply.{Reply}
 use Rattle.nv_command.specs.declared.status_code.StatusCode.{StatusCode}
-use Rattle.nv_queue.specs.Numbers.{IsWithinRing, above, kept_number, next}
+use Rattle.nv_queue.specs.Numbers.{IsWithinRing, distance, kept_number, next}
 use Rattle.nv_queue.proofs.KeptLaws.{kept_next}
-use Rattle.nv_queue.proofs.NumberLaws.{above_cases, above_next, above_none, next_above, slot_below}
+use Rattle.nv_queue.proofs.NumberLaws.{distance_after_next, distance_cases, distance_next, distance_none, slot_below}
 use Rattle.nv_queue.proofs.NumberLaws.{within_more, within_taken}
 use Rattle.nv_queue.specs.Rings.{fetched_one, posted_one}
 use Rattle.nv_queue.specs.Slots.{completion_place, put_as, submission_place}
@@ -25,7 +25,7 @@ use Rattle.nv_register.specs.declared.readiness.Readiness.{Readiness}
 use Rattle.nv_register.specs.declared.readiness.Readiness.TheVariants.{Ready}
 use Rattle.nv_register.specs.declared.rings.Rings.{Rings}
 use Rattle.nv_bus.specs.Call.{Call}
-use Rattle.nv_bus.specs.Entry.{Moves, MovesBy, Scene, call_in, completion_in, entry_step}
+use Rattle.nv_bus.specs.Entry.{Moves, MovesBy, Scene, call_in, completion_in, next_step}
 use Rattle.nv_bus.specs.Entry.{scene}
 use Rattle.nv_bus.specs.Turn.{BankTurn, RingsLie, RingsTurn, Site, Taken, Takes, TakesCount}
 use Rattle.nv_bus.specs.Turn.{TurnBy, can_take, free_slots, reaches, ready_bank}
@@ -34,24 +34,24 @@ use Rattle.nv_bus.specs.Turn.{turn_count, waiting}
 -- ---- one ring
 
 -- after an entry was taken, one entry fewer is waiting
-one_taken : (d k n : ℕ) → IsWithinRing d k n → k ≢ n → above d n k ≡ above d n (next d k) + 1
+one_taken : (d k n : ℕ) → IsWithinRing d k n → k ≢ n → distance d n k ≡ distance d n (next d k) + 1
 one_taken d k n is left =
-    let less = next_above d n k is.to is.from left in
-    let some : above d n k ≢ 0 = λ none. left (above_none d n k is.to is.from none) in
+    let less = distance_after_next d n k is.to is.from left in
+    let some : distance d n k ≢ 0 = λ none. left (distance_none d n k is.to is.from none) in
     omega arith
 
 -- after a completion was posted, one slot fewer is free
-one_posted : (d k n : ℕ) → IsWithinRing d k n → above d n k ≢ d - 1 → d - 1 - above d n k
-    ≡ d - 1 - above d (next d n) k + 1
+one_posted : (d k n : ℕ) → IsWithinRing d k n → distance d n k ≢ d - 1 → d - 1 - distance d n k
+    ≡ d - 1 - distance d (next d n) k + 1
 one_posted d k n is free =
     let deep = is.deep in
     let few = is.few in
-    let more = above_next d n k is.to is.from (omega arith) in
+    let more = distance_next d n k is.to is.from (omega arith) in
     omega arith
 
 -- if two numbers of a ring are equal, none lies between them
-none_above : (d k n : ℕ) → IsWithinRing d k n → k ≡ n → above d n k ≡ 0
-none_above d k n is e = grind (arith, above_cases d n k is.to is.from)
+no_distance : (d k n : ℕ) → IsWithinRing d k n → k ≡ n → distance d n k ≡ 0
+no_distance d k n is e = grind (arith, distance_cases d n k is.to is.from)
 
 -- ---- what the tests mean
 
@@ -125,8 +125,8 @@ none_can : (r : Rings) (page_size size : ℕ) → RingsLie r page_size size → 
     → (waiting r ≡ 0) ⊎ (free_slots r ≡ 0)
 none_can r page_size size is cannot =
     elim (cases_eq r.submission.fetched r.submission.rung) [
-      | inl e ↦ inl (none_above _ _ _ is.fetch e)
-      | inr some ↦ elim (cases_eq (above r.completion.depth r.completion.posted r.completion.told)
+      | inl e ↦ inl (no_distance _ _ _ is.fetch e)
+      | inr some ↦ elim (cases_eq (distance r.completion.depth r.completion.posted r.completion.told)
           (r.completion.depth - 1)) [
             | inl full ↦ inr (omega arith)
             | inr free ↦ absurd (cannot (can_by _ _ _ _ some free))
@@ -163,7 +163,7 @@ length_one page_size c old new t =
     let ring = old.rings.completion in
     let moved = t.one.bytes.0 in
     let same : length moved ≡ length old.bytes =
-    length_by (call_in c old) (entry_step c old).answer old.bytes moved t.one.bytes.1 in
+    length_by (call_in c old) (next_step c old).answer old.bytes moved t.one.bytes.1 in
     let size = length-bytes_of_cqe (put_as ring (completion_in c old)) in
     let place = completion_place ring.base ring.depth ring.posted in
     let fits = reached_slot old.rings page_size (length old.bytes) t.reached in

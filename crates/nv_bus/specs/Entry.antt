@@ -54,8 +54,8 @@ abbrev pub step_unless : Result Call StatusCode → State → ℕ → Sqe → St
 step_unless found s c e = asked_step (command_in found) s c e.nsid e.cid
 
 -- the step for the next entry of controller c
-abbrev pub entry_step : ℕ → Scene → Step
-entry_step c x = step_unless (call_in c x) x.state c (entry_in x)
+abbrev pub next_step : ℕ → Scene → Step
+next_step c x = step_unless (call_in c x) x.state c (entry_in x)
 
 -- the data of a reply is written to its places byte after byte, so that the later of two bytes for
 -- one place stays, and the entries of an error log have their phase tags; a refusal writes nothing
@@ -107,15 +107,15 @@ abbrev pub completion_in : ℕ → Scene → Cqe
 completion_in c x =
     let ring = x.rings.submission in
     completion_with (entry_in x).cid (slot_of ring.depth (next ring.depth ring.fetched))
-    (entry_step c x).answer
+    (next_step c x).answer
 
 -- one entry of controller c: its step, then its data, and then its completion; no other byte of the
 -- memory changes
 pub record One (c : ℕ) (old new : Scene) : Type 0 where
-  pub state : new.state ≡ (entry_step c old).state
+  pub state : new.state ≡ (next_step c old).state
   pub rings : new.rings ≡ record old.rings {
     submission = fetched_one old.rings.submission;
     completion = posted_one old.rings.completion;
   }
-  pub bytes : (moved : List ℕ) × MovesBy (call_in c old) (entry_step c old).answer old.bytes moved
+  pub bytes : (moved : List ℕ) × MovesBy (call_in c old) (next_step c old).answer old.bytes moved
       × (new.bytes ≡ with_completion moved old.rings.completion (completion_in c old))

@@ -1,7 +1,7 @@
 -- What happens in a turn of a controller.
 use Rattle.std.specs.Prelude.{◌≡◌, ℕ, zero, suc, ◌+◌, ◌*◌, ◌-◌, ◌<◌, ◌≤◌, ◌==◌, ◌&&◌, min, not}
 use Rattle.std.specs.Prelude.{nat_le, Bool, true, false, List, length, slice_set}
-use Rattle.nv_queue.specs.Numbers.{above}
+use Rattle.nv_queue.specs.Numbers.{distance}
 use Rattle.nv_queue.specs.Rings.{IsFetchRing, IsPostRing}
 use Rattle.nv_queue.specs.Slots.{completion_place, submission_place}
 use Rattle.nv_register.specs.Readiness.{is_fatal}
@@ -18,7 +18,7 @@ abbrev pub can_take : Rings → Bool
 can_take r =
     not (r.submission.fetched == r.submission.rung)
     && not
-    (above r.completion.depth r.completion.posted r.completion.told == r.completion.depth - 1)
+    (distance r.completion.depth r.completion.posted r.completion.told == r.completion.depth - 1)
 
 -- a memory with this page size and length has the page size with which the controller was enabled,
 -- and holds the entry's slot and the slot of its completion
@@ -102,12 +102,12 @@ pub record RingsLie (r : Rings) (page_size size : ℕ) : Type 0 where
 
 -- how many entries are waiting
 abbrev pub waiting : Rings → ℕ
-waiting r = above r.submission.depth r.submission.rung r.submission.fetched
+waiting r = distance r.submission.depth r.submission.rung r.submission.fetched
 
 -- how many completions have a free slot
 abbrev pub free_slots : Rings → ℕ
 free_slots r =
-    r.completion.depth - 1 - above r.completion.depth r.completion.posted r.completion.told
+    r.completion.depth - 1 - distance r.completion.depth r.completion.posted r.completion.told
 
 -- the least of three numbers: the entries that may be taken, the entries that are waiting, and the free slots
 abbrev pub turn_count : ℕ → Rings → ℕ

@@ -24,7 +24,7 @@ use Rattle.nv_bus.specs.Call.{call_of}
 use Rattle.nv_model.specs.Conditions.{limit_of}
 use Rattle.nv_bus.proofs.TagLaws.{dword0_tagged, tagged}
 use Rattle.nv_bus.specs.Entry.{Moves, MovesBy, One, Scene, call_in, completion_in, completion_with, entry_in}
-use Rattle.nv_bus.specs.Entry.{entry_step, step_unless, success, told_by}
+use Rattle.nv_bus.specs.Entry.{next_step, step_unless, success, told_by}
 use Rattle.nv_controller.specs.Tags.{answered_unless, next_scene, settled_unless, untagged_scene}
 use Rattle.nv_subsystem.proofs.TaggedLaws.{refusal_untagged, reply_untagged, untagged_keeps}
 use Rattle.nv_subsystem.specs.Tagged.{untagged, untagged_log}
@@ -107,14 +107,14 @@ pub taken_one : (c : ℕ) (old new : Scene) (entry : Sqe) (size head : ℕ) (pos
 taken_one c old new entry size head posted moved limit same page most state moves rings slot made bytes =
     let call : call_of size limit old.bytes entry ≡ call_in c old =
     (λ i. call_of (page i) (most i) old.bytes (same i)) in
-    let step : step_unless (call_of size limit old.bytes entry) old.state c entry ≡ entry_step c old =
+    let step : step_unless (call_of size limit old.bytes entry) old.state c entry ≡ next_step c old =
     ap₂ (λ k e. step_unless k old.state c e) call same in
     record {
       state = state ∙ ap (λ s. s.state) step;
       rings = rings;
       bytes = (
         moved,
-        subst (λ k. MovesBy k (entry_step c old).answer old.bytes moved) call
+        subst (λ k. MovesBy k (next_step c old).answer old.bytes moved) call
             (subst (λ (s : Step). MovesBy (call_of size limit old.bytes entry) s.answer old.bytes moved) step moves),
         bytes
             ∙ ap (with_completion moved old.rings.completion) made

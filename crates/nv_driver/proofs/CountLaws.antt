@@ -1,8 +1,8 @@
 -- The counts of a schedule, and how rings and doorbells represent them.
 use Rattle.std.proofs.Common.{◌≡◌, ◌≢◌, ◌∙◌, ℕ, ◌+◌, ◌-◌, ◌*◌, ◌<◌, ◌≤◌, true, nat_le, nat_lt, ap, arith, refl, sym}
-use Rattle.nv_queue.specs.Numbers.{IsSlotBetween, above, ahead, kept_number, next}
-use Rattle.nv_queue.proofs.NumberLaws.{above_cases, slot_below}
-use Rattle.nv_queue.proofs.KeptLaws.{above_kept, between_kept, first_kept, kept_below, kept_next, slot_kept}
+use Rattle.nv_queue.specs.Numbers.{IsSlotBetween, ahead, distance, kept_number, next}
+use Rattle.nv_queue.proofs.NumberLaws.{distance_cases, slot_below}
+use Rattle.nv_queue.proofs.KeptLaws.{between_kept, distance_kept, first_kept, kept_below, kept_next, slot_kept}
 use Rattle.nv_queue.proofs.KeptLaws.{slots_apart}
 use Rattle.nv_queue.specs.Rings.{FetchNumbers, PostNumbers}
 use Rattle.nv_register.specs.RegisterBank.{rung_by, told_by}
@@ -30,16 +30,17 @@ slots_differ t n m l h = λ same.
 
 -- the number of command m is m - n above the number of command n, if it is less than two depths ahead
 pub number_above : (t : Setting) (n m : ℕ) → 0 < t.depth → n ≤ m → m < n + 2 * t.depth
-    → above t.depth (number t m) (number t n) ≡ m - n
-number_above t n m p l h = above_kept t.depth (t.start + m) (t.start + n) (m - n) p (omega arith) (omega arith)
+    → distance t.depth (number t m) (number t n) ≡ m - n
+number_above t n m p l h = distance_kept t.depth (t.start + m) (t.start + n) (m - n) p (omega arith) (omega arith)
 
 -- commands that are fewer than a depth apart have different numbers
 pub numbers_differ : (t : Setting) (n m : ℕ) → n < m → m < n + t.depth → number t n ≢ number t m
 numbers_differ t n m l h = λ same.
     let far = number_above t n m (omega arith) (omega arith) (omega arith) in
     let below = number_below t n (omega arith) in
-    let none : above t.depth (number t n) (number t n) ≡ m - n = ap (λ x. above t.depth x (number t n)) same ∙ far in
-    grind (arith, none, above_cases t.depth (number t n) (number t n) below below)
+    let none : distance t.depth (number t n) (number t n) ≡ m - n =
+    ap (λ x. distance t.depth x (number t n)) same ∙ far in
+    grind (arith, none, distance_cases t.depth (number t n) (number t n) below below)
 
 -- ---- doorbells
 
@@ -72,7 +73,7 @@ told_is t done told k l m h =
     let first = first_kept t.depth (t.start + k) (t.start + told) (k - told) (omega arith) (omega arith) in
     let is_slot : nat_lt (slot t k) t.depth ≡ true = grind (arith, nat_tests, between.0) in
     let is_near : nat_le (ahead t.depth (number t told) (slot t k))
-    (above t.depth (number t done) (number t told)) ≡ true =
+    (distance t.depth (number t done) (number t told)) ≡ true =
     grind (arith, nat_tests, between.1) in
     rw (is_slot, is_near, first) refl
 

@@ -4,7 +4,7 @@ use Rattle.std.proofs.Common.{inl, inr, length, refl, subst, sym, ◌≢◌}
 use Rattle.nv_layout.specs.Cqe.{CqeFits}
 use Rattle.nv_prp.specs.inner.Buffer.{ChangesOnly}
 use Rattle.nv_prp.specs.Place.{read_at, written_at}
-use Rattle.nv_queue.specs.Numbers.{above}
+use Rattle.nv_queue.specs.Numbers.{distance}
 use Rattle.nv_queue.specs.Slots.{with_completion, posted_as}
 use Rattle.nv_queue.specs.inner.Slots.{WritesCompletion}
 use Rattle.nv_queue.proofs.SlotLaws.{length-with_completion, put_written}
@@ -49,14 +49,14 @@ can_go t s w k can =
     let c = k.counts in
     let deep = k.placed.deep in
     let far = can_means (number t w.done) (number t w.rung)
-    (above t.depth (number t w.done) (number t w.told)) (t.depth - 1) can in
-    let distance = number_above t w.told w.done (omega (arith, deep.0))
+    (distance t.depth (number t w.done) (number t w.told)) (t.depth - 1) can in
+    let gap = number_above t w.told w.done (omega (arith, deep.0))
     (omega (arith, c.told, c.collected)) (omega (arith, c.free)) in (
       elim (cases_lt w.done w.rung) [
         | inl l ↦ l
         | inr g ↦ let same : w.done ≡ w.rung = omega (arith, c.done) in absurd (far.0 (ap (number t) same))
       ],
-      omega (arith, far.1, distance, c.free, deep.0),
+      omega (arith, far.1, gap, c.free, deep.0),
     )
 
 -- ---- what taking it does

@@ -19,7 +19,7 @@ use Rattle.nv_driver.proofs.Words.{with_submission}
 use Rattle.nv_driver.specs.Schedule.{Event, Follows, MaySubmit, awaited, collect_ring}
 use Rattle.nv_driver.specs.inner.Submitting.{CanCollect}
 use Rattle.nv_host.specs.PageSets.{Pages}
-use Rattle.nv_driver.specs.UnderWay.{Course, Way, beginning, first_world, pair_at, serial_at, world_by, world_of}
+use Rattle.nv_driver.specs.UnderWay.{Course, Way, beginning, first_world, pair_after, serial_at, world_by, world_of}
 use Rattle.nv_driver.proofs.BatchLaws.{serial_next}
 use Rattle.nv_driver.proofs.CountLaws.{head_told, number_above, number_below, number_next}
 use Rattle.nv_driver.proofs.KeptLaws.{bell_keeps, collect_keeps, idle_keeps, is_found, tell_keeps}
@@ -116,9 +116,9 @@ module _ {due : World → Event → Type 0} {w : Way} {bus : BusValue} {l : Queu
   geometry_is = ap (λ (o : QueuePairFields). o.geometry) u.pair ∙ u.begun.shape
 
   -- the free pages are those that the queue pair has
-  pages_of_pair : {l' : QueuePairFields} {s : Pages} (m k h : ℕ) → l' ≡ pair_at w.run m k h s
-      → l' ≡ pair_at w.run m k h l'.pages
-  pages_of_pair m k h is = is ∙ ap (pair_at w.run m k h) (sym (ap (λ (o : QueuePairFields). o.pages) is))
+  pages_of_pair : {l' : QueuePairFields} {s : Pages} (m k h : ℕ) → l' ≡ pair_after w.run m k h s
+      → l' ≡ pair_after w.run m k h l'.pages
+  pages_of_pair m k h is = is ∙ ap (pair_after w.run m k h) (sym (ap (λ (o : QueuePairFields). o.pages) is))
 
   -- ---- a submission
 
@@ -398,9 +398,9 @@ left_after {w = w} {bus} {l} {now} {before} {bytes = bytes} n u sent collected r
     let begun = u.begun in
     let laid = begun.laid in
     let deep = laid.deep in
-    let is : l ≡ pair_at r n n n r.pair.pages =
+    let is : l ≡ pair_after r n n n r.pair.pages =
     u.pair ∙ pairs_same (rw (sent, collected) refl) (rw (collected, told) refl) (ap (serial_at r) sent)
-    ∙ ap (pair_at r n n n) pages in
+    ∙ ap (pair_after r n n n) pages in
     record {
       ready = subst (λ q. IsReady r.geometry bus r.controller q now bytes) (sym is) (assumption (
         sym (none_untold n),

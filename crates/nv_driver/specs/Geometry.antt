@@ -42,13 +42,13 @@ rows_of g =
     ∷ []
 
 -- the first field of the rows that is outside its limits
-abbrev pub first_fault : List GeometryRow → Option GeometryField
-first_fault [] = None
-first_fault (r ∷ rows) = if r.keeps then first_fault rows else Some r.field
+abbrev pub first_outside : List GeometryRow → Option GeometryField
+first_outside [] = None
+first_outside (r ∷ rows) = if r.keeps then first_outside rows else Some r.field
 
 -- the first field that is outside its limits
 abbrev pub fault_of : Geometry → Option GeometryField
-fault_of g = first_fault (rows_of g)
+fault_of g = first_outside (rows_of g)
 
 -- a geometry without a fault, field by field
 pub record IsGeometry (g : Geometry) : Type 0 where

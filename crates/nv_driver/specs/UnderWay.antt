@@ -109,8 +109,8 @@ abbrev pub world_of : Way → BusValue → List ℕ → World
 world_of w bus bytes = world_by w bus.state (bank_at bus.banks w.run.controller) bytes
 
 -- the queue pair by how many requests were sent, collected and reported, and which pages are free
-abbrev pub pair_at : Run → (sent collected told : ℕ) → Pages → QueuePairFields
-pair_at r sent collected told pages = record {
+abbrev pub pair_after : Run → (sent collected told : ℕ) → Pages → QueuePairFields
+pair_after r sent collected told pages = record {
   submission = submit_ring (setting_of r) sent collected;
   completion = collect_ring (setting_of r) collected told;
   serial = serial_at r sent;
@@ -147,7 +147,7 @@ pub record IsOnWay (due : World → Event → Type 0) (w : Way) (bus : BusValue)
   pub lawful : IsBus bus
   pub banks : bus.banks
       ≡ slice_set w.run.bus.banks w.run.controller (bank_at bus.banks w.run.controller)
-  pub pair : l ≡ pair_at w.run (length w.course.sent) (length w.course.answers) w.told l.pages
+  pub pair : l ≡ pair_after w.run (length w.course.sent) (length w.course.answers) w.told l.pages
   pub ran : Follows due (setting_of w.run) w.course.events (first_world w.run)
       (world_of w bus bytes)
 

@@ -6,7 +6,7 @@ ghost use Rattle.nv_host.specs.PageSets.{IsOf};
 ghost use Rattle.nv_driver.specs.CommandPages.{AreLowest, AreTaken, all_pages, without};
 ghost use Rattle.nv_driver.specs.inner.CommandPages.{with_pages};
 ghost use Rattle.nv_driver.specs.Submitting.{place_in};
-ghost use Rattle.nv_driver.specs.inner.Submitting.{place_of};
+ghost use Rattle.nv_driver.specs.inner.Submitting.{request_place};
 
 use crate::checked_geometry::CheckedGeometry;
 use crate::submitting::DataPlace;
@@ -65,7 +65,7 @@ impl CommandPages {
     pub(crate) fn place(&self, geometry: CheckedGeometry) -> DataPlace<'_>
         requires few { self.now.count ≤ 7 }
         requires list { 2 ≤ self.now.count }
-        ensures place { place_of result ≡ place_in geometry (all_pages self.now) }
+        ensures place { request_place result ≡ place_in geometry (all_pages self.now) }
     {
         DataPlace::within(geometry, &self.numbers[..self.count])
     }

@@ -13,7 +13,7 @@ ghost use Rattle.nv_driver.specs.Request.{Asked, sent_for, transfer_for};
 ghost use Rattle.nv_driver.specs.Submitting.{place_in};
 ghost use Rattle.nv_driver.specs.inner.Submitting.{HasFreeSlot, IsPlaceFor, IsSubmittedAt};
 ghost use Rattle.nv_driver.specs.HostData.{sent_by};
-ghost use Rattle.nv_driver.specs.inner.Submitting.{place_from, place_of, request_as};
+ghost use Rattle.nv_driver.specs.inner.Submitting.{place_from, request_as, request_place};
 
 use crate::checked_geometry::CheckedGeometry;
 use crate::layout::MOST_ENTRY_BYTES;
@@ -124,7 +124,7 @@ impl<'a> DataPlace<'a> {
     /// Returns the place of data in pages, of which the first two are for a list.
     pub(crate) fn within(geometry: CheckedGeometry, pages: &'a [PageNo]) -> DataPlace<'a>
         requires { 2 ≤ length pages.now }
-        ensures { place_of result ≡ place_in geometry pages.now }
+        ensures { request_place result ≡ place_in geometry pages.now }
     {
         let (in_page, in_list_page) = (geometry.offset, geometry.list_offset);
         DataPlace {
@@ -150,7 +150,7 @@ impl<'a> DataPlace<'a> {
     ) -> DataPlace<'a>
         requires limit { len ≤ greatest_limit }
         requires numbered { first + data_count geometry len + 2 ≤ 2 ^ 32 }
-        ensures { place_of result ≡ place_from geometry first len }
+        ensures { request_place result ≡ place_from geometry first len }
     {
         let count = (geometry.offset + len).div_ceil(geometry.page_size) as usize;
         for at in 0..count {
@@ -175,19 +175,19 @@ impl<'a> DataPlace<'a> {
 /// List".
 pub(crate) fn point_to<M: HostMemory>(mem: &mut M, place: &DataPlace, len: u32) -> (u64, u64)
     requires limit { len ≤ greatest_limit }
-    requires place { IsPlaceFor (M.bytes mem.old) (M.page_len mem.old) (place_of place.now) len }
+    requires place { IsPlaceFor (M.bytes mem.old) (M.page_len mem.old) (request_place place.now) len }
     ensures stays { 0 < len → StaysFor (transfer (M.page_len mem.new)
-        (M.bytes mem.new) result.0 result.1 len) (place_of place.now).pages
-        (place_of place.now).offset (place_of place.now).first (place_of place.now).second }
+        (M.bytes mem.new) result.0 result.1 len) (request_place place.now).pages
+        (request_place place.now).offset (request_place place.now).first (request_place place.now).second }
     ensures none { len ≡ 0 → (result.0 ≡ 0) × (result.1 ≡ 0) }
     ensures list { 0 < len → 2 < data_pages (transfer (M.page_len mem.new)
         (M.bytes mem.new) result.0 result.1 len) → result.1
-        ≡ (place_of place.now).first * M.page_len mem.new + (place_of place.now).list_offset }
+        ≡ (request_place place.now).first * M.page_len mem.new + (request_place place.now).list_offset }
     ensures no_list { let t = transfer (M.page_len mem.new) (M.bytes mem.new) result.0 result.1 len in
         data_pages t ≤ 2 → M.bytes mem.new ≡ M.bytes mem.old }
     ensures only_list { let t = transfer (M.page_len mem.new) (M.bytes mem.new) result.0 result.1 len in
         0 < len → 2 < data_pages t → KeepsOutsideList (room t) result.1
-        ((place_of place.now).second * M.page_len mem.new) (data_pages t)
+        ((request_place place.now).second * M.page_len mem.new) (data_pages t)
         (M.bytes mem.old) (M.bytes mem.new) }
     ensures len { length (M.bytes mem.new) ≡ length (M.bytes mem.old) }
     ensures page { M.page_len mem.new ≡ M.page_len mem.old }
@@ -231,9 +231,9 @@ pub(crate) fn submit<M: HostMemory>(
     requires few { length_of request.now.transfer ≤ greatest_limit }
     requires sent { length (sent_by request.now.sends) ≡ bytes_from_host request.now.transfer }
     requires place { IsPlaceFor (M.bytes mem.old) (M.page_len mem.old)
-        (place_of place.now) (length_of request.now.transfer) }
+        (request_place place.now) (length_of request.now.transfer) }
     requires slot { HasFreeSlot pair.old (M.bytes mem.old) }
-    ensures { (asked : Asked) → IsSubmittedAt (M.page_len mem.old) (place_of place.now)
+    ensures { (asked : Asked) → IsSubmittedAt (M.page_len mem.old) (request_place place.now)
         (request_as request.now asked) pair.old pair.new (M.bytes mem.old) (M.bytes mem.new)
         (M.page_len mem.new) result }
 {

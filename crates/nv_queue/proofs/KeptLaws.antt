@@ -5,9 +5,9 @@ use Rattle.std.proofs.lemmas.Bool.{cases_lt}
 use Rattle.std.proofs.lemmas.Nat.{mod_below}
 use Rattle.std.proofs.Math.Nat.{add-mod_right, add-mul-mod_self_left, div-add-mod, mod-add-mod}
 use Rattle.std.proofs.Math.Nat.{zero-mod}
-use Rattle.nv_queue.specs.Numbers.{IsSlotBetween, above, ahead, first_in_slot, kept_number, next}
+use Rattle.nv_queue.specs.Numbers.{IsSlotBetween, ahead, distance, first_in_slot, kept_number, next}
 use Rattle.nv_queue.specs.Numbers.{phase_of, slot_of}
-use Rattle.nv_queue.proofs.NumberLaws.{above_cases, ahead_slot, rest_is, slot_below, slot_cases}
+use Rattle.nv_queue.proofs.NumberLaws.{ahead_slot, distance_cases, rest_is, slot_below, slot_cases}
 use Rattle.nv_queue.proofs.NumberLaws.{times_is}
 
 -- ---- whole numbers
@@ -92,38 +92,38 @@ further d r j h i =
     ]
 
 -- the number that is j after the kept number r, modulo twice the depth, is j above it
-above_further : (d r j x : ℕ) → r < 2 * d → j < 2 * d → x ≡ (r + j) % (2 * d) → x < 2 * d
-    → above d x r ≡ j
-above_further d r j x h i e l = grind (arith, further d r j h i, above_cases d x r l h)
+distance_further : (d r j x : ℕ) → r < 2 * d → j < 2 * d → x ≡ (r + j) % (2 * d) → x < 2 * d
+    → distance d x r ≡ j
+distance_further d r j x h i e l = grind (arith, further d r j h i, distance_cases d x r l h)
 
 -- if a is j above b, and j is below twice the depth, the kept number of a is j above the kept number of b
-pub above_kept : (d a b j : ℕ) → 0 < d → a ≡ b + j → j < 2 * d
-    → above d (kept_number d a) (kept_number d b) ≡ j
-above_kept d a b j p e l =
-    above_further d (kept_number d b) j (kept_number d a) (kept_below d b p) l (kept_more d a b j e)
+pub distance_kept : (d a b j : ℕ) → 0 < d → a ≡ b + j → j < 2 * d
+    → distance d (kept_number d a) (kept_number d b) ≡ j
+distance_kept d a b j p e l =
+    distance_further d (kept_number d b) j (kept_number d a) (kept_below d b p) l (kept_more d a b j e)
     (kept_below d a p)
 
 -- numbers that are less than a depth apart have different slots
 pub slots_apart : (d a b : ℕ) → b < a → a < b + d → slot_of d a ≢ slot_of d b
 slots_apart d a b l h =
     let e : a ≡ b + (a - b) = omega arith in
-    let far : above d (kept_number d a) (kept_number d b) ≡ a - b =
-    above_kept d a b (a - b) (omega arith) e (omega arith) in
+    let far : distance d (kept_number d a) (kept_number d b) ≡ a - b =
+    distance_kept d a b (a - b) (omega arith) e (omega arith) in
     let low = kept_below d b (omega arith) in
     let high = kept_below d a (omega arith) in
     λ same. let slots = slot_kept d a ∙ (same ∙ sym (slot_kept d b)) in
     apart_slots d (kept_number d a) (kept_number d b) high low (omega arith) (omega arith) slots
   where
-    apart_slots : (d x r : ℕ) → x < 2 * d → r < 2 * d → 0 < above d x r → above d x r < d
+    apart_slots : (d x r : ℕ) → x < 2 * d → r < 2 * d → 0 < distance d x r → distance d x r < d
         → slot_of d x ≡ slot_of d r → ⊥
     apart_slots d x r h i more less same =
-        grind (arith, above_cases d x r h i, slot_cases d x h, slot_cases d r i)
+        grind (arith, distance_cases d x r h i, slot_cases d x h, slot_cases d r i)
 
 -- the slot of a number that is j ahead, and less than a depth, is j ahead
 pub ahead_kept : (d a b j : ℕ) → a ≡ b + j → j < d
     → ahead d (kept_number d b) (slot_of d (kept_number d a)) ≡ j
 ahead_kept d a b j e l =
-    let is = above_kept d a b j (omega arith) e (omega arith) in
+    let is = distance_kept d a b j (omega arith) e (omega arith) in
     let low = kept_below d b (omega arith) in
     let high = kept_below d a (omega arith) in
     ahead_slot d (kept_number d a) (kept_number d b) high low (omega arith) ∙ is
@@ -140,5 +140,5 @@ pub between_kept : (d b j m a c : ℕ) → j ≤ m → m < d → a ≡ b + j →
     → IsSlotBetween d (kept_number d b) (kept_number d c) (slot_of d (kept_number d a))
 between_kept d b j m a c l h at end =
     let near = ahead_kept d a b j at (omega arith) in
-    let far = above_kept d c b m (omega arith) end (omega arith) in
+    let far = distance_kept d c b m (omega arith) end (omega arith) in
     (slot_below d (kept_number d a) (kept_below d a (omega arith)), omega arith)

@@ -4,7 +4,7 @@ use Rattle.std.proofs.Common.{arith}
 use Rattle.std.proofs.Common.{inl, inr, ◌⊎◌, ◌↔◌}
 use Rattle.std.proofs.lemmas.Nat.{mod-mul-add, div-mul-add}
 use Rattle.std.proofs.lemmas.Bool.{cases_lt}
-use Rattle.nv_queue.specs.Numbers.{IsDepth, IsFull, IsSlotBetween, IsWithinRing, above, ahead}
+use Rattle.nv_queue.specs.Numbers.{IsDepth, IsFull, IsSlotBetween, IsWithinRing, ahead, distance}
 use Rattle.nv_queue.specs.Numbers.{first_in_slot, next}
 use Rattle.nv_queue.specs.Numbers.{phase_of, slot_of}
 
@@ -67,10 +67,10 @@ pub next_below : (d n : ℕ) → n < 2 * d → next d n < 2 * d
 next_below d n h = grind (arith, next_cases d n h)
 
 -- a is above b by their difference, to which twice the depth is added if a is the lower number
-pub above_cases : (d a b : ℕ) → a < 2 * d → b < 2 * d
-    → ((b ≤ a) × (above d a b ≡ a - b)) ⊎ ((a < b) × (above d a b ≡ a + 2 * d - b))
-unfolding above
-above_cases d a b h i =
+pub distance_cases : (d a b : ℕ) → a < 2 * d → b < 2 * d
+    → ((b ≤ a) × (distance d a b ≡ a - b)) ⊎ ((a < b) × (distance d a b ≡ a + 2 * d - b))
+unfolding distance
+distance_cases d a b h i =
     elim (cases_lt a b) [
       | inl l ↦
           let far = a + 2 * d - b in
@@ -117,60 +117,60 @@ first_in_slot_below d n t h i = grind (arith, ahead_cases d n t h i)
 -- ---- how far numbers are apart
 
 -- the number after n is one further above k than n is
-pub above_next : (d n k : ℕ) → n < 2 * d → k < 2 * d → above d n k + 1 < 2 * d
-    → above d (next d n) k ≡ above d n k + 1
-above_next d n k h i l =
+pub distance_next : (d n k : ℕ) → n < 2 * d → k < 2 * d → distance d n k + 1 < 2 * d
+    → distance d (next d n) k ≡ distance d n k + 1
+distance_next d n k h i l =
     grind (
       arith,
       next_cases d n h,
-      above_cases d n k h i,
-      above_cases d (next d n) k (next_below d n h) i,
+      distance_cases d n k h i,
+      distance_cases d (next d n) k (next_below d n h) i,
     )
 
 -- n is one less far above the number after k than above k
-pub next_above : (d n k : ℕ) → n < 2 * d → k < 2 * d → k ≢ n
-    → above d n (next d k) ≡ above d n k - 1
-next_above d n k h i o =
+pub distance_after_next : (d n k : ℕ) → n < 2 * d → k < 2 * d → k ≢ n
+    → distance d n (next d k) ≡ distance d n k - 1
+distance_after_next d n k h i o =
     grind (
       arith,
       next_cases d k i,
-      above_cases d n k h i,
-      above_cases d n (next d k) h (next_below d k i),
+      distance_cases d n k h i,
+      distance_cases d n (next d k) h (next_below d k i),
     )
 
 -- a number that is 0 above another is that number
-pub above_none : (d n k : ℕ) → n < 2 * d → k < 2 * d → above d n k ≡ 0 → k ≡ n
-above_none d n k h i e = grind (arith, above_cases d n k h i)
+pub distance_none : (d n k : ℕ) → n < 2 * d → k < 2 * d → distance d n k ≡ 0 → k ≡ n
+distance_none d n k h i e = grind (arith, distance_cases d n k h i)
 
 -- the slot of a number less than a depth above is as far ahead as that number
-pub ahead_slot : (d a b : ℕ) → a < 2 * d → b < 2 * d → above d a b < d
-    → ahead d b (slot_of d a) ≡ above d a b
+pub ahead_slot : (d a b : ℕ) → a < 2 * d → b < 2 * d → distance d a b < d
+    → ahead d b (slot_of d a) ≡ distance d a b
 ahead_slot d a b h i f =
     grind (
       arith,
       slot_cases d a h,
-      above_cases d a b h i,
+      distance_cases d a b h i,
       ahead_cases d b (slot_of d a) i (slot_below d a h),
     )
 
 -- the first number in a slot is as far above n as the slot is ahead of it
-pub above_first : (d n t : ℕ) → n < 2 * d → t < d → above d (first_in_slot d n t) n ≡ ahead d n t
-above_first d n t h i =
+pub distance_first : (d n t : ℕ) → n < 2 * d → t < d → distance d (first_in_slot d n t) n ≡ ahead d n t
+distance_first d n t h i =
     grind (
       arith,
       ahead_cases d n t h i,
-      above_cases d (first_in_slot d n t) n (first_in_slot_below d n t h i) h,
+      distance_cases d (first_in_slot d n t) n (first_in_slot_below d n t h i) h,
     )
 
 -- a is less far above the first number in slot t from n on than above n, by as much as the slot is ahead
-pub first_above : (d a n t : ℕ) → a < 2 * d → n < 2 * d → t < d → ahead d n t ≤ above d a n
-    → above d a (first_in_slot d n t) ≡ above d a n - ahead d n t
-first_above d a n t j h i g =
+pub distance_after_first : (d a n t : ℕ) → a < 2 * d → n < 2 * d → t < d → ahead d n t ≤ distance d a n
+    → distance d a (first_in_slot d n t) ≡ distance d a n - ahead d n t
+distance_after_first d a n t j h i g =
     grind (
       arith,
       ahead_cases d n t h i,
-      above_cases d a n j h,
-      above_cases d a (first_in_slot d n t) j (first_in_slot_below d n t h i),
+      distance_cases d a n j h,
+      distance_cases d a (first_in_slot d n t) j (first_in_slot_below d n t h i),
     )
 
 -- ---- the numbers of a ring
@@ -181,21 +181,21 @@ within_new d deep = record {
   deep = deep;
   from = omega arith;
   to = omega arith;
-  few = grind (arith, above_cases d 0 0 (omega arith) (omega arith));
+  few = grind (arith, distance_cases d 0 0 (omega arith) (omega arith));
 }
 
 -- a ring that isn't full is still within its depth after one number more
 pub within_more : (d k n : ℕ) → IsWithinRing d k n → ¬ IsFull d k n → IsWithinRing d k (next d n)
 within_more d k n is free =
     let deep = is.deep in
-    let more = above_next d n k is.to is.from (omega (arith, is.few)) in
-    let few : above d (next d n) k < d = omega (arith, is.few, free) in
+    let more = distance_next d n k is.to is.from (omega (arith, is.few)) in
+    let few : distance d (next d n) k < d = omega (arith, is.few, free) in
     record { deep = deep; from = is.from; to = next_below d n is.to; few = few }
 
 -- a ring that isn't empty is still within its depth after one number was taken from it
 pub within_taken : (d k n : ℕ) → IsWithinRing d k n → k ≢ n → IsWithinRing d (next d k) n
 within_taken d k n is left =
-    let less = next_above d n k is.to is.from left in
+    let less = distance_after_next d n k is.to is.from left in
     let few = is.few in
     record { deep = is.deep; from = next_below d k is.from; to = is.to; few = omega arith }
 
@@ -203,7 +203,7 @@ within_taken d k n is left =
 pub within_freed : (d k n t : ℕ) → IsWithinRing d k n → IsSlotBetween d k n t
     → IsWithinRing d (first_in_slot d k t) n
 within_freed d k n t is slot =
-    let less = first_above d n k t is.to is.from slot.0 slot.1 in
+    let less = distance_after_first d n k t is.to is.from slot.0 slot.1 in
     record {
       deep = is.deep;
       from = first_in_slot_below d k t is.from slot.0;
@@ -215,7 +215,7 @@ within_freed d k n t is slot =
 pub within_filled : (d k n t : ℕ) → IsWithinRing d k n → t < d
     → IsWithinRing d k (first_in_slot d k t)
 within_filled d k n t is low =
-    let far = above_first d k t is.from low in
+    let far = distance_first d k t is.from low in
     let near = ahead_below d k t is.from low in
     let to = first_in_slot_below d k t is.from low in
     record { deep = is.deep; from = is.from; to = to; few = omega arith }
@@ -229,14 +229,14 @@ full_slots d k n is =
       (λ e. grind (
         arith,
         slot_cases d k is.from,
-        above_cases d n k is.to is.from,
+        distance_cases d n k is.to is.from,
         next_cases d n is.to,
         slot_cases d (next d n) (next_below d n is.to),
       )),
       (λ e. grind (
         arith,
         slot_cases d k is.from,
-        above_cases d n k is.to is.from,
+        distance_cases d n k is.to is.from,
         next_cases d n is.to,
         slot_cases d (next d n) (next_below d n is.to),
       )),
@@ -250,7 +250,7 @@ empty_slots d k n is =
         arith,
         slot_cases d k is.from,
         slot_cases d n is.to,
-        above_cases d n k is.to is.from,
+        distance_cases d n k is.to is.from,
       )),
       (λ e. grind (arith, e)),
     )

@@ -1,7 +1,7 @@
 -- The numbers of places in a ring.
 use Rattle.std.proofs.Common.{◌≡◌, ℕ, ◌+◌, ◌-◌, ◌*◌, ◌<◌, ◌≤◌, Bool, true, false, not, arith}
 use Rattle.nv_host.proofs.BytesLaws.{length_with_bytes}
-use Rattle.nv_queue.specs.Numbers.{above, ahead, first_in_slot, next, number_of, phase_of, slot_of}
+use Rattle.nv_queue.specs.Numbers.{ahead, distance, first_in_slot, next, number_of, phase_of, slot_of}
 use Rattle.nv_queue.proofs.NumberLaws.{ahead_cases, ahead_slot, full_slots, next_cases, phase_high, phase_low}
 use Rattle.nv_queue.proofs.NumberLaws.{slot_high, slot_low}
 use Rattle.nv_queue.proofs.NumberLaws.{within_filled, within_freed, within_more, within_taken}
@@ -54,8 +54,8 @@ first_before d s t true h l = grind (arith, ahead_cases d (d + s) t (omega arith
 first_before d s t false h l = grind (arith, ahead_cases d s t (omega arith) (omega arith))
 
 -- the slot of a number that is less than a depth ahead is as far ahead as the number
-pub ahead_place : (d s k : ℕ) (b : Bool) → s < d → k < 2 * d → above d (number_of d s b) k < d
-    → ahead d k s ≡ above d (number_of d s b) k
+pub ahead_place : (d s k : ℕ) (b : Bool) → s < d → k < 2 * d → distance d (number_of d s b) k < d
+    → ahead d k s ≡ distance d (number_of d s b) k
 ahead_place d s k b h i f =
     rw slot_number_of at (ahead_slot d (number_of d s b) k (number_below d s b h) i f)
 

@@ -9,7 +9,7 @@ use Rattle.std.proofs.Math.Seq.{get_or-append_seam}
 use Rattle.nv_layout.specs.Cqe.{CqeFits}
 use Rattle.nv_layout.specs.declared.cqe.Cqe.{Cqe}
 use Rattle.nv_queue.specs.Numbers.{IsDepth, kept_number}
-use Rattle.nv_queue.proofs.KeptLaws.{above_kept, between_kept, first_kept, kept_next, kept_zero}
+use Rattle.nv_queue.proofs.KeptLaws.{between_kept, distance_kept, first_kept, kept_next, kept_zero}
 use Rattle.nv_queue.specs.Rings.{IsPostFull}
 use Rattle.nv_queue.specs.Slots.{HoldsPosted, IsAwaitedThere, awaited_completion}
 use Rattle.nv_queue.specs.Slots.{put_as, with_completion}
@@ -84,7 +84,7 @@ after_put base d m c keeps fits free =
       | inl l ↦ l
       | inr g ↦
           let last : n ≡ m.known + (d - 1) = omega (arith, keeps.few) in
-          absurd (free (above_kept d n m.known (d - 1) (omega arith) last (omega arith)))
+          absurd (free (distance_kept d n m.known (d - 1) (omega arith) last (omega arith)))
     ] in
     let y = with_put x c in
     let at : ℕ → Exchange = λ k. record y { device = record x.device { posted = k } } in (

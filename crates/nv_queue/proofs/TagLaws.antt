@@ -6,8 +6,8 @@ use Rattle.std.proofs.Common.{None, Some}
 use Rattle.std.proofs.lemmas.Bool.{cases_eq, cases_lt}
 use Rattle.std.proofs.lemmas.Bool.Decides.{nat_tests}
 use Rattle.nv_layout.specs.declared.cqe.Cqe.{Cqe}
-use Rattle.nv_queue.specs.Numbers.{above, next, phase_of, slot_of, tag_below}
-use Rattle.nv_queue.proofs.NumberLaws.{above_cases, next_below, next_cases, phase_high, phase_low}
+use Rattle.nv_queue.specs.Numbers.{distance, next, phase_of, slot_of, tag_below}
+use Rattle.nv_queue.proofs.NumberLaws.{distance_cases, next_below, next_cases, phase_high, phase_low}
 use Rattle.nv_queue.proofs.NumberLaws.{slot_below, slot_cases, slot_high, slot_low}
 use Rattle.nv_queue.specs.Rings.{CollectNumbers, IsCollectRing, PostNumbers}
 use Rattle.nv_queue.specs.Slots.{FindsByTags, HoldsTags, IsAwaitedThere, KeepsTags, completion_at}
@@ -93,10 +93,10 @@ keeps_tags old new ring c p h written inside fits tags =
 -- ---- the awaited slot
 
 -- the slot of a number that was posted has the tag that is due
-pub tag_there : (d n k : ℕ) → n < 2 * d → k < 2 * d → above d n k < d → n ≢ k
+pub tag_there : (d n k : ℕ) → n < 2 * d → k < 2 * d → distance d n k < d → n ≢ k
     → tag_below d n (slot_of d k) ≡ phase_of d k
 tag_there d n k h i f o =
-    grind (arith, nat_tests, slot_cases d k i, above_cases d n k h i, tag_cases d n (slot_of d k) h)
+    grind (arith, nat_tests, slot_cases d k i, distance_cases d n k h i, tag_cases d n (slot_of d k) h)
 
 -- if the awaited completion isn't there by its tag, collecting nothing is right
 pub finds_none : (bytes : List ℕ) (ring : CollectNumbers) → IsCollectRing ring

@@ -29,8 +29,8 @@ abbrev pub number_of : ℕ → ℕ → Bool → ℕ
 number_of depth slot second = if second then depth + slot else slot
 
 -- how far number a is above number b
-unfoldable pub above : ℕ → ℕ → ℕ → ℕ
-above depth a b = (a + 2 * depth - b) % (2 * depth)
+unfoldable pub distance : ℕ → ℕ → ℕ → ℕ
+distance depth a b = (a + 2 * depth - b) % (2 * depth)
 
 -- how far the first number in slot t is above number n
 unfoldable pub ahead : ℕ → ℕ → ℕ → ℕ
@@ -42,18 +42,18 @@ first_in_slot depth n t = (n + ahead depth n t) % (2 * depth)
 
 -- slot t is that of a number from `low` to `high`
 abbrev pub IsSlotBetween : ℕ → ℕ → ℕ → ℕ → Type 0
-IsSlotBetween depth low high t = (t < depth) × (ahead depth low t ≤ above depth high low)
+IsSlotBetween depth low high t = (t < depth) × (ahead depth low t ≤ distance depth high low)
 
 -- the numbers from `low` to `high` are fewer than the slots
 pub record IsWithinRing (depth low high : ℕ) : Type 0 where
   pub deep : IsDepth depth
   pub from : low < 2 * depth
   pub to : high < 2 * depth
-  pub few : above depth high low < depth
+  pub few : distance depth high low < depth
 
 -- all slots but one are in use
 abbrev pub IsFull : ℕ → ℕ → ℕ → Type 0
-IsFull depth low high = above depth high low ≡ depth - 1
+IsFull depth low high = distance depth high low ≡ depth - 1
 
 -- the phase tag of a slot when the numbers below n were posted: that of the greatest of them in
 -- this slot, or 0

@@ -6,7 +6,7 @@ use Rattle.nv_layout.specs.Cqe.{CqeFits, bytes_of_cqe, cqe_of_bytes}
 use Rattle.nv_layout.specs.Sqe.{bytes_of_sqe, sqe_of_bytes}
 use Rattle.nv_layout.specs.declared.cqe.Cqe.{Cqe}
 use Rattle.nv_layout.specs.declared.sqe.Sqe.{Sqe}
-use Rattle.nv_queue.specs.Numbers.{above, kept_number, next, phase_of, slot_of, tag_below}
+use Rattle.nv_queue.specs.Numbers.{distance, kept_number, next, phase_of, slot_of, tag_below}
 use Rattle.nv_queue.specs.Rings.{CollectNumbers, FetchNumbers, PostNumbers, SubmitNumbers}
 
 -- a submission has 64 bytes, a completion 16
@@ -110,6 +110,6 @@ KeepsTags old new ring completion =
 -- one
 abbrev pub FindsByTags : List ℕ → CollectNumbers → Option Cqe → Type 0
 FindsByTags bytes ring result =
-    (posted : ℕ) → posted < 2 * ring.depth → above ring.depth posted ring.collected < ring.depth
+    (posted : ℕ) → posted < 2 * ring.depth → distance ring.depth posted ring.collected < ring.depth
     → HoldsTags bytes ring.base ring.depth posted
     → (IsNone result ↔ (posted ≡ ring.collected))

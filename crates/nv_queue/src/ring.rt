@@ -1,7 +1,7 @@
 //! A ring of slots in the host's memory, with two places in it.
 
 ghost use Rattle.std.specs.Prelude.{◌≡◌, ◌+◌, ◌*◌, ◌<◌, ◌≤◌, ◌↔◌, IsTrue, false, length};
-ghost use Rattle.nv_queue.specs.Numbers.{IsDepth, IsSlotBetween, above, first_in_slot, next, number_of};
+ghost use Rattle.nv_queue.specs.Numbers.{IsDepth, IsSlotBetween, distance, first_in_slot, next, number_of};
 
 use nv_host::{PagedMemory, size_of_memory};
 
@@ -42,7 +42,7 @@ impl RingPlace {
         requires depth { IsDepth depth }
         requires within { self.slot < depth }
         requires end { end.slot < depth }
-        requires near { above depth (number_of depth end.slot end.second)
+        requires near { distance depth (number_of depth end.slot end.second)
             (number_of depth self.slot self.second) < depth }
         ensures { IsTrue result ↔ IsSlotBetween depth (number_of depth self.slot self.second)
             (number_of depth end.slot end.second) slot }

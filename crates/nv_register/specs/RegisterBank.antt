@@ -2,7 +2,7 @@
 use Rattle.std.specs.Prelude.{ℕ, ◌+◌, ◌*◌, ◌/◌, ◌%◌, ◌^◌, ◌==◌, ◌&&◌, Bool, false}
 use Rattle.std.specs.Prelude.{nat_le, nat_lt, not, if◌then◌else◌}
 use Rattle.std.specs.Option.{option_map_or}
-use Rattle.nv_queue.specs.Numbers.{above, ahead}
+use Rattle.nv_queue.specs.Numbers.{ahead, distance}
 use Rattle.nv_queue.specs.Rings.{FetchNumbers, PostNumbers, rung_to, told_to}
 use Rattle.nv_register.specs.Dwords.{aqa_dword, aqa_of_dword, cc_dword, cc_of_dword, csts_dword}
 use Rattle.nv_register.specs.PageSize.{page_size_of}
@@ -100,7 +100,7 @@ rung_by ring tail = if nat_lt tail ring.depth then rung_to ring tail else ring
 abbrev pub told_by : PostNumbers → ℕ → PostNumbers
 told_by ring head =
     if nat_lt head ring.depth
-    && nat_le (ahead ring.depth ring.told head) (above ring.depth ring.posted ring.told)
+    && nat_le (ahead ring.depth ring.told head) (distance ring.depth ring.posted ring.told)
     then told_to ring head else ring
 
 -- the rings after a write to the tail doorbell

@@ -22,8 +22,8 @@ use Rattle.nv_driver.specs.HostData.{sent_by}
 use Rattle.nv_driver.specs.Submitting.{RequestPlace, sent_at}
 
 -- the place of a request's data that a driver uses
-abbrev pub place_of : DataPlace → RequestPlace
-place_of p = record {
+abbrev pub request_place : DataPlace → RequestPlace
+request_place p = record {
   pages = p.buffer.pages.now;
   offset = p.buffer.offset;
   first = p.list.first;

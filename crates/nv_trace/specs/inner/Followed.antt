@@ -1,7 +1,7 @@
 -- What a trace keeps of controllers, as it changes by writes and turns: what no public contract
 -- reaches.
 use Rattle.std.specs.Prelude.{◌≡◌, ◌≢◌, ℕ, zero, suc, ◌+◌, ◌-◌, ◌≤◌, List, Option, None, slice_index_or}
-use Rattle.nv_queue.specs.Numbers.{above}
+use Rattle.nv_queue.specs.Numbers.{distance}
 use Rattle.nv_queue.specs.Slots.{completion_place, submission_place}
 use Rattle.nv_register.specs.Dwords.{aqa_dword, aqa_of_dword}
 use Rattle.nv_register.specs.Readiness.{with_rings}
@@ -34,7 +34,7 @@ rings_after (suc k) r = rings_after k (rings_one r)
 -- an entry was waiting and had a free slot for its completion, and both slots lie in a memory of this length
 pub record IsTaken (size : ℕ) (r : Rings) : Type 0 where
   pub waits : r.submission.fetched ≢ r.submission.rung
-  pub free : above r.completion.depth r.completion.posted r.completion.told ≢ r.completion.depth - 1
+  pub free : distance r.completion.depth r.completion.posted r.completion.told ≢ r.completion.depth - 1
   pub entry : submission_place r.submission.base r.submission.depth r.submission.fetched + 64 ≤ size
   pub completion : completion_place r.completion.base r.completion.depth r.completion.posted + 16 ≤ size
 

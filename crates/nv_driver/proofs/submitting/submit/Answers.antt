@@ -1,7 +1,7 @@
 use Rattle.std.proofs.Common.{rules, ◌≡◌, ◌∙◌, ◌<◌, arith, refl}
 use Rattle.nv_prp.specs.Place.{written_at}
 use Rattle.nv_driver.proofs.Words.{page_size_bounds, places, sent_at}
-use Rattle.nv_driver.specs.inner.Submitting.{place_of, request_as}
+use Rattle.nv_driver.specs.inner.Submitting.{request_as, request_place}
 use Rattle.nv_driver.proofs.SubmittingLaws.{buffer_later, changes_list, on_ok, pairs_same, prepared_by}
 use Rattle.nv_driver.proofs.submitting.submit.Goals as goal
 
@@ -16,7 +16,7 @@ returns g c asked =
     let pointer = c.point_to-prp1.result in
     let pair = c.args.pair.now in
     let q = request_as c.args.request.now asked in
-    let x = sent_at (place_of c.args.place.now) q pair.serial pointer.0 pointer.1 in
+    let x = sent_at (request_place c.args.place.now) q pair.serial pointer.0 pointer.1 in
     let before = g.M.PagedMemory.bytes c.args.mem.now in
     let built = g.M.PagedMemory.bytes c.point_to-prp1.new.mem in
     let ready = g.M.PagedMemory.bytes c.write_sent.new.mem in
