@@ -88,8 +88,12 @@ impl Spans {
 }
 
 impl fmt::Debug for Spans {
+    ghost use Rattle.std.specs.Fmt.{debug_list};
+
+    ghost debug_output = { debug_list ⟦<Span as fmt::Debug>⟧.debug_output };
+
     fn fmt<W: fmt::Write>(&self, f: &mut fmt::Formatter<W>) -> fmt::Result {
-        f.debug_list().entries(self.as_slice()).finish()
+        self.as_slice().fmt(f)
     }
 }
 
