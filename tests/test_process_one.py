@@ -15,10 +15,10 @@ USERS = [(), NOBODY] if IS_ROOT else [()]
 
 
 def helper(name, *sources):
-    """Compiles a program of tests/, which all users can run."""
+    """Compiles a program of tests/programs, which all users can run."""
     made = process_folder() / name
     if not made.exists():
-        subprocess.run(['cc', '-g', *WARNINGS, '-I', CLIENT, '-o', made, TOP / f'tests/{name}.c', *sources], check=True)
+        subprocess.run(['cc', '-g', *WARNINGS, '-I', CLIENT, '-o', made, TOP / f'tests/programs/{name}.c', *sources], check=True)
     return made
 
 
@@ -51,21 +51,22 @@ for number, flags in (56, 0x02000011), (272, 0x02000000), (56, 0x12000011), (272
 
 class Confined(ModelCase):
     def test_calls(self):
-        # the programs can be only compiled; what they call is in tests/confined.c
+        # (what is tried is in tests/programs/confined.c)
         program = helper('confined', CLIENT / 'filter.c')
         for which in 'launcher', 'device':
             self.ends(run(program, which), 0, b'end\n', b'')
 
     def test_other_processes(self):
+        # process 1, and its children but for the command: devices, keepers and helpers, one of which has acted as a user
         pries = helper('pries')
-        script = ('test $(grep -h -c "^Seccomp:.2$" /proc/1/status /proc/2/status | sort -u) = 1 && '
-                  'grep -h "^NoNewPrivs:.1$" /proc/1/status /proc/2/status | wc -l; "$1" 1 2')
+        script = ('echo x >> /dev/nvme0n1; read -r all < /proc/1/task/1/children; '
+                  'others="1 $(echo $all | sed "s/\\b$$\\b//")"; for process in $others; do '
+                  'grep -h "^Seccomp:\|^NoNewPrivs:" /proc/$process/status; done | sort -u; "$1" $others')
         for user in USERS:
-            with self.subTest(user=user):
-                ended = run(*user, *self.command('sh', '-c', script, 'sh', pries))
-                self.ends(ended, 0, b'2\nend\n', b'')
-        if IS_ROOT:
-            self.ends(self.model(*NOBODY, pries, '1', '2'), 0, b'end\n', b'')
+            for inside in [(), NOBODY] if IS_ROOT and not user else [()]:
+                with self.subTest(user=user, inside=inside):
+                    ended = run(*user, *self.command(*inside, 'sh', '-c', script, 'sh', pries))
+                    self.assertEqual(ended.out, b'NoNewPrivs:\t1\nSeccomp:\t2\nend\n', ended)
 
     def test_files_of_devices(self):
         # a device has its streams and its subsystem file
