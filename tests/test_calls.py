@@ -79,7 +79,7 @@ class Paths(CallCase):
             place = self.folder / f'place{len(user)}'
             script = FILL + 'python3 "$1" "$2"; ' + LOOK
             command = self.command('sh', '-c', script, 'sh', self.program('openat2.py'), place)
-            self.ends(run(*user, *command), 0, b'215 0 4608\n4608 same\n', b'')
+            self.ends(run(*user, *command), 0, b'211 0 4608\n4608 same\n', b'')
 
     def test_old_programs(self):
         # (-1 is the ioctl by which a terminal would get a character)
@@ -88,7 +88,8 @@ class Paths(CallCase):
             made = process_folder() / f'old{bits}'
             ended = run('gcc', f'-m{bits}', *WARNINGS, '-nostdlib', '-static', '-fno-pic', '-no-pie', '-fno-stack-protector',
                         '-o', made, PROGRAMS / 'old_calls.c')
-            if ended.status != 0 or run(made).status != 0:
+            # (outside, it would change a node of this machine)
+            if ended.status != 0 or run(*self.command(made)).status in (126, 139):
                 self.skipTest(f'programs of {bits} bits can make no call of 32 bits here')
             script = FILL + '"$1" < /dev/nvme0n3; echo; ' + LOOK + 'cat /sys/block/nvme0n1/ro'
             for user in USERS:

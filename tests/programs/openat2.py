@@ -27,15 +27,15 @@ def layout(flags=0, mode=0, resolve=0, rest=b''):
 
 
 os.makedirs(f'{PLACE}/folder')
-for name, target in ('file', NODE), ('other', f'{PLACE}/folder/file'):
+for name, target in ('file', NODE), ('other', f'{PLACE}/folder/nvme0n3'):
     os.symlink(target, f'{PLACE}/{name}')
-open(f'{PLACE}/folder/file', 'w').close()
-node, file = os.open(NODE, os.O_RDONLY), os.open(f'{PLACE}/folder/file', os.O_RDONLY)
+open(f'{PLACE}/folder/nvme0n3', 'w').close()
+node, file = os.open(NODE, os.O_RDONLY), os.open(f'{PLACE}/folder/nvme0n3', os.O_RDONLY)
 here = -100
 # Each path has two forms, for the node and for the file, with a folder for each.
-paths = {'whole': (here, NODE, here, f'{PLACE}/folder/file'), 'link': (here, f'{PLACE}/file', here, f'{PLACE}/other'),
-         'name': (os.open('/dev', os.O_RDONLY), 'nvme0n3', os.open(f'{PLACE}/folder', os.O_RDONLY), 'file'),
-         'root': (os.open('/dev', os.O_RDONLY), '/nvme0n3', os.open(f'{PLACE}/folder', os.O_RDONLY), '/file'),
+paths = {'whole': (here, NODE, here, f'{PLACE}/folder/nvme0n3'), 'link': (here, f'{PLACE}/file', here, f'{PLACE}/other'),
+         'name': (os.open('/dev', os.O_RDONLY), 'nvme0n3', os.open(f'{PLACE}/folder', os.O_RDONLY), 'nvme0n3'),
+         'root': (os.open('/dev', os.O_RDONLY), '/nvme0n3', os.open(f'{PLACE}/folder', os.O_RDONLY), '/nvme0n3'),
          'own': (here, f'/proc/self/fd/{node}', here, f'/proc/self/fd/{file}')}
 whole = layout(WRITING)
 hows = [(whole, size) for size in (0, 1, 8, 23, 24)] + [(layout(WRITING, rest=bytes(5000)), size)
@@ -51,10 +51,13 @@ hows += [(layout(WRITING, 0, resolve), 24) for resolve in (NO_XDEV, NO_MAGIC, NO
 count = 0
 for name, (folder, path, other_folder, other) in paths.items():
     for how, size in hows:
+        # (no file is made in the root folder of this machine)
+        if name == 'root' and how and struct.unpack('<Q', how[:8])[0] & os.O_CREAT:
+            continue
         results = opened(folder, path, how, size), opened(other_folder, other, how, size)
         count += 1
         # (a node is in another mount than the root, and so is the file only in some places)
         is_mount = how and len(how) >= 24 and struct.unpack('<Q', how[16:24])[0] & NO_XDEV
         if results[0] != results[1] and not (is_mount and results[0] == 'EXDEV'):
             print(name, size, how and how[:24].hex(), *results)
-print(count, os.stat(PLACE + '/folder/file').st_size, os.lseek(node, 0, 2))
+print(count, os.stat(PLACE + '/folder/nvme0n3').st_size, os.lseek(node, 0, 2))
