@@ -162,7 +162,7 @@ NVME_AT(nvme_completion_entry, status_and_phase, 14);
 struct nvme_identify_controller {
     uint16_t vid;
     uint16_t ssvid;
-    char sn[20];                               /* this and all texts: filled up with spaces, without a zero byte */
+    char sn[20];                               /* this, mn and fr: filled up with spaces, without a zero byte */
     char mn[40];
     char fr[8];
     uint8_t rab;

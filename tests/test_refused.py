@@ -62,6 +62,34 @@ class EachAllocation(Refusing):
         self.each('nvme_device', *self.other_file, source=self.request)
 
 
+class AllocationsOfCommands(Refusing):
+    subsystem = b"""version = 1
+nn = 64
+tnvmcap = 64
+subnqn = "nqn.2026-11.org.example:allocations"
+[[format]]
+lbads = 9
+[[controller]]
+cntlid = 1
+sn = "1"
+mn = "M"
+fr = "1.0"
+"""
+
+    def of_ten_lines(self, namespaces):
+        """Returns how often ten lines allocate that list this number of namespaces, after ten such lines."""
+        each = b'[[namespace]]\nnsid = %d\nformat = 0\nbytes = 512\ncontrollers = [1]\n'
+        of = self.file('many.toml', self.subsystem.replace(b'tnvmcap = 64', b'tnvmcap = %d' % (512 * namespaces))
+                       + b''.join(each % nsid for nsid in range(1, namespaces + 1)))
+        first, both = (self.whole('nvme_script', '--subsystem', of, source=b'list\n' * lines)[1] for lines in (10, 20))
+        return both - first
+
+    def test_of_admin_all(self):
+        # `list` sends the commands of a controller's namespaces by `admin_all`, sixteen at a time. The texts of 33 and
+        # of 64 namespaces grow in as many steps, so the only other difference is 31 commands and a call
+        self.assertEqual(self.of_ten_lines(33), self.of_ten_lines(64))
+
+
 class MemoryHeld(Refusing):
     def holds_as_much(self, crate, line):
         _, _, of_few = self.whole(crate, source=line * 10)
