@@ -330,6 +330,18 @@ static int finish_by_file(const union notice *notice, int file, int flags) {
     return result;
 }
 
+/* Returns the row of a call, or NULL if it is an ioctl. */
+static const struct handed_call *row_of(const struct seccomp_data *data) {
+    int is_old = data->arch != AUDIT_ARCH_X86_64;
+    for (const struct handed_call *row = handed_calls; row < handed_calls + HANDED_CALLS; row++)
+        if ((is_old ? row->old_number : row->number) == data->nr)
+            return row;
+    return NULL;
+}
+
+/* (the kernel would take a node for a file) */
+void refuse_call(const union notice *notice) { finish_call(notice, row_of(&notice->got.data) ? NOT_OURS : -EAGAIN); }
+
 /* (a process that is gone by now may have left its number to another one) */
 void answer_call(const union notice *notice) {
     const struct seccomp_data *data = &notice->got.data;
@@ -339,13 +351,13 @@ void answer_call(const union notice *notice) {
                         .is_old = data->arch != AUDIT_ARCH_X86_64,
                         .request = (uint32_t)data->args[1],
                         .argument = data->args[2]};
-    const struct handed_call *row = handed_calls, *end = handed_calls + HANDED_CALLS;
+    const struct handed_call *row = row_of(data);
     int flags = 0, result = NOT_OURS;
-    while (row < end && (call.is_old ? row->old_number : row->number) != data->nr)
-        row++;
-    if (act_as_caller(&call) && is_alive(notice))
-        result = row == end ? answer_ioctl(&call) : answer_row(&call, row, data->args, &flags);
-    int is_file = row < end && row->path >= 0 && result >= 0;
+    int is_ours = act_as_caller(&call);
+    begin_call();
+    if (is_ours && is_alive(notice))
+        result = row ? answer_row(&call, row, data->args, &flags) : answer_ioctl(&call);
+    int is_file = row && row->path >= 0 && result >= 0;
     if (is_file)
         result = finish_by_file(notice, result, flags);
     if (!is_file || result < 0)

@@ -17,7 +17,7 @@
 #include <unistd.h>
 
 /* Helpers that stay, and the most at one time. Those above the usual number take one call each. */
-enum { USUAL_HELPERS = 8, MOST_HELPERS = 64 };
+enum { USUAL_HELPERS = 8, MOST_HELPERS = 256 };
 
 struct helper {
     pid_t process;               /* 0 if there is none */
@@ -27,11 +27,11 @@ struct helper {
     struct request_header request;
     struct answer_header answer;
     union notice notice;
-    unsigned char data[MOST_DATA];
 };
 
 static pid_t launcher;                /* the process that gives calls to helpers */
 static struct helper *helpers, *self; /* (`self` only in a helper) */
+static unsigned char *all_data;       /* room for the data of each helper's request */
 static int at_end = -1;               /* where a helper that has nothing to do tells it, if it waits for one */
 static int asks[MOST_DEVICES];        /* where keepers are told that there is a request */
 
@@ -89,6 +89,8 @@ void *share(size_t size) {
 static void tell(int file) { (void)!write(file, &(uint64_t){1}, sizeof(uint64_t)); }
 static void hear(int file) { (void)!read(file, &(uint64_t){0}, sizeof(uint64_t)); }
 
+static void *data_of(const struct helper *helper) { return all_data + (helper - helpers) * (ptrdiff_t)MOST_DATA; }
+
 /* ---- keepers */
 
 /* Returns the helper whose request to a device came first, or NULL. */
@@ -109,7 +111,7 @@ static void serve(struct device *device) {
         if (request.kind == KIND_SCAN)
             scan(device, request.controller, request.length);
         else
-            helper->result = carry_out(&request, helper->data, &helper->answer);
+            helper->result = carry_out(&request, data_of(helper), &helper->answer);
         store(&helper->answered, helper->asked);
     }
 }
@@ -162,9 +164,11 @@ int ask_keeper(const struct request_header *header, struct answer_header *answer
     return self->result;
 }
 
-void *own_data(void) { return self->data; }
+void *own_data(void) { return data_of(self); }
 
 /* ---- helpers */
+
+void begin_call(void) { self->begun = self->given; }
 
 /* Answers calls, one after another. */
 __attribute__((noreturn)) static void help(struct helper *helper) {
@@ -172,7 +176,6 @@ __attribute__((noreturn)) static void help(struct helper *helper) {
     begin_process();
     for (;;) {
         await_change(&helper->given, helper->done);
-        helper->begun = helper->given;
         answer_call(&helper->notice);
         store(&helper->done, helper->given);
         if (load(&shared->is_awaited))
@@ -227,7 +230,7 @@ static int give_call(int is_late) {
     if (!receive_call(helper ? &helper->notice : &spare))
         return 1;
     if (!helper) {
-        finish_call(&spare, NOT_OURS);
+        refuse_call(&spare);
         drop_helpers();
     } else if (helper->process > 0)
         store(&helper->given, helper->given + 1);
@@ -277,6 +280,7 @@ void replace(pid_t process, int how) {
 void begin_helpers(void) {
     launcher = getpid();
     helpers = share(MOST_HELPERS * sizeof *helpers);
+    all_data = share((size_t)MOST_HELPERS * MOST_DATA);
     shared = share(sizeof *shared);
     at_end = eventfd(0, EFD_CLOEXEC | EFD_NONBLOCK);
     for (unsigned at = 0; at < device_count; at++)

@@ -55,8 +55,11 @@ static const char *trace_file;
 static uint64_t limit;
 static mode_t creation_mask; /* of the command's files */
 
-/* Kills the devices and the processes that work for the launcher, which have nothing to clean up. */
+/* Kills the devices and the processes that work for the launcher, which have nothing to clean up, and in a sandbox all
+   others, whose calls nobody answers any more. */
 static void end_devices(void) {
+    if (has_sandbox && getpid() == 1)
+        kill(-1, SIGKILL);
     end_helpers();
     for (struct device *device = devices; device < devices + device_count; device++) {
         device->is_lost = 1;

@@ -108,12 +108,13 @@ union notice {
 };
 enum { NOT_OURS = -10000 };
 
-/* calls.c: receives a call that waits, and returns whether there was one; answers one, in a helper; and tells whether
-   the process still waits, and gives it a result. */
+/* calls.c: receives a call that waits, and returns whether there was one; answers one, in a helper; tells whether the
+   process still waits; gives it a result; and does so if there is no helper. */
 int receive_call(union notice *notice);
 void answer_call(const union notice *notice);
 int is_alive(const union notice *notice);
 void finish_call(const union notice *notice, int result);
+void refuse_call(const union notice *notice);
 
 /* helpers.c: begins with helpers and keepers, and ends them; waits some milliseconds at most for a call, which is given
    to a helper, or for a signal, and returns 0 if none came; and replaces a helper or keeper that was killed, and lets
@@ -123,10 +124,12 @@ void end_helpers(void);
 unsigned await_call(int signals);
 void replace(pid_t process, int how);
 
-/* helpers.c: memory that all these processes share; and in a helper, room for data and a request to the keeper of a
+/* helpers.c: memory that all these processes share; and in a helper, the beginning of a call (a helper that is killed
+   before is replaced, because it had another caller's identity), room for data, and a request to the keeper of a
    controller's device, which returns -1 if the device is gone. The request may also be a scan of controllers. */
 enum { KIND_SCAN = 0xffff };
 void *share(size_t size);
+void begin_call(void);
 void *own_data(void);
 int ask_keeper(const struct request_header *header, struct answer_header *answer);
 

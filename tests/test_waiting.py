@@ -1,0 +1,181 @@
+"""Tests that nothing that a command does makes the launcher wait: file systems and memory that don't answer, stopped and
+killed processes, and limits. Other calls go on, and a signal ends everything. Each is tried as root and as another user,
+as far as these can make such file systems."""
+
+import os
+import re
+import signal
+import subprocess
+import time
+import unittest
+
+from tests.modelled import PARTS, PROGRAMS, WARNINGS, ModelCase, compiled_c, installed, process_folder, works
+from tests.support import Running, environment, program, run, until
+
+IS_ROOT = os.geteuid() == 0
+NOBODY = 'setpriv', '--reuid=65534', '--regid=65534', '--clear-groups'
+USERS = [(), NOBODY] if IS_ROOT else [()]
+# Gives a place where everybody can open /dev/fuse.
+EVERYBODY = ('unshare', '-m', 'sh', '-c', 'mount -t tmpfs fuse /mnt && mknod -m 666 /mnt/fuse c 10 229 && '
+             'mount --bind /mnt/fuse /dev/fuse && umount -l /mnt && exec "$@"', 'sh')
+NESTED = 'unshare', '-Urm'
+# What other processes do meanwhile: calls that are answered, and one that a device answers.
+OTHERS = ('for i in 1 2 3 4 5 6 7 8 9 10; do echo $i > "$2/file-$(id -u)"; done; cat "$2/file-$(id -u)"; '
+          'nvme id-ctrl /dev/nvme0 2> /dev/null | grep -c "^sn .*S0"; ')
+
+
+class WaitingCase(ModelCase):
+    def setUp(self):
+        super().setUp()
+        self.needs('nvme')
+        self.folder.chmod(0o777)
+
+    def begun(self, user, script, *words, options=(), outside=()):
+        """Starts a script over the demonstration file, and waits until it says `go`."""
+        command = self.command('sh', '-c', script, 'sh', *words, options=options)
+        running = Running(*outside, *user, *command)
+        self.addCleanup(running.process.kill)
+        running.comes(b'go\n', 60)
+        return running
+
+    def ends_by_signal(self, running, limit=20):
+        """Ends a command by SIGTERM, and returns its output."""
+        begun = time.monotonic()
+        running.process.terminate()
+        ended = running.end(limit)
+        self.assertEqual(ended.status, 143, ended)
+        self.assertLess(time.monotonic() - begun, limit, ended)
+        self.leaves_nothing()
+        return ended.out
+
+
+def ways():
+    """Returns pairs of a user and another one inside who can mount a file system of its own."""
+    if not IS_ROOT:
+        return [((), ())] if os.access('/dev/fuse', os.R_OK | os.W_OK) and works(*NESTED) else []
+    return [(NOBODY, ()), ((), NOBODY)] if os.path.exists('/dev/fuse') and works(*NOBODY, *NESTED) else []
+
+
+@unittest.skipUnless(ways(), 'no file system of its own can be mounted by a user here')
+class Hung(WaitingCase):
+    def setUp(self):
+        super().setUp()
+        self.fuse = process_folder() / 'fuse'
+        if not self.fuse.exists():
+            subprocess.run(['cc', *WARNINGS, '-o', self.fuse, PROGRAMS / 'fuse.c'], check=True)
+        self.log = self.file('log', b'')
+        self.log.chmod(0o666)
+        (self.folder / 'm').mkdir(mode=0o777)
+        (self.folder / 'm').chmod(0o777)
+
+    def mounted(self, script, rest, way, words=()):
+        """Starts a script in a user namespace with a file system in $1, and then another one outside of that."""
+        user, inside = way
+        nested = ' '.join(inside) + f' unshare -Urm sh -c \'"$0" "$1" "$3" && {script}\' "{self.fuse}" "$@" & '
+        return self.begun(user, nested + rest, self.folder / 'm', self.folder, self.log, *words,
+                          options=['--device', '/dev/fuse'], outside=EVERYBODY if IS_ROOT else ())
+
+    def test_writers(self):
+        # the server makes calls that are answered before it answers, while four writers make files
+        script = ('for k in 1 2 3 4; do (for i in $(seq 25); do echo x > "$1/w$k-$i" || echo failed; done) & done; wait; '
+                  'for k in 1 2 3 4; do test -e "$1/w$k-25" || echo missing; done; echo go')
+        for way in ways():
+            with self.subTest(way=way):
+                out = self.ends_by_signal(self.mounted(script, 'sleep 100', way))
+                self.assertEqual(out, b'ready\ngo\n')
+
+    def test_paths(self):
+        # more opens that hang than there are helpers at most
+        for count in 20, 300:
+            script = f'for i in $(seq {count}); do (: > "$1/hangs") & done; sleep 2; : > "$2/started"; wait'
+            rest = 'until test -e "$2/started"; do sleep 0.1; done; ' + OTHERS + 'rm "$2/started"; echo go; sleep 100'
+            for way in ways():
+                with self.subTest(count, way=way):
+                    out = self.ends_by_signal(self.mounted(script, rest, way), 60)
+                    # (with so many, an ioctl is told to be made again)
+                    self.assertIn(out, (b'ready\n10\n1\ngo\n', *[b'ready\n10\n0\ngo\n'] * (count == 300)))
+
+    def test_memory(self):
+        script = 'python3 "$4" "$1/memory" 12'
+        rest = 'sleep 2; ' + OTHERS + 'echo go; sleep 100'
+        for way in ways():
+            with self.subTest(way=way):
+                copy = self.file('hung_memory.py', (PROGRAMS / 'hung_memory.py').read_bytes())
+                out = self.ends_by_signal(self.mounted(script, rest, way, [copy]))
+                self.assertEqual(out, b'ready\nmade\n10\n1\ngo\n')
+
+
+class Processes(WaitingCase):
+    def test_stopped_device(self):
+        # calls of its controllers wait, and all others go on
+        script = ('kill -STOP 2; nvme id-ctrl /dev/nvme0 > /dev/null & (echo 1 > /sys/class/nvme/nvme0/rescan_controller) 2> /dev/null & '
+                  'sleep 0.3; '
+                  + OTHERS.replace('nvme0', 'nvme2') + 'head -c 3 /dev/nvme0n1 | wc -c; echo go; sleep 100')
+        for user in USERS:
+            with self.subTest(user=user):
+                running = self.begun(user, script, 'x', self.folder, options=['--subsystem', self.subsystem])
+                self.assertEqual(self.ends_by_signal(running), b'10\n1\n3\ngo\n')
+
+    def test_it_goes_on(self):
+        script = 'kill -STOP 2; (nvme id-ctrl /dev/nvme0 | grep -c S0) & sleep 0.3; echo go; kill -CONT 2; wait'
+        for user in USERS:
+            self.ends(self.begun(user, script).end(60), 0, b'go\n1\n')
+
+    def test_stopped_and_killed_helpers(self):
+        # (the first child of the launcher is the device, and the second one the command)
+        helpers = '$(cat /proc/1/task/1/children | cut -d " " -f 3-)'
+        # (a keeper that is killed takes its device with it)
+        for name, there in ('STOP', 1), ('SEGV', 0), ('KILL', 0):
+            script = f'kill -{name} {helpers}; sleep 0.2; {OTHERS} kill -{name} {helpers}; {OTHERS} echo go; sleep 100'
+            for user in USERS:
+                with self.subTest(name, user=user):
+                    out = self.ends_by_signal(self.begun(user, script, 'x', self.folder))
+                    said = b'nvme-model: the device ended, or answered what was not asked\n' * (there == 0)
+                    self.assertEqual(sorted(out.splitlines()), sorted((said + b'10\n%d\n' % there * 2 + b'go\n').splitlines()))
+
+    @unittest.skipUnless(IS_ROOT, 'root alone can become another user')
+    def test_helpers_of_users(self):
+        # a user inside can signal a helper that acts for it, but others' calls go on
+        script = ('setpriv --reuid=65534 --regid=65534 --clear-groups sh -c \'(while :; do for p in $(cat /proc/1/task/1/children); do '
+                  'kill -STOP $p; kill -KILL $p; done; echo x > "$2/file-65534"; done) 2> /dev/null\' sh "$@" & sleep 0.5; '
+                  + OTHERS * 3 + 'echo go; sleep 100')
+        running = self.begun((), script, 'x', self.folder)
+        self.assertEqual(self.ends_by_signal(running), b'10\n1\n' * 3 + b'go\n')
+
+    def test_limits(self):
+        # process 1 takes no turn in vain, and ends with the command
+        spent = 'cut -d " " -f 14,15 /proc/1/stat | tr " " +'
+        for limit in 'nofile=0:0', 'nproc=0:0', 'fsize=0:0', 'nofile=1:1', 'cpu=600:600':
+            script = (f'prlimit --pid 1 --{limit}; a=$(({"$"}({spent}))); sleep 1; b=$(({"$"}({spent}))); test $((b - a)) -lt 30 || '
+                      f'echo $a $b; echo go; test -z "$1" || sleep 100; exit 5')
+            for user in USERS:
+                with self.subTest(limit, user=user):
+                    self.assertEqual(self.ends_by_signal(self.begun(user, script, 'x')), b'go\n')
+                    self.ends(self.begun(user, script, '').end(20), 5, b'go\n')
+
+    def test_many_changes(self):
+        # more files are written than the kernel tells while a keeper waits; a node that became longer gets its length
+        script = ('import ctypes, os, sys, time\n'
+                  'call, device = ctypes.CDLL(None).syscall, 2\n'
+                  'os.kill(device, 19)\n'
+                  'if os.fork() == 0:\n'
+                  '    os.execlp("nvme", "nvme", "reset", "/dev/nvme0")\n'
+                  'time.sleep(0.5)\n'
+                  'for number in range(10000):\n'
+                  '    for name in "/dev/one", "/dev/other":\n'
+                  '        os.close(os.open(name, os.O_WRONLY | os.O_CREAT))\n'
+                  'node = os.open("/dev/nvme0n3", os.O_RDWR)\n'
+                  'call(18, node, b"x", 1, 9999)\n'
+                  'os.close(node)\n'
+                  'print(os.lseek(os.open("/dev/nvme0n3", 0), 0, 2))\n'
+                  'os.kill(device, 18)\n'
+                  'os.wait()\n'
+                  'time.sleep(0.5)\n'
+                  'print(os.lseek(os.open("/dev/nvme0n3", 0), 0, 2))\n')
+        for user in USERS:
+            with self.subTest(user=user):
+                self.ends(run(*user, *self.command('python3', '-c', script)), 0, b'10000\n4608\n', b'')
+
+
+if __name__ == '__main__':
+    unittest.main()
