@@ -9,7 +9,7 @@ import sys
 import time
 import unittest
 
-from tests.modelled import PROGRAMS, WARNINGS, ModelCase, process_folder, static_program, works
+from tests.modelled import PARTS, PROGRAMS, WARNINGS, ModelCase, compiled_c, installed, process_folder, static_program, works
 from tests.support import environment, run
 
 IS_ROOT = os.geteuid() == 0
@@ -208,6 +208,21 @@ class Groups(CallCase):
         for user in USERS:
             ended = run(*user, *self.command('python3', '-c', calls))
             self.ends(ended, 0, b'EINVAL\n0\nEINVAL\nEINVAL\n0\n0\n0\n', b'')
+
+
+class Random(CallCase):
+    def test_sanitized(self):
+        # the address sanitizer looks on while thousands of processes make calls with addresses and texts of all kinds
+        sanitizers = '-fsanitize=address,undefined', '-fno-sanitize-recover=all'
+        launcher = compiled_c(self.folder / 'bin/nvme-model', PARTS['bin/nvme-model'], *sanitizers)
+        shutil.copytree(installed().parents[1] / 'lib', self.folder / 'lib')
+        script = '"$1" $2 10000 "$3"; nvme list-ns /dev/nvme0 > /dev/null; echo $?'
+        for seed, user in enumerate(USERS):
+            (self.folder / f'place{seed}').mkdir()
+            (self.folder / f'place{seed}').chmod(0o777)
+            ended = run(*user, launcher, '--subsystem', self.subsystem, 'sh', '-c', script, 'sh', static_program('random_calls'),
+                        str(seed), self.folder / f'place{seed}', env={'ASAN_OPTIONS': 'verify_asan_link_order=0:detect_leaks=0'})
+            self.ends(ended, 0, b'end\n0\n', b'')
 
 
 class Times(CallCase):
