@@ -11,7 +11,11 @@ use Rattle.nv_driver.proofs.Words.{IsQuiet, IsReady, KeepsBelow, PagedBytes, Que
 use Rattle.nv_driver.proofs.Words.{bank_at, cases_eq, cases_lt, driver_value, end_of, get_or-map, get_or-set_same}
 use Rattle.nv_driver.proofs.Words.{get_or_default, idle_bank, length-map, mps_of, mul-le-mul_right, new_bank}
 use Rattle.nv_driver.proofs.Words.{pair_value, side, slice_set}
+use Rattle.nv_driver.specs.BringingUp.{Write}
 use Rattle.nv_driver.specs.Driver.{IsPlaced, after_commands, pair_at, no_pair}
+use Rattle.nv_driver.specs.Passing.{BusTurn, TailWrite}
+use Rattle.nv_driver.specs.Sending.{Sends, SendsAll}
+use Rattle.nv_driver.proofs.Words.{Command, World, run_of}
 use Rattle.nv_driver.specs.Linked.{IsLinked}
 use Rattle.nv_driver.specs.Layout.{pages_of_command, set_pages}
 use Rattle.nv_driver.specs.Registers.{banks_of}
@@ -59,6 +63,22 @@ module _ {g : Geometry} {mem : PagedBytes} {ls : List QueuePairFields} {d : Driv
   -- the geometry of the queue pair is the driver's
   pub shape_at : l.geometry ≡ g
   shape_at = ap (λ (v : QueuePair). v.geometry) placed_at
+
+  -- commands that were sent over the queue pair were sent over the driver's
+  pub sends_by : {B : Type 0} {wrote : Write B} {rang : TailWrite B} {turned : BusTurn B} {b : BusValue}
+      {bytes : List ℕ}
+      {commands : List Command} {old new : B} {last : World} → IsQuiet l
+      → SendsAll wrote rang turned (run_of l.geometry c b l bytes commands) old new last
+      → Sends wrote rang turned d c commands b old new
+  sends_by {wrote = wrote} {rang} {turned} {b} {bytes} {commands} {old} {new} {last} quiet steps = record {
+    pair = l;
+    bytes = bytes;
+    last = last;
+    quiet = quiet;
+    own = sym pair_is;
+    steps = subst (λ q. SendsAll wrote rang turned (run_of q c b l bytes commands) old new last)
+        (shape_at ∙ ap (λ (v : DriverValue). v.geometry) value) steps;
+  }
 
   -- what a call leaves by the queue pair's geometry is left by the driver's
   pub left_at : {end : ℕ} {next : QueuePair} {old new : Side} → IsLeft l.geometry c end next old new

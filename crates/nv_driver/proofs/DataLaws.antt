@@ -1,5 +1,5 @@
 -- The data of a command: none, a page from the host, or up to 16,384 bytes from the controller.
-use Rattle.std.proofs.Common.{◌≡◌, ◌∙◌, ◌*◌, ◌<◌, ◌≤◌, ℕ, Bool, true, false, List, [], ◌∷◌, ◌++◌, ap, append-nil, arith}
+use Rattle.std.proofs.Common.{◌≡◌, ◌∙◌, ◌*◌, ◌<◌, ◌≤◌, ℕ, true, List, [], ◌∷◌, ◌++◌, ap, append-nil, arith}
 use Rattle.std.proofs.Common.{◌+◌, drop, get_or, length, length-drop, lit<, lit≤, refl, subst, sym, take}
 use Rattle.std.proofs.lemmas.List.{drop-append-le, take-append-le, take_all}
 use Rattle.nv_prp.specs.Place.{read_at, written_at}

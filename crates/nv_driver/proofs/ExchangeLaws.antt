@@ -9,19 +9,19 @@ use Rattle.nv_bus.specs.Call.{asked_by, data_places}
 use Rattle.nv_driver.proofs.Words.{Answer, AreOutside, Asked, BusValue, Cqe, Delivers, Geometry, HasFreeSlot}
 use Rattle.nv_driver.proofs.Words.{IsAnswered, IsBus, IsOnWay, IsPlaceFor, IsReady, IsRequest, IsSubmittedAt, IsTold}
 use Rattle.nv_driver.proofs.Words.{KeepsBelow, QueuePairFields, RequestPlace, Run, Sent, Setting, Sqe, SqeFits}
-use Rattle.nv_driver.proofs.Words.{awaited_completion, bank_at, collected_one, entry, greatest_limit, known_to, length_of}
-use Rattle.nv_driver.proofs.Words.{limit_bounds, limit_of, mul-le-mul_right, numbered, padded, pages_of_entry, places}
-use Rattle.nv_driver.proofs.Words.{pair_value, place_from, received_from, run_of, sent_at, sent_for, setting_of, side}
-use Rattle.nv_driver.proofs.Words.{slice_set, step_of, transfer_for, way, with_register_at}
+use Rattle.nv_driver.proofs.Words.{awaited_completion, bank_at, collected_one, entry, greatest_limit, known_to}
+use Rattle.nv_driver.proofs.Words.{length_of, limit_bounds, limit_of, mul-le-mul_right, numbered, padded}
+use Rattle.nv_driver.proofs.Words.{pages_of_entry, pair_value, place_from, places, received_from, run_of, sent_at}
+use Rattle.nv_driver.proofs.Words.{sent_for, setting_of, side, slice_set, step_of, transfer_for, way, with_register_at}
 use Rattle.nv_queue.specs.Numbers.{next, slot_of}
 use Rattle.nv_queue.specs.Slots.{submission_at}
 use Rattle.nv_driver.specs.BringingUp.{Write}
-use Rattle.nv_driver.specs.Passing.{BusTurn, HoldsEntry, Passes}
+use Rattle.nv_driver.specs.Passing.{BusTurn, HoldsEntry, Passes, TailWrite}
 use Rattle.nv_driver.specs.inner.Alone.{IsAlone, IsExchanged, came_with, request_in}
 use Rattle.nv_driver.specs.Alone.{Comes, IsReceived, asked_in, entry_step}
 use Rattle.nv_driver.specs.Layout.{data_count}
 use Rattle.nv_driver.specs.Request.{request_for}
-use Rattle.nv_driver.specs.Schedule.{Event, World, bytes_read}
+use Rattle.nv_driver.specs.Schedule.{Doing, bytes_read}
 use Rattle.nv_driver.specs.UnderWay.{Course, world_of}
 use Rattle.nv_driver.proofs.Words.{Bell, Collect, Submit, Tell, Turn}
 use Rattle.nv_driver.specs.HostData.{sent_by}
@@ -58,9 +58,9 @@ comes_by (Ok k) (Err refused) status bytes is sound delivered = rw (is, sound.1)
 comes_by (Err code) (Ok reply) status bytes is sound delivered = absurd sound
 comes_by (Err code) (Err refused) status bytes is sound delivered = rw (is, sound.1) refl
 
--- any event may be due
-abbrev pub ever : World → Event → Type 0
-ever w e = Unit {0}
+-- nothing is said of an event
+abbrev pub ever : Doing (Unit {0})
+ever e w w' old new = Unit {0}
 
 -- an entry was submitted over a queue pair without outstanding commands, with its data at a place after the queue
 -- pair whose first page is the list's
@@ -104,23 +104,23 @@ module _ {g : Geometry} {bus : BusValue} {c : ℕ} {l : QueuePairFields} {bytes 
   one_sent = record { sent = sent ∷ []; answers = []; events = Turn 1 ∷ Bell ∷ Submit sent ∷ [] }
 
   -- the request was submitted
-  submitted : IsOnWay ever (way run (record { sent = sent ∷ []; answers = []; events = Submit sent ∷ [] }) 0 0 0) bus l'
-      now1 mem
-  submitted = submits_on (begins {due = ever} [] ready) b.sub can b.place b.first (omega (arith, b.last))
+  submitted : IsOnWay ever tt (way run (record { sent = sent ∷ []; answers = []; events = Submit sent ∷ [] }) 0 0 0) bus
+      tt l' now1 mem
+  submitted = submits_on (begins {doing = ever} {start = tt} [] ready) b.sub can b.place b.first (omega (arith, b.last))
       (omega (arith, ready.laid.deep.0)) (λ n d from below. absurd (omega arith)) tt
 
   -- the tail doorbell was rung for it, and the controller had a turn, which took it
-  pub took : {now2 value count : ℕ} {one two : BusValue} {mem2 : List ℕ} → value ≡ tail → one.state ≡ bus.state
-      → one.banks ≡ slice_set bus.banks c (with_register_at (bank_at bus.banks c) 0x1000 value)
+  pub took : {now2 count : ℕ} {one two : BusValue} {mem2 : List ℕ} → one.state ≡ bus.state
+      → one.banks ≡ slice_set bus.banks c (with_register_at (bank_at bus.banks c) 0x1000 tail)
       → (IsBus bus → IsBus one) → T.Turn now1 c 1 count one mem two mem2 → IsBus two → length mem2 ≡ length mem
-      → now2 ≡ now1 → IsOnWay ever (way run one_sent 1 1 0) two l' now2 mem2 × (count ≡ 1)
-  took {now2} {count = count} {two = two} {mem2 = mem2} put state banks rung turn lawful size page =
-      let begin = begins {due = ever} [] ready in
-      let next = turned (rings submitted refl (put ∙ W.tail_after begin b.sub.tail) state banks rung tt) refl refl turn
-      lawful size page tt in
+      → now2 ≡ now1 → IsOnWay ever tt (way run one_sent 1 1 0) two tt l' now2 mem2 × (count ≡ 1)
+  took {now2} {count = count} {two = two} {mem2 = mem2} state banks rung turn lawful size page =
+      let begin = begins {doing = ever} {start = tt} [] ready in
+      let next = turned (rings submitted {on' = tt} refl (W.tail_after begin b.sub.tail) state banks rung tt)
+      {on' = tt} refl refl turn lawful size page tt in
       let deep = ready.laid.deep in
       let one : count ≡ 1 = omega (arith, next.1, deep.0) in
-      (subst (λ n. IsOnWay ever (way run one_sent 1 n 0) two l' now2 mem2) (omega (arith, one)) next.0, one)
+      (subst (λ n. IsOnWay ever tt (way run one_sent 1 n 0) two tt l' now2 mem2) (omega (arith, one)) next.0, one)
 
   -- ---- its calls
 
@@ -149,34 +149,37 @@ module _ {g : Geometry} {bus : BusValue} {c : ℕ} {l : QueuePairFields} {bytes 
   head_next q first =
       let quiet = ready.quiet in
       ap (λ (o : QueuePairFields). slot_of o.completion.depth o.completion.collected) first
-      ∙ ap (λ (o : QueuePairFields). slot_of o.completion.depth (next o.completion.depth o.completion.collected)) b.sub.pair
+      ∙ ap (λ (o : QueuePairFields). slot_of o.completion.depth (next o.completion.depth o.completion.collected))
+      b.sub.pair
       ∙ ap (λ n. slot_of n (next n l.completion.collected)) quiet.depth
       ∙ ap (λ n. slot_of l.submission.depth (next l.submission.depth n)) quiet.collected
 
   -- the entry was passed through call by call
-  pub passes : {B : Type 0} (wrote : Write B) (took_turn : BusTurn B) (q : ℕ) {old rung taken new : B} {value count : ℕ}
-      {mem2 : List ℕ} {l1 : QueuePairFields} → value ≡ tail → wrote old c 0x1000 value rung → count ≡ 1
-      → took_turn rung mem c 1 count taken mem2
+  pub passes : {B : Type 0} (wrote : Write B) (rang : TailWrite B) (took_turn : BusTurn B) (q : ℕ)
+      {old rung taken new : B} {count : ℕ} {mem2 : List ℕ} {l1 : QueuePairFields} → wrote old c 0x1000 tail rung
+      → rang old mem rung → count ≡ 1 → took_turn rung mem c 1 count taken mem2
       → l1 ≡ record l' { submission = known_to l'.submission q; completion = collected_one l'.completion }
       → (l1.completion.untold ≡ true → wrote taken c 0x1004 (slot_of l1.completion.depth l1.completion.collected) new)
-      → Passes wrote took_turn c (pair_value l) e given old new
-  passes wrote took_turn q {old} {rung} {taken} {new} {mem2 = mem2} put told_tail one turn first told_head = (
-    rung,
-    taken,
-    mem,
-    mem2,
-    subst (λ n. wrote old c 0x1000 n rung) (put ∙ b.sub.tail) told_tail,
-    holds_entry,
-    subst (λ n. took_turn rung mem c 1 n taken mem2) one turn,
-    subst (λ n. wrote taken c 0x1004 n new) (head_next q first)
-        (told_head (ap (λ (o : QueuePairFields). o.completion.untold) first)),
-  )
+      → Passes wrote rang took_turn c (pair_value l) e given old new
+  passes wrote rang took_turn q {old} {rung} {taken} {new} {mem2 = mem2} told_tail rang_tail one turn first
+      told_head = (
+        rung,
+        taken,
+        mem,
+        mem2,
+        subst (λ n. wrote old c 0x1000 n rung) b.sub.tail told_tail,
+        rang_tail,
+        holds_entry,
+        subst (λ n. took_turn rung mem c 1 n taken mem2) one turn,
+        subst (λ n. wrote taken c 0x1004 n new) (head_next q first)
+            (told_head (ap (λ (o : QueuePairFields). o.completion.untold) first)),
+      )
 
   -- ---- the end
 
   -- its completion was collected and reported
   module _ {now2 : ℕ} {two bus' : BusValue} {mem2 : List ℕ} {l1 q' : QueuePairFields} {completion : Cqe}
-      (u : IsOnWay ever (way run one_sent 1 1 0) two l' now2 mem2)
+      (u : IsOnWay ever tt (way run one_sent 1 1 0) two tt l' now2 mem2)
       (awaited : completion ≡ awaited_completion mem2 l'.completion)
       (first : l1 ≡ record l' {
         submission = known_to l'.submission completion.sq_head;
@@ -193,8 +196,8 @@ module _ {g : Geometry} {bus : BusValue} {c : ℕ} {l : QueuePairFields} {bytes 
         record { sent = sent ∷ []; answers = answer_next u one ∷ []; events = Tell ∷ Collect ∷ one_sent.events }
 
     -- the request is on its way with its answer collected and reported
-    on_way : IsOnWay ever (way run one_collected 1 1 1) bus' q' now2 mem2
-    on_way = tells_on (collects_on u one awaited first tt) refl reported tt
+    on_way : IsOnWay ever tt (way run one_collected 1 1 1) bus' tt q' now2 mem2
+    on_way = tells_on (collects_on u one awaited first tt) refl (omega arith) reported tt
 
     -- these events ran from the memory before the request to the one after it, over this controller alone
     alone : IsAlone g c (request_in g c e given at.first (side bus l now bytes) b.sub.prp1 b.sub.prp2)
@@ -268,7 +271,7 @@ module _ {g : Geometry} {bus : BusValue} {c : ℕ} {l : QueuePairFields} {bytes 
 -- a queue pair without outstanding commands has a free slot
 pub has_slot : {g : Geometry} {bus : BusValue} {c : ℕ} {l : QueuePairFields} {bytes : List ℕ} {now : ℕ}
     → IsReady g bus c l now bytes → HasFreeSlot l bytes
-has_slot ready = W.free_slot (W.begins {due = ever} [] ready) (omega (arith, ready.laid.deep.0))
+has_slot ready = W.free_slot (W.begins {doing = ever} {start = tt} [] ready) (omega (arith, ready.laid.deep.0))
 
 -- ---- the place of its data
 

@@ -1,5 +1,5 @@
 -- Requests on their way: what submissions, doorbells, turns and collections leave.
-use Rattle.std.proofs.Common.{[], min, ◌≡◌, ◌∙◌, ℕ, ◌+◌, ◌-◌, ◌*◌, ◌<◌, ◌≤◌, ◌==◌, ◌++◌, ◌∷◌, Bool, List, ap, arith}
+use Rattle.std.proofs.Common.{[], min, ◌≡◌, ◌∙◌, ℕ, ◌+◌, ◌-◌, ◌*◌, ◌<◌, ◌≤◌, ◌==◌, ◌++◌, ◌∷◌, List, ap, arith}
 use Rattle.std.proofs.Common.{false, get_or, inl, length, length-append, not, refl, subst, sym, true}
 use Rattle.std.proofs.Math.ListN.{length-set}
 use Rattle.std.proofs.lemmas.List.{set-get_or, set-set}
@@ -11,17 +11,17 @@ use Rattle.nv_driver.proofs.Words.{Answer, AreApart, Bell, BusValue, Collect, Co
 use Rattle.nv_driver.proofs.Words.{HasFreeSlot, Holds, IsBus, IsLeft, IsOnWay, IsPlaceFor, IsReady, IsRequest}
 use Rattle.nv_driver.proofs.Words.{IsSubmittedAt, IsTold, KeepsBelow, QueuePairFields, RegisterBank, Request}
 use Rattle.nv_driver.proofs.Words.{RequestPlace, Run, Sent, Setting, State, Submit, Tell, Turn, World, after_some}
-use Rattle.nv_driver.proofs.Words.{answer_awaited, awaited_completion, bank_at, bank_with, collected_one, completion_at}
-use Rattle.nv_driver.proofs.Words.{device_rings, entry, get_or-set_same, known_to, length_of, limit_of, mod_below}
+use Rattle.nv_driver.proofs.Words.{answer_awaited, awaited_completion, bank_at, collected_one, completion_at}
+use Rattle.nv_driver.proofs.Words.{entry, get_or-set_same, known_to, length_of, limit_of, mod_below}
 use Rattle.nv_driver.proofs.Words.{mul-le-mul_right, nat_tests, new_bank, next_serial, number, pair_value, run_of}
 use Rattle.nv_driver.proofs.Words.{sent_at, setting_of, side, slice_set, slot, submit_ring, way, with_register_at}
 use Rattle.nv_driver.proofs.Words.{with_submission}
-use Rattle.nv_driver.specs.Schedule.{Event, Follows, MaySubmit, awaited, collect_ring}
+use Rattle.nv_driver.specs.Schedule.{Doing, Event, Follows, MaySubmit, awaited, collect_ring}
 use Rattle.nv_driver.specs.inner.Submitting.{CanCollect}
 use Rattle.nv_host.specs.PageSets.{Pages}
 use Rattle.nv_driver.specs.UnderWay.{Course, Way, beginning, first_world, pair_after, serial_at, world_by, world_of}
 use Rattle.nv_driver.proofs.BatchLaws.{serial_next}
-use Rattle.nv_driver.proofs.CountLaws.{head_told, number_above, number_below, number_next}
+use Rattle.nv_driver.proofs.CountLaws.{number_above, number_below, number_next}
 use Rattle.nv_driver.proofs.KeptLaws.{bell_keeps, collect_keeps, idle_keeps, is_found, tell_keeps}
 use Rattle.nv_driver.proofs.QuietLaws.{collect_ring_is, is_idle, submit_ring_is}
 use Rattle.nv_driver.proofs.ScheduleLaws.{bell_others, collect_others, others_now, tell_others, turn_others}
@@ -39,8 +39,8 @@ same_world w bytes e f = cc
 none_untold : (n : ℕ) → false ≡ not (n == n)
 none_untold n = grind (arith, nat_tests)
 
--- a number up to k isn't k + 1
-above_told : (h k : ℕ) → h ≤ k → true ≡ not (h == k + 1)
+-- a number below k isn't k
+above_told : (h k : ℕ) → h < k → true ≡ not (h == k)
 above_told h k low = grind (arith, nat_tests)
 
 -- ---- register banks
@@ -72,9 +72,9 @@ abbrev pub first_way : Run → Way
 first_way r = way r (record { sent = []; answers = []; events = [] }) 0 0 0
 
 -- at the beginning of a run with a ready controller, its requests are on their way
-pub begins : {due : World → Event → Type 0} {g : Geometry} {c : ℕ} {bus : BusValue} {l : QueuePairFields} {now : ℕ}
-    {bytes : List ℕ} (ks : List Command) → IsReady g bus c l now bytes
-    → IsOnWay due (first_way (run_of g c bus l bytes ks)) bus l now bytes
+pub begins : {B : Type 0} {doing : Doing B} {start : B} {g : Geometry} {c : ℕ} {bus : BusValue} {l : QueuePairFields}
+    {now : ℕ} {bytes : List ℕ} (ks : List Command) → IsReady g bus c l now bytes
+    → IsOnWay doing start (first_way (run_of g c bus l bytes ks)) bus start l now bytes
 begins {g = g} {c = c} {bus = bus} {l = l} {now = now} {bytes = bytes} ks ready =
     let r = run_of g c bus l bytes ks in
     let t = setting_of r in
@@ -90,11 +90,11 @@ begins {g = g} {c = c} {bus = bus} {l = l} {now = now} {bytes = bytes} ks ready 
       banks = sym (set-get_or bus.banks c new_bank);
       pair = pairs_same (submit_ring_is g c (limit_of bus.state c) bytes l ready.quiet ready.laid.number)
           (collect_ring_is g c (limit_of bus.state c) bytes l ready.quiet ready.laid.number) serial;
-      ran = same;
+      ran = (same, refl);
     }
 
-module _ {due : World → Event → Type 0} {w : Way} {bus : BusValue} {l : QueuePairFields} {now : ℕ} {bytes : List ℕ}
-    (u : IsOnWay due w bus l now bytes) where
+module _ {B : Type 0} {doing : Doing B} {start on : B} {w : Way} {bus : BusValue} {l : QueuePairFields} {now : ℕ}
+    {bytes : List ℕ} (u : IsOnWay doing start w bus on l now bytes) where
   -- the schedule of the run's controller
   abbrev t : Setting
   t = setting_of w.run
@@ -122,6 +122,11 @@ module _ {due : World → Event → Type 0} {w : Way} {bus : BusValue} {l : Queu
 
   -- ---- a submission
 
+  -- the way after one more request was submitted
+  abbrev pub more_sent : Sent → Way
+  more_sent x =
+      record w { course = record w.course { sent = w.course.sent ++ x ∷ []; events = Submit x ∷ w.course.events } }
+
   -- if fewer requests than slots are outstanding, the submission ring has a free slot
   pub free_slot : length w.course.sent + 1 < length w.course.answers + t.depth → HasFreeSlot l bytes
   free_slot free =
@@ -143,12 +148,9 @@ module _ {due : World → Event → Type 0} {w : Way} {bus : BusValue} {l : Queu
       → length w.course.sent + 1 < length w.course.answers + t.depth
       → ((n : ℕ) (d : Sent) → length w.course.answers ≤ n → n < length w.course.sent
       → AreApart (get_or w.course.sent n d) (sent_at at q l.serial sub.prp1 sub.prp2))
-      → due world (Submit (sent_at at q l.serial sub.prp1 sub.prp2)) → IsOnWay due (record w {
-        course = record w.course {
-          sent = w.course.sent ++ sent_at at q l.serial sub.prp1 sub.prp2 ∷ [];
-          events = Submit (sent_at at q l.serial sub.prp1 sub.prp2) ∷ w.course.events;
-        };
-      }) bus l' now' mem
+      → doing (Submit (sent_at at q l.serial sub.prp1 sub.prp2)) world (world_of (more_sent
+      (sent_at at q l.serial sub.prp1 sub.prp2)) bus mem) on on
+      → IsOnWay doing start (more_sent (sent_at at q l.serial sub.prp1 sub.prp2)) bus on l' now' mem
   submits_on {first = first} {at} {q} {mem = mem} {s} sub can its_place from behind free apart its_time =
       let x = sent_at at q l.serial sub.prp1 sub.prp2 in
       let laid = u.begun.laid in
@@ -168,8 +170,7 @@ module _ {due : World → Event → Type 0} {w : Way} {bus : BusValue} {l : Queu
       } in
       let m = length w.course.sent in
       let k = length w.course.answers in
-      let v =
-      record w { course = record w.course { sent = w.course.sent ++ x ∷ []; events = Submit x ∷ w.course.events } } in
+      let v = more_sent x in
       let ring : l.submission ≡ submit_ring t m k = ap (λ (o : QueuePairFields). o.submission) u.pair in
       let put = sub.mem ∙ ap (λ r. with_submission sub.ready r (entry x)) ring in
       let more : m + 1 ≡ length (w.course.sent ++ x ∷ []) = sym (length-append w.course.sent (x ∷ [])) in
@@ -185,8 +186,8 @@ module _ {due : World → Event → Type 0} {w : Way} {bus : BusValue} {l : Queu
       }) u.pair
       ∙ pairs_same (ap (λ n. record (submit_ring t m k) { submitted = n }) (number_next t m)
       ∙ ap (λ n. submit_ring t n k) more) refl (serial_next w.run.pair.serial m ∙ ap (serial_at w.run) more)) in
-      let ran : Follows due t (Submit x ∷ w.course.events) (first_world w.run) (world_of v bus mem) =
-      (world, u.ran, its_time, happens) in assumption (sub.page, sub.len ∙ u.size, keeps, others, pair, ran, u)
+      let ran : Follows doing t (Submit x ∷ w.course.events) (first_world w.run) start (world_of v bus mem) on =
+      (world, on, u.ran, its_time, happens) in assumption (sub.page, sub.len ∙ u.size, keeps, others, pair, ran, u)
 
   -- the tail after one more request is the slot of the next number
   pub tail_after : {tail : ℕ} → tail ≡ slot_of l.submission.depth (next l.submission.depth l.submission.submitted)
@@ -212,78 +213,87 @@ module _ {due : World → Event → Type 0} {w : Way} {bus : BusValue} {l : Queu
         set_again w.run.bus.banks bus.banks bus'.banks w.run.controller _ _ u.begun.controller u.banks own,
       )
 
+  -- the way after the tail doorbell was rung
+  abbrev pub rung_way : Way
+  rung_way = record w { course = more_events Bell; rung = length w.course.sent }
+
   -- the tail doorbell was rung
-  pub rings : {bus' : BusValue} {c value : ℕ} → c ≡ w.run.controller → value ≡ slot t (length w.course.sent)
+  pub rings : {bus' : BusValue} {on' : B} {c value : ℕ} → c ≡ w.run.controller → value ≡ slot t (length w.course.sent)
       → bus'.state ≡ bus.state
       → bus'.banks ≡ slice_set bus.banks c (with_register_at (bank_at bus.banks c) 0x1000 value)
-      → (IsBus bus → IsBus bus') → due world Bell
-      → IsOnWay due (record w { course = more_events Bell; rung = length w.course.sent }) bus' l now bytes
-  rings {bus'} same put state banks lawful its_time =
-      let v = record w { course = more_events Bell; rung = length w.course.sent } in
+      → (IsBus bus → IsBus bus') → doing Bell world (world_of rung_way bus' bytes) on on'
+      → IsOnWay doing start rung_way bus' on' l now bytes
+  rings {bus'} {on'} same put state banks lawful its_time =
+      let v = rung_way in
       let is = bank_is bus' 0x1000 same put banks in
       let happens : Happens t Bell world (world_of v bus' bytes) = same_world v bytes state is.0 in
       let keeps = bell_keeps t w.run.bus.state world (world_of v bus' bytes) u.keeps happens in
       let others = bell_others t 0 w.run.bytes world (world_of v bus' bytes) u.others happens in
-      let ran : Follows due t (Bell ∷ w.course.events) (first_world w.run) (world_of v bus' bytes) =
-      (world, u.ran, its_time, happens) in assumption (keeps, others, lawful u.lawful, is.1, ran, u)
+      let ran : Follows doing t (Bell ∷ w.course.events) (first_world w.run) start (world_of v bus' bytes) on' =
+      (world, on, u.ran, its_time, happens) in assumption (keeps, others, lawful u.lawful, is.1, ran, u)
 
-  -- the head doorbell was rung, which changes nothing if all answers were reported before
-  told_bank : {bus' : BusValue} {l' : QueuePairFields} {c : ℕ} → c ≡ w.run.controller → IsTold c l bus l' bus'
-      → (bank_at bus'.banks w.run.controller
-      ≡ with_register_at (bank_at bus.banks w.run.controller) 0x1004 (slot t (length w.course.answers)))
-      × (bus'.banks ≡ slice_set w.run.bus.banks w.run.controller (bank_at bus'.banks w.run.controller))
-  told_bank {bus'} same h = by l.completion.untold refl
-    where
-      by : (e : Bool) → l.completion.untold ≡ e → (bank_at bus'.banks w.run.controller
-          ≡ with_register_at (bank_at bus.banks w.run.controller) 0x1004 (slot t (length w.course.answers)))
-          × (bus'.banks ≡ slice_set w.run.bus.banks w.run.controller (bank_at bus'.banks w.run.controller))
-      by true e = bank_is bus' 0x1004 same
-          (ap (λ (o : QueuePairFields). slot_of o.completion.depth o.completion.collected) u.pair) (h.told e)
-      by false e =
-          let n = length w.course.answers in
-          let c = u.keeps.counts in
-          let untold = sym e ∙ ap (λ (o : QueuePairFields). o.completion.untold) u.pair in
-          let all : w.told ≡ n = grind (arith, nat_tests, untold) in (
-            ap (λ ps. bank_at ps w.run.controller) (h.silent e) ∙ u.keeps.bank
-                ∙ ap (λ k. bank_with t (device_rings t w.rung w.done k)) all
-                ∙ sym (ap (λ p. with_register_at p 0x1004 (slot t n)) u.keeps.bank
-                ∙ head_told t w.rung w.done w.told n c.told c.collected c.free),
-            rw (h.silent e) u.banks,
-          )
+  -- the head to write is the slot of the next answer
+  pub head_at : slot_of l.completion.depth l.completion.collected ≡ slot t (length w.course.answers)
+  head_at = ap (λ (o : QueuePairFields). slot_of o.completion.depth o.completion.collected) u.pair
+
+  -- it is to be written if an answer isn't reported
+  pub untold_is : w.told < length w.course.answers → l.completion.untold ≡ true
+  untold_is some = ap (λ (o : QueuePairFields). o.completion.untold) u.pair ∙ sym (above_told w.told _ some)
+
+  -- nothing is to be written if all answers were reported, and the queue pair stays
+  pub silent_is : w.told ≡ length w.course.answers
+      → (l.completion.untold ≡ false) × (record l { completion = told_all l.completion } ≡ l)
+  silent_is all =
+      let n = length w.course.answers in
+      let is : l ≡ pair_after w.run (length w.course.sent) n n l.pages =
+      u.pair ∙ ap (λ k. pair_after w.run (length w.course.sent) n k l.pages) all in
+      let told_none : false ≡ not (n == n) = none_untold n in (
+        ap (λ (o : QueuePairFields). o.completion.untold) is ∙ sym told_none,
+        ap (λ (o : QueuePairFields). record o { completion = told_all o.completion }) is
+            ∙ pairs_same refl (ap (λ e. record (collect_ring t n n) { untold = e }) told_none) refl ∙ sym is,
+      )
+
+  -- the way after the head doorbell was rung
+  abbrev pub told_way : Way
+  told_way = record w { course = more_events Tell; told = length w.course.answers }
 
   -- the head doorbell was rung for all collected answers
-  pub tells_on : {bus' : BusValue} {l' : QueuePairFields} {c : ℕ} → c ≡ w.run.controller → IsTold c l bus l' bus'
-      → due world Tell
-      → IsOnWay due (record w { course = more_events Tell; told = length w.course.answers }) bus' l' now bytes
-  tells_on {bus'} same h its_time =
+  pub tells_on : {bus' : BusValue} {on' : B} {l' : QueuePairFields} {c : ℕ} → c ≡ w.run.controller
+      → w.told < length w.course.answers → IsTold c l bus l' bus'
+      → doing Tell world (world_of told_way bus' bytes) on on' → IsOnWay doing start told_way bus' on' l' now bytes
+  tells_on {bus'} {on'} same some h its_time =
       let n = length w.course.answers in
-      let v = record w { course = more_events Tell; told = n } in
-      let is = told_bank same h in
+      let v = told_way in
+      let is = bank_is bus' 0x1004 same head_at (h.told (untold_is some)) in
       let happens : Happens t Tell world (world_of v bus' bytes) = same_world v bytes h.state is.0 in
       let keeps = tell_keeps t w.run.bus.state world (world_of v bus' bytes) u.keeps happens in
       let others = tell_others t 0 w.run.bytes world (world_of v bus' bytes) u.others happens in
       let pair = pages_of_pair _ _ _ (h.pair
       ∙ ap (λ (o : QueuePairFields). record o { completion = told_all o.completion }) u.pair
       ∙ pairs_same refl (ap (λ e. record (collect_ring t n n) { untold = e }) (none_untold n)) refl) in
-      let ran : Follows due t (Tell ∷ w.course.events) (first_world w.run) (world_of v bus' bytes) =
-      (world, u.ran, its_time, happens) in assumption (keeps, others, h.bus u.lawful, is.1, pair, ran, u)
+      let ran : Follows doing t (Tell ∷ w.course.events) (first_world w.run) start (world_of v bus' bytes) on' =
+      (world, on, u.ran, its_time, happens) in assumption (keeps, others, h.bus u.lawful, is.1, pair, ran, u)
 
   -- ---- a turn
 
+  -- the way after a turn that took so many entries
+  abbrev pub turned_way : ℕ → ℕ → Way
+  turned_way most count = record w { course = more_events (Turn most); done = w.done + count }
+
   -- the controller had a turn, which took as many entries as it could
-  pub turned : {bus' : BusValue} {now' asked most count c : ℕ} {mem : List ℕ} → c ≡ w.run.controller → asked ≡ most
-      → T.Turn now c asked count bus bytes bus' mem → IsBus bus' → length mem ≡ length bytes → now' ≡ now
-      → due world (Turn most)
-      → IsOnWay due (record w { course = more_events (Turn most); done = w.done + count }) bus' l now' mem
+  pub turned : {bus' : BusValue} {on' : B} {now' asked most count c : ℕ} {mem : List ℕ} → c ≡ w.run.controller
+      → asked ≡ most → T.Turn now c asked count bus bytes bus' mem → IsBus bus' → length mem ≡ length bytes → now' ≡ now
+      → doing (Turn most) world (world_of (turned_way most count) bus' mem) on on'
+      → IsOnWay doing start (turned_way most count) bus' on' l now' mem
       × (count ≡ min most (min (w.rung - w.done) (w.run.pair.submission.depth - 1 - (w.done - w.told))))
-  turned {bus'} {now'} {asked} {most} {count} {c} {mem} same pace turn lawful size page its_time =
-      let v = record w { course = more_events (Turn most); done = w.done + count } in
+  turned {bus'} {on'} {now'} {asked} {most} {count} {c} {mem} same pace turn lawful size page its_time =
+      let v = turned_way most count in
       let own = subst (λ k. T.Turn now w.run.controller k count bus bytes bus' mem) pace
       (subst (λ i. T.Turn now i asked count bus bytes bus' mem) same turn) in
       let happens : Happens t (Turn most) world (world_of v bus' mem) =
       (count, rw u.page_size at own.own, refl) in
-      let ran : Follows due t (Turn most ∷ w.course.events) (first_world w.run) (world_of v bus' mem) =
-      (world, u.ran, its_time, happens) in (
+      let ran : Follows doing t (Turn most ∷ w.course.events) (first_world w.run) start (world_of v bus' mem) on' =
+      (world, on, u.ran, its_time, happens) in (
         assumption (
           ran,
           page ∙ u.page_size,
@@ -339,6 +349,12 @@ module _ {due : World → Event → Type 0} {w : Way} {bus : BusValue} {l : Queu
     abbrev pub answer_next : Answer
     answer_next = answer_awaited t world next_one
 
+    -- the way after the answer was collected
+    abbrev pub collected_way : Way
+    collected_way = record w {
+      course = record w.course { answers = w.course.answers ++ answer_next ∷ []; events = Collect ∷ w.course.events };
+    }
+
     -- the answer was collected
     pub collects_on : {l' : QueuePairFields} {q : Cqe} {s : Pages} → q ≡ awaited_completion bytes l.completion
         → l' ≡ record l {
@@ -346,17 +362,12 @@ module _ {due : World → Event → Type 0} {w : Way} {bus : BusValue} {l : Queu
           completion = collected_one l.completion;
           pages = s;
         }
-        → due world Collect → IsOnWay due (record w {
-          course =
-              record w.course { answers = w.course.answers ++ answer_next ∷ []; events = Collect ∷ w.course.events };
-        }) bus l' now bytes
+        → doing Collect world (world_of collected_way bus bytes) on on
+        → IsOnWay doing start collected_way bus on l' now bytes
     collects_on {l'} {q} {s} is first its_time =
         let m = length w.course.sent in
         let k = length w.course.answers in
-        let v = record w {
-          course =
-              record w.course { answers = w.course.answers ++ answer_next ∷ []; events = Collect ∷ w.course.events };
-        } in
+        let v = collected_way in
         let c = u.keeps.counts in
         let deep = u.keeps.placed.deep in
         let happens : Happens t Collect world (world_of v bus bytes) = inl (there, no_command, refl) in
@@ -369,7 +380,7 @@ module _ {due : World → Event → Type 0} {w : Way} {bus : BusValue} {l : Queu
         let ring : known_to (submit_ring t m k) q.sq_head ≡ submit_ring t m (k + 1) =
         ap (λ n. record (submit_ring t m k) { known = n }) freed in
         let collected : collected_one (collect_ring t k w.told) ≡ collect_ring t (k + 1) w.told =
-        cc (number_next t k, above_told w.told k c.told) in
+        cc (number_next t k, above_told w.told (k + 1) (omega (arith, c.told))) in
         let keeps = collect_keeps t w.run.bus.state world (world_of v bus bytes) u.keeps happens in
         let others = collect_others t 0 w.run.bytes world (world_of v bus bytes) u.others happens in
         let pair = pages_of_pair _ _ _ (first ∙ ap (λ (o : QueuePairFields). record o {
@@ -379,15 +390,16 @@ module _ {due : World → Event → Type 0} {w : Way} {bus : BusValue} {l : Queu
         }) u.pair
         ∙ pairs_same (ring ∙ ap (submit_ring t m) one_more) (collected ∙ ap (λ n. collect_ring t n w.told) one_more)
         refl) in
-        let ran : Follows due t (Collect ∷ w.course.events) (first_world w.run) (world_of v bus bytes) =
-        (world, u.ran, its_time, happens) in assumption (keeps, others, pair, ran, u)
+        let ran : Follows doing t (Collect ∷ w.course.events) (first_world w.run) start (world_of v bus bytes) on =
+        (world, on, u.ran, its_time, happens) in assumption (keeps, others, pair, ran, u)
 
 -- ---- the end
 
 -- all n requests were executed, and their answers collected and reported
-pub left_after : {due : World → Event → Type 0} {w : Way} {bus : BusValue} {l : QueuePairFields}
+pub left_after : {B : Type 0} {doing : Doing B} {start on : B} {w : Way} {bus : BusValue} {l : QueuePairFields}
     {now before end : ℕ} {bytes : List ℕ} (n : ℕ)
-    → IsOnWay due w bus l now bytes → length w.course.sent ≡ n → length w.course.answers ≡ n → w.rung ≡ n → w.done ≡ n
+    → IsOnWay doing start w bus on l now bytes → length w.course.sent ≡ n → length w.course.answers ≡ n → w.rung ≡ n
+    → w.done ≡ n
     → w.told ≡ n → l.pages ≡ w.run.pair.pages → before ≡ w.run.geometry.page_size
     → KeepsBelow end w.run.geometry.page_size (pair_value w.run.pair) w.run.bytes bytes
     → IsLeft w.run.geometry w.run.controller end (after_some n (pair_value w.run.pair))

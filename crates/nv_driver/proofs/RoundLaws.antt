@@ -5,14 +5,19 @@ use Rattle.std.proofs.Common.{[], ◌∷◌, ◌++◌, Ok, get_or, length-append
 use Rattle.nv_driver.proofs.Words.{Answer, Asked, Batch, BusValue, CanBeSent, Command, Cqe, Geometry, HasAnswers, Holds}
 use Rattle.nv_driver.proofs.Words.{IsBus, IsLeft, IsOnWay, IsReadable, IsReady, IsTold, IsUnderWay, QueuePairFields}
 use Rattle.nv_driver.proofs.Words.{Request, Run, Sent, after_some, answers_to, awaited_completion, bank_at}
-use Rattle.nv_driver.proofs.Words.{cases_eq, collected_one, completion_at, known_to, length_of, own_pages, pair_value}
+use Rattle.nv_driver.proofs.Words.{cases_eq, cases_lt, collected_one, completion_at, known_to, length_of, own_pages}
+use Rattle.nv_driver.proofs.Words.{pair_value}
 use Rattle.nv_driver.specs.Schedule.{places as places_of}
 use Rattle.nv_driver.proofs.Words.{received_from, request_of, run_of, setting_of, side, slice_set, slot}
 use Rattle.nv_driver.proofs.Words.{transfer_by, way, with_register_at}
 use Rattle.nv_driver.specs.Batch.{state_after, answers_of, from_serial}
 use Rattle.nv_driver.specs.Schedule.{Event, Numbered, answer_from, answer_read, answer_to}
 use Rattle.nv_driver.proofs.Words.{Bell, Collect, Tell, Turn}
-use Rattle.nv_driver.specs.UnderWay.{IsDue, IsHeld, IsKept, IsToReport, free_pages, held_pages, pages_of_all}
+use Rattle.nv_driver.specs.BringingUp.{Write}
+use Rattle.nv_driver.specs.Passing.{BusTurn, TailWrite}
+use Rattle.nv_queue.specs.Numbers.{slot_of}
+use Rattle.nv_driver.specs.UnderWay.{DoesNext, IsDue, RunOn, run_on, IsHeld, IsKept, IsToReport, free_pages, held_pages}
+use Rattle.nv_driver.specs.UnderWay.{pages_of_all}
 use Rattle.nv_driver.specs.CommandPages.{AreTaken, all_pages, without}
 use Rattle.nv_driver.specs.inner.CommandPages.{with_pages}
 use Rattle.nv_driver.specs.Layout.{data_count}
@@ -21,7 +26,7 @@ use Rattle.nv_driver.specs.declared.command_pages.CommandPages.{CommandPages}
 use Rattle.nv_host.specs.PageSets.{IsOf, Pages}
 use Rattle.nv_prp.specs.Buffer.{IsBuffer, buffer_places}
 use Rattle.std.specs.FinSet as set
-use Rattle.std.proofs.Common.{◌≢◌, ◌%◌, AllPairs, add-one, drop, false}
+use Rattle.std.proofs.Common.{◌≢◌, ◌%◌, AllPairs, add-one, drop, false, true}
 use Rattle.std.proofs.Math.Seq.{drop-cons, drop-length}
 use Rattle.nv_driver.proofs.CommandPageLaws.{own_is, place_of_set}
 use Rattle.nv_driver.proofs.WindowPageLaws.{given_back, gone, taken_first, taken_none, taken_rest}
@@ -42,12 +47,16 @@ use Rattle.nv_driver.proofs.OnWayLaws as W
 
 -- ---- doorbells and turns
 
-module _ {r : Run} {bells turns : ℕ} {b : Batch} {bus : BusValue} {l : QueuePairFields} {now : ℕ} {bytes : List ℕ}
-    {places : List CommandPages} (u : IsUnderWay r bells turns b bus l now bytes places) where
+module _ {B : Type 0} {wrote : Write B} {rang : TailWrite B} {turned : BusTurn B} {start on : B} {r : Run}
+    {bells turns : ℕ} {b : Batch} {bus : BusValue} {l : QueuePairFields} {now : ℕ} {bytes : List ℕ}
+    {places : List CommandPages}
+    (u : IsUnderWay wrote rang turned start r bells turns b bus on l now bytes places) where
   -- the commands stay, while other things change
-  goes_on : {bells' turns' told' now' : ℕ} {bus' : BusValue} {l' : QueuePairFields} {mem : List ℕ} (e : Event)
-      → l'.pages ≡ l.pages → IsOnWay (IsDue r) (way r (W.more_events u.on_way e) bells' turns' told') bus' l' now' mem
-      → IsUnderWay r bells' turns' (record b { told = told' }) bus' l' now' mem places
+  goes_on : {bells' turns' told' now' : ℕ} {bus' : BusValue} {on' : B} {l' : QueuePairFields} {mem : List ℕ} (e : Event)
+      → l'.pages ≡ l.pages
+      → IsOnWay (DoesNext wrote rang turned r) start (way r (W.more_events u.on_way e) bells' turns' told') bus' on' l'
+      now' mem
+      → IsUnderWay wrote rang turned start r bells' turns' (record b { told = told' }) bus' on' l' now' mem places
   goes_on e same next = record {
     course = W.more_events u.on_way e;
     on_way = next;
@@ -61,36 +70,49 @@ module _ {r : Run} {bells turns : ℕ} {b : Batch} {bus : BusValue} {l : QueuePa
   }
 
   -- the tail doorbell was rung for all commands that were sent
-  pub rings : {bus' : BusValue} {value tail : ℕ} → value ≡ tail → tail ≡ slot (setting_of r) b.sent
+  pub rings : {bus' : BusValue} {on' : B} {value : ℕ} → value ≡ slot (setting_of r) b.sent
       → bus'.state ≡ bus.state
       → bus'.banks ≡ slice_set bus.banks b.ctrl (with_register_at (bank_at bus.banks b.ctrl) 0x1000 value)
-      → (IsBus bus → IsBus bus') → turns ≡ b.collected → IsToldInTime r b
+      → (IsBus bus → IsBus bus') → wrote on b.ctrl 0x1000 value on' → rang on bytes on'
+      → turns ≡ b.collected → IsToldInTime r b
       → b.sent ≡ min (b.collected + r.geometry.window) (length r.commands) → bells < b.sent
-      → IsUnderWay r b.sent turns b bus' l now bytes places
-  rings {bus'} sent at state banks lawful all near full more =
+      → IsUnderWay wrote rang turned start r b.sent turns b bus' on' l now bytes places
+  rings {bus'} {on'} {value} sent state banks lawful its_write its_ring all near full more =
       let its_time : IsDue r (world u) Bell = (has_collected u all near, is_full u full, omega (arith, more, u.sent)) in
-      goes_on Bell refl
-      (subst (λ n. IsOnWay (IsDue r) (way r (W.more_events u.on_way Bell) n turns b.told) bus' l now bytes)
-      u.sent (W.rings u.on_way u.controller (sent ∙ at ∙ ap (slot (setting_of r)) (sym u.sent)) state banks lawful
-      its_time))
+      let put = sent ∙ ap (slot (setting_of r)) (sym u.sent) in
+      let its_call = subst (λ n. wrote on r.controller 0x1000 n on') put
+      (subst (λ c. wrote on c 0x1000 value on') u.controller its_write) in
+      goes_on Bell refl (subst (λ n. IsOnWay (DoesNext wrote rang turned r) start
+      (way r (W.more_events u.on_way Bell) n turns b.told) bus' on' l now bytes) u.sent
+      (W.rings u.on_way {on' = on'} u.controller put state banks lawful (its_time, (its_call, its_ring))))
 
   -- the head doorbell was rung for all collected answers
-  pub tells_on : {bus' : BusValue} {l' : QueuePairFields} → IsTold b.ctrl l bus l' bus' → IsToReport r (world u)
-      → IsUnderWay r bells turns (record b { told = b.collected }) bus' l' now bytes places
-  tells_on {bus'} {l'} t its_time =
+  pub tells_on : {bus' : BusValue} {on' : B} {l' : QueuePairFields} → IsTold b.ctrl l bus l' bus'
+      → (l.completion.untold ≡ true
+      → wrote on b.ctrl 0x1004 (slot_of l.completion.depth l.completion.collected) on')
+      → b.told < b.collected → IsToReport r (world u)
+      → IsUnderWay wrote rang turned start r bells turns (record b { told = b.collected }) bus' on' l' now bytes places
+  tells_on {bus'} {on'} {l'} t its_write some to_report =
+      let more : b.told < length u.course.answers = omega (arith, some, u.collected) in
+      let its_call = subst (λ n. wrote on r.controller 0x1004 n on') (W.head_at u.on_way)
+      (subst (λ c. wrote on c 0x1004 (slot_of l.completion.depth l.completion.collected) on') u.controller
+      (its_write (W.untold_is u.on_way more))) in
       goes_on Tell (ap (λ (o : QueuePairFields). o.pages) t.pair)
-      (subst (λ n. IsOnWay (IsDue r) (way r (W.more_events u.on_way Tell) bells turns n) bus' l' now bytes)
-      u.collected (W.tells_on u.on_way u.controller t its_time))
+      (subst (λ n. IsOnWay (DoesNext wrote rang turned r) start (way r (W.more_events u.on_way Tell) bells turns n)
+      bus' on' l' now bytes) u.collected
+      (W.tells_on u.on_way {on' = on'} u.controller more t ((more, to_report), its_call)))
 
   -- the controller had a turn, which took as many commands as the counts allow
-  pub turns_on : {bus' : BusValue} {now' asked most count : ℕ} {mem : List ℕ}
-      → T.Turn now b.ctrl asked count bus bytes bus' mem → asked ≡ most → IsBus bus' → length mem ≡ length bytes
+  pub turns_on : {bus' : BusValue} {on' : B} {now' asked most count : ℕ} {mem : List ℕ}
+      → T.Turn now b.ctrl asked count bus bytes bus' mem → turned on bytes b.ctrl asked count on' mem → asked ≡ most
+      → IsBus bus' → length mem ≡ length bytes
       → now' ≡ now → turns ≡ b.collected → IsToldInTime r b
       → b.sent ≡ min (b.collected + r.geometry.window) (length r.commands) → bells ≡ b.sent
       → b.collected < length r.commands → most ≡ r.geometry.pace
-      → IsUnderWay r bells (turns + count) b bus' l now' mem places
+      → IsUnderWay wrote rang turned start r bells (turns + count) b bus' on' l now' mem places
       × (count ≡ min most (min (bells - turns) (r.pair.submission.depth - 1 - (turns - b.told))))
-  turns_on {most = most} turn pace lawful size page all near full rung some its_pace =
+  turns_on {on' = on'} {asked = asked} {most} {count} {mem} turn its_turn pace lawful size page all near full rung some
+      its_pace =
       let its_time : IsDue r (world u) (Turn most) = (
         has_collected u all near,
         is_full u full,
@@ -98,7 +120,10 @@ module _ {r : Run} {bells turns : ℕ} {b : Batch} {bus : BusValue} {l : QueuePa
         omega (arith, some, u.collected),
         its_pace,
       ) in
-      let next = W.turned u.on_way u.controller pace turn lawful size page its_time in
+      let its_call = subst (λ n. turned on bytes r.controller n count on' mem) pace
+      (subst (λ c. turned on bytes c asked count on' mem) u.controller its_turn) in
+      let next = W.turned u.on_way {on' = on'} u.controller pace turn lawful size page
+      (its_time, (count, refl, its_call)) in
       (goes_on (Turn most) refl next.0, next.1)
 
   -- the state is the one after the commands that turns took
@@ -140,8 +165,10 @@ pub record CanGive (s : Pages) (o : CommandPages) : Type 0 where
 one_command : (asked : Asked) (k e : Command) → asked ≡ Ok k → asked ≡ Ok e → k ≡ e
 one_command asked k e is other = cc
 
-module _ {r : Run} {bells turns : ℕ} {b : Batch} {bus : BusValue} {l : QueuePairFields} {now : ℕ} {bytes : List ℕ}
-    {places : List CommandPages} (u : IsUnderWay r bells turns b bus l now bytes places) where
+module _ {B : Type 0} {wrote : Write B} {rang : TailWrite B} {turned : BusTurn B} {start on : B} {r : Run}
+    {bells turns : ℕ} {b : Batch} {bus : BusValue} {l : QueuePairFields} {now : ℕ} {bytes : List ℕ}
+    {places : List CommandPages}
+    (u : IsUnderWay wrote rang turned start r bells turns b bus on l now bytes places) where
   -- no more answers were collected, and no more commands executed, than commands were sent
   pub no_more : (b.collected ≤ b.sent) × (turns ≤ b.sent)
   no_more = let c = counts u in (omega (arith, c.collected, c.done, c.rung), omega (arith, c.done, c.rung))
@@ -213,7 +240,9 @@ module _ {r : Run} {bells turns : ℕ} {b : Batch} {bus : BusValue} {l : QueuePa
       pub collects : {o : CommandPages} {l1 l' : QueuePairFields} → o ≡ get_or places (b.collected % 16) o
           → l1 ≡ record l { submission = known_to l.submission q.sq_head; completion = collected_one l.completion }
           → l' ≡ record l1 { pages = with_pages l1.pages (all_pages o) } → IsToldInTime r b
-          → IsUnderWay r bells turns (record b { collected = b.collected + 1 }) bus l' now bytes places
+          → IsUnderWay wrote rang turned start r bells turns (record b { collected = b.collected + 1 }) bus on l' now
+          bytes
+          places
       collects {o} here first back near =
           let window : b.sent ≤ b.collected + 1 + r.geometry.window = omega (arith, u.window) in
           let all = back ∙ ap (λ (x : QueuePairFields). record x { pages = with_pages x.pages (all_pages o) }) first in
@@ -222,7 +251,7 @@ module _ {r : Run} {bells turns : ℕ} {b : Batch} {bus : BusValue} {l : QueuePa
               answers = u.course.answers ++ W.answer_next u.on_way awaits ∷ [];
               events = Collect ∷ u.course.events;
             };
-            on_way = W.collects_on u.on_way awaits is all (awaits, omega (arith, near, u.collected));
+            on_way = W.collects_on u.on_way awaits is all ((awaits, omega (arith, near, u.collected)), refl);
             can = u.can;
             controller = u.controller;
             has = record {
@@ -331,17 +360,24 @@ module _ {r : Run} {bells turns : ℕ} {b : Batch} {bus : BusValue} {l : QueuePa
 
 -- ---- the beginning
 
+-- the run of a run on a bus
+pub run_is : {B : Type 0} {o : RunOn B} {r : Run} {start : B} → o ≡ run_on r start → o.run ≡ r
+run_is is = ap (λ (x : RunOn _). x.run) is
+
 -- before anything of a list was sent, the list is under way, with no answers
-pub begins_all : {g : Geometry} {c : ℕ} {bus : BusValue} {l : QueuePairFields} {now : ℕ} {bytes : List ℕ}
-    {commands : List Command} {answers : List Answer} {places : List CommandPages} {r : Run}
-    → r ≡ run_of g c bus l bytes commands → length places ≡ 16
+pub begins_all : {B : Type 0} (wrote : Write B) (rang : TailWrite B) (turned : BusTurn B) (start : B) {g : Geometry}
+    {c : ℕ} {bus : BusValue} {l : QueuePairFields} {now : ℕ} {bytes : List ℕ} {commands : List Command}
+    {answers : List Answer} {places : List CommandPages} {o : RunOn B}
+    → o ≡ run_on (run_of g c bus l bytes commands) start → length places ≡ 16
     → IsReady g bus c l now bytes → All CanBeSent commands → length answers ≡ length commands
-    → IsUnderWay r 0 0 (record { ctrl = c; sent = 0; collected = 0; told = 0 }) bus l now bytes places
-    × HasAnswers r 0 answers
-begins_all {g} {c} {bus} {l} {now} {bytes} {commands} {answers} {places} is room ready can size =
+    → IsUnderWay wrote rang turned o.start o.run 0 0 (record { ctrl = c; sent = 0; collected = 0; told = 0 }) bus start
+    l now bytes places × HasAnswers o.run 0 answers
+begins_all wrote rang turned start {g} {c} {bus} {l} {now} {bytes} {commands} {answers} {places} is room ready can
+    size =
     let b : Batch = record { ctrl = c; sent = 0; collected = 0; told = 0 } in
     let none = taken_none l.pages in
-    subst (λ x. IsUnderWay x 0 0 b bus l now bytes places × HasAnswers x 0 answers) (sym is) (
+    subst (λ (x : RunOn _). IsUnderWay wrote rang turned x.start x.run 0 0 b bus start l now bytes places
+    × HasAnswers x.run 0 answers) (sym is) (
       record {
         course = record { sent = []; answers = []; events = [] };
         on_way = begins commands ready;
@@ -367,9 +403,11 @@ begins_all {g} {c} {bus} {l} {now} {bytes} {commands} {answers} {places} is room
 -- ---- the end
 
 -- if as many answers were collected as there are commands, all commands were sent and all answers collected
-pub all_collected : {g : Geometry} {c : ℕ} {old bus : BusValue} {l l' : QueuePairFields} {now : ℕ}
-    {bytes mem : List ℕ} {commands : List Command} {places : List CommandPages} {r : Run} {b : Batch}
-    → r ≡ run_of g c old l bytes commands → (u : IsUnderWay r b.sent b.collected b bus l' now mem places)
+pub all_collected : {B : Type 0} {wrote : Write B} {rang : TailWrite B} {turned : BusTurn B} {start on : B}
+    {g : Geometry} {c : ℕ} {old bus : BusValue} {l l' : QueuePairFields} {now : ℕ} {bytes mem : List ℕ}
+    {commands : List Command} {places : List CommandPages} {r : Run} {b : Batch}
+    → r ≡ run_of g c old l bytes commands
+    → (u : IsUnderWay wrote rang turned start r b.sent b.collected b bus on l' now mem places)
     → length commands ≤ b.collected
     → (b.sent ≡ b.collected) × (b.collected ≡ length commands)
 all_collected is u enough =
@@ -378,19 +416,21 @@ all_collected is u enough =
     in (omega (arith, order, u.some, same), omega (arith, order, u.some, same))
 
 -- what holds if all commands were sent, and their answers collected and reported
-pub record HasEnded (r : Run) (before : ℕ) (bus : BusValue) (l' : QueuePairFields) (now : ℕ) (mem : List ℕ)
-    : Type 0 where
+pub record HasEnded {B : Type 0} (wrote : Write B) (rang : TailWrite B) (turned : BusTurn B) (start : B) (r : Run)
+    (before : ℕ) (bus : BusValue) (on : B) (l' : QueuePairFields) (now : ℕ) (mem : List ℕ) : Type 0 where
   pub state : bus.state ≡ state_after r.controller r.bus.state r.pair.serial r.commands
-  pub paced : IsPaced r bus mem
+  pub paced : IsPaced wrote rang turned r start on bus mem
   pub left : IsLeft r.geometry r.controller (length r.bytes) (after_some (length r.commands) (pair_value r.pair))
       (side r.bus r.pair before r.bytes) (side bus l' now mem)
 
 -- when all answers were collected and reported, everything holds that HasEnded says
-at_end : {r : Run} {n before : ℕ} {b : Batch} {bus : BusValue} {l : QueuePairFields} {now : ℕ} {mem : List ℕ}
-    {places : List CommandPages} → (u : IsUnderWay r n n b bus l now mem places) → n ≡ length r.commands
+at_end : {B : Type 0} {wrote : Write B} {rang : TailWrite B} {turned : BusTurn B} {start on : B} {r : Run}
+    {n before : ℕ} {b : Batch} {bus : BusValue} {l : QueuePairFields} {now : ℕ} {mem : List ℕ}
+    {places : List CommandPages}
+    → (u : IsUnderWay wrote rang turned start r n n b bus on l now mem places) → n ≡ length r.commands
     → b.sent ≡ n → b.collected ≡ n → b.told ≡ n
-    → before ≡ r.geometry.page_size → HasEnded r before bus l now mem
-at_end {r} {n} {b = b} u all sent collected told page =
+    → before ≡ r.geometry.page_size → HasEnded wrote rang turned start r before bus on l now mem
+at_end {r = r} {n} {b = b} u all sent collected told page =
     let none : drop b.collected u.course.sent ≡ [] =
     ap (λ i. drop i u.course.sent) (collected ∙ sym (u.sent ∙ sent)) ∙ drop-length u.course.sent in
     let pages = u.left ∙ ap (λ xs. without r.pair.pages (pages_of_all xs)) none ∙ (taken_none r.pair.pages).1 in
@@ -398,32 +438,62 @@ at_end {r} {n} {b = b} u all sent collected told page =
       state = state_on u ∙ ap (state_after r.controller r.bus.state r.pair.serial)
           (ap (λ i. take i r.commands) all ∙ take-length r.commands);
       paced = record {
-        events = u.course.events;
         last = world u;
-        ran = u.ran;
-        collected = u.collected ∙ collected ∙ all;
-        told = told ∙ all;
+        steps = record {
+          events = u.course.events;
+          ran = u.ran;
+          collected = u.collected ∙ collected ∙ all;
+          told = told ∙ all;
+        };
         seen = record { mem = refl; state = refl; bank = refl };
       };
       left = rw all at (left_after n u.on_way (u.sent ∙ sent) (u.collected ∙ collected) refl refl told pages page
           (all_others_kept u.begun u.others (λ i d h. u.own i d (omega (arith, u.sent))) (length r.bytes)));
     }
 
+-- all answers of the list are reported after the last head doorbell, which is written if one wasn't
+all_told : {B : Type 0} (meaning : B → BusValue) {wrote : Write B} {rang : TailWrite B} {turned : BusTurn B}
+    {start on on' : B} {r : Run} {b : Batch} {l l' : QueuePairFields} {now : ℕ} {mem : List ℕ}
+    {places : List CommandPages}
+    → (u : IsUnderWay wrote rang turned start r b.collected b.collected b (meaning on) on l now mem places)
+    → b.collected ≡ length r.commands → IsTold b.ctrl l (meaning on) l' (meaning on')
+    → (l.completion.untold ≡ true → wrote on b.ctrl 0x1004 (slot_of l.completion.depth l.completion.collected) on')
+    → (l.completion.untold ≡ false → on' ≡ on)
+    → IsUnderWay wrote rang turned start r b.collected b.collected (record b { told = b.collected }) (meaning on') on'
+    l' now mem places
+all_told {B = B} meaning {wrote} {rang} {turned} {start} {on} {on'} {r} {b} {l} {l'} {now} {mem} {places} u many t
+    its_write silent =
+    elim (cases_lt b.told b.collected) [
+      | inl some ↦ tells_on u t its_write some (inr (u.collected, inr (u.collected ∙ many)))
+      | inr none ↦
+          let told : b.told ≡ b.collected = let c = counts u in omega (arith, c.told) in
+          let quiet = W.silent_is u.on_way (told ∙ sym u.collected) in
+          let is_under_way = λ (o : B) (p : QueuePairFields). IsUnderWay wrote rang turned start r b.collected
+          b.collected (record b { told = b.collected }) (meaning o) o p now mem places in
+          subst (λ p. is_under_way on' p) (sym (t.pair ∙ quiet.1))
+          (subst (λ o. is_under_way o l) (sym (silent quiet.0))
+          (subst (λ n. IsUnderWay wrote rang turned start r b.collected b.collected (record b { told = n }) (meaning on)
+          on l now mem places) told u))
+    ]
+
 -- the last doorbell ends the list
-pub ends_all : {g : Geometry} {c before : ℕ} {old bus bus' : BusValue} {l l4 l' : QueuePairFields} {now : ℕ}
-    {bytes mem : List ℕ} {commands : List Command} {places : List CommandPages} {r : Run} {b : Batch}
-    → r ≡ run_of g c old l bytes commands → IsUnderWay r b.sent b.collected b bus l4 now mem places
-    → length commands ≤ b.collected → IsTold b.ctrl l4 bus l' bus' → before ≡ g.page_size
-    → HasEnded (run_of g c old l bytes commands) before bus' l' now mem
-ends_all {before = before} {bus' = bus'} {l' = l'} {now = now} {mem = mem} {places = places} {r = r} {b = b} is u
-    enough t page =
+pub ends_all : {B : Type 0} (meaning : B → BusValue) {wrote : Write B} {rang : TailWrite B} {turned : BusTurn B}
+    {start on on' : B} {g : Geometry} {c before : ℕ} {old : BusValue} {l l4 l' : QueuePairFields} {now : ℕ}
+    {bytes mem : List ℕ} {commands : List Command} {places : List CommandPages} {r : Run} {b : Batch} → r ≡ run_of g c
+    old l bytes commands
+    → IsUnderWay wrote rang turned start r b.sent b.collected b (meaning on) on l4 now mem places
+    → length commands ≤ b.collected → IsTold b.ctrl l4 (meaning on) l' (meaning on')
+    → (l4.completion.untold ≡ true → wrote on b.ctrl 0x1004 (slot_of l4.completion.depth l4.completion.collected) on')
+    → (l4.completion.untold ≡ false → on' ≡ on) → before ≡ g.page_size
+    → HasEnded wrote rang turned start (run_of g c old l bytes commands) before (meaning on') on' l' now mem
+ends_all meaning {wrote} {rang} {turned} {start} {on} {on'} {before = before} {l4 = l4} {l'} {now} {mem = mem}
+    {places = places} {r = r} {b = b} is u enough t its_write silent page =
     let all = all_collected is u enough in
     let many = all.1 ∙ ap (λ (x : Run). length x.commands) (sym is) in
-    let its_time : IsToReport r (world u) = inr (u.collected, inr (u.collected ∙ many)) in
-    let next : IsUnderWay r b.sent b.collected (record b { told = b.collected }) bus' l' now mem places =
-    tells_on u t its_time in
-    subst (λ x. HasEnded x before bus' l' now mem) is
-    (at_end (rw all.0 at next) many refl refl refl
+    let sent = subst (λ n. IsUnderWay wrote rang turned start r n b.collected b (meaning on) on l4 now mem places) all.0
+    u in
+    subst (λ x. HasEnded wrote rang turned start x before (meaning on') on' l' now mem) is
+    (at_end (all_told meaning sent many t its_write silent) many all.0 refl refl
     (page ∙ ap (λ (x : Run). x.geometry.page_size) (sym is)))
 
 -- the answers of a list that has ended are the ones that its commands get one at a time

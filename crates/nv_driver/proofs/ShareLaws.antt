@@ -1,15 +1,11 @@
 -- Pages of requests: consecutive ones, in shares of which no two have a page in common.
-use Rattle.std.proofs.Common.{[], ◌≡◌, ◌≢◌, ◌∙◌, ℕ, zero, suc, ◌+◌, ◌*◌, ◌%◌, ◌<◌, ◌≤◌, List, ◌∷◌, ◌++◌, ap, arith, ◌^◌}
-use Rattle.std.proofs.Common.{get_or, inl, inr, length, refl, sym}
-use Rattle.std.proofs.Math.Nat.{mul-div-le}
+use Rattle.std.proofs.Common.{[], ◌≡◌, ◌∙◌, ℕ, zero, suc, ◌+◌, ◌*◌, ◌<◌, ◌≤◌, List, ◌∷◌, ◌++◌, ap, arith}
+use Rattle.std.proofs.Common.{get_or, length, refl, sym}
 use Rattle.std.proofs.lemmas.List.FromFn.{get_or-range_with_len, length-range_with_len}
-use Rattle.std.proofs.lemmas.Nat.{le-div}
 use Rattle.std.specs.List.{range_with_len}
-use Rattle.nv_queue.proofs.KeptLaws.{slots_apart}
-use Rattle.nv_queue.specs.Numbers.{slot_of}
-use Rattle.nv_driver.proofs.Words.{Geometry, IsGeometry, IsOf, IsPlaceFor, greatest_limit}
-use Rattle.nv_driver.proofs.Words.{mod_below, mul-le-mul_right, pages_of_entry, place_from}
-use Rattle.nv_driver.specs.Layout.{data_count, most_bytes, pages_for, pages_of_command}
+use Rattle.nv_driver.proofs.Words.{Geometry, IsGeometry, IsPlaceFor, greatest_limit}
+use Rattle.nv_driver.proofs.Words.{mul-le-mul_right, pages_of_entry, place_from}
+use Rattle.nv_driver.specs.Layout.{data_count, pages_for}
 use Rattle.nv_driver.specs.inner.Submitting.{pages_at}
 use Rattle.nv_driver.proofs.PointerLaws.{enough_of, entry_pages_few}
 

@@ -10,11 +10,13 @@ use Rattle.nv_driver.proofs.Words.{Submit, Transfer, request_of, sent_at, settin
 use Rattle.nv_driver.specs.Batch.{numbered_command}
 use Rattle.nv_driver.specs.Keeping.{AreInOrder}
 use Rattle.nv_driver.specs.Layout.{most_bytes, pages_of_command}
-use Rattle.nv_driver.specs.UnderWay.{Course, HasCollected, IsDue, IsKept, numbered_of, sent_in_window, serial_at}
-use Rattle.nv_driver.specs.UnderWay.{world_of}
+use Rattle.nv_driver.specs.BringingUp.{Write}
+use Rattle.nv_driver.specs.Passing.{BusTurn, TailWrite}
+use Rattle.nv_driver.specs.UnderWay.{Course, DoesNext, HasCollected, IsDue, IsKept, numbered_of, sent_in_window}
+use Rattle.nv_driver.specs.UnderWay.{serial_at, world_of}
 use Rattle.nv_driver.specs.inner.Pace.{IsToldInTime}
 use Rattle.nv_driver.proofs.BatchLaws.{command_at, length-from_serial}
-use Rattle.nv_driver.proofs.DataLaws.{most, shape, shape_as}
+use Rattle.nv_driver.proofs.DataLaws.{most, shape_as}
 use Rattle.nv_driver.proofs.RequestLaws.{is_request}
 use Rattle.nv_driver.proofs.CommandPageLaws.{first_two, own_is, place_of_set}
 use Rattle.nv_driver.proofs.PageSetLaws.{full_length, in_of, is_in}
@@ -40,8 +42,10 @@ use Rattle.nv_driver.proofs.OnWayLaws as W
 
 -- ---- what is known meanwhile
 
-module _ {r : Run} {bells turns : ℕ} {b : Batch} {bus : BusValue} {l : QueuePairFields} {now : ℕ} {bytes : List ℕ}
-    {places : List CommandPages} (u : IsUnderWay r bells turns b bus l now bytes places) where
+module _ {B : Type 0} {wrote : Write B} {rang : TailWrite B} {turned : BusTurn B} {start on : B} {r : Run}
+    {bells turns : ℕ} {b : Batch} {bus : BusValue} {l : QueuePairFields} {now : ℕ} {bytes : List ℕ}
+    {places : List CommandPages}
+    (u : IsUnderWay wrote rang turned start r bells turns b bus on l now bytes places) where
   -- the schedule of the list
   abbrev pub world : World
   world = world_of (way r u.course bells turns b.told) bus bytes
@@ -137,9 +141,11 @@ pub record IsSentIn (g : Geometry) (k : Command) (o : CommandPages) (old new : Q
       (record old { pages = without old.pages (all_pages o) }) new before after now end
 
 -- a command that is submitted while others are outstanding
-module _ {r : Run} {bells turns : ℕ} {b : Batch} {bus : BusValue} {l l' : QueuePairFields} {now : ℕ}
-    {bytes mem : List ℕ} {places : List CommandPages} {k : Command} {o : CommandPages} {now' tail : ℕ}
-    (u : IsUnderWay r bells turns b bus l now bytes places) (more : b.sent < b.collected + r.geometry.window)
+module _ {B : Type 0} {wrote : Write B} {rang : TailWrite B} {turned : BusTurn B} {start on : B} {r : Run}
+    {bells turns : ℕ} {b : Batch} {bus : BusValue} {l l' : QueuePairFields} {now : ℕ} {bytes mem : List ℕ}
+    {places : List CommandPages} {k : Command} {o : CommandPages} {now' tail : ℕ}
+    (u : IsUnderWay wrote rang turned start r bells turns b bus on l now bytes places)
+    (more : b.sent < b.collected + r.geometry.window)
     (can : CanBeSent k) (sub : IsSentIn r.geometry k o l l' bytes mem now' tail) where
   -- the command as it was sent
   abbrev new_one : Sent
@@ -194,7 +200,7 @@ module _ {r : Run} {bells turns : ℕ} {b : Batch} {bus : BusValue} {l l' : Queu
 
   -- the requests with this one are on their way
   on_way_more : IsDue r (world u) (Submit new_one)
-      → IsOnWay (IsDue r) (way r course_more bells turns b.told) bus l' now' mem
+      → IsOnWay (DoesNext wrote rang turned r) start (way r course_more bells turns b.told) bus on l' now' mem
   on_way_more its_time =
       W.submits_on u.on_way sub.one
       (is_request (limit_of r.bus.state r.controller) k (limit_bounds r.bus.state r.controller u.begun.bus.state
@@ -203,7 +209,8 @@ module _ {r : Run} {bells turns : ℕ} {b : Batch} {bus : BusValue} {l l' : Queu
       (still_inside u) sub.taken.own sub.taken.distinct (all_long ∙ sub.many))
       (λ i d h. (own_of_set i d h).0)
       (omega arith)
-      (omega (arith, more, u.sent, u.collected, u.begun.geometry.window.2, u.begun.depth)) apart_new its_time
+      (omega (arith, more, u.sent, u.collected, u.begun.geometry.window.2, u.begun.depth)) apart_new
+      (its_time, refl)
 
   -- the pages of the outstanding commands, and those that are free then
   all_held : held_pages b.collected (u.course.sent ++ new_one ∷ []) ≡ held u ++ own_pages new_one
@@ -260,7 +267,8 @@ module _ {r : Run} {bells turns : ℕ} {b : Batch} {bus : BusValue} {l l' : Queu
   -- the list goes on with this command sent
   pub submits : turns ≡ b.collected → IsToldInTime r b → b.sent < length r.commands
       → ((d : Command) → k ≡ get_or r.commands b.sent d)
-      → IsUnderWay r bells turns (record b { sent = b.sent + 1 }) bus l' now' mem (set places (b.sent % 16) o)
+      → IsUnderWay wrote rang turned start r bells turns (record b { sent = b.sent + 1 }) bus on l' now' mem
+      (set places (b.sent % 16) o)
   submits all near below is =
       let xs = u.course.sent in
       let more_sent = length-append xs (new_one ∷ []) in
@@ -305,18 +313,21 @@ pub few_at : {n : ℕ} {k : Command} {m : Transfer} {ks all : List Command} (e :
 few_at {k = k} {m = m} e can same one below is = most m (shape_as k m (can_at e can same one below).sends is)
 
 -- the next submission, by the number that a loop has reached
-pub submits_at : {r : Run} {bells turns : ℕ} {b : Batch} {bus : BusValue} {l l' : QueuePairFields}
-    {now now' n tail : ℕ} {bytes mem : List ℕ} {places : List CommandPages} {o : CommandPages} {g : Geometry}
-    {k : Command} {ks : List Command}
-    (u : IsUnderWay r bells turns b bus l now bytes places) (e : Command) → b.sent ≡ n
+pub submits_at : {B : Type 0} {wrote : Write B} {rang : TailWrite B} {turned : BusTurn B} {start on : B} {r : Run}
+    {bells turns : ℕ} {b : Batch} {bus : BusValue} {l l' : QueuePairFields} {now now' n tail : ℕ} {bytes mem : List ℕ}
+    {places : List CommandPages} {o : CommandPages} {g : Geometry} {k : Command} {ks : List Command}
+    (u : IsUnderWay wrote rang turned start r bells turns b bus on l now bytes places) (e : Command) → b.sent ≡ n
     → b.sent < b.collected + r.geometry.window → turns ≡ b.collected → IsToldInTime r b → g ≡ r.geometry
     → IsSentIn g k o l l' bytes mem now' tail
     → ks ≡ r.commands → k ≡ get_or ks n e → n < length ks
-    → IsUnderWay r bells turns (record b { sent = b.sent + 1 }) bus l' now' mem (set places (n % 16) o)
-submits_at {r} {bells} {turns} {b} {bus} {l = l} {l' = l'} {now' = now'} {n = n} {tail} {bytes = bytes} {mem = mem}
-    {places} {o} {k = k} {ks = ks} u e at more all near is sub same one below =
+    → IsUnderWay wrote rang turned start r bells turns (record b { sent = b.sent + 1 }) bus on l' now' mem
+    (set places (n % 16) o)
+submits_at {wrote = wrote} {rang} {turned} {start} {on} {r} {bells} {turns} {b} {bus} {l = l} {l' = l'} {now' = now'}
+    {n = n} {tail} {bytes = bytes} {mem = mem} {places} {o} {k = k} {ks = ks} u e at more all near is sub same one below
+    =
     let many = ap (λ (xs : List Command). length xs) same in
-    subst (λ i. IsUnderWay r bells turns (record b { sent = b.sent + 1 }) bus l' now' mem (set places (i % 16) o)) at
+    subst (λ i. IsUnderWay wrote rang turned start r bells turns (record b { sent = b.sent + 1 }) bus on l' now' mem
+    (set places (i % 16) o)) at
     (submits u more (can_at e u.can same one below)
     (subst (λ q. IsSentIn q k o l l' bytes mem now' tail) is sub) all near (omega (arith, many))
     (λ d. one ∙ get_or_default ks n e d below ∙ ap (λ xs. get_or xs n d) same

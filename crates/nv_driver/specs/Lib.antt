@@ -22,4 +22,5 @@ pub mod Driver
 pub mod Linked
 pub mod BringingUp
 pub mod Passing
+pub mod Sending
 pub mod inner

@@ -350,11 +350,16 @@ abbrev pub Runs : Setting → List Event → World → World → Type 0
 Runs t [] w w' = w' ≡ w
 Runs t (e ∷ es) w w' = (mid : World) × Happens t e w mid × Runs t es mid w'
 
--- events, the last one first, each of which was due, lead from one world to another
-abbrev pub Follows : (due : World → Event → Type 0) → Setting → List Event → World → World → Type 0
-Follows due t [] w w' = w' ≡ w
-Follows due t (e ∷ before) w w' =
-    (mid : World) × Follows due t before w mid × due mid e × Happens t e mid w'
+-- what is said of an event, with the states and the buses before and after it
+abbrev pub Doing : Type 0 → Type 1
+Doing B = Event → World → World → B → B → Type 0
+
+-- events, the last one first, of each of which this is said, lead from one state and bus to others
+abbrev pub Follows : {B : Type 0} → Doing B → Setting → List Event → World → B → World → B → Type 0
+Follows doing t [] w b w' b' = (w' ≡ w) × (b' ≡ b)
+Follows doing t (e ∷ before) w b w' b' =
+    (mid : World) × (on : _) × Follows doing t before w b mid on × doing e mid w' on b'
+    × Happens t e mid w'
 
 -- ---- the law
 

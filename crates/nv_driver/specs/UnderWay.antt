@@ -11,6 +11,7 @@ use Rattle.nv_model.specs.State.{State}
 use Rattle.nv_bus.specs.Bus.{BusValue, IsBus, bank_at}
 use Rattle.nv_bus.specs.Call.{length_of}
 use Rattle.nv_driver.specs.Batch.{from_serial}
+use Rattle.nv_driver.specs.BringingUp.{Write}
 use Rattle.nv_driver.specs.Exchange.{IsReady}
 use Rattle.nv_driver.specs.Layout.{data_count, pages_of_command}
 use Rattle.nv_driver.specs.Keeping.{Keeps, OthersStay}
@@ -19,11 +20,12 @@ use Rattle.nv_driver.specs.Quiet.{pair_value}
 use Rattle.nv_driver.specs.Registers.{mps_of}
 use Rattle.nv_driver.specs.Answer.{Answer}
 use Rattle.nv_driver.specs.Request.{CanBeSent, request_of}
-use Rattle.nv_driver.specs.Schedule.{Event, Follows, Numbered, Sent, Setting, World, collect_ring}
-use Rattle.nv_driver.specs.Schedule.{numbered, own_pages, submit_ring}
+use Rattle.nv_driver.specs.Schedule.{Doing, Event, Follows, Numbered, Sent, Setting, World}
+use Rattle.nv_driver.specs.Schedule.{collect_ring, numbered, own_pages, slot, submit_ring}
 use Rattle.nv_driver.specs.Schedule.{Bell, Collect, Elsewhere, Submit, Tell, Turn}
 use Rattle.nv_driver.specs.CommandPages.{AreLowest, AreTaken, all_pages, without}
 use Rattle.nv_driver.specs.Submitting.{place_in, sent_at}
+use Rattle.nv_driver.specs.Passing.{BusTurn, TailWrite}
 use Rattle.nv_driver.specs.Pointer.{IsPointedFrom}
 use Rattle.nv_driver.specs.declared.batch.Batch.{Batch}
 use Rattle.nv_driver.specs.declared.geometry.Geometry.{Geometry}
@@ -56,6 +58,15 @@ pub record Run : Type 0 where
 abbrev pub run_of : Geometry → ℕ → BusValue → QueuePairFields → List ℕ → List Command → Run
 run_of g c b l bytes commands =
     record { geometry = g; controller = c; bus = b; pair = l; bytes = bytes; commands = commands }
+
+-- a run, and the bus at its beginning
+pub record RunOn (B : Type 0) : Type 0 where
+  pub run : Run
+  pub start : B
+
+-- the run with these values
+abbrev pub run_on : {B : Type 0} → Run → B → RunOn B
+run_on r start = record { run = r; start = start }
 
 -- the schedule of a run's controller
 abbrev pub setting_of : Run → Setting
@@ -135,9 +146,9 @@ beginning t bytes s = record {
 abbrev pub first_world : Run → World
 first_world r = beginning (setting_of r) r.bytes r.bus.state
 
--- they are on their way over a bus, a queue pair and a memory, by events that were due
-pub record IsOnWay (due : World → Event → Type 0) (w : Way) (bus : BusValue) (l : QueuePairFields)
-    (now : ℕ) (bytes : List ℕ) : Type 0 where
+-- they are on their way over a bus, a queue pair and a memory, by events of which this is said
+pub record IsOnWay {B : Type 0} (doing : Doing B) (start : B) (w : Way) (bus : BusValue) (on : B)
+    (l : QueuePairFields) (now : ℕ) (bytes : List ℕ) : Type 0 where
   pub begun : IsReady w.run.geometry w.run.bus w.run.controller w.run.pair w.run.geometry.page_size
       w.run.bytes
   pub page_size : now ≡ w.run.geometry.page_size
@@ -148,8 +159,8 @@ pub record IsOnWay (due : World → Event → Type 0) (w : Way) (bus : BusValue)
   pub banks : bus.banks
       ≡ slice_set w.run.bus.banks w.run.controller (bank_at bus.banks w.run.controller)
   pub pair : l ≡ pair_after w.run (length w.course.sent) (length w.course.answers) w.told l.pages
-  pub ran : Follows due (setting_of w.run) w.course.events (first_world w.run)
-      (world_of w bus bytes)
+  pub ran : Follows doing (setting_of w.run) w.course.events (first_world w.run) start
+      (world_of w bus bytes) on
 
 -- ---- a list of commands
 
@@ -210,8 +221,24 @@ IsDue r w (Turn most) =
     HasCollected r w × (length w.sent ≡ sent_in_window r w) × (w.rung ≡ length w.sent)
     × (length w.answers < length r.commands) × (most ≡ r.geometry.pace)
 IsDue r w Collect = (length w.answers < w.done) × (length w.answers < w.told + r.geometry.pace)
-IsDue r w Tell = IsToReport r w
+IsDue r w Tell = (w.told < length w.answers) × IsToReport r w
 IsDue r w Elsewhere = ⊥
+
+-- The calls of the bus for each event: a doorbell is written, that of the tail over the memory with
+-- what was submitted, or the controller has a turn. There are no others.
+abbrev pub Calls : {B : Type 0} → Write B → TailWrite B → BusTurn B → Setting → Doing B
+Calls wrote rang turned t Bell w w' old new =
+    wrote old t.controller 0x1000 (slot t (length w.sent)) new × rang old w.mem new
+Calls wrote rang turned t (Turn most) w w' old new =
+    (count : ℕ) × (w'.done ≡ w.done + count) × turned old w.mem t.controller most count new w'.mem
+Calls wrote rang turned t Tell w w' old new =
+    wrote old t.controller 0x1004 (slot t (length w.answers)) new
+Calls wrote rang turned t e w w' old new = new ≡ old
+
+-- an event of a run is due, and is done by its calls
+abbrev pub DoesNext : {B : Type 0} → Write B → TailWrite B → BusTurn B → Run → Doing B
+DoesNext wrote rang turned r e w w' old new =
+    IsDue r w e × Calls wrote rang turned (setting_of r) e w w' old new
 
 -- the run's first m commands were sent, of which those from k on are outstanding
 pub record HasSent (r : Run) (m k : ℕ) (xs : List Sent) : Type 0 where
@@ -231,10 +258,12 @@ pub record IsHeld (p : CommandPages) (x : Sent) : Type 0 where
   pub pages : all_pages p ≡ own_pages x
 
 -- a list of commands of which some were sent, and some answers were collected
-pub record IsUnderWay (r : Run) (bells turns : ℕ) (b : Batch) (bus : BusValue) (l : QueuePairFields)
-    (now : ℕ) (bytes : List ℕ) (places : List CommandPages) : Type 0 where
+pub record IsUnderWay {B : Type 0} (wrote : Write B) (rang : TailWrite B) (turned : BusTurn B) (start : B) (r : Run)
+    (bells turns : ℕ) (b : Batch) (bus : BusValue) (on : B) (l : QueuePairFields) (now : ℕ)
+    (bytes : List ℕ) (places : List CommandPages) : Type 0 where
   pub course : Course
-  pub on_way : IsOnWay (IsDue r) (way r course bells turns b.told) bus l now bytes
+  pub on_way : IsOnWay (DoesNext wrote rang turned r) start (way r course bells turns b.told) bus on l
+      now bytes
   pub open on_way use *
   pub can : All CanBeSent r.commands
   pub controller : b.ctrl ≡ r.controller

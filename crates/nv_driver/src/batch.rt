@@ -9,18 +9,18 @@ ghost use Rattle.nv_driver.specs.inner.Exchange.{IsLeft, side};
 ghost use Rattle.nv_driver.specs.Quiet.{pair_value};
 ghost use Rattle.nv_driver.specs.Request.{CanBeSent};
 ghost use Rattle.nv_driver.specs.inner.UnderWay.{HasAnswers};
-ghost use Rattle.nv_driver.specs.UnderWay.{IsUnderWay, Run, run_of};
+ghost use Rattle.nv_driver.specs.UnderWay.{IsUnderWay, RunOn, run_of, run_on};
 ghost use Rattle.nv_driver.specs.inner.Pace.{IsPaced, IsToldByPace, IsToldInTime, taken_by_turn};
 
 use crate::answer_slot::AnswerSlot;
 use crate::command_pages::CommandPages;
 use crate::host_side::{HostSide, MOST_OUTSTANDING};
 use crate::queue_pair::QueuePair;
+use crate::ringing::Ringing;
 use crate::submitting::{HostData, Outgoing, submit};
 use nv_bus::Bus;
 use nv_command::Command;
 use nv_host::HostMemory;
-use nv_register::offset;
 
 /// The progress of a list of commands of one controller: how many were sent, how many answers were
 /// collected, and how many of these the head doorbell has reported.
@@ -35,23 +35,24 @@ pub struct Batch {
 impl Batch {
     /// Submits commands until as many as the geometry allows are outstanding, or none is left, and
     /// rings the tail doorbell if it submitted any. Section "Submission Queue y Tail Doorbell".
-    fn send<B: Bus, M: HostMemory>(
+    fn send<B: Bus + Ringing, M: HostMemory>(
         &mut self,
         bus: &mut B,
         host: &mut HostSide<M>,
         pair: &mut QueuePair,
         commands: &[Command],
     )
-        ghost run: { Run }
-        requires commands { commands.now ≡ run.commands }
-        requires under_way { IsUnderWay run self.old.sent self.old.collected self.old
-            (B.meaning bus.old) pair.old (M.page_len host.old.mem) (M.bytes host.old.mem) host.old.taken }
-        requires near { IsToldInTime run self.old }
-        ensures under_way { IsUnderWay run self.new.sent self.new.collected self.new
-            (B.meaning bus.new) pair.new (M.page_len host.new.mem) (M.bytes host.new.mem)
-            host.new.taken }
+        ghost begun: { RunOn B }
+        requires commands { commands.now ≡ begun.run.commands }
+        requires under_way { IsUnderWay B.was_written B.was_rung B.was_turned begun.start begun.run
+            self.old.sent self.old.collected self.old (B.meaning bus.old) bus.old pair.old
+            (M.page_len host.old.mem) (M.bytes host.old.mem) host.old.taken }
+        requires near { IsToldInTime begun.run self.old }
+        ensures under_way { IsUnderWay B.was_written B.was_rung B.was_turned begun.start begun.run
+            self.new.sent self.new.collected self.new (B.meaning bus.new) bus.new pair.new
+            (M.page_len host.new.mem) (M.bytes host.new.mem) host.new.taken }
         ensures batch { self.new ≡ record self.old {
-          sent = min (self.old.collected + run.geometry.window) (length commands.now);
+          sent = min (self.old.collected + begun.run.geometry.window) (length commands.now);
         } }
     {
         let geometry = pair.geometry();
@@ -75,14 +76,14 @@ impl Batch {
             tail = Some(next);
         }
         if let Some(tail) = tail {
-            bus.write32(self.ctrl, offset::TAIL_DOORBELL, u32::from(tail));
+            bus.ring(self.ctrl, &host.mem, tail);
         }
     }
 
     /// Gives the controller a turn, and collects the answers that it posted: turns take the entries
     /// of a queue in their order. The head doorbell is written each time that the geometry's pace is
     /// reached, and if the turn took nothing. Section "Completion Queue Entry".
-    fn turn<B: Bus, M: HostMemory>(
+    fn turn<B: Bus + Ringing, M: HostMemory>(
         &mut self,
         bus: &mut B,
         host: &mut HostSide<M>,
@@ -90,24 +91,24 @@ impl Batch {
         commands: &[Command],
         answers: &mut [AnswerSlot],
     )
-        ghost run: { Run }
-        requires commands { commands.now ≡ run.commands }
-        requires under_way { IsUnderWay run self.old.sent self.old.collected self.old
-            (B.meaning bus.old) pair.old (M.page_len host.old.mem) (M.bytes host.old.mem)
-            host.old.taken }
-        requires answers { HasAnswers run self.old.collected answers.old }
-        requires some { self.old.collected < length run.commands }
+        ghost begun: { RunOn B }
+        requires commands { commands.now ≡ begun.run.commands }
+        requires under_way { IsUnderWay B.was_written B.was_rung B.was_turned begun.start begun.run
+            self.old.sent self.old.collected self.old (B.meaning bus.old) bus.old pair.old
+            (M.page_len host.old.mem) (M.bytes host.old.mem) host.old.taken }
+        requires answers { HasAnswers begun.run self.old.collected answers.old }
+        requires some { self.old.collected < length begun.run.commands }
         requires full { self.old.sent
-            ≡ min (self.old.collected + run.geometry.window) (length run.commands) }
-        requires near { IsToldInTime run self.old }
-        ensures under_way { IsUnderWay run self.new.sent self.new.collected self.new
-            (B.meaning bus.new) pair.new (M.page_len host.new.mem) (M.bytes host.new.mem)
-            host.new.taken }
-        ensures answers { HasAnswers run self.new.collected answers.new }
-        ensures near { IsToldInTime run self.new }
-        ensures count { self.new.collected ≡ self.old.collected + taken_by_turn run self.old }
+            ≡ min (self.old.collected + begun.run.geometry.window) (length begun.run.commands) }
+        requires near { IsToldInTime begun.run self.old }
+        ensures under_way { IsUnderWay B.was_written B.was_rung B.was_turned begun.start begun.run
+            self.new.sent self.new.collected self.new (B.meaning bus.new) bus.new pair.new
+            (M.page_len host.new.mem) (M.bytes host.new.mem) host.new.taken }
+        ensures answers { HasAnswers begun.run self.new.collected answers.new }
+        ensures near { IsToldInTime begun.run self.new }
+        ensures count { self.new.collected ≡ self.old.collected + taken_by_turn begun.run self.old }
         ensures paced { self.old.collected < self.new.collected
-            → IsToldByPace run.geometry.pace self.old.told self.new.told }
+            → IsToldByPace begun.run.geometry.pace self.old.told self.new.told }
         ensures none { self.new.collected ≡ self.old.collected
             → (self.old.told < self.old.collected) × (self.new.told ≡ self.old.collected) }
     {
@@ -137,7 +138,7 @@ impl Batch {
 
 /// Sends commands to a controller, several at a time, and waits for their answers. No command of
 /// its queue pair is outstanding before or after.
-pub(crate) fn exchange_all<B: Bus, M: HostMemory>(
+pub(crate) fn exchange_all<B: Bus + Ringing, M: HostMemory>(
     bus: &mut B,
     ctrl: u16,
     host: &mut HostSide<M>,
@@ -145,10 +146,10 @@ pub(crate) fn exchange_all<B: Bus, M: HostMemory>(
     commands: &[Command],
     answers: &mut [AnswerSlot],
 )
-    ghost run: { Run }
-    requires run { run
-        ≡ run_of pair.old.geometry ctrl (B.meaning bus.old) pair.old
-        (M.bytes host.old.mem) commands.now }
+    ghost begun: { RunOn B }
+    requires run { begun
+        ≡ run_on (run_of pair.old.geometry ctrl (B.meaning bus.old) pair.old
+        (M.bytes host.old.mem) commands.now) bus.old }
     requires ready { IsReady pair.old.geometry (B.meaning bus.old) ctrl
         pair.old (M.page_len host.old.mem) (M.bytes host.old.mem) }
     requires can { All CanBeSent commands.now }
@@ -157,7 +158,8 @@ pub(crate) fn exchange_all<B: Bus, M: HostMemory>(
         ≡ answers_of ctrl (B.meaning bus.old).state pair.old.serial commands.now }
     ensures state { (B.meaning bus.new).state
         ≡ state_after ctrl (B.meaning bus.old).state pair.old.serial commands.now }
-    ensures paced { IsPaced run (B.meaning bus.new) (M.bytes host.new.mem) }
+    ensures paced { IsPaced B.was_written B.was_rung B.was_turned begun.run begun.start bus.new
+        (B.meaning bus.new) (M.bytes host.new.mem) }
     ensures left { IsLeft pair.old.geometry ctrl (length (M.bytes host.old.mem))
         (after_some (length commands.now) (pair_value pair.old))
         (side (B.meaning bus.old) pair.old (M.page_len host.old.mem) (M.bytes host.old.mem))

@@ -1,6 +1,6 @@
 //! The driver of the controllers of a bus.
 
-ghost use Rattle.std.specs.Prelude.{◌≡◌, ◌<◌, All, IfOk, IsOk, MatchResult, if◌then◌else◌, length};
+ghost use Rattle.std.specs.Prelude.{◌≡◌, ◌<◌, ◌∷◌, [], All, IfOk, IsOk, MatchResult, if◌then◌else◌, length};
 ghost use Rattle.nv_bus.specs.Bus.{IsBus};
 ghost use Rattle.nv_command.specs.Command.{CommandFits};
 ghost use Rattle.nv_command.specs.Logs.{IsSendable};
@@ -16,6 +16,7 @@ ghost use Rattle.nv_driver.specs.Driver.{HasEntryPages, driver_with, new_driver}
 ghost use Rattle.nv_driver.specs.Layout.{pages_of_entry};
 ghost use Rattle.nv_driver.specs.Linked.{IsBroughtUp, IsLinked};
 ghost use Rattle.nv_driver.specs.Passing.{Passes};
+ghost use Rattle.nv_driver.specs.Sending.{Sends};
 
 use crate::answer_slot::{Answer, AnswerSlot};
 use crate::batch::exchange_all;
@@ -27,6 +28,7 @@ use crate::geometry::Geometry;
 use crate::host_side::{HostSide, MOST_OUTSTANDING};
 use crate::passthrough::{Passed, exchange_entry};
 use crate::queue_pair::{QueuePair, new_pairs};
+use crate::ringing::Ringing;
 use crate::submitting::MOST_PAGES;
 use nv_bus::{Bus, Told};
 use nv_command::Command;
@@ -160,7 +162,7 @@ impl Driver {
     /// refusal. The answer is stored in the slot, and no memory is allocated. The bus must be as
     /// this driver left it, each field of the command must fit its bits, and it must be possible to
     /// read its reply from its data. Section "Command Processing".
-    pub fn admin<'a, B: Bus>(
+    pub fn admin<'a, B: Bus + Ringing>(
         &mut self,
         bus: &mut B,
         ctrl: u16,
@@ -177,6 +179,8 @@ impl Driver {
             ctrl command.now (pair_at self.old.pairs ctrl).serial).state }
         ensures driver { self.new ≡ after_command self.old ctrl }
         ensures linked { IsLinked (B.meaning bus.new) self.new }
+        ensures steps { Sends B.was_written B.was_rung B.was_turned self.old ctrl (command.now ∷ [])
+            (B.meaning bus.old) bus.old bus.new }
     {
         self.admin_all(bus, ctrl, from_ref(command), from_mut(slot));
         slot.answer()
@@ -188,7 +192,7 @@ impl Driver {
     /// time. No memory is allocated. The bus must be as this driver left it, each field of each
     /// command must fit its bits, and it must be possible to read its reply from its data. Section
     /// "Command Processing".
-    pub fn admin_all<B: Bus>(
+    pub fn admin_all<B: Bus + Ringing>(
         &mut self,
         bus: &mut B,
         ctrl: u16,
@@ -206,6 +210,8 @@ impl Driver {
             (pair_at self.old.pairs ctrl).serial commands.now }
         ensures driver { self.new ≡ after_commands self.old ctrl (length commands.now) }
         ensures linked { IsLinked (B.meaning bus.new) self.new }
+        ensures steps { Sends B.was_written B.was_rung B.was_turned self.old ctrl commands.now
+            (B.meaning bus.old) bus.old bus.new }
     {
         let pair = &mut self.pairs[ctrl as usize];
         exchange_all(bus, ctrl, &mut self.host, pair, commands, answers);
@@ -218,7 +224,7 @@ impl Driver {
     /// has, with zeros after the last one that is given. The bus must be as this driver left it,
     /// and the driver must have been brought up for entries. No memory is allocated. Section
     /// "Command Processing".
-    pub fn passthrough<B: Bus>(
+    pub fn passthrough<B: Bus + Ringing>(
         &mut self,
         bus: &mut B,
         ctrl: u16,
@@ -241,7 +247,7 @@ impl Driver {
         ensures driver { self.new ≡ after_command self.old ctrl }
         ensures entries { HasEntryPages self.new }
         ensures linked { IsLinked (B.meaning bus.new) self.new }
-        ensures steps { Passes B.was_written B.was_turned ctrl (pair_at self.old.pairs ctrl)
+        ensures steps { Passes B.was_written B.was_rung B.was_turned ctrl (pair_at self.old.pairs ctrl)
             entry.now bytes.now bus.old bus.new }
     {
         let passed = Passed {

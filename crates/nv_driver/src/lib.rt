@@ -61,6 +61,7 @@ mod law;
 mod layout;
 mod passthrough;
 mod queue_pair;
+mod ringing;
 mod submitting;
 
 pub use answer_slot::{Answer, AnswerSlot};
@@ -70,3 +71,4 @@ pub use geometry::Geometry;
 pub use geometry_field::GeometryField;
 pub use law::{any_command, any_entry, any_schedule};
 pub use nv_bus::Told;
+pub use ringing::Ringing;

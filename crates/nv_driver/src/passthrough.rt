@@ -12,11 +12,11 @@ ghost use Rattle.nv_driver.specs.Quiet.{pair_value};
 use crate::entry_data::receive;
 use crate::host_side::HostSide;
 use crate::queue_pair::QueuePair;
+use crate::ringing::Ringing;
 use crate::submitting::{DataPlace, Outgoing, submit};
 use nv_bus::{Bus, Told};
 use nv_host::{HostMemory, PageNo};
 use nv_layout::Sqe;
-use nv_register::offset;
 
 /// An entry that is sent unchanged, the host's bytes for it, and the first of the pages that its
 /// list and its data may have.
@@ -30,7 +30,7 @@ pub struct Passed<'a> {
 /// Sends an entry to a controller, unchanged except for its command identifier and data pointer,
 /// and waits for its completion. Its list and its data are in consecutive pages that belong to no
 /// queue pair. No command of the queue pair is outstanding before or after.
-pub(crate) fn exchange_entry<B: Bus, M: HostMemory>(
+pub(crate) fn exchange_entry<B: Bus + Ringing, M: HostMemory>(
     bus: &mut B,
     ctrl: u16,
     host: &mut HostSide<M>,
@@ -51,7 +51,7 @@ pub(crate) fn exchange_entry<B: Bus, M: HostMemory>(
         (side (B.meaning bus.old) pair.old (M.page_len host.old.mem) (M.bytes host.old.mem))
         (side (B.meaning bus.new) pair.new (M.page_len host.new.mem) (M.bytes host.new.mem))
         result out.new }
-    ensures steps { Passes B.was_written B.was_turned ctrl (pair_value pair.old)
+    ensures steps { Passes B.was_written B.was_rung B.was_turned ctrl (pair_value pair.old)
         passed.now.entry.now passed.now.bytes.now bus.old bus.new }
 {
     let geometry = pair.geometry();
@@ -65,7 +65,7 @@ pub(crate) fn exchange_entry<B: Bus, M: HostMemory>(
     let len = request.transfer.bytes() as u32;
     let place = DataPlace::new(geometry, passed.first_page, len, pages);
     let tail = submit(mem, pair, &place, &request, spans);
-    bus.write32(ctrl, offset::TAIL_DOORBELL, u32::from(tail));
+    bus.ring(ctrl, mem, tail);
     bus.turn(ctrl, mem, 1);
     let completion = pair.next_completion(mem);
     pair.tell(bus, ctrl);

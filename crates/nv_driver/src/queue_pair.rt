@@ -1,6 +1,6 @@
 //! The host's side of one controller: its rings and its free pages.
 
-ghost use Rattle.std.specs.Prelude.{◌≡◌, ◌+◌, ◌*◌, ◌<◌, ◌≤◌, ◌^◌, All, IfOk, length, map, replicate, true};
+ghost use Rattle.std.specs.Prelude.{◌≡◌, ◌+◌, ◌*◌, ◌<◌, ◌≤◌, ◌^◌, All, IfOk, false, length, map, replicate, true};
 ghost use Rattle.nv_host.specs.Bytes.{with_bytes};
 ghost use Rattle.nv_queue.specs.Numbers.{slot_of};
 ghost use Rattle.nv_queue.specs.Rings.{collected_one, known_to};
@@ -101,6 +101,7 @@ impl QueuePair {
         ensures told { IsTold ctrl self.old (B.meaning bus.old) self.new (B.meaning bus.new) }
         ensures written { self.old.completion.untold ≡ true → B.was_written bus.old ctrl 0x1004
             (slot_of self.old.completion.depth self.old.completion.collected) bus.new }
+        ensures silent { self.old.completion.untold ≡ false → bus.new ≡ bus.old }
     {
         if let Some(head) = self.completion.head_to_tell() {
             bus.write32(ctrl, offset::HEAD_DOORBELL, u32::from(head));

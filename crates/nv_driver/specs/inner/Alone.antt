@@ -39,8 +39,9 @@ events_alone x = Tell ∷ Collect ∷ Turn 1 ∷ Bell ∷ Submit x ∷ []
 pub record IsAlone (g : Geometry) (c : ℕ) (x : Sent) (old new : Side) : Type 0 where
   pub points : IsPointedFrom g.page_size x
   pub last : World
-  pub ran : Follows (λ w e. Unit {0}) (setting_of (run_of g c old.bus old.pair old.bytes []))
-      (events_alone x) (first_world (run_of g c old.bus old.pair old.bytes [])) last
+  pub ran : Follows {B = Unit {0}} (λ _ _ _ _ _. Unit {0})
+      (setting_of (run_of g c old.bus old.pair old.bytes [])) (events_alone x)
+      (first_world (run_of g c old.bus old.pair old.bytes [])) tt last tt
   pub seen : IsSeenAs last c new.bus new.bytes
 
 -- an entry was sent with the host's bytes, and its data in consecutive pages from this one on: its

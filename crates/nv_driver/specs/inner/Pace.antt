@@ -1,11 +1,14 @@
 -- How many commands of a list are executed at a time: what a turn takes, and when the head doorbell is rung.
-use Rattle.std.specs.Prelude.{◌≡◌, ℕ, ◌+◌, ◌-◌, ◌*◌, ◌<◌, List, false, length, min, slice_set, true}
+use Rattle.std.specs.Prelude.{◌≡◌, ℕ, ◌+◌, ◌-◌, ◌*◌, ◌<◌, List, min, slice_set, true}
 use Rattle.nv_queue.specs.Numbers.{slot_of}
 use Rattle.nv_queue.specs.Rings.{told_all}
 use Rattle.nv_register.specs.RegisterBank.{with_register_at}
 use Rattle.nv_bus.specs.Bus.{BusValue, IsBus, bank_at}
-use Rattle.nv_driver.specs.Schedule.{Event, Follows, World}
-use Rattle.nv_driver.specs.UnderWay.{IsDue, Run, first_world, setting_of}
+use Rattle.nv_driver.specs.BringingUp.{Write}
+use Rattle.nv_driver.specs.Passing.{BusTurn, TailWrite}
+use Rattle.nv_driver.specs.Schedule.{World}
+use Rattle.nv_driver.specs.Sending.{SendsAll}
+use Rattle.nv_driver.specs.UnderWay.{Run}
 use Rattle.nv_driver.specs.declared.batch.Batch.{Batch}
 use Rattle.nv_driver.specs.declared.queue_pair.QueuePair.{QueuePair as QueuePairFields}
 
@@ -33,7 +36,6 @@ pub record IsTold (c : ℕ) (l : QueuePairFields) (m : BusValue) (l' : QueuePair
   pub bus : IsBus m → IsBus m'
   pub told : l.completion.untold ≡ true → m'.banks ≡ slice_set m.banks c
       (with_register_at (bank_at m.banks c) 0x1004 (slot_of l.completion.depth l.completion.collected))
-  pub silent : l.completion.untold ≡ false → m'.banks ≡ m.banks
 
 -- these are the memory and the controller of a world
 pub record IsSeenAs (w : World) (c : ℕ) (bus : BusValue) (bytes : List ℕ) : Type 0 where
@@ -41,12 +43,9 @@ pub record IsSeenAs (w : World) (c : ℕ) (bus : BusValue) (bytes : List ℕ) : 
   pub state : w.state ≡ bus.state
   pub bank : w.bank ≡ bank_at bus.banks c
 
--- the bus and the memory are those after events each of which was due, up to the last answer, which is
--- reported
-pub record IsPaced (r : Run) (bus : BusValue) (bytes : List ℕ) : Type 0 where
-  pub events : List Event
+-- a run's commands were sent, which leaves this bus and this memory
+pub record IsPaced {B : Type 0} (wrote : Write B) (rang : TailWrite B) (turned : BusTurn B) (r : Run) (old new : B)
+    (bus : BusValue) (bytes : List ℕ) : Type 0 where
   pub last : World
-  pub ran : Follows (IsDue r) (setting_of r) events (first_world r) last
-  pub collected : length last.answers ≡ length r.commands
-  pub told : last.told ≡ length r.commands
+  pub steps : SendsAll wrote rang turned r old new last
   pub seen : IsSeenAs last r.controller bus bytes

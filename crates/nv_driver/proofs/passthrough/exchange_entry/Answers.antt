@@ -45,9 +45,9 @@ next_completion-completion-requires g c =
     let begun = begun_by c.of_entry-request.result c.requires.ready c.requires.fits c.requires.inside c.requires.behind
     q.entry q.transfer q.few c.bytes-len.ensures c.geometry-geometry.ensures
     c.new-place.ensures q.sends c.submit-tail.ensures in
-    let w = c.write32.ensures in
+    let w = c.ring.ensures in
     let t = c.turn.ensures in
-    let u = (took begun c.from.ensures w.state w.banks w.bus t.turn t.bus t.len t.page).0 in
+    let u = (took begun w.state w.banks w.bus t.turn t.bus t.len t.page).0 in
     can_collect u (omega arith)
 
 pub receive-requires-clause-buffer : goal.receive-requires-clause-buffer
@@ -56,9 +56,9 @@ receive-requires-clause-buffer g c =
     let begun = begun_by c.of_entry-request.result c.requires.ready c.requires.fits c.requires.inside c.requires.behind
     q.entry q.transfer q.few c.bytes-len.ensures c.geometry-geometry.ensures
     c.new-place.ensures q.sends c.submit-tail.ensures in
-    let w = c.write32.ensures in
+    let w = c.ring.ensures in
     let t = c.turn.ensures in
-    let u = (took begun c.from.ensures w.state w.banks w.bus t.turn t.bus t.len t.page).0 in
+    let u = (took begun w.state w.banks w.bus t.turn t.bus t.len t.page).0 in
     let place = its_place c.of_entry-request.result c.requires.ready c.requires.fits c.requires.inside c.requires.behind
     q.entry q.transfer q.few c.bytes-len.ensures c.geometry-geometry.ensures
     c.new-place.ensures in
@@ -70,9 +70,9 @@ returns-clause-exchanged g c =
     let begun = begun_by c.of_entry-request.result c.requires.ready c.requires.fits c.requires.inside c.requires.behind
     q.entry q.transfer q.few c.bytes-len.ensures c.geometry-geometry.ensures
     c.new-place.ensures q.sends c.submit-tail.ensures in
-    let w = c.write32.ensures in
+    let w = c.ring.ensures in
     let t = c.turn.ensures in
-    let u = (took begun c.from.ensures w.state w.banks w.bus t.turn t.bus t.len t.page).0 in
+    let u = (took begun w.state w.banks w.bus t.turn t.bus t.len t.page).0 in
     let n = length c.args.out.now in
     let status = c.next_completion-completion.result.status in
     let after = g.M.PagedMemory.bytes c.turn.new.mem in
@@ -96,8 +96,9 @@ returns-clause-steps g c =
     let begun = begun_by c.of_entry-request.result c.requires.ready c.requires.fits c.requires.inside c.requires.behind
     q.entry q.transfer q.few c.bytes-len.ensures c.geometry-geometry.ensures
     c.new-place.ensures q.sends c.submit-tail.ensures in
-    let w = c.write32.ensures in
+    let w = c.ring.ensures in
     let t = c.turn.ensures in
-    let one = (took begun c.from.ensures w.state w.banks w.bus t.turn t.bus t.len t.page).1 in
-    passes begun g.B.Bus.was_written g.B.Bus.was_turned c.next_completion-completion.result.sq_head c.from.ensures w.written one t.turned
+    let one = (took begun w.state w.banks w.bus t.turn t.bus t.len t.page).1 in
+    passes begun g.B.Bus.was_written g.B.Ringing.was_rung g.B.Bus.was_turned c.next_completion-completion.result.sq_head
+    w.written w.rung one t.turned
     c.next_completion-completion.ensures.pair c.tell.ensures.written

@@ -56,11 +56,11 @@ submit-next-requires g c =
     let o = c.take-pages.result in
     let len = length_of c.transfer.result in
     let long = all_count o e.seven (omega (arith, e.count, c.data_count.ensures.seven)) in
-    let many : length (all_pages o) ≡ data_count g.run.geometry len + 2 =
+    let many : length (all_pages o) ≡ data_count g.begun.run.geometry len + 2 =
     long ∙ e.count ∙ ap (λ n. n + 2) (c.data_count.ensures.pages
     ∙ ap (λ (q : Geometry). data_count q c.bytes-len.result) same
-    ∙ ap (data_count g.run.geometry) c.bytes-len.ensures) in
-    let place = place_of_set g.run.geometry c.loop-number.pair.pages (all_pages o)
+    ∙ ap (data_count g.begun.run.geometry) c.bytes-len.ensures) in
+    let place = place_of_set g.begun.run.geometry c.loop-number.pair.pages (all_pages o)
     (g.M.PagedMemory.bytes c.loop-number.host.mem) (g.M.PagedMemory.page_len c.loop-number.host.mem) len
     u.begun.geometry u.page_size (still_inside u) e.taken.own e.taken.distinct many in
     let slot = free_slot u (omega arith) in
@@ -93,19 +93,20 @@ loop-number-preserved g c =
     let at = c.place-place.ensures.place ∙ ap (λ (q : Geometry). place_in q (all_pages o)) same in
     let next = submitted_as u.page_size at (requests_same c.entry.ensures.entry c.transfer.ensures refl)
     (c.submit-next.ensures (Ok k)) in
-    let one : IsSubmittedAt g.run.geometry.page_size (place_in g.run.geometry (all_pages o)) (request_of k)
+    let one : IsSubmittedAt g.begun.run.geometry.page_size (place_in g.begun.run.geometry (all_pages o)) (request_of k)
     (record l { pages = without l.pages (all_pages o) }) c.submit-next.new.pair
     (g.M.PagedMemory.bytes c.loop-number.host.mem) (g.M.PagedMemory.bytes c.submit-next.new.mem)
     (g.M.PagedMemory.page_len c.submit-next.new.mem) c.submit-next.result =
-    subst (λ s. IsSubmittedAt g.run.geometry.page_size (place_in g.run.geometry (all_pages o)) (request_of k)
+    subst
+    (λ s. IsSubmittedAt g.begun.run.geometry.page_size (place_in g.begun.run.geometry (all_pages o)) (request_of k)
     (record l { pages = s }) c.submit-next.new.pair
     (g.M.PagedMemory.bytes c.loop-number.host.mem) (g.M.PagedMemory.bytes c.submit-next.new.mem)
     (g.M.PagedMemory.page_len c.submit-next.new.mem) c.submit-next.result) e.set next in
-    let sub : IsSentIn g.run.geometry k o l c.submit-next.new.pair
+    let sub : IsSentIn g.begun.run.geometry k o l c.submit-next.new.pair
     (g.M.PagedMemory.bytes c.loop-number.host.mem) (g.M.PagedMemory.bytes c.submit-next.new.mem)
     (g.M.PagedMemory.page_len c.submit-next.new.mem) c.submit-next.result = record {
       many = e.count ∙ ap (λ m. m + 2) (n.pages ∙ ap (λ (q : Geometry). data_count q c.bytes-len.result) same
-          ∙ ap (data_count g.run.geometry) (c.bytes-len.ensures ∙ ap length_of c.transfer.ensures));
+          ∙ ap (data_count g.begun.run.geometry) (c.bytes-len.ensures ∙ ap length_of c.transfer.ensures));
       seven = e.seven;
       few = omega (arith, e.count, n.seven);
       fits = omega (arith, e.count, few);
@@ -122,13 +123,13 @@ loop-number-preserved g c =
       tail = (tail_after u sent next.tail, omega (arith, i.from));
     }
 
-pub write32-requires : goal.write32-requires
-write32-requires g c = let u = c.loop-number.invariant.under_way in rw (u.controller) (has_bank u.on_way)
+pub ring-requires : goal.ring-requires
+ring-requires g c = let u = c.loop-number.invariant.under_way in rw (u.controller) (has_bank u.on_way)
 
 pub returns-in-Some-clause-under_way : goal.returns-in-Some-clause-under_way
 returns-in-Some-clause-under_way g c =
     let i = c.loop-number.invariant in
-    let w = c.write32.ensures in
+    let w = c.ring.ensures in
     let sent = ap (λ (b : Batch). b.sent) i.batch in
     let collected = ap (λ (b : Batch). b.collected) i.batch in
     let told = ap (λ (b : Batch). b.told) i.batch in
@@ -137,7 +138,7 @@ returns-in-Some-clause-under_way g c =
     let window = ap (λ (q : Geometry). q.window)
     (c.geometry.view_is ∙ c.geometry-geometry.ensures ∙ geometry_is first) in
     let many = ap (λ (xs : List Command). length xs) c.requires.1.1.0 in
-    rw (← collected) at (rings i.under_way c.from-in-Some.ensures
-    (some.0 ∙ ap (slot (setting_of g.run)) (sym sent)) w.state w.banks w.bus (sym collected)
+    rw (← collected) at (rings i.under_way
+    (some.0 ∙ ap (slot (setting_of g.begun.run)) (sym sent)) w.state w.banks w.bus w.written w.rung (sym collected)
     (omega (arith, c.requires.1.1.1.1, collected, told)) (omega (arith, sent, collected, window, many))
     (omega (arith, sent, some.1)))

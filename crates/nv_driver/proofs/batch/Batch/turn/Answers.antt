@@ -42,15 +42,15 @@ returns-then-posted-eq0 g c =
     let e = c.turn-posted.ensures in
     let pace = ap (λ (q : Geometry). q.pace) (c.geometry.view_is ∙ c.geometry-geometry.ensures ∙ geometry_is u) in
     let some = u.begun.geometry.pace in
-    let h = turns_on u e.turn pace e.bus e.len e.page refl rest.1.1.1 rest.1.1.0 refl rest.1.0 refl in
+    let h = turns_on u e.turn e.turned pace e.bus e.len e.page refl rest.1.1.1 rest.1.1.0 refl rest.1.0 refl in
     let deep = u.begun.laid.deep in
     let none : c.turn-posted.result ≡ 0 = omega arith in
     let same : c.args.self.now.collected + c.turn-posted.result ≡ c.args.self.now.collected = omega (arith, none) in
     let free = none_free _ _ _ _ _ _ h.1 none (omega (arith, some))
     (omega (arith, rest.1.0, rest.1.1.0, u.begun.geometry.window.0)) deep.0 in
-    let due : IsToReport g.run (world h.0) = inr (h.0.collected ∙ sym same, inl (omega (arith, free.1, none))) in
+    let due : IsToReport g.begun.run (world h.0) = inr (h.0.collected ∙ sym same, inl (omega (arith, free.1, none))) in
     record {
-      under_way = rw same at (tells_on h.0 c.tell.ensures.told due);
+      under_way = rw same at (tells_on h.0 c.tell.ensures.told c.tell.ensures.written free.0 due);
       answers = rest.0;
       near = omega (arith, some);
       count = omega (arith, h.1, none);
@@ -64,7 +64,7 @@ loop-init g c =
     let rest = c.requires.1.1.1.1 in
     let e = c.turn-posted.ensures in
     let pace = ap (λ (q : Geometry). q.pace) (c.geometry.view_is ∙ c.geometry-geometry.ensures ∙ geometry_is u) in
-    let h = turns_on u e.turn pace e.bus e.len e.page refl rest.1.1.1 rest.1.1.0 refl rest.1.0 refl in
+    let h = turns_on u e.turn e.turned pace e.bus e.len e.page refl rest.1.1.1 rest.1.1.0 refl rest.1.0 refl in
     record {
       under_way = h.0;
       answers = rest.0;
@@ -150,10 +150,10 @@ loop-preserved g c =
     i.answers one.answer in
     elim c.if-self-pace.branch [
       | then-self-pace w ↦
-          let t = w.tell-then-self-pace.ensures.told in
-          let due : n + 1 ≡ c.loop.self.told + g.run.geometry.pace =
+          let t = w.tell-then-self-pace.ensures in
+          let due : n + 1 ≡ c.loop.self.told + g.begun.run.geometry.pace =
           omega (arith, w.if-self-pace.true, limit, some) in
-          let told = tells_on next t (inl (next.collected ∙ due)) in
+          let told = tells_on next t.told t.written (omega (arith, due, some)) (inl (next.collected ∙ due)) in
           rw (w.self-is, w.pair-is, w.bus-is) (record {
             under_way = told;
             answers = answers;

@@ -5,12 +5,13 @@ use Rattle.nv_driver.proofs.batch.Batch.turn.Given as goal
 
 abbrev pub invariant-loop : goal.invariant-loop
 invariant-loop g l = record {
-  under_way : IsUnderWay g.run l.self.sent (l.fn.self.collected + l.posted) l.self (g.B.Bus.meaning l.bus) l.pair
+  under_way : IsUnderWay g.B.Bus.was_written g.B.Ringing.was_rung g.B.Bus.was_turned g.begun.start g.begun.run
+      l.self.sent (l.fn.self.collected + l.posted) l.self (g.B.Bus.meaning l.bus) l.bus l.pair
       (g.M.PagedMemory.page_len l.host.mem) (g.M.PagedMemory.bytes l.host.mem) l.host.taken;
-  answers : HasAnswers g.run l.self.collected l.answers;
+  answers : HasAnswers g.begun.run l.self.collected l.answers;
   batch : l.self ≡ record l.fn.self { collected = l.self.collected; told = l.self.told };
   collected : l.self.collected ≡ l.fn.self.collected + l.counter;
-  near : IsToldInTime g.run l.self;
-  paced : IsToldByPace g.run.geometry.pace l.fn.self.told l.self.told;
-  count : l.posted ≡ taken_by_turn g.run l.fn.self;
+  near : IsToldInTime g.begun.run l.self;
+  paced : IsToldByPace g.begun.run.geometry.pace l.fn.self.told l.self.told;
+  count : l.posted ≡ taken_by_turn g.begun.run l.fn.self;
 }

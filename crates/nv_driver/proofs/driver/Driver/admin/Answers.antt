@@ -1,5 +1,6 @@
-use Rattle.std.proofs.Common.{◌∙◌, ap}
+use Rattle.std.proofs.Common.{◌∙◌, ap, subst}
 use Rattle.nv_driver.specs.Driver.{after_commands}
+use Rattle.nv_driver.specs.Sending.{Sends}
 use Rattle.nv_driver.proofs.AdminLaws.{after_first}
 use Rattle.nv_driver.proofs.driver.Driver.admin.Goals as goal
 
@@ -7,3 +8,9 @@ pub returns-clause-driver : goal.returns-clause-driver
 returns-clause-driver g c =
     c.admin_all.ensures.driver ∙ ap (after_commands c.args.self.now c.args.ctrl) c.from_ref.ensures.len
     ∙ after_first c.args.self.now c.args.ctrl
+
+pub returns-clause-steps : goal.returns-clause-steps
+returns-clause-steps g c =
+    subst (λ ks. Sends g.B.Bus.was_written g.B.Ringing.was_rung g.B.Bus.was_turned c.args.self.now c.args.ctrl ks
+    (g.B.Bus.meaning c.args.bus.now) c.args.bus.now c.admin_all.new.bus) c.from_ref.ensures.value
+    c.admin_all.ensures.steps

@@ -1,6 +1,7 @@
 use Rattle.std.proofs.Common.{length, refl, rules}
 use Rattle.nv_driver.specs.Exchange.{after_some}
-use Rattle.nv_driver.proofs.AdminLaws.{driver_after, ends_inside, left_at, linked_after, ready_by, value_after}
+use Rattle.nv_driver.proofs.AdminLaws.{driver_after, ends_inside, left_at, linked_after, ready_by, sends_by}
+use Rattle.nv_driver.proofs.AdminLaws.{value_after}
 use Rattle.nv_driver.proofs.driver.Driver.admin_all.Goals as goal
 
 pub exchange_all-requires : goal.exchange_all-requires
@@ -40,3 +41,10 @@ returns-clause-linked g c =
     linked_after c.self.invariant c.self.view_is c.requires.ctrl c.index_mut-pair.ensures.value
     (left_at c.self.invariant c.self.view_is c.requires.ctrl c.index_mut-pair.ensures.value
     c.exchange_all.ensures.left) c.requires.linked
+
+pub returns-clause-steps : goal.returns-clause-steps
+returns-clause-steps g c =
+    let paced = c.exchange_all.ensures.paced in
+    sends_by c.self.invariant c.self.view_is c.requires.ctrl c.index_mut-pair.ensures.value
+    (ready_by c.self.invariant c.self.view_is c.requires.ctrl c.index_mut-pair.ensures.value c.requires.linked).quiet
+    paced.steps

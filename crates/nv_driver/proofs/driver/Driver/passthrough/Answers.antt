@@ -56,7 +56,8 @@ returns-clause-linked g c =
 
 pub returns-clause-steps : goal.returns-clause-steps
 returns-clause-steps g c =
-    subst (λ l. Passes g.B.Bus.was_written g.B.Bus.was_turned c.args.ctrl l c.args.entry.now c.args.bytes.now
+    subst (λ l. Passes g.B.Bus.was_written g.B.Ringing.was_rung g.B.Bus.was_turned c.args.ctrl l c.args.entry.now
+    c.args.bytes.now
     c.args.bus.now c.exchange_entry.new.bus)
     (sym (pair_is c.self.invariant c.self.view_is c.requires.ctrl c.index_mut-pair.ensures.value))
     c.exchange_entry.ensures.steps
