@@ -145,8 +145,9 @@ void filter_calls(void) {
 
 #define COUNT(array) (sizeof(array) / sizeof *(array))
 
-/* What glibc (2.34 to 2.42) and the address sanitizer call in every program. This list and the next one were found by
-   strace of the tests, and have all calls by which some version of glibc does the same. */
+/* What glibc (2.34 to 2.43) and the address sanitizer call in every program. This list and the next one have what the
+   functions call that the programs use, in each of these versions. (With SECCOMP_RET_KILL_PROCESS in place of ENOSYS,
+   whatever is missing ends the tests.) */
 static const int common_calls[] = {
     SYS_read, SYS_readv, SYS_pread64, SYS_write, SYS_writev, SYS_pwrite64, SYS_close, SYS_lseek, SYS_fcntl,
     SYS_stat, SYS_lstat, SYS_fstat, SYS_newfstatat, SYS_statx, SYS_access, SYS_faccessat, SYS_faccessat2,
@@ -157,23 +158,15 @@ static const int common_calls[] = {
     SYS_gettimeofday, SYS_time, SYS_getrandom, SYS_getpid, SYS_gettid, SYS_getuid, SYS_geteuid, SYS_getgid,
     SYS_getegid, SYS_getrlimit, SYS_getrusage, SYS_uname, SYS_sysinfo, SYS_exit, SYS_exit_group};
 
-/* What the launcher calls besides, once the command runs. */
+/* What the launcher and its helpers call besides, once the command runs: with the files of the sandbox; with processes,
+   such as those that made calls; and to wait. */
 static const int launcher_calls[] = {
-    /* files of the sandbox, and their data */
-    SYS_open, SYS_openat, SYS_openat2, SYS_creat, SYS_dup, SYS_dup2, SYS_dup3, SYS_close_range, SYS_getdents64,
-    SYS_mkdir, SYS_mkdirat, SYS_mknod, SYS_mknodat, SYS_link, SYS_linkat, SYS_symlink, SYS_symlinkat, SYS_unlink,
-    SYS_unlinkat, SYS_rmdir, SYS_rename, SYS_renameat, SYS_renameat2, SYS_chmod, SYS_fchmod, SYS_fchmodat, SYS_chown,
-    SYS_fchown, SYS_lchown, SYS_fchownat, SYS_truncate, SYS_ftruncate, SYS_fallocate, SYS_fstatfs, SYS_statfs,
-    SYS_getcwd, SYS_umask, SYS_inotify_init1, SYS_inotify_add_watch, SYS_inotify_rm_watch,
-    /* processes, with the memory of callers and with helpers that act as them */
-    SYS_process_vm_readv, SYS_process_vm_writev, SYS_fork, SYS_vfork, SYS_wait4, SYS_waitid, SYS_kill, SYS_getppid,
-    SYS_getpgid, SYS_getsid, SYS_setsid, SYS_setpgid, SYS_pidfd_open, SYS_pidfd_send_signal, SYS_setuid, SYS_setgid,
-    SYS_setreuid, SYS_setregid, SYS_setresuid, SYS_setresgid, SYS_setfsuid, SYS_setfsgid, SYS_setgroups,
-    SYS_getgroups, SYS_getresuid, SYS_getresgid, SYS_capget, SYS_capset, SYS_prlimit64, SYS_setrlimit,
-    /* what is waited for */
-    SYS_poll, SYS_ppoll, SYS_select, SYS_pselect6, SYS_signalfd, SYS_signalfd4, SYS_rt_sigtimedwait,
-    SYS_rt_sigpending, SYS_rt_sigsuspend, SYS_pipe, SYS_pipe2, SYS_socketpair, SYS_sendmsg, SYS_recvmsg, SYS_sendto,
-    SYS_recvfrom, SYS_shutdown, SYS_eventfd2, SYS_timerfd_create, SYS_timerfd_settime, SYS_alarm, SYS_setitimer};
+    SYS_open, SYS_openat, SYS_openat2, SYS_getdents64, SYS_mkdir, SYS_mkdirat, SYS_mknod, SYS_mknodat, SYS_linkat,
+    SYS_symlinkat, SYS_unlink, SYS_unlinkat, SYS_rmdir, SYS_ftruncate, SYS_fallocate, SYS_fchown, SYS_statfs,
+    SYS_fstatfs, SYS_inotify_init1, SYS_inotify_add_watch,
+    SYS_process_vm_readv, SYS_process_vm_writev, SYS_fork, SYS_wait4, SYS_waitid, SYS_kill, SYS_getppid, SYS_setsid,
+    SYS_setgroups, SYS_setresuid, SYS_setresgid,
+    SYS_select, SYS_pselect6, SYS_poll, SYS_ppoll, SYS_signalfd4, SYS_eventfd2};
 
 /* The requests of the launcher's ioctls: for calls that were handed over, and by which stdio looks for a terminal (the
    last one in glibc 2.42); its options of prctl; and the flags of clone by which a process gets other namespaces. */
