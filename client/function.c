@@ -51,7 +51,7 @@ static void add_one(int counter) {
     nothing.aio_flags = IOCB_FLAG_RESFD;
     nothing.aio_resfd = (uint32_t)counter;
     while (syscall(SYS_io_submit, events, 1L, &all) < 0 && errno == EAGAIN)
-        syscall(SYS_io_getevents, events, 1L, (long)MOST_EVENTS, ended, NULL);
+        syscall(SYS_io_getevents, events, 0L, (long)MOST_EVENTS, ended, NULL);
 }
 
 /* Puts an event counter, or none (-1), in the place of the former one. */

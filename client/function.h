@@ -73,7 +73,7 @@ int drop_sections(struct function *function, uint64_t address, uint64_t size);
 int turn(struct function *function, uint64_t entry, uint64_t slot, uint32_t page);
 int take_file(struct function *function, unsigned number);
 void let_go(struct function *function, int file);
-int begin(struct function *function, int client);
+int begin(struct function *function);
 void serve_messages(struct function *function);
 void send_rest(struct function *function);
 void receive(struct function *function);

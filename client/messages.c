@@ -65,25 +65,22 @@ __attribute__((noreturn)) static void run_receiver(int client, int server) {
     }
 }
 
-/* Begins to serve a client, with a receiver of its own, or closes it. Returns whether it could begin. (A byte out of
-   band must be one like all others, or it would be taken, with its descriptors, unseen.) */
-int begin(struct function *function, int client) {
-    int ends[2] = {-1, -1}, on = 1;
-    int is_ready = client >= 0 && socketpair(AF_UNIX, SOCK_SEQPACKET | SOCK_CLOEXEC, 0, ends) == 0 &&
-                   setsockopt(client, SOL_SOCKET, SO_OOBINLINE, &on, sizeof on) == 0;
-    pid_t receiver = is_ready ? fork() : -1;
-    if (receiver == 0)
-        run_receiver(client, ends[1]);
-    close(ends[1]);
-    if (receiver < 0) {
-        close(ends[0]);
-        close(client);
+/* Begins to serve a function's client, with a receiver of its own. Returns whether it could. (A byte out of band must
+   be one like all others, or it would be taken, with its descriptors, unseen.) */
+int begin(struct function *function) {
+    int ends[2], on = 1;
+    if (socketpair(AF_UNIX, SOCK_SEQPACKET | SOCK_CLOEXEC, 0, ends) < 0)
         return 0;
-    }
-    function->receiver = receiver;
-    function->socket = client;
+    if (function->listener >= 0)
+        function->socket = accept4(function->listener, NULL, NULL, SOCK_CLOEXEC);
     function->to_receiver = ends[0];
-    return 1;
+    function->receiver = setsockopt(function->socket, SOL_SOCKET, SO_OOBINLINE, &on, sizeof on) == 0 ? fork() : -1;
+    if (function->receiver == 0)
+        run_receiver(function->socket, ends[1]);
+    close(ends[1]);
+    if (function->receiver < 0)
+        lose(function);
+    return function->socket >= 0;
 }
 
 /* Has the receiver close a descriptor, because with the last one all memory of a file may have to be freed. */

@@ -49,7 +49,7 @@ static void serve(struct function *function, const struct pollfd awaited[2]) {
     if (function->has_more)
         take_turn(function);
     if (awaited[0].revents && awaited[0].fd == function->listener)
-        function->is_paused = !begin(function, accept4(function->listener, NULL, NULL, SOCK_CLOEXEC));
+        function->is_paused = !begin(function);
     else if (awaited[0].revents && awaited[0].fd == function->socket)
         (function->is_asked ? lose : function->to_send > 0 ? send_rest : receive)(function);
     serve_messages(function);
@@ -199,10 +199,11 @@ static void make_sockets(void) {
         err(FAILED, "%s", folder);
     for (unsigned at = 0; at < function_count; at++) {
         struct function *function = functions + at;
-        if (function->protocol == &proxy && (socketpair(AF_UNIX, SOCK_STREAM, 0, ends) < 0 ||
-                                             fcntl(*ends, F_SETFD, FD_CLOEXEC) < 0 || !begin(function, *ends)))
+        if (function->protocol == &vfio_user)
+            function->listener = listen_at(at);
+        else if (socketpair(AF_UNIX, SOCK_STREAM, 0, ends) < 0 || fcntl(*ends, F_SETFD, FD_CLOEXEC) < 0 ||
+                 (function->socket = *ends, !begin(function)))
             err(FAILED, "socketpair");
-        function->listener = function->protocol == &vfio_user ? listen_at(at) : -1;
         far_ends[at] = has_folder ? open(address_of(at).sun_path, O_PATH) : is_server ? -1 : ends[1];
     }
     if (has_folder)

@@ -14,6 +14,7 @@ import shutil
 import signal
 import socket
 import subprocess
+import textwrap
 
 from tests.as_qemu import BROKEN
 from tests.modelled import CLIENT, PARTS, ModelCase, installed, is_there
@@ -396,6 +397,31 @@ class Drivers(ModelCase):
             self.assertRegex(ended.out.decode(), rf'nsid:{nsid}\n1\nPLUGGED\nUNPLUGGED\n(\[.*\n)+END\n$')
         server.process.terminate()
         self.ends(server.end(), -signal.SIGTERM)
+
+    def test_recipe(self):
+        # the page's commands, word for word, pack a guest, boot it, and leave nothing in the folder where they run
+        release = sorted(os.listdir('/lib/modules'))[-1:]
+        if not release or not os.path.exists(f'/boot/vmlinuz-{release[0]}') or not shutil.which('cpio'):
+            self.skipTest('there is no cpio, or no kernel whose modules are the last ones in /lib/modules')
+        page = (TOP / 'docs/QEMU.md').read_text()
+        commands = textwrap.dedent(re.search(r'(?m)^    guest=.*\n(?:    .*\n)*', page).group())
+        added = '' if b'vfio-user-pci' in devices() else ' irqpoll nolapic_timer'
+        commands = commands.replace('-append console=ttyS0', f'-append "console=ttyS0 no_timer_check{added}"')
+        (self.folder / 'here').mkdir()
+        (self.folder / 'here/nvme-model').symlink_to(program())
+        running = Running('sh', '-c', commands, cwd=self.folder / 'here', env={'HOME': self.folder})
+        running.comes(b'/ # ', limit=LIMIT)
+        running.say(b'until nvme id-ctrl /dev/nvme0 && nvme id-ctrl /dev/nvme1; do sleep 1; done 2> /dev/null | grep ^sn\n'
+                    b'nvme list-ns /dev/nvme0; dmesg | grep nvme; echo b > /proc/sysrq-trigger\n')
+        ended = running.end(LIMIT)
+        self.assertEqual(ended.status, 0, ended)
+        said = ended.out.decode(errors='replace')
+        self.assertEqual(set(re.findall(r'(?m)^sn +: (\S+)', said)), {'S0', 'S1'}, said[-3000:])
+        self.assertRegex(said, r'(?m)^\[ +0\]:0x1\r?$')
+        for sentence in 'Could not set queue count (24578)', 'IO queues not created':
+            self.assertIn(sentence, said)
+            self.assertIn(f'`{sentence}`', page)
+        self.assertEqual(os.listdir(self.folder / 'here'), ['nvme-model'])
 
     def order(self, name, event=None, **arguments):
         """Tells QEMU's monitor a command, and waits for its answer, and for an event if one is named."""
