@@ -64,15 +64,17 @@ static int read_identity(pid_t process, struct identity *identity) {
     return 1;
 }
 
-/* (A group without a number here gives no rights here. Where no process may change its groups, this one has them.) */
+/* (A group without a number here gives no rights here. Where no process may change its groups, this one has them; and
+   if it doesn't have the group itself, the kernel lets it read nothing of the caller's.) */
 static int take_groups(struct identity *identity) {
     size_t count = 0;
-    if (setgroups(identity->count, identity->groups) == 0 || errno == EPERM)
-        return 0;
-    for (size_t at = 0; at < identity->count; at++)
+    int is_taken = setgroups(identity->count, identity->groups) == 0 || errno == EPERM;
+    for (size_t at = 0; at < identity->count && !is_taken; at++)
         if (identity->groups[at] != NOBODY)
             identity->groups[count++] = identity->groups[at];
-    return setgroups(count, identity->groups);
+    if (!is_taken && setgroups(count, identity->groups) < 0)
+        return -1;
+    return setresgid(identity->group, identity->group, NO_USER) == 0 || identity->group == NOBODY ? 0 : -1;
 }
 
 int act_as_caller(const struct call *call) {
@@ -89,7 +91,7 @@ int act_as_caller(const struct call *call) {
         return 1;
     taken = wanted;
     if (setresuid(NO_USER, 0, NO_USER) == 0 && take_groups(&wanted) == 0 &&
-        setresgid(wanted.group, wanted.group, NO_USER) == 0 && setresuid(wanted.user, wanted.user, NO_USER) == 0)
+        setresuid(wanted.user, wanted.user, NO_USER) == 0)
         return 1;
     taken.user = NO_USER;
     return 0;

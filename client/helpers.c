@@ -1,8 +1,8 @@
 /* The processes that work for the launcher. The launcher itself, which passes signals on, waits for nobody: it gives
    each call to a helper, which looks at the memory and at the files of the process that made the call, as that process
    could (calls.c), and waits where it would. Each device has a keeper, which alone exchanges requests with it and
-   makes its nodes (relay.c, nodes.c), and which helpers ask. All of them share memory in which every number has one
-   writer. What was killed is replaced, and what was stopped goes on. None of this is proved. */
+   makes its nodes (relay.c, nodes.c), and which helpers ask. They share memory, by which they tell each other what is to
+   be done. What was killed is replaced, and what was stopped goes on. None of this is proved. */
 #define _GNU_SOURCE
 #include "launcher.h"
 #include <errno.h>
@@ -42,8 +42,10 @@ static struct {
 
 static unsigned load(const unsigned *number) { return __atomic_load_n(number, __ATOMIC_SEQ_CST); }
 
-static void store(unsigned *number, unsigned value) {
-    __atomic_store_n(number, value, __ATOMIC_SEQ_CST);
+static void store(unsigned *number, unsigned value) { __atomic_store_n(number, value, __ATOMIC_SEQ_CST); }
+
+static void store_and_wake(unsigned *number, unsigned value) {
+    store(number, value);
     syscall(SYS_futex, number, FUTEX_WAKE, 1, NULL, NULL, 0);
 }
 
@@ -112,13 +114,15 @@ static void serve(struct device *device) {
             scan(device, request.controller, request.length);
         else
             helper->result = carry_out(&request, data_of(helper), &helper->answer);
-        store(&helper->answered, helper->asked);
+        store_and_wake(&helper->answered, helper->asked);
     }
 }
 
-/* Begins a process that isn't reached by signals of a terminal's keys or of a process group. */
+/* Begins a process that isn't reached by signals of a terminal's keys or of a process group, or ended by a limit of the
+   sizes of files. */
 static void begin_process(void) {
     setsid();
+    signal(SIGXFSZ, SIG_IGN);
     prctl(PR_SET_PDEATHSIG, SIGKILL);
     if (getppid() != launcher)
         _exit(0);
@@ -135,7 +139,6 @@ static void start_keeper(struct device *device, int is_lost) {
         return;
     }
     begin_process();
-    signal(SIGXFSZ, SIG_IGN);
     if (is_lost)
         lose_device(device);
     for (int watcher = watch_nodes(device);;) {
@@ -185,16 +188,13 @@ __attribute__((noreturn)) static void help(struct helper *helper) {
     }
 }
 
-/* Has a new process take the call of a helper. If there can be none, the kernel carries the call out. */
-static void start_helper(struct helper *helper) {
+/* Returns whether a helper could be started. It takes the call that was given to the one before. */
+static int start_helper(struct helper *helper) {
     pid_t process = fork();
     if (process == 0)
         help(helper);
     helper->process = process > 0 ? process : 0;
-    if (process < 0) {
-        finish_call(&helper->notice, NOT_OURS);
-        helper->done = helper->given;
-    }
+    return process > 0;
 }
 
 /* Kills the helpers whose callers no longer wait. */
@@ -218,25 +218,24 @@ static struct helper *find_helper(unsigned most) {
 }
 
 /* Gives a call that waits to a helper, unless all are at work. If they are so for long, others help, and if there are
-   too many of these, the kernel carries the call out. Returns whether this was done. */
+   too many of these, the call is refused. Returns whether this was done. */
 static int give_call(int is_late) {
     static union notice spare;
     struct helper *helper = find_helper(USUAL_HELPERS);
-    __atomic_store_n(&shared->is_awaited, !helper, __ATOMIC_SEQ_CST);
+    store(&shared->is_awaited, !helper);
     if (!helper)
         helper = find_helper(is_late ? MOST_HELPERS : USUAL_HELPERS);
+    if (helper && helper->process == 0 && !start_helper(helper))
+        helper = NULL;
     if (!helper && !is_late)
         return 0;
     if (!receive_call(helper ? &helper->notice : &spare))
         return 1;
-    if (!helper) {
+    if (helper)
+        store_and_wake(&helper->given, helper->given + 1);
+    else {
         refuse_call(&spare);
         drop_helpers();
-    } else if (helper->process > 0)
-        store(&helper->given, helper->given + 1);
-    else {
-        helper->given++;
-        start_helper(helper);
     }
     return 1;
 }
@@ -253,20 +252,23 @@ unsigned await_call(int signals) {
     return ready;
 }
 
+/* Starts a helper in place of one that was killed. What that one had begun may have been done. */
+static void replace_helper(struct helper *helper) {
+    int has_call = helper->done != helper->given, has_begun = helper->begun == helper->given;
+    helper->process = 0;
+    if (!has_call || (!has_begun && start_helper(helper)))
+        return;
+    finish_call(&helper->notice, -EIO);
+    helper->done = helper->given;
+}
+
 void replace(pid_t process, int how) {
     int is_stopped = WIFSTOPPED(how);
     for (struct helper *helper = helpers; helper < helpers + MOST_HELPERS; helper++)
         if (helper->process == process && is_stopped)
             kill(process, SIGCONT);
-        else if (helper->process == process) {
-            helper->process = 0;
-            if (helper->done != helper->given && helper->begun != helper->given)
-                start_helper(helper);
-            else if (helper->done != helper->given) {
-                finish_call(&helper->notice, -EIO);
-                helper->done = helper->given;
-            }
-        }
+        else if (helper->process == process)
+            replace_helper(helper);
     for (struct device *device = devices; device < devices + device_count; device++)
         if (device->keeper == process && is_stopped)
             kill(process, SIGCONT);
