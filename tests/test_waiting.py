@@ -105,6 +105,18 @@ class Hung(WaitingCase):
                 self.assertEqual(out, b'ready\nmade\n10\n1\ngo\n')
 
 
+    def test_folders(self):
+        # changes of /dev wait then, and so does their device, but opening and the end don't
+        script = 'python3 "$4" "$1/memory" 2 list'
+        rest = ('sleep 2; nvme attach-ns /dev/nvme1 -n 1 -c 1 > /dev/null 2>&1 & sleep 2.5; ' + OTHERS.partition('nvme')[0] +
+                'echo go; sleep 100')
+        for way in ways():
+            with self.subTest(way=way):
+                copy = self.file('hung_memory.py', (PROGRAMS / 'hung_memory.py').read_bytes())
+                out = self.ends_by_signal(self.mounted(script, rest, way, [copy]))
+                self.assertEqual(out, b'ready\nmade\n10\ngo\n')
+
+
 class Processes(WaitingCase):
     def test_stopped_device(self):
         # calls of its controllers wait, and all others go on
