@@ -1,7 +1,9 @@
 -- The calls of bringing up, put together.
-use Rattle.std.proofs.Common.{◌≡◌, ℕ, ◌+◌, ◌-◌, ◌*◌, ◌/◌, ◌%◌, ◌^◌, true, add-one, subst, sym}
-use Rattle.nv_driver.proofs.Words.{Geometry, QueuePair}
-use Rattle.nv_driver.specs.BringingUp.{Configures, Enables, EnablesFirst, Read, SetsQueues, Write}
+use Rattle.std.proofs.Common.{◌≡◌, ◌∙◌, ℕ, ◌+◌, ◌-◌, ◌*◌, ◌/◌, ◌%◌, ◌^◌, List, true, add-one, subst, sym}
+use Rattle.std.specs.Prelude.{Err, MatchResult, Ok, Result}
+use Rattle.nv_driver.proofs.Words.{Geometry, IsQuiet, QueuePair, QueuePairFields, pair_of}
+use Rattle.nv_driver.specs.BringingUp.{Configures, Enables, EnablesFirst, Read, SetsQueues, Write, Zeroes}
+use Rattle.nv_driver.specs.inner.BringingUp.{GivesUp}
 
 pub sets_queues : {B : Type 0} (wrote : Write B) (c : ℕ) (l : QueuePair) (x s1 s2 q1 q2 : ℕ)
     → {old aqa low asq behind new : B}
@@ -22,13 +24,34 @@ sets_queues wrote c l x s1 s2 q1 q2 {old} {aqa} {low} {asq} {behind} {new} is lo
       ),
     )
 
--- the value of CC is that of the geometry
-pub configures : {B : Type 0} (wrote : Write B) (read : Read B) (c x y : ℕ) (old new : B) → x ≡ y
-    → Configures wrote read c x true old new → Configures wrote read c y true old new
-configures wrote read c x y old new is steps = subst (λ v. Configures wrote read c v true old new) is steps
+-- what follows from the calls that set EN, with the CC of the geometry, whether RDY became 1 or not
+pub configured : {A E B P Q : Type 0} (wrote : Write B) (read : Read B) (c x y : ℕ) (old new : B) (r : Result A E)
+    → x ≡ y → (Configures wrote read c y true old new → P) → (GivesUp wrote read c x true old new → Q)
+    → MatchResult r (λ _. Configures wrote read c x true old new) (λ _. GivesUp wrote read c x true old new)
+    → MatchResult r (λ _. P) (λ _. Q)
+configured wrote read c x y old new (Ok a) is met unmet steps =
+    met (subst (λ v. Configures wrote read c v true old new) is steps)
+configured wrote read c x y old new (Err e) is met unmet steps = unmet steps
 
-pub one_more : {B : Type 0} (wrote : Write B) (read : Read B) (g : Geometry) (n : ℕ) (old mid new : B)
-    → EnablesFirst wrote read g n old mid → Enables wrote read g n mid new
-    → EnablesFirst wrote read g (n + 1) old new
-one_more wrote read g n old mid new before more =
-    subst (λ k. EnablesFirst wrote read g k old new) (sym (add-one n)) (mid, before, more)
+-- the zeroed ring is the controller's
+pub zeroes_own : {B : Type 0} (zeroed : Zeroes B) (g : Geometry) (c : ℕ) {l : QueuePairFields} {off : B}
+    {before after : List ℕ} → IsQuiet l → l.completion.base ≡ (pair_of g c).cq → l.submission.depth ≡ g.depth
+    → zeroed off l.completion.base l.completion.depth before after
+    → zeroed off (pair_of g c).cq g.depth before after
+zeroes_own zeroed g c {l} {off} {before} {after} quiet base depth was =
+    subst (λ d. zeroed off (pair_of g c).cq d before after) (quiet.depth ∙ depth)
+    (subst (λ x. zeroed off x l.completion.depth before after) base was)
+
+pub one_more : {B : Type 0} (wrote : Write B) (read : Read B) (zeroed : Zeroes B) (g : Geometry) (n : ℕ)
+    (old mid new : B) (before between after : List ℕ) → EnablesFirst wrote read zeroed g n old before mid between
+    → Enables wrote read zeroed g n mid between new after
+    → EnablesFirst wrote read zeroed g (n + 1) old before new after
+one_more wrote read zeroed g n old mid new before between after first more =
+    subst (λ k. EnablesFirst wrote read zeroed g k old before new after) (sym (add-one n)) (mid, between, first, more)
+
+-- equal geometries are enabled alike
+pub same_geometry : {B : Type 0} (wrote : Write B) (read : Read B) (zeroed : Zeroes B) (g h : Geometry) (n : ℕ)
+    (old new : B) (before after : List ℕ) → g ≡ h → EnablesFirst wrote read zeroed g n old before new after
+    → EnablesFirst wrote read zeroed h n old before new after
+same_geometry wrote read zeroed g h n old new before after same first =
+    subst (λ q. EnablesFirst wrote read zeroed q n old before new after) same first

@@ -1,6 +1,7 @@
--- What bringing controllers up does on a bus, call by call. `wrote` and `read` are what the bus says
--- of a write and of a read.
-use Rattle.std.specs.Prelude.{◌≡◌, ℕ, zero, suc, ◌+◌, ◌-◌, ◌*◌, ◌/◌, ◌%◌, ◌^◌, ◌==◌, Bool, true, false}
+-- What bringing controllers up does, call by call. `wrote`, `read` and `zeroed` are what is said of
+-- a write, of a read, and of zeroing a completion ring.
+use Rattle.std.specs.Prelude.{◌≡◌, ◌≢◌, ℕ, zero, suc, ◌+◌, ◌-◌, ◌*◌, ◌/◌, ◌%◌, ◌^◌, ◌<◌, ◌==◌, Bool}
+use Rattle.std.specs.Prelude.{List, true, false}
 use Rattle.nv_driver.specs.Layout.{pair_of}
 use Rattle.nv_driver.specs.QueuePair.{QueuePair}
 use Rattle.nv_driver.specs.Registers.{mps_of}
@@ -10,19 +11,35 @@ use Rattle.nv_driver.specs.declared.geometry.Geometry.{Geometry}
 abbrev pub Write : Type 0 → Type 1
 Write B = B → ℕ → ℕ → ℕ → B → Type 0
 
--- a read: the bus, the controller, the offset, and the dword that was returned
+-- a read: the bus before it, the controller, the offset, the dword that was returned, and the bus
+-- after it
 abbrev pub Read : Type 0 → Type 1
-Read B = B → ℕ → ℕ → ℕ → Type 0
+Read B = B → ℕ → ℕ → ℕ → B → Type 0
+
+-- a read that leaves the bus as it was
+abbrev pub Still : {B : Type 0} → (B → ℕ → ℕ → ℕ → Type 0) → Read B
+Still read old c offset x new = read old c offset x × (new ≡ old)
+
+-- zeroing a ring: the bus, the address and the depth of the ring, and the memory before and after it
+abbrev pub Zeroes : Type 0 → Type 1
+Zeroes B = B → ℕ → ℕ → List ℕ → List ℕ → Type 0
 
 -- CC that sets EN: the entry sizes of I/O queues are 64 and 16 bytes
 abbrev pub enabling_cc : ℕ → ℕ
 enabling_cc page_size = 0x460001 + mps_of page_size * 128
 
--- CC is written, and then CSTS is read until RDY is this
+-- CSTS is read this many times, each time with another RDY than this
+abbrev pub ReadsOther : {B : Type 0} → Read B → ℕ → Bool → ℕ → B → B → Type 0
+ReadsOther read c ready zero old new = new ≡ old
+ReadsOther read c ready (suc n) old new =
+    (mid : _) × (csts : ℕ) × ReadsOther read c ready n old mid × read mid c 0x1c csts new
+    × ((csts % 2 == 1) ≢ ready)
+
+-- CC is written, and then CSTS is read until RDY is this, but at most 16 times
 abbrev pub Configures : {B : Type 0} → Write B → Read B → ℕ → ℕ → Bool → B → B → Type 0
 Configures wrote read c cc ready old new =
-    wrote old c 0x14 cc new
-    × ((csts : ℕ) × read new c 0x1c csts × ((csts % 2 == 1) ≡ ready))
+    (first : _) × (last : _) × (n : ℕ) × (csts : ℕ) × wrote old c 0x14 cc first × (n < 16)
+    × ReadsOther read c ready n first last × read last c 0x1c csts new × ((csts % 2 == 1) ≡ ready)
 
 -- an address is written, its lower dword first
 abbrev pub WritesAddress : {B : Type 0} → Write B → ℕ → ℕ → ℕ → B → B → Type 0
@@ -35,21 +52,26 @@ SetsQueues wrote c l old new =
     (first : _) × (second : _) × wrote old c 0x24 ((l.depth - 1) * 65536 + (l.depth - 1)) first
     × WritesAddress wrote c 0x28 l.sq first second × WritesAddress wrote c 0x30 l.cq second new
 
--- EN is cleared, the queues are set, and EN is set
-abbrev pub Enables : {B : Type 0} → Write B → Read B → Geometry → ℕ → B → B → Type 0
-Enables wrote read g c old new =
+-- EN is cleared, the completion ring is zeroed, the queues are set, and EN is set
+abbrev pub Enables : {B : Type 0} → Write B → Read B → Zeroes B → Geometry → ℕ
+    → B → List ℕ → B → List ℕ → Type 0
+Enables wrote read zeroed g c old before new after =
     (off : _) × (set : _) × Configures wrote read c 0 false old off
-    × SetsQueues wrote c (pair_of g c) off set
+    × zeroed off (pair_of g c).cq g.depth before after × SetsQueues wrote c (pair_of g c) off set
     × Configures wrote read c (enabling_cc g.page_size) true set new
 
 -- so are the first n controllers, one after another, and nothing else is written
-abbrev pub EnablesFirst : {B : Type 0} → Write B → Read B → Geometry → ℕ → B → B → Type 0
-EnablesFirst wrote read g zero old new = new ≡ old
-EnablesFirst wrote read g (suc n) old new =
-    (mid : _) × EnablesFirst wrote read g n old mid × Enables wrote read g n mid new
+abbrev pub EnablesFirst : {B : Type 0} → Write B → Read B → Zeroes B → Geometry → ℕ
+    → B → List ℕ → B → List ℕ → Type 0
+EnablesFirst wrote read zeroed g zero old before new after = (new ≡ old) × (after ≡ before)
+EnablesFirst wrote read zeroed g (suc n) old before new after =
+    (mid : _) × (between : List ℕ) × EnablesFirst wrote read zeroed g n old before mid between
+    × Enables wrote read zeroed g n mid between new after
 
--- a reset: EN is cleared and set again, and the queues stay set
-abbrev pub Restarts : {B : Type 0} → Write B → Read B → Geometry → ℕ → B → B → Type 0
-Restarts wrote read g c old new =
+-- a reset: EN is cleared, the completion ring is zeroed, and EN is set again; the queues stay set
+abbrev pub Restarts : {B : Type 0} → Write B → Read B → Zeroes B → Geometry → ℕ
+    → B → List ℕ → B → List ℕ → Type 0
+Restarts wrote read zeroed g c old before new after =
     (off : _) × Configures wrote read c 0 false old off
+    × zeroed off (pair_of g c).cq g.depth before after
     × Configures wrote read c (enabling_cc g.page_size) true off new

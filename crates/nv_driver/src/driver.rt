@@ -1,6 +1,6 @@
 //! The driver of the controllers of a bus.
 
-ghost use Rattle.std.specs.Prelude.{◌≡◌, ◌<◌, ◌∷◌, [], All, IfOk, IsOk, MatchResult, if◌then◌else◌, length};
+ghost use Rattle.std.specs.Prelude.{◌≡◌, ◌<◌, ◌∷◌, [], ℕ, All, IfOk, IsOk, List, MatchResult, if◌then◌else◌, length};
 ghost use Rattle.nv_bus.specs.Bus.{IsBus};
 ghost use Rattle.nv_command.specs.Command.{CommandFits};
 ghost use Rattle.nv_command.specs.Logs.{IsSendable};
@@ -10,7 +10,7 @@ ghost use Rattle.nv_bus.specs.Entry.{told_by};
 ghost use Rattle.nv_layout.specs.Sqe.{SqeFits};
 ghost use Rattle.nv_driver.specs.Alone.{IsReceived, asked_in, entry_step};
 ghost use Rattle.nv_driver.specs.Batch.{answers_of, state_after};
-ghost use Rattle.nv_driver.specs.BringingUp.{EnablesFirst, Restarts};
+ghost use Rattle.nv_driver.specs.BringingUp.{EnablesFirst, Restarts, Still};
 ghost use Rattle.nv_driver.specs.Driver.{after_command, after_commands, after_reset, pair_at};
 ghost use Rattle.nv_driver.specs.Driver.{HasEntryPages, driver_with, new_driver};
 ghost use Rattle.nv_driver.specs.Layout.{pages_of_entry};
@@ -30,6 +30,7 @@ use crate::passthrough::{Passed, exchange_entry};
 use crate::queue_pair::{QueuePair, new_pairs};
 use crate::ringing::Ringing;
 use crate::submitting::MOST_PAGES;
+use crate::zeroing::Zeroing;
 use nv_bus::{Bus, Told};
 use nv_command::Command;
 use nv_host::{FlatMemory, PagedMemory};
@@ -65,7 +66,7 @@ impl Driver {
     /// that was enabled is reset. The error `Geometry` names the first field outside its limits;
     /// after it and after `Memory` the bus is untouched. A bus that keeps its contract never causes
     /// `NoReady`. Section "Controller Initialization and Shutdown Processing".
-    pub fn bring_up<B: Bus>(
+    pub fn bring_up<B: Bus + Zeroing>(
         alloc: Global,
         bus: &mut B,
         geometry: Geometry,
@@ -75,8 +76,9 @@ impl Driver {
             (new_driver geometry (length (B.meaning bus.old).banks))
             (B.meaning bus.old) (B.meaning bus.new) result }
         ensures steps { MatchResult result
-            (λ _. EnablesFirst B.was_written B.was_read geometry
-            (length (B.meaning bus.old).banks) bus.old bus.new)
+            (λ _. (before : List ℕ) × (after : List ℕ) × EnablesFirst B.was_written
+            (Still B.was_read) B.was_zeroed geometry (length (B.meaning bus.old).banks)
+            bus.old before bus.new after)
             (λ _. bus.new ≡ bus.old) }
     {
         Driver::lay_out(alloc, bus, geometry, false)
@@ -85,7 +87,7 @@ impl Driver {
     /// Brings up a driver as `bring_up` does, with room after the controllers' pages for the data
     /// of any entry, which `passthrough` needs.
     #[tactic(auto, using(crate::proofs::PassthroughLaws::has_pages))]
-    pub fn bring_up_for_entries<B: Bus>(
+    pub fn bring_up_for_entries<B: Bus + Zeroing>(
         alloc: Global,
         bus: &mut B,
         geometry: Geometry,
@@ -95,8 +97,9 @@ impl Driver {
             (driver_with geometry (length (B.meaning bus.old).banks)
             (pages_of_entry geometry.page_size)) (B.meaning bus.old) (B.meaning bus.new) result }
         ensures steps { MatchResult result
-            (λ _. EnablesFirst B.was_written B.was_read geometry
-            (length (B.meaning bus.old).banks) bus.old bus.new)
+            (λ _. (before : List ℕ) × (after : List ℕ) × EnablesFirst B.was_written
+            (Still B.was_read) B.was_zeroed geometry (length (B.meaning bus.old).banks)
+            bus.old before bus.new after)
             (λ _. bus.new ≡ bus.old) }
         ensures entries { IfOk result HasEntryPages }
     {
@@ -104,7 +107,7 @@ impl Driver {
     }
 
     /// Brings up a driver, with room for the data of any entry if this is wanted.
-    fn lay_out<B: Bus>(
+    fn lay_out<B: Bus + Zeroing>(
         alloc: Global,
         bus: &mut B,
         geometry: Geometry,
@@ -116,8 +119,9 @@ impl Driver {
             (if with_entries then pages_of_entry geometry.page_size else 0))
             (B.meaning bus.old) (B.meaning bus.new) result }
         ensures steps { MatchResult result
-            (λ _. EnablesFirst B.was_written B.was_read geometry
-            (length (B.meaning bus.old).banks) bus.old bus.new)
+            (λ _. (before : List ℕ) × (after : List ℕ) × EnablesFirst B.was_written
+            (Still B.was_read) B.was_zeroed geometry (length (B.meaning bus.old).banks)
+            bus.old before bus.new after)
             (λ _. bus.new ≡ bus.old) }
     {
         let geometry = CheckedGeometry::new(geometry).map_err(DriverError::Geometry)?;
@@ -144,7 +148,7 @@ impl Driver {
     /// none was saved, and its rings begin anew, while the command identifiers continue. It
     /// allocates no memory. The bus must be as this driver left it. The only error is `NoReady`,
     /// which a bus that keeps its contract never causes. Section "Controller Level Reset".
-    pub fn reset<B: Bus>(&mut self, bus: &mut B, ctrl: u16) -> Result<(), DriverError>
+    pub fn reset<B: Bus + Zeroing>(&mut self, bus: &mut B, ctrl: u16) -> Result<(), DriverError>
         requires ctrl { ctrl < length self.old.pairs }
         requires linked { IsLinked (B.meaning bus.old) self.old }
         ensures ok { IsOk result }
@@ -152,7 +156,8 @@ impl Driver {
         ensures driver { self.new ≡ after_reset self.old ctrl }
         ensures entries { HasEntryPages self.old → HasEntryPages self.new }
         ensures linked { IsLinked (B.meaning bus.new) self.new }
-        ensures steps { Restarts B.was_written B.was_read self.old.geometry ctrl bus.old bus.new }
+        ensures steps { (before : List ℕ) × (after : List ℕ) × Restarts B.was_written
+            (Still B.was_read) B.was_zeroed self.old.geometry ctrl bus.old before bus.new after }
     {
         let pair = &mut self.pairs[ctrl as usize];
         reset(bus, ctrl, &mut self.host.mem, pair, self.geometry)

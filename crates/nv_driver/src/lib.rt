@@ -47,6 +47,7 @@
 #![tactic(auto)]
 
 mod answer_slot;
+mod any_bus;
 mod batch;
 mod checked_geometry;
 mod command_pages;
@@ -63,6 +64,7 @@ mod passthrough;
 mod queue_pair;
 mod ringing;
 mod submitting;
+mod zeroing;
 
 pub use answer_slot::{Answer, AnswerSlot};
 pub use driver::Driver;
@@ -72,3 +74,4 @@ pub use geometry_field::GeometryField;
 pub use law::{any_command, any_entry, any_schedule};
 pub use nv_bus::Told;
 pub use ringing::Ringing;
+pub use zeroing::Zeroing;

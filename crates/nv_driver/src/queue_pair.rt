@@ -12,6 +12,7 @@ ghost use Rattle.nv_driver.specs.inner.Pace.{IsTold};
 ghost use Rattle.nv_driver.specs.inner.Submitting.{CanCollect};
 
 use crate::checked_geometry::CheckedGeometry;
+use crate::zeroing::Zeroing;
 use nv_bus::Bus;
 use nv_host::{HostMemory, Memory, PageSet};
 use nv_layout::Cqe;
@@ -62,7 +63,7 @@ impl QueuePair {
 
     /// Makes the rings begin anew, after it zeroes the completion ring. No command must be
     /// outstanding. The command identifiers continue.
-    pub(crate) fn renew<M: HostMemory>(&mut self, mem: &mut M)
+    pub(crate) fn renew<Z: Zeroing, M: HostMemory>(&mut self, zeroing: &Z, mem: &mut M)
         requires quiet { IsQuiet self.old }
         requires inside { self.old.completion.base + 16 * self.old.completion.depth
             ≤ length (M.bytes mem.old) }
@@ -73,8 +74,10 @@ impl QueuePair {
         ensures tags { HoldsTags (M.bytes mem.new) self.old.completion.base
             self.old.submission.depth 0 }
         ensures page { M.page_len mem.new ≡ M.page_len mem.old }
+        ensures zeroed { Z.was_zeroed zeroing.now self.old.completion.base
+            self.old.completion.depth (M.bytes mem.old) (M.bytes mem.new) }
     {
-        self.completion.zero(mem);
+        zeroing.zero(&self.completion, mem);
         self.completion.renew();
         self.submission.renew();
     }

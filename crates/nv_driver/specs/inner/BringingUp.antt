@@ -1,13 +1,13 @@
--- Bringing a controller up, with the zeroing of its completion ring.
-use Rattle.std.specs.Prelude.{ℕ, true, false}
-use Rattle.nv_driver.specs.BringingUp.{Configures, Read, SetsQueues, Write, enabling_cc}
-use Rattle.nv_driver.specs.Layout.{pair_of}
-use Rattle.nv_driver.specs.declared.geometry.Geometry.{Geometry}
+-- A controller that doesn't become ready.
+use Rattle.std.specs.Prelude.{ℕ, Bool}
+use Rattle.nv_driver.specs.BringingUp.{Read, ReadsOther, Write}
 
--- EN is cleared, the ring is zeroed, the queues are set, and EN is set. `zeroed` is what is said of
--- the zeroing by the bus that it sees
-abbrev pub Renews : {B : Type 0} → Write B → Read B → (B → Type 0) → Geometry → ℕ → B → B → Type 0
-Renews wrote read zeroed g c old new =
-    (off : _) × (set : _) × Configures wrote read c 0 false old off × zeroed off
-    × SetsQueues wrote c (pair_of g c) off set
-    × Configures wrote read c (enabling_cc g.page_size) true set new
+-- CC is written, and CSTS is read 16 times, each time with another RDY than this
+abbrev pub GivesUp : {B : Type 0} → Write B → Read B → ℕ → ℕ → Bool → B → B → Type 0
+GivesUp wrote read c cc ready old new =
+    (first : _) × wrote old c 0x14 cc first × ReadsOther read c ready 16 first new
+
+-- the last calls were those of a controller that didn't become ready
+abbrev pub EndsUnready : {B : Type 0} → Write B → Read B → B → Type 0
+EndsUnready wrote read new =
+    (old : _) × (c : ℕ) × (cc : ℕ) × (ready : Bool) × GivesUp wrote read c cc ready old new

@@ -1,7 +1,8 @@
 use Rattle.std.proofs.Common.{◌≡◌, ◌∙◌, ◌+◌, ap, arith, length, rules, subst, sym}
 use Rattle.nv_driver.proofs.Words.{Geometry, IsGeometry, driver_with, if◌then◌else◌, pages_of_entry, pairs_of}
-use Rattle.nv_driver.specs.BringingUp.{EnablesFirst}
+use Rattle.nv_driver.specs.BringingUp.{Still}
 use Rattle.nv_driver.specs.Registers.{banks_of, idle_banks}
+use Rattle.nv_driver.proofs.BringingUpLaws.{same_geometry}
 use Rattle.nv_driver.proofs.MemoryLaws.{driver_at_first, has_pairs}
 use Rattle.nv_driver.proofs.driver.Driver.lay_out.Goals as goal
 
@@ -14,7 +15,7 @@ enable_all-requires-clause-laid g c =
 
 pub invariant_of-result : goal.invariant_of-result
 invariant_of-result g c =
-    let e = c.enable_all.ensures in
+    let e = c.in_ok-enable_all.ensures in
     let is = c.geometry.view_is in
     let size = ap (λ (q : Geometry). q.page_size) is in
     (driver_at_first c.more_pages.result (subst IsGeometry is c.geometry.invariant) c.controllers-controllers.ensures
@@ -24,7 +25,7 @@ invariant_of-result g c =
 
 pub returns : goal.returns
 returns g c =
-    let e = c.enable_all.ensures in
+    let e = c.in_ok-enable_all.ensures in
     let is = c.geometry.view_is in
     let size = ap (λ (q : Geometry). q.page_size) is in
     let same : c.in_ok-geometry.geometry ≡ c.args.geometry = search rules in
@@ -41,15 +42,19 @@ returns g c =
       brought = record {
         driver = made;
         linked = record {
-          bus = e.bus;
-          left = e.banks ∙ ap (λ (q : Geometry). idle_banks q.page_size (pairs_of q controllers)) same
+          bus = e.bus tt;
+          left = e.banks tt ∙ ap (λ (q : Geometry). idle_banks q.page_size (pairs_of q controllers)) same
               ∙ sym (ap banks_of made);
         };
-        state = e.state;
+        state = e.state tt;
         geometry = search rules;
         ready = search rules;
         untouched = tt;
       };
-      steps = subst (λ (q : Geometry). EnablesFirst g.B.Bus.was_written g.B.Bus.was_read q controllers
-          c.args.bus.now c.enable_all.new.bus) same e.steps;
+      steps = (
+        _,
+        _,
+        same_geometry g.B.Bus.was_written (Still g.B.Bus.was_read) g.B.Zeroing.was_zeroed _ _ controllers _ _ _ _ same
+            e.steps,
+      );
     }

@@ -14,13 +14,13 @@ reset-requires-clause-placed g c =
 
 pub invariant_of-self : goal.invariant_of-self
 invariant_of-self g c =
-    driver_after c.self.invariant c.self.view_is c.requires.ctrl c.index_mut-pair.ensures.value c.reset.ensures.left
-    (ends_inside c.self.invariant)
+    driver_after c.self.invariant c.self.view_is c.requires.ctrl c.index_mut-pair.ensures.value
+    (c.reset.ensures.left tt) (ends_inside c.self.invariant)
 
 pub returns-clause-driver : goal.returns-clause-driver
 returns-clause-driver g c =
-    value_after c.self.invariant c.self.view_is c.requires.ctrl c.index_mut-pair.ensures.value c.reset.ensures.left
-    renewed_pair refl
+    value_after c.self.invariant c.self.view_is c.requires.ctrl c.index_mut-pair.ensures.value
+    (c.reset.ensures.left tt) renewed_pair refl
 
 pub returns-clause-entries : goal.returns-clause-entries
 returns-clause-entries g c room =
@@ -28,5 +28,5 @@ returns-clause-entries g c room =
 
 pub returns-clause-linked : goal.returns-clause-linked
 returns-clause-linked g c =
-    linked_after c.self.invariant c.self.view_is c.requires.ctrl c.index_mut-pair.ensures.value c.reset.ensures.left
-    c.requires.linked
+    linked_after c.self.invariant c.self.view_is c.requires.ctrl c.index_mut-pair.ensures.value
+    (c.reset.ensures.left tt) c.requires.linked
