@@ -410,7 +410,7 @@ class Drivers(ModelCase):
         (self.folder / 'here').mkdir()
         (self.folder / 'here/nvme-model').symlink_to(program())
         running = Running('sh', '-c', commands, cwd=self.folder / 'here', env={'HOME': self.folder})
-        running.comes(b'/ # ', limit=LIMIT)
+        self.assertTrue(until(lambda: (running.hear(1), b'job control turned off' in running.heard)[1], LIMIT))
         running.say(b'until nvme id-ctrl /dev/nvme0 && nvme id-ctrl /dev/nvme1; do sleep 1; done 2> /dev/null | grep ^sn\n'
                     b'nvme list-ns /dev/nvme0; dmesg | grep nvme; echo b > /proc/sysrq-trigger\n')
         ended = running.end(LIMIT)
