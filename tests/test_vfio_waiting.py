@@ -6,13 +6,15 @@ import ctypes
 import fcntl
 import mmap
 import os
+import pathlib
+import signal
 import socket
 import struct
 import sys
 import threading
 import time
 
-from tests.as_client import BIND, DMA_MAP, MESSAGES, PAGE, PIN, VERSION, counter, memory_file
+from tests.as_client import BIND, DMA_MAP, MESSAGES, PAGE, PIN, VERSION, counter, memory_file, until
 from tests.modelled import works
 from tests.served import EINVAL, EMFILE, ENOENT, Served
 from tests.support import Running
@@ -61,8 +63,8 @@ class Waiting(Served):
 
     def test_file_system(self):
         # a file of a file system that doesn't answer is refused, and only its own client waits until it is closed
-        if not os.path.exists('/dev/fuse'):
-            self.skipTest('there is no /dev/fuse')
+        if not os.access('/dev/fuse', os.R_OK | os.W_OK):
+            self.skipTest('there is no /dev/fuse that can be used')
         private = next((words for words in (('unshare', '-m'), ('unshare', '-Urm')) if works(*words)), None)
         if private is None:
             self.skipTest('no mount namespace can be made here')
@@ -137,6 +139,29 @@ class Waiting(Served):
         self.goes_on()
         accepted.close()
         listener.close()
+
+    def test_killed_receiver(self):
+        # without its receiver, a client is served until it sends a descriptor, and the next one has another receiver
+        client = self.greeted()
+        for number in self.receivers():
+            os.kill(number, signal.SIGKILL)
+        self.assertEqual(client.config(0), 0x0010_1b36)
+        client.say(DMA_MAP, struct.pack('<IIQQQ', 32, 3, 0, 0, PAGE), [memory_file(PAGE)])
+        self.assertTrue(client.is_closed())
+        self.goes_on(0)
+        # a server that is killed leaves none
+        self.greeted()
+        left = self.receivers()
+        self.assertEqual(len(left), 1)
+        self.server.process.kill()
+        self.server.end()
+        self.assertTrue(until(lambda: not os.path.exists(f'/proc/{left[0]}')))
+        self.server = self.start()
+
+    def receivers(self):
+        """Returns the processes of the server that take descriptors."""
+        number = self.server.process.pid
+        return [int(word) for word in pathlib.Path(f'/proc/{number}/task/{number}/children').read_text().split()]
 
     def test_few_descriptors(self):
         # where none is left, a request is refused by EMFILE, or a client waits, and the server goes on
