@@ -230,6 +230,15 @@ class Signals(ModelCase):
         running.process.send_signal(signal.SIGUSR1)
         self.ends(running.end(), 8, b'ready\none\n')
 
+        # a second one of a kind is lost
+        running = self.begun('trap "echo one" USR1; trap "exit 8" TERM; echo ready; while :; do sleep 0.1; done')
+        for _ in range(2):
+            running.process.send_signal(signal.SIGUSR1)
+            running.comes(b'one\n')
+        time.sleep(0.5)
+        running.process.terminate()
+        self.ends(running.end(), 8, b'ready\none\n')
+
     def test_while_requests_and_data_are_under_way(self):
         script = ('while :; do nvme create-ns /dev/nvme0 -s 8 -c 8 -f 0; nvme delete-ns /dev/nvme0 -n 2; done '
                   '> /dev/null 2>&1 & while :; do dd if=/dev/urandom of=/dev/nvme0n1 bs=4k; done 2> /dev/null & '

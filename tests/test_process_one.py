@@ -6,12 +6,13 @@ import shutil
 import subprocess
 import unittest
 
-from tests.modelled import CLIENT, WARNINGS, ModelCase, process_folder
+from tests.modelled import CLIENT, WARNINGS, ModelCase, process_folder, works
 from tests.support import TOP, Running, run
 
 IS_ROOT = os.geteuid() == 0
 NOBODY = 'setpriv', '--reuid=65534', '--regid=65534', '--clear-groups'
 USERS = [(), NOBODY] if IS_ROOT else [()]
+NESTED = 'unshare', '-Ur'
 
 
 def helper(name, *sources):
@@ -62,7 +63,7 @@ class Confined(ModelCase):
         script = ('echo x >> /dev/nvme0n1; read -r all < /proc/1/task/1/children; '
                   'others="1 $(echo $all | sed "s/\\b$$\\b//")"; for process in $others; do '
                   'grep -h "^Seccomp:\|^NoNewPrivs:" /proc/$process/status; done | sort -u; "$1" $others')
-        for user in USERS:
+        for user in [*USERS, NESTED] if works(*NESTED) else USERS:
             for inside in [(), NOBODY] if IS_ROOT and not user else [()]:
                 with self.subTest(user=user, inside=inside):
                     ended = run(*user, *self.command(*inside, 'sh', '-c', script, 'sh', pries))
