@@ -70,11 +70,14 @@ stage:
 	    [ ! -e $(CLIENT)/lib/nvme-model/$$part ] || \
 	        install -m 755 $(CLIENT)/lib/nvme-model/$$part $(STAGE)/lib/nvme-model || exit; \
 	done
-	@for name in script trace bench; do \
+	install -m 755 crates/nvme_script/out/nvme_script $(STAGE)/lib/nvme-model
+	@for name in trace bench; do \
 	    ! $(call is_current,nvme_$$name) || \
 	        install -m 755 crates/nvme_$$name/out/nvme_$$name $(STAGE)/bin/nvme-$$name || exit; \
 	done
-	install -m 755 nvme-describe $(STAGE)/bin/nvme-describe
+	$(with_version) nvme-script > $(STAGE)/bin/nvme-script
+	chmod 755 $(STAGE)/bin/nvme-script
+	install -m 755 nvme-describe $(STAGE)/bin
 	install -d $(STAGE)/share/bash-completion/completions
 	for name in script describe; do \
 	    install -m 644 docs/nvme-$$name.bash $(STAGE)/share/bash-completion/completions/nvme-$$name || exit; \

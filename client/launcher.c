@@ -6,6 +6,7 @@
    no NVMe device, all this happens outside, and nodes are only names. None of this is proved. */
 #define _GNU_SOURCE
 #include "launcher.h"
+#include "usage.h"
 #include <errno.h>
 #include <fcntl.h>
 #include <getopt.h>
@@ -229,13 +230,19 @@ static const char usage[] =
     "  --depth N, --page-size N, --offset N, --list-offset N, --window N, --pace N\n"
     "                       choose the layout of queues and memory, as for nvme-script\n"
     "  --qemu, --vfio-user  as the first option, give the controllers to virtual machines; see --qemu --help\n"
-    "  --help               show this help and the version\n\n"
+    "  --help               show this help and the version\n"
+    "  --version            show the version\n\n"
     "The exit status is that of COMMAND, or 72 if nvme-model itself can't go on. See nvme-model(1).\n"
     "This is version " MODEL_VERSION ".\n";
 
 static void refuse_options(void) {
     fputs(usage, stderr);
     exit(FAILED);
+}
+
+static void show(const char *text) {
+    fputs(text, stdout);
+    exit(fflush(stdout) == 0 ? 0 : FAILED);
 }
 
 static uint64_t read_size(const char *text) {
@@ -251,12 +258,13 @@ static uint64_t read_size(const char *text) {
 }
 
 static int read_options(int count, char **arguments) {
-    enum { SUBSYSTEM = 256, TRACE, LIMIT, DEVICE, HELP, GEOMETRY, OTHER = GEOMETRY + 3 };
+    enum { SUBSYSTEM = 256, TRACE, LIMIT, DEVICE, HELP, VERSION, GEOMETRY, OTHER = GEOMETRY + 3 };
     static const struct option options[] = {{"subsystem", required_argument, NULL, SUBSYSTEM},
                                             {"trace", optional_argument, NULL, TRACE},
                                             {"data-limit", required_argument, NULL, LIMIT},
                                             {"no-notice", no_argument, &waits, 1},
                                             {"help", no_argument, NULL, HELP},
+                                            {"version", no_argument, NULL, VERSION},
                                             {"device", required_argument, NULL, DEVICE},
                                             {"depth", required_argument, NULL, GEOMETRY + DEPTH},
                                             {"page-size", required_argument, NULL, GEOMETRY + PAGE_SIZE},
@@ -278,10 +286,9 @@ static int read_options(int count, char **arguments) {
             trace_file = optarg;
         } else if (option == LIMIT)
             limit = read_size(optarg) ?: 1;
-        else if (option == HELP) {
-            fputs(usage, stdout);
-            exit(fflush(stdout) == 0 ? 0 : FAILED);
-        } else if (option < GEOMETRY || device_word_count > MOST_OPTIONS)
+        else if (option == HELP || option == VERSION)
+            show(option == HELP ? usage : "nvme-model " MODEL_VERSION "\n");
+        else if (option < GEOMETRY || device_word_count > MOST_OPTIONS)
             refuse_options();
         else if (asprintf(&device_words[device_word_count++], "--%s=%s", options[place].name, optarg) < 0)
             fail("out of memory");
@@ -458,6 +465,8 @@ int main(int count, char **arguments) {
         if (!is_qemu)
             check_streams();
         hold_streams();
+        if (is_qemu && count == 3 && strcmp(arguments[2], "--help") == 0)
+            show(qemu_usage);
         if (is_qemu)
             run_qemu(arguments);
         if (close_range(STDERR_FILENO + 1, ~0U, CLOSE_RANGE_CLOEXEC) < 0)

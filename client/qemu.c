@@ -2,6 +2,7 @@
    that come and go. None of this is proved. */
 #define _GNU_SOURCE
 #include "function.h"
+#include "usage.h"
 #include <getopt.h>
 #include <poll.h>
 #include <sys/prctl.h>
@@ -224,19 +225,8 @@ static void tell_summary(void) {
     }
 }
 
-static const char usage[] =
-    "usage: nvme-model --qemu [OPTION..] [-- QEMU-OPTION..]\n"
-    "       nvme-model --vfio-user --socket PATH [OPTION..]\n"
-    "Run QEMU (qemu-system-x86_64) with the controllers of a model as PCI functions, without I/O queues. Or serve\n"
-    "clients of the protocol vfio-user, such as QEMU, at sockets PATH0, PATH1 and so on, one for each controller.\n\n"
-    "  --subsystem FILE  use the subsystem of FILE; repeat it for several subsystems\n"
-    "  --memory SIZE     give the machine of --qemu this memory, such as 256M (default: 128M; at most 64G)\n"
-    "  --summary         at the end, write each controller's counts and error log to standard error\n"
-    "  --help            show this help\n\n"
-    "The exit status is that of QEMU, or 72 if nvme-model itself can't go on. See QEMU.md.\n";
-
 static void show_usage(FILE *to) {
-    fputs(usage, to);
+    fputs(qemu_usage, to);
     exit(fflush(to) == 0 && to == stdout ? 0 : FAILED);
 }
 

@@ -20,7 +20,7 @@ from tests.test_installed import LOOK
 
 DIST = TOP / 'tools/dist'
 ARCHIVE = f'nvme-script-{VERSION}-linux-x86_64'
-PROGRAMS = {'nvme_script': 'bin/nvme-script', 'nvme_trace': 'bin/nvme-trace', 'nvme_bench': 'bin/nvme-bench',
+PROGRAMS = {'nvme_script': 'lib/nvme-model/nvme_script', 'nvme_trace': 'bin/nvme-trace', 'nvme_bench': 'bin/nvme-bench',
             'nvme_device': 'lib/nvme-model/nvme_device'}
 LIBRARIES = 'usr/lib/x86_64-linux-gnu'
 # What each package must have.

@@ -28,6 +28,22 @@ class Installed(Case):
         elsewhere = self.file('elsewhere.toml', DEMO.read_bytes())
         ended = run(self.prefix / 'bin/nvme-script', '--subsystem', elsewhere, source=b'list-ns /dev/nvme0\n', cwd='/')
         self.ends(ended, 0, b'[   0]:0x1\n[   1]:0x3\n', b'')
+        link = self.folder / 'a link'
+        link.symlink_to(self.prefix / 'bin/nvme-script')
+        self.ends(run(link, source=b'list-ns /dev/nvme0\n', cwd='/'), 0, b'[   0]:0x1\n[   1]:0x3\n', b'')
+        self.ends(run(link, '--version', cwd='/'), 0, f'nvme-script {VERSION}\n'.encode(), b'')
+        self.assertIn(b'usage: nvme-script ', run(link, '--help', cwd='/').out)
+        for words in ('--build',), ('--help', '--help'), ('--version', 'x'):
+            self.ends(run(link, *words), 3, b'', b'nvme-script: arguments\n')
+
+    def test_describe(self):
+        words = self.prefix / 'bin/nvme-model', 'sh', '-c', '"$0" /dev/nvme*', self.prefix / 'bin/nvme-describe'
+        ended = run(*words, cwd='/')
+        self.ends(ended, 0, err=b'')
+        described = self.file('described.toml', ended.out)
+        script = b'list-ns /dev/nvme0\n'
+        self.ends(run(self.prefix / 'bin/nvme-script', '--subsystem', described, source=script), 0,
+                  b'[   0]:0x1\n[   1]:0x3\n', b'')
 
     def test_model(self):
         elsewhere = self.file('elsewhere.toml', DEMO.read_bytes())
@@ -110,6 +126,13 @@ class Installed(Case):
             self.assertRegex(page, rf'It (.*, )?Fl \\{option[1:]}\b|, \\?\n?Fl \\{option[1:]}\b')
 
     @unittest.skipUnless(shutil.which('bash'), 'there is no bash')
+    def test_completion_of_describe(self):
+        line = '. "$0"; COMP_WORDS=("$@"); COMP_CWORD=$(($# - 1)); _nvme_describe; echo ${COMPREPLY[*]}'
+        completion = self.prefix / 'share/bash-completion/completions/nvme-describe'
+        for word, wanted in ('--c', b'--current\n'), ('-', b'--current --help\n'), ('/dev/nul', b'/dev/null\n'):
+            self.ends(run('bash', '-c', line, completion, 'nvme-describe', word), 0, wanted, b'')
+
+    @unittest.skipUnless(shutil.which('bash'), 'there is no bash')
     def test_completion(self):
         for words, wanted in [(['']), ' '.join(OPTIONS)], (['--p'], '--page-size --pace'), \
                 (['--page-size', '=', '8'], '8192'), (['--subsystem', 'examples/de'], 'examples/demo.toml'):
@@ -125,6 +148,8 @@ class Installed(Case):
     def test_version(self):
         ended = run(self.prefix / 'bin/nvme-model', '--help')
         self.assertEqual(ended.out.splitlines()[-1], f'This is version {VERSION}.'.encode(), ended)
+        ended = run(self.prefix / 'bin/nvme-model', '--version')
+        self.ends(ended, 0, f'nvme-model {VERSION}\n'.encode(), b'')
         for page in self.prefix.glob('share/man/man*/*'):
             self.assertIn(f'\n.Os nvme-script {VERSION}\n', page.read_text(), page)
 

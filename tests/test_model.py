@@ -12,7 +12,7 @@ import sys
 import time
 import unittest
 
-from tests.modelled import CLIENT, PARTS, ModelCase, compiled_c, installed, processes_of
+from tests.modelled import CLIENT, PARTS, VERSION, ModelCase, compiled_c, installed, processes_of
 from tests.support import TOP, Running, program, run, until
 
 CHECK = 'check', 'check_client'
@@ -108,6 +108,9 @@ class Arguments(ModelCase):
                 self.assertRegex(ended.out, b'^usage: nvme-model (?s:.*)--data-limit')
         self.ends(run(installed(), '--help', out='/dev/full'), 72)
         self.ends(run(TOP / 'nvme-model', '--help'), 0, run(installed(), '--help').out, b'')
+        for launcher in installed(), TOP / 'nvme-model':
+            self.ends(run(launcher, '--version'), 0, f'nvme-model {VERSION}\n'.encode(), b'')
+        self.ends(run(installed(), '--version', out='/dev/full'), 72)
 
     def test_statuses_and_streams(self):
         none, text = self.folder / 'none', self.file('text', b'no program\n')

@@ -9,6 +9,7 @@ import signal
 import time
 
 from tests.support import TOP, Case, Running, copy_sources, left_running, program, run, until
+from tests.test_installed import OPTIONS
 
 SCRIPT = program('nvme_script')
 LINE = b'nvme-script: this run is unproved and takes about a minute; ./nvme-script --build makes the proved program'
@@ -21,6 +22,7 @@ def copy_repository(folder):
     (folder / 'out').mkdir(parents=True)
     copy_sources(folder)
     shutil.copy(TOP / 'nvme-script', folder)
+    shutil.copy(TOP / 'VERSION', folder)
     shutil.copytree(TOP / 'tools', folder / 'tools')
 
 
@@ -176,6 +178,41 @@ class Builds(Copy):
         self.says(self.script('--build'), 0, b'nothing to do')
         # next to another argument, --build is passed to the program
         self.ends(self.script('--build', 'more'), 3, b'', b'nvme-script: arguments\n')
+
+
+class Texts(Copy):
+    def test_help_and_version(self):
+        # they need no program, and are texts only as the only argument
+        ended = self.script('--help')
+        self.ends(ended, 0, err=b'')
+        self.assertEqual(ended.out.splitlines()[0], b'usage: nvme-script [--subsystem FILE] [OPTION NUMBER].. < SCRIPT')
+        for option in OPTIONS:
+            self.assertIn(option.encode(), ended.out)
+        version = (TOP / 'VERSION').read_text().strip()
+        self.ends(self.script('--version'), 0, f'nvme-script {version}\n'.encode(), b'')
+        for words in ('--help', '--version'), ('--version', '--depth', '2'), ('--help=1',):
+            self.ends(self.script(*words), 0, ANSWER, LINE + b'\n')
+            self.assertEqual(self.given('1'), words[0].encode())
+        for option in '--help', '--version':
+            self.assertEqual(self.script(option, out='/dev/full').status, 72)
+
+    def test_of_the_model_without_a_build(self):
+        # neither a library nor a device was built
+        shutil.copy(TOP / 'nvme-model', self.copy)
+        shutil.copytree(TOP / 'client', self.copy / 'client')
+        for words, out in ((('--qemu', '--help'), b'usage: nvme-model --qemu '), (('--version',), b'nvme-model '),
+                           (('--help',), b'usage: nvme-model [OPTION..]')):
+            ended = run(self.copy / 'nvme-model', *words)
+            self.ends(ended, 0, err=b'')
+            self.assertTrue(ended.out.startswith(out), ended)
+        self.assertEqual(run(self.copy / 'nvme-model', '--qemu', '--help', '-x').status, 72)
+
+    def test_beside_an_installation(self):
+        # a clone in the folder of an installation runs its own sources
+        other = self.folder / 'lib/nvme-model/nvme_script'
+        other.parent.mkdir(parents=True)
+        shutil.copy('/bin/false', other)
+        self.is_unproved()
 
 
 class Unproved(Copy):

@@ -1,0 +1,16 @@
+/* The help of `nvme-model --qemu`, which the launcher shows even if the program for it wasn't built. */
+#ifndef USAGE_H
+#define USAGE_H
+
+static const char qemu_usage[] =
+    "usage: nvme-model --qemu [OPTION..] [-- QEMU-OPTION..]\n"
+    "       nvme-model --vfio-user --socket PATH [OPTION..]\n"
+    "Run QEMU (qemu-system-x86_64) with the controllers of a model as PCI functions, without I/O queues. Or serve\n"
+    "clients of the protocol vfio-user, such as QEMU, at sockets PATH0, PATH1 and so on, one for each controller.\n\n"
+    "  --subsystem FILE  use the subsystem of FILE; repeat it for several subsystems\n"
+    "  --memory SIZE     give the machine of --qemu this memory, such as 256M (default: 128M; at most 64G)\n"
+    "  --summary         at the end, write each controller's counts and error log to standard error\n"
+    "  --help            show this help\n\n"
+    "The exit status is that of QEMU, or 72 if nvme-model itself can't go on. See QEMU.md.\n";
+
+#endif
