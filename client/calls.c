@@ -108,6 +108,9 @@ static int pass_through(const struct call *call, const struct nvme_passthru_cmd 
     memcpy(header.entry + 40, dwords, sizeof dwords);
     if (copy_in(call, given->addr, data, length) < 0)
         return -EFAULT;
+    int status = refusal_of(0, given->opcode, given->cdw10);
+    if (status != 0)
+        return status;
     if (ask_keeper(&header, &answer) < 0 || answer.outcome != ANSWERED)
         return -ENXIO;
     *dword_0 = answer.dword_0;

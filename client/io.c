@@ -133,6 +133,8 @@ int io(struct call *call) {
     if (status == 0 && (given.flags || given.nsid != call->node.nsid))
         status = -EINVAL;
     if (status == 0)
+        status = refusal_of(1, given.opcode, given.cdw10);
+    if (status == 0)
         status = data.file < 0 ? INVALID_NAMESPACE : carry_out_io(call, &data, &given);
     if (data.file >= 0)
         close(data.file);

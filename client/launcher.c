@@ -225,6 +225,8 @@ static const char usage[] =
     "  --subsystem FILE     use the subsystem of FILE; repeat it for several subsystems, at most 16\n"
     "  --trace[=FILE]       write what goes over the bus to standard error or to FILE\n"
     "  --data-limit SIZE    limit the memory for data of namespaces, such as 512M (default: a quarter of all memory)\n"
+    "  --refuse COMMAND[,SKIP[,TIMES]]=STATUS\n"
+    "                       refuse a command, such as format=0x2002, after SKIP of them (0), TIMES times (1)\n"
     "  --no-notice          let nodes come and go only at `nvme ns-rescan` or a reset\n"
     "  --device PATH        add a character device of this machine, such as /dev/fuse, to the /dev of COMMAND\n"
     "  --depth N, --page-size N, --offset N, --list-offset N, --window N, --pace N\n"
@@ -258,7 +260,7 @@ static uint64_t read_size(const char *text) {
 }
 
 static int read_options(int count, char **arguments) {
-    enum { SUBSYSTEM = 256, TRACE, LIMIT, DEVICE, HELP, VERSION, GEOMETRY, OTHER = GEOMETRY + 3 };
+    enum { SUBSYSTEM = 256, TRACE, LIMIT, DEVICE, REFUSE, HELP, VERSION, GEOMETRY, OTHER = GEOMETRY + 3 };
     static const struct option options[] = {{"subsystem", required_argument, NULL, SUBSYSTEM},
                                             {"trace", optional_argument, NULL, TRACE},
                                             {"data-limit", required_argument, NULL, LIMIT},
@@ -266,6 +268,7 @@ static int read_options(int count, char **arguments) {
                                             {"help", no_argument, NULL, HELP},
                                             {"version", no_argument, NULL, VERSION},
                                             {"device", required_argument, NULL, DEVICE},
+                                            {"refuse", required_argument, NULL, REFUSE},
                                             {"depth", required_argument, NULL, GEOMETRY + DEPTH},
                                             {"page-size", required_argument, NULL, GEOMETRY + PAGE_SIZE},
                                             {"offset", required_argument, NULL, OTHER},
@@ -286,6 +289,8 @@ static int read_options(int count, char **arguments) {
             trace_file = optarg;
         } else if (option == LIMIT)
             limit = read_size(optarg) ?: 1;
+        else if (option == REFUSE && add_rule(optarg) == 0)
+            continue;
         else if (option == HELP || option == VERSION)
             show(option == HELP ? usage : "nvme-model " MODEL_VERSION "\n");
         else if (option < GEOMETRY || device_word_count > MOST_OPTIONS)
@@ -377,6 +382,7 @@ static int run(char **arguments) {
     kill(command, SIGCONT);
     await_end();
     end_devices();
+    report_rules();
     return status;
 }
 

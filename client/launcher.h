@@ -162,6 +162,12 @@ int signal_group(const struct call *call, int number);
    its status, or -EFAULT. */
 int put_result(const struct call *call, int is_wide, uint64_t result, int status);
 
+/* refuse.c: adds a rule of --refuse, or returns -1 if it isn't one; returns the status with which a command is refused,
+   which counts then, or 0; and reports which rules refused no command. */
+int add_rule(const char *text);
+int refusal_of(int is_io, unsigned opcode, uint32_t dword_10);
+void report_rules(void);
+
 /* io.c: carries out an I/O command, and returns its status, or an error's number as a negative one. */
 int io(struct call *call);
 

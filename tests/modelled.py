@@ -15,7 +15,7 @@ from tests.support import DEMO, TOP, Case, process_folder, program, run, until
 CLIENT = TOP / 'client'
 PROGRAMS = TOP / 'tests/programs'
 PARTS = {'bin/nvme-model': ('launcher', 'relay', 'nodes', 'sysfs', 'sandbox', 'calls', 'caller', 'filter', 'helpers',
-                            'io', 'device', 'inherited'),
+                            'io', 'refuse', 'device', 'inherited'),
          'lib/nvme-model/library.so': ('library',),
          'lib/nvme-model/qemu': ('qemu', 'messages', 'function', 'memory', 'proxy', 'vfio_user')}
 WARNINGS = '-Wall', '-Wextra', '-Werror'
