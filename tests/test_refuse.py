@@ -107,6 +107,13 @@ class Refuse(ModelCase):
         self.assertEqual(ended.out.split().count(b'1'), 50, ended)
         self.assertEqual(len(ended.out.split()), 100)
 
+    def test_names(self):
+        """PASSTHROUGH names the commands that the source has, in its order."""
+        page = (TOP / 'docs/PASSTHROUGH.md').read_text()
+        listed = re.search(r'COMMAND is (`id-ctrl`.*?), the opcode', page, re.S)[1]
+        source = (TOP / 'client/refuse.c').read_text()
+        self.assertEqual(re.findall('`([a-z-]+)`', listed), re.findall(r'\{"([a-z-]+)", [01], ', source))
+
     def test_wrong_rules(self):
         for rule in ('', 'format', 'format=', 'format=0', 'format=0x8000', 'format=-1', 'format=1x', 'format=x', '=1',
                      'bogus=1', 'forma=1', 'formats=1', '256=1', '0x=1', '-6=1', 'format,=1', 'format,1,=1', 'format,x=1',
