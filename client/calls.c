@@ -43,20 +43,15 @@ const struct handed_call handed_calls[HANDED_CALLS] = {
     {SYS_copy_file_range, 377, 2, -1, -1, -EXDEV},
     {SYS_kill, 37, -1, -1, -1, 0}};
 
-/* The numbers of the file systems in which nodes and the model's files of /sys are. */
-static dev_t number_of(const char *path) {
+enum { OF_DEV, OF_SYS };
+
+/* Returns the number of the file system in which nodes, or the model's files of /sys, are. */
+static dev_t number_of(int is_sys) {
+    static dev_t numbers[2];
     struct stat about;
-    return stat(path, &about) == 0 ? about.st_dev : 0;
-}
-
-static dev_t number_of_dev(void) {
-    static dev_t number;
-    return number = number ? number : number_of("/dev");
-}
-
-static dev_t number_of_sys(void) {
-    static dev_t number;
-    return number = number ? number : number_of("/sys");
+    if (numbers[is_sys] == 0 && stat(is_sys ? "/sys" : "/dev", &about) == 0)
+        numbers[is_sys] = about.st_dev;
+    return numbers[is_sys];
 }
 
 /* Reads by which name a file was opened, with links followed. */
@@ -74,7 +69,7 @@ static int find_node(struct call *call) {
     snprintf(link, sizeof link, "/proc/%d/fd/%d", call->process, call->file);
     read_link(link, name);
     if (strncmp(name, before, strlen(before)) != 0 || stat(link, &about) < 0 || !S_ISREG(about.st_mode) ||
-        lstat(link, &how) < 0 || (has_sandbox && about.st_dev != number_of_dev()))
+        lstat(link, &how) < 0 || (has_sandbox && about.st_dev != number_of(OF_DEV)))
         return 0;
     call->is_writable = (how.st_mode & S_IWUSR) != 0;
     return read_name(name + strlen(before), &call->node);
@@ -250,9 +245,9 @@ static int open_found(int file, uint64_t flags, int is_length) {
     struct node node;
     struct stat about;
     if (fstat(file, &about) < 0 || !S_ISREG(about.st_mode) ||
-        (about.st_dev != number_of_dev() && about.st_dev != number_of_sys()))
+        (about.st_dev != number_of(OF_DEV) && about.st_dev != number_of(OF_SYS)))
         return NOT_OURS;
-    if (about.st_dev == number_of_sys() && !(about.st_mode & 0222))
+    if (about.st_dev == number_of(OF_SYS) && !(about.st_mode & 0222))
         return -EACCES;
     snprintf(place, sizeof place, "/proc/self/fd/%d", file);
     read_link(place, name);

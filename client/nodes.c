@@ -13,8 +13,6 @@
 #include <string.h>
 #include <sys/inotify.h>
 #include <sys/stat.h>
-#include <sys/sysinfo.h>
-#include <sys/wait.h>
 #include <unistd.h>
 
 enum { CNS_NAMESPACE = 0, CNS_CONTROLLER = 1, MOST_NAME = 40 };
@@ -23,7 +21,6 @@ enum { CNS_NAMESPACE = 0, CNS_CONTROLLER = 1, MOST_NAME = 40 };
 static unsigned (*shown)[MOST_NSID + 1];
 static struct volume (*volumes)[MOST_NSID + 1];
 static int places = IN_DEV; /* where a namespace's files are put */
-static unsigned put_count;  /* how many were put */
 
 static struct volume *volume_at(const struct device *device, uint32_t nsid) { return &volumes[device - devices][nsid]; }
 
@@ -126,7 +123,6 @@ static void put(const struct device *device, unsigned controller, uint32_t nsid)
     if (file < 0 && has_sandbox)
         file = make_data(volume);
     shown[controller][nsid] = volume->generation + 1;
-    put_count++;
     put_namespace(controller, nsid, volume, file, places);
     if (file >= 0)
         close(file);
@@ -275,44 +271,13 @@ static void make_controllers(struct device *device) {
     scan(device, device->first, device->count);
 }
 
-/* Puts the files of /sys for the namespaces from one NSID to another, on every `step`th controller from `first` on, and
-   returns how many there are. (Those with one NSID come together, because they have texts in common.) */
-static unsigned describe(uint32_t nsid, uint32_t last_nsid, unsigned first, unsigned step) {
-    const struct device *last = devices + device_count - 1;
-    unsigned count = 0;
-    for (; nsid <= last_nsid; nsid++)
-        for (unsigned controller = first; controller < last->first + last->count; controller += step)
-            if (shown[controller][nsid]) {
-                put_namespace(controller, nsid, volume_at(device_of(controller), nsid), -1, IN_SYS);
-                count++;
-            }
-    return count;
-}
-
-/* Does so for all, in a process for each processor if there are many. The lowest NSID comes first, because equal files
-   of all others become other names of its files. */
+/* Puts the files of /sys for all namespaces. (Those with one NSID come together, because they have texts in common.) */
 static void describe_all(void) {
-    enum { MANY = 512, MOST_PROCESSES = 16 };
-    pid_t workers[MOST_PROCESSES];
-    uint32_t nsid = 1;
-    while (nsid <= MOST_NSID && describe(nsid, nsid, 0, 1) == 0)
-        nsid++;
-    int step = has_sandbox && put_count >= MANY ? get_nprocs() : 1, how;
-    step = step < MOST_PROCESSES ? step : MOST_PROCESSES;
-    for (int first = 1; first < step; first++) {
-        workers[first] = fork();
-        if (workers[first] <= 0)
-            describe(nsid + 1, MOST_NSID, (unsigned)first, (unsigned)step);
-        if (workers[first] == 0)
-            _exit(0);
-    }
-    describe(nsid + 1, MOST_NSID, 0, (unsigned)step);
-    for (int first = 1; first < step; first++)
-        if (workers[first] > 0 && waitpid(workers[first], &how, 0) == workers[first] && how != 0) {
-            if (WIFSIGNALED(how))
-                fail("a process that made files of /sys was killed");
-            exit(FAILED); /* (it said why) */
-        }
+    const struct device *last = devices + device_count - 1;
+    for (uint32_t nsid = 1; nsid <= MOST_NSID; nsid++)
+        for (unsigned controller = 0; controller < last->first + last->count; controller++)
+            if (shown[controller][nsid])
+                put_namespace(controller, nsid, volume_at(device_of(controller), nsid), -1, IN_SYS);
 }
 
 void make_nodes(void) {
