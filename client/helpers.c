@@ -16,7 +16,7 @@
 #include <sys/wait.h>
 #include <unistd.h>
 
-/* Helpers that stay, and the most at one time. Those above the usual number take one call each. */
+/* The helpers that are started as soon as all others are at work, and the most if these are so for long. */
 enum { USUAL_HELPERS = 8, MOST_HELPERS = 256 };
 
 struct helper {
@@ -35,9 +35,10 @@ static unsigned char *all_data;       /* room for the data of each helper's requ
 static int at_end = -1;               /* where a helper that has nothing to do tells it, if it waits for one */
 static int asks[MOST_DEVICES];        /* where keepers are told that there is a request */
 
-/* What they share besides: the number of requests, and whether the launcher waits for a helper. */
+/* What they share besides: how many helpers were started, the number of requests, and whether the launcher waits for a
+   helper. */
 static struct {
-    unsigned requests, is_awaited;
+    unsigned count, requests, is_awaited;
 } *shared;
 
 static unsigned load(const unsigned *number) { return __atomic_load_n(number, __ATOMIC_SEQ_CST); }
@@ -91,6 +92,7 @@ void *share(size_t size) {
 static void tell(int file) { (void)!write(file, &(uint64_t){1}, sizeof(uint64_t)); }
 static void hear(int file) { (void)!read(file, &(uint64_t){0}, sizeof(uint64_t)); }
 
+static struct helper *end(void) { return helpers + load(&shared->count); }
 static void *data_of(const struct helper *helper) { return all_data + (helper - helpers) * (ptrdiff_t)MOST_DATA; }
 
 /* ---- keepers */
@@ -98,7 +100,7 @@ static void *data_of(const struct helper *helper) { return all_data + (helper - 
 /* Returns the helper whose request to a device came first, or NULL. */
 static struct helper *find_request(const struct device *device) {
     struct helper *first = NULL;
-    for (struct helper *helper = helpers; helper < helpers + MOST_HELPERS; helper++)
+    for (struct helper *helper = helpers; helper < end(); helper++)
         if (load(&helper->asked) != helper->answered && device_of(helper->request.controller) == device &&
             (!first || (int)(helper->asked - first->asked) < 0))
             first = helper;
@@ -183,8 +185,6 @@ __attribute__((noreturn)) static void help(struct helper *helper) {
         store(&helper->done, helper->given);
         if (load(&shared->is_awaited))
             tell(at_end);
-        if (helper - helpers >= USUAL_HELPERS)
-            _exit(0);
     }
 }
 
@@ -199,21 +199,26 @@ static int start_helper(struct helper *helper) {
 
 /* Kills the helpers whose callers no longer wait. */
 static void drop_helpers(void) {
-    for (struct helper *helper = helpers; helper < helpers + MOST_HELPERS; helper++)
+    for (struct helper *helper = helpers; helper < end(); helper++)
         if (helper->process > 0 && load(&helper->done) != helper->given && !is_alive(&helper->notice))
             kill(helper->process, SIGKILL);
 }
 
-/* Returns a helper that has nothing to do, or a place for one, or NULL. */
+/* Returns a helper that has nothing to do, or starts one, or returns NULL. */
 static struct helper *find_helper(unsigned most) {
     struct helper *place = NULL;
-    for (struct helper *helper = helpers; helper < helpers + most; helper++)
-        if (load(&helper->asked) != load(&helper->answered) || load(&helper->done) != helper->given)
-            continue;
-        else if (helper->process > 0 && helper - helpers < USUAL_HELPERS)
+    for (struct helper *helper = helpers; helper < end(); helper++) {
+        int is_free = load(&helper->asked) == load(&helper->answered) && load(&helper->done) == helper->given;
+        if (is_free && helper->process > 0)
             return helper;
-        else if (helper->process == 0 && !place)
-            place = helper;
+        place = is_free && !place ? helper : place;
+    }
+    if (!place && end() < helpers + most)
+        place = end();
+    if (!place || !start_helper(place))
+        return NULL;
+    if (place == end())
+        store(&shared->count, load(&shared->count) + 1);
     return place;
 }
 
@@ -225,8 +230,6 @@ static int give_call(int is_late) {
     store(&shared->is_awaited, !helper);
     if (!helper)
         helper = find_helper(is_late ? MOST_HELPERS : USUAL_HELPERS);
-    if (helper && helper->process == 0 && !start_helper(helper))
-        helper = NULL;
     if (!helper && !is_late)
         return 0;
     if (!receive_call(helper ? &helper->notice : &spare))
@@ -264,7 +267,7 @@ static void replace_helper(struct helper *helper) {
 
 void replace(pid_t process, int how) {
     int is_stopped = WIFSTOPPED(how);
-    for (struct helper *helper = helpers; helper < helpers + MOST_HELPERS; helper++)
+    for (struct helper *helper = helpers; helper < end(); helper++)
         if (helper->process == process && is_stopped)
             kill(process, SIGCONT);
         else if (helper->process == process)
@@ -289,11 +292,11 @@ void begin_helpers(void) {
         asks[at] = eventfd(0, EFD_CLOEXEC | EFD_NONBLOCK);
     for (unsigned at = 0; at < device_count; at++)
         start_keeper(devices + at, 0);
-    start_helper(helpers);
+    find_helper(1);
 }
 
 void end_helpers(void) {
-    for (struct helper *helper = helpers; helper && helper < helpers + MOST_HELPERS; helper++)
+    for (struct helper *helper = helpers; helper && helper < end(); helper++)
         if (helper->process > 0)
             kill(helper->process, SIGKILL);
     for (struct device *device = devices; device < devices + device_count; device++)
