@@ -270,6 +270,3 @@ class Copies(Case):
 
     def test_file_of_guide(self):
         self.assertEqual(code_of('docs/GUIDE.md', 'toml'), text_of('examples/guide.toml'))
-
-    def test_program_of_benches(self):
-        self.assertEqual(code_of('docs/BENCHES.md', 'rust'), text_of('crates/nv_benches/src/in_memory.rt'))
