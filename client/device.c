@@ -1,5 +1,6 @@
 /* Starts the devices. A device has its streams and its subsystem file, and can make only the calls that its program
-   needs (filter.c). Nobody can trace it, because nobody can read its program. None of this is proved. */
+   needs (filter.c), as could any other program that it became. Nobody can trace it, because nobody can read its
+   program. None of this is proved. */
 #define _GNU_SOURCE
 #include "launcher.h"
 #include <errno.h>
@@ -8,28 +9,22 @@
 #include <linux/close_range.h>
 #include <string.h>
 #include <sys/prctl.h>
-#include <sys/resource.h>
 #include <sys/socket.h>
 #include <sys/syscall.h>
 #include <unistd.h>
 
-/* The descriptor of a device's subsystem file, and how many descriptors it can have. The one of its program is greater,
-   so the program can't run another one, which would need that descriptor. */
-enum { SUBSYSTEM_FILE = STDERR_FILENO + 1, MOST_OPEN = 64, MOST_WORDS = 24 };
+enum { SUBSYSTEM_FILE = STDERR_FILENO + 1, MOST_WORDS = 24 };
 
 /* Becomes a program, without the rights by which root can read every file: Linux lets nobody trace a process whose
    program it can't read. (The rights stay permitted, so they come back with the program.) */
 static void become(char *const *words) {
     struct __user_cap_header_struct version = {_LINUX_CAPABILITY_VERSION_3, 0};
     struct __user_cap_data_struct rights[2];
-    const struct rlimit most = {MOST_OPEN, MOST_OPEN};
-    int program = open(words[0], O_PATH | O_CLOEXEC);
-    if (program < 0 || dup3(program, PROGRAM_FILE, O_CLOEXEC) < 0 || setrlimit(RLIMIT_NOFILE, &most) < 0 ||
-        syscall(SYS_capget, &version, rights) < 0)
+    if (syscall(SYS_capget, &version, rights) < 0)
         return;
     rights[0].effective = rights[1].effective = 0;
     if (syscall(SYS_capset, &version, rights) == 0 && confine_device() == 0)
-        syscall(SYS_execveat, PROGRAM_FILE, "", words, environ, AT_EMPTY_PATH);
+        execv(words[0], words);
 }
 
 /* Runs a device's program in a session of its own, so that signals from the terminal's keys don't end it. It is killed

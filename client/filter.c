@@ -229,13 +229,14 @@ void confine_launcher(void) {
         fail_by_errno("the launcher's calls can't be limited");
 }
 
-/* (a device opens files to read them, when it starts, and changes limits of its own alone) */
+/* (A device opens files to read them, when it starts, and changes limits of its own alone. It becomes its program under
+   this filter, which can't see whether it becomes another one.) */
 int confine_device(void) {
-    static const uint32_t self[] = {0}, program[] = {PROGRAM_FILE};
+    static const uint32_t self[] = {0};
     begin_list();
+    decide_when(BPF_JEQ, SYS_execve, SECCOMP_RET_ALLOW);
     allow_without(SYS_open, 1, O_WRONLY | O_RDWR | O_CREAT | O_TRUNC);
     allow_without(SYS_openat, 2, O_WRONLY | O_RDWR | O_CREAT | O_TRUNC);
     allow_with(SYS_prlimit64, 0, self, COUNT(self));
-    allow_with(SYS_execveat, 0, program, COUNT(program));
     return end_list();
 }

@@ -40,7 +40,7 @@ uint64_t geometry[] = {[DEPTH] = 32, [PAGE_SIZE] = 4096, [WINDOW] = 1};
    them. Inside, it has these and the streams alone, and adds a socket and a pipe of each device (device.c), folders of
    its own /sys (sysfs.c), the data of namespaces without nodes and what tells of changes in /dev (nodes.c), and what
    signals and calls come from. */
-enum { HERE = PROGRAM_FILE, MONITOR, TRACE_TO, FILES };
+enum { HERE = 200, MONITOR, TRACE_TO, FILES };
 
 static pid_t command;
 static int status = -1;        /* of the command, once it has ended */

@@ -38,8 +38,7 @@ __attribute__((noreturn)) void fail_by_errno(const char *what);
 void cannot(const char *path);
 
 /* device.c: starts a device by these words, with a subsystem file (or -1) and its name, and with these signals blocked.
-   Until it runs, its program has a descriptor of its own. */
-enum { PROGRAM_FILE = 200 };
+ */
 void start_device(char *const *words, int file, const char *name, const sigset_t *blocked);
 
 /* relay.c: starts the exchange with a device; sends it a request, and returns -1 if it is gone, or one for a controller

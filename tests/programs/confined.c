@@ -22,8 +22,7 @@ static const struct {
     const char *name;
     int number;
     long first, second;
-} calls_of_both[] = {{"execve", SYS_execve, 0, 0},
-                     {"execveat", SYS_execveat, PROGRAM_FILE + 1, 0},
+} calls_of_both[] = {{"execveat", SYS_execveat, -1, 0},
                      {"ptrace", SYS_ptrace, -1, 0},
                      {"mount", SYS_mount, 0, 0},
                      {"umount", SYS_umount2, 0, 0},
@@ -105,8 +104,10 @@ int main(int count, char **arguments) {
     for (unsigned at = 0; is_device && at < sizeof calls_of_devices / sizeof *calls_of_devices; at++)
         try(calls_of_devices[at].name, calls_of_devices[at].number, calls_of_devices[at].first,
             calls_of_devices[at].second, O_WRONLY);
-    if (!is_device)
+    if (!is_device) {
+        try("execve", SYS_execve, 0, 0, 0);
         try_old();
+    }
     puts("end");
     return 0;
 }
