@@ -281,7 +281,7 @@ class Signals(ModelCase):
 
     def end_waiting_bwrap(self):
         """Ends a process of bubblewrap whose parent was killed before it told the process to go on."""
-        if not until(lambda: not processes_of(self.subsystem)):
+        if not until(lambda: not processes_of(self.subsystem), 30):
             for number in processes_of(self.subsystem):
                 self.assertEqual(pathlib.Path(f'/proc/{number}/comm').read_text(), 'bwrap\n')
                 os.kill(number, signal.SIGKILL)
