@@ -17,7 +17,7 @@
 #include <unistd.h>
 
 /* The helpers that are started as soon as all others are at work, and the most if these are so for long. */
-enum { USUAL_HELPERS = 8, MOST_HELPERS = 256 };
+enum { USUAL_HELPERS = 8, MOST_HELPERS = 64 };
 
 struct helper {
     pid_t process;               /* 0 if there is none */
