@@ -2,6 +2,7 @@
 
 import json
 import re
+import struct
 
 # The keys of each table with their defaults. Those that are required have none.
 DEFAULTS = {
@@ -140,3 +141,86 @@ def random_file(random, controllers, namespaces):
         text += '\n[[format]]\n' + line('lbads', power) + some(random, ms=metadata, rp=random.randint(0, 3)) \
             if metadata == 0 else '\n[[format]]\n' + line('lbads', power) + line('ms', metadata)
     return text + ''.join(random_controller(random, cntlid, version) for cntlid in identifiers) + ''.join(tables)
+
+
+# Fields of a controller, of its health log and of a namespace: the key or the name, the place and the size.
+OF_CONTROLLER = {'cntlid': (78, 2), 'vid': (0, 2), 'ssvid': (2, 2), 'rab': (72, 1), 'ieee': (73, 3), 'mdts': (77, 1),
+                 'elpe': (262, 1), 'wctemp': (266, 2), 'cctemp': (268, 2), 'vwc': (525, 1)}
+COUNTERS = ('data_units_read', 'data_units_written', 'host_read_commands', 'host_write_commands',
+            'controller_busy_time', 'power_cycles', 'power_on_hours', 'unsafe_shutdowns', 'media_errors')
+OF_HEALTH = {'critical_warning': (0, 1), 'temperature': (1, 2), 'avail_spare': (3, 1), 'spare_thresh': (4, 1),
+             'percent_used': (5, 1), 'warning_temp_time': (192, 4), 'critical_comp_time': (196, 4),
+             **{key: (32 + 16 * number, 16) for number, key in enumerate(COUNTERS)}}
+NAMED = {'VER': (80, 4, 0x10400), 'OACS': (256, 2, 10), 'FRMW': (260, 1, 2), 'LPA': (261, 1, 4), 'NPSS': (263, 1, 0),
+         'SQES': (512, 1, 0x66), 'CQES': (513, 1, 0x44), 'ONCS': (520, 2, 16), 'OAES': (92, 4, 0), 'CTRATT': (96, 4, 0)}
+
+
+def number_at(data, at, size):
+    return int.from_bytes(data[at:at + size], 'little')
+
+
+def notes_in(text):
+    """Returns the comments of each table of a file, by its kind and place: the NSID of a namespace, or the position of
+    a controller, with which its features and health log are. A comment of several tables is with each."""
+    found, kind, place, positions = {}, 'top', 0, {'controller': -1, 'format': -1}
+    lines = iter(text.splitlines())
+    for line in lines:
+        heading = re.fullmatch(r'\[\[?(controller|format|namespace)?\.?(\w*)\]\]?', line)
+        if heading and not heading[2]:
+            kind = heading[1]
+            positions[kind] = place = positions.get(kind, 0) + 1
+        if line.startswith('nsid = '):
+            found['namespace', int(line[7:])] = found.pop(('new', 0), set())
+        if not line.startswith('# ') or line.startswith('# nvme set-'):
+            continue
+        while not line.endswith(('.', '.)', ':')):
+            line += next(lines)[1:]
+        others = re.search(r' \(Likewise (?:NSID |/dev/nvme|formats )([\d, to]+)\.\)$', line)
+        key = ('new', 0) if kind == 'namespace' else (kind, place)
+        found.setdefault(key, set()).add(line[2:others.start() if others else None])
+        for first, last in re.findall(r'(\d+)(?: to (\d+))?', others[1] if others else ''):
+            for other in range(int(first), int(last or first) + 1):
+                found.setdefault(('later', kind, other), set()).add(line[2:others.start()])
+    for key in [key for key in found if key[0] == 'later']:
+        found.setdefault(key[1:], set()).update(found.pop(key))
+    return found
+
+
+def unnamed_differences(text, drive):
+    """Returns what differs in a file from the records of a drive, and isn't named in a comment of its table."""
+    notes, place, wrong, formats = notes_in(text), -1, [], []
+    for name, keys in tables_of(text):
+        place += name == 'controller'
+        if name == 'format':
+            formats.append((keys['lbads'], keys.get('ms', 0), keys.get('rp', 0)))
+        if name in ('controller', 'smart'):
+            fields = OF_CONTROLLER if name == 'controller' else OF_HEALTH
+            record = drive.records.get((place, 6, 1, 0) if name == 'controller' else (place, 2, 2, 0xffffffff), b'')
+            wrong += [(place, key) for key, (at, size) in fields.items()
+                      if keys.get(key, 0) != number_at(record, at, size) and
+                      f'{key.upper()} is {number_at(record, at, size)} on the drive.' not in notes['controller', place]]
+        if name == 'controller':
+            said = ''.join(note for note in notes['controller', place] if note.startswith('On the drive'))
+            wrong += [(place, field) for field, (at, size, here) in NAMED.items()
+                      if number_at(record, at, size) != here and f' {field} 0x' not in said]
+        if name == 'namespace':
+            said = ''.join(notes.get(('namespace', keys['nsid']), ()))
+            records = [record for (_, opcode, cns, nsid), record in drive.records.items()
+                       if (opcode, nsid) == (6, keys['nsid']) and cns in (0, 0x11) and any(record[:8])]
+            wrong += [(keys['nsid'], field) for field in differing_fields(keys, records[-1], formats)
+                      if not re.search(rf'\b{field}\b', said)]
+    return wrong
+
+
+def differing_fields(keys, record, formats):
+    """Returns the fields of Identify Namespace that differ from a table of the file."""
+    blocks, place = keys['bytes'] >> formats[keys['format']][0], keys['format'] | 16 * keys.get('extended', False)
+    nsze, ncap, nuse, nsfeat, nlbaf, flbas, _, dpc, dps, nmic = struct.unpack_from('<QQQ7B', record)
+    own = [(record[at + 2], number_at(record, at, 2), record[at + 3] & 3)
+           for at in range(128, 132 + 4 * min(nlbaf, 63), 4)]
+    wanted = {'NSZE': (nsze, blocks), 'NCAP': (ncap, blocks), 'NUSE': (nuse, 0), 'NSFEAT': (nsfeat, 0), 'DPC': (dpc, 0),
+              'FLBAS': (flbas, place), 'DPS': (dps, 0), 'NMIC': (nmic, int(keys.get('shared', False))),
+              'NVMCAP': (number_at(record, 48, 16), keys['bytes']), 'EUI64': (number_at(record, 120, 8), 0)}
+    found = [field for field, (there, here) in wanted.items() if there != here]
+    usual = all(9 <= power <= 16 for power, _, _ in own)
+    return found + ['formats'] * (usual and own != formats)

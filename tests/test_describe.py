@@ -8,6 +8,7 @@ import struct
 import sys
 import unittest.mock
 
+from tests.described import unnamed_differences
 from tests.fake_drive import (EVERY, GET_FEATURES, GET_LOG, IDENTIFY, PROGRAM, REFUSED, Drive, Plain, Stopped, Wild,
                               described, error, identity, namespace, node, nodes, ns_list)
 from tests.support import TOP, Case, program, run
@@ -110,7 +111,7 @@ class Misbehaving(DriveCase):
             for cns in 2, 0x10:
                 plain = Plain()
                 plain.changes[IDENTIFY, cns] = listed
-                self.stops(plain, '/dev/nvme0: a list of namespaces does not ascend')
+                self.stops(plain, "/dev/nvme0: a list of namespaces doesn't ascend")
 
     def test_arguments(self):
         same = Plain(count=2)
@@ -141,7 +142,7 @@ class Misbehaving(DriveCase):
             plain.changes[IDENTIFY, 0, 2] = plain.changes[IDENTIFY, 0x11, 2] = change
             text = self.file_of(plain)
             self.assertEqual(re.findall(r'(?m)^nsid = (\d+)', text), ['1', '3'])
-            self.assertIn('# The file can not have these namespaces: 2.\n', text)
+            self.assertIn('# Left out (above 1024, with another format or without data): NSID 2.\n', text)
 
     def test_program(self):
         """The program itself, with arguments that name no controller, and streams that can't be written."""
@@ -245,13 +246,13 @@ class Comments(DriveCase):
         self.assertIn('# The drive has other values of NUSE. (Likewise NSID 2 to 1024.)\n', text)
         self.assertLess(text.count('#'), 10)
         plain = Plain({nsid: namespace() for nsid in (5, 1024, 1025, 70000)})
-        self.has(plain, '# The file can not have these namespaces: 1025, 70000.')
+        self.has(plain, '# Left out (above 1024, with another format or without data): NSID 1025, 70000.')
 
     def test_formats_of_namespaces(self):
         plain = shaped(9, 12)
         plain.namespaces = {1: namespace(lbads=(12, 9)), 2: namespace(lbads=(10,)), 3: namespace(lbads=(9, 12))}
         text = self.has(plain, '# The drive has other values of FLBAS, the formats.', 'format = 1',
-                        '# The file can not have these namespaces: 2.')
+                        '# Left out (above 1024, with another format or without data): NSID 2.')
         self.assertEqual(re.findall(r'(?m)^nsid = (\d+)', text), ['1', '3'])
         wide = shaped(*range(9, 17), *range(9, 17), 9)
         wide.namespaces = {1: namespace(lbads=(*range(9, 17), *range(9, 17), 10), _26=b'\x20')}
@@ -268,7 +269,7 @@ class Comments(DriveCase):
     def test_lists(self):
         plain = Plain()
         plain.changes[IDENTIFY, 0x10] = 0x4002
-        self.has(plain, '# The drive does not list the namespaces that no controller has.', 'nsid = 1')
+        self.has(plain, "# The drive doesn't list the namespaces that no controller has.", 'nsid = 1')
         old = Plain({3: namespace()})
         old.changes[IDENTIFY, 2] = old.changes[IDENTIFY, 0x10] = 0x4002
         self.has(old, 'nsid = 3\nbytes = 4096\nformat = 0\ncontrollers = [0]')
@@ -289,7 +290,7 @@ class Comments(DriveCase):
                  '# nvme set-feature /dev/nvme0 -f 8 --value 0x5', is_current=True)
         plain = Plain()
         plain.changes[GET_FEATURES, 8] = 0x4002
-        self.has(plain, '# The drive does not report feature 8.')
+        self.has(plain, "# The drive doesn't report feature 8.")
         old = changed(_520=b'\0')
         self.has(old, '# Feature 1 on the drive: capabilities untold, default untold.')
 
@@ -312,10 +313,14 @@ class Random(DriveCase):
             source = random.Random(seed)
             drive = Wild(source)
             with self.subTest(seed=seed):
+                asked = Drive(drive)
                 try:
-                    texts.append((seed, described(Drive(drive), nodes(drive.count), source.random() < 0.3)))
+                    text = described(asked, nodes(drive.count), source.random() < 0.3)
                 except Stopped as stopped:
                     messages.append(str(stopped))
+                    continue
+                texts.append((seed, text))
+                self.assertEqual(unnamed_differences(text, asked), [], text)
         for message in messages:
             self.assertRegex(message, r'^nvme-describe: [ -~]+$')
         for seed, text in texts:

@@ -51,7 +51,7 @@ class RoundTrip(ModelCase):
         self.ends(run(program('nvme_script'), '--subsystem', self.file('found.toml', found.encode())), 0, b'', b'')
         # (nothing differs, but for the log entry of a threshold and Error Recovery without a namespace)
         comments = [line for line in found.splitlines() if line.startswith('#')]
-        known = r'^# (/dev/nvme\d+ is /dev/nvme\d+ in the model|The drive does not report feature 5)'
+        known = r"^# (/dev/nvme\d+ is /dev/nvme\d+ in the model|The drive doesn't report feature 5)"
         for line in comments[2:]:
             self.assertRegex(line, known)
 

@@ -138,8 +138,8 @@ def patterns(name):
     if name in ('psds', 'npss'):
         return ['power states']
     if name.isdigit():
-        return ['no other commands, features' if name == '7' else
-                rf'Feature {name} on the drive|does not report feature {name}\b']
+        return ['only the commands, features' if name == '7' else
+                rf"Feature {name} on the drive|doesn't report feature {name}\b"]
     return [rf'\b{name.upper()}\b']
 
 
