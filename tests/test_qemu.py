@@ -199,7 +199,8 @@ class Messages(Case):
         # (the sockets have no names, and yet can be reached)
         folders = set(glob.glob('/tmp/nvme-model.*'))
         self.file('reach.py', REACH.encode())
-        said = self.ended(b'echo "$*"; exec python3 "${0%/*}/reach.py" "$@"', *words, devices='vfio-user-pci').out.decode()
+        reach = b'echo "$*"; exec python3 "${0%/*}/reach.py" "$@"'
+        said = self.ended(reach, *words, devices='vfio-user-pci').out.decode()
         device = (r'-device \{"driver":"vfio-user-pci","id":"nvme-model-%d",'
                   r'"socket":\{"type":"unix","path":"/proc/self/fd/\d+"\}\}')
         self.assertRegex(said, rf'-object \S+,share=on,size=2G {device % 0} {device % 1} -x y z\nTrue\nTrue\n$')
@@ -411,8 +412,8 @@ class Drivers(ModelCase):
         (self.folder / 'here/nvme-model').symlink_to(program())
         running = Running('sh', '-c', commands, cwd=self.folder / 'here', env={'HOME': self.folder})
         self.assertTrue(until(lambda: (running.hear(1), b'job control turned off' in running.heard)[1], LIMIT))
-        running.say(b'until nvme id-ctrl /dev/nvme0 && nvme id-ctrl /dev/nvme1; do sleep 1; done 2> /dev/null | grep ^sn\n'
-                    b'nvme list-ns /dev/nvme0; dmesg | grep nvme; echo b > /proc/sysrq-trigger\n')
+        running.say(b'until nvme id-ctrl /dev/nvme0 && nvme id-ctrl /dev/nvme1; do sleep 1; done 2> /dev/null |'
+                    b' grep ^sn\nnvme list-ns /dev/nvme0; dmesg | grep nvme; echo b > /proc/sysrq-trigger\n')
         ended = running.end(LIMIT)
         self.assertEqual(ended.status, 0, ended)
         said = ended.out.decode(errors='replace')

@@ -1,4 +1,4 @@
-"""Tests the interrupts of ./nvme-model --vfio-user: each completion raises one, none is lost, and there are few more."""
+"""Tests the interrupts of ./nvme-model --vfio-user: completions raise them, none is lost, and there are few others."""
 
 import os
 import random
