@@ -372,7 +372,8 @@ class Proved(Packages):
             self.assertLessEqual(set(self.digests(path, 'Proved').items()), set(wanted.items()), path)
 
     def test_digests_of_sources(self):
-        wanted = set(run('git', 'ls-files', 'client', 'library', 'VERSION', 'nvme-describe').out.decode().splitlines())
+        listed = run('git', 'ls-files', 'client', 'library', 'VERSION', 'nvme-describe', 'nvme-script')
+        wanted = set(listed.out.decode().splitlines())
         for crate in *PROGRAMS, 'nvme_controller':
             wanted.update(run(TOP / 'tools/stamp', 'files', crate).out.decode().splitlines())
         self.assertGreater(len(wanted), 500)
