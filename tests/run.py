@@ -13,7 +13,8 @@ import unittest
 
 from tests.support import TOP, environment, process_folder
 
-LONGEST = 'test_refused', 'test_program', 'test_wrapper', 'unproved.Programs'
+LONGEST = ('test_refused', 'test_program', 'test_wrapper', 'test_describe_model', 'test_describe_qemu',
+           'unproved.Programs')
 SUMS = '{} passed, {} failed, {} skipped'
 
 

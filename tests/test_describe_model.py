@@ -171,9 +171,11 @@ class Left(ModelCase):
         all that the first one left."""
         left = self.model('sh', TOP / 'examples/keep.sh')
         self.ends(left, 0, (TOP / 'examples/keep.txt').read_bytes(), b'')
-        restored = b'\n'.join(re.findall(rb'(?m)^# (nvme set-feature .*)$', left.out))
-        self.assertEqual(restored, b'nvme set-feature /dev/nvme0 -f 6 --value 0x0')
-        script = restored + (b'\nnvme list-ns /dev/nvme1; nvme id-ns /dev/nvme1n2\n'
+        page = (TOP / 'docs/SUBSYSTEM-FILE.md').read_text()
+        command = re.search(r'`(sed -n .*) drive\.toml`', page)[1]
+        restored = run('sh', '-c', command, source=left.out).out
+        self.assertEqual(restored, b'nvme set-feature /dev/nvme0 -f 6 --value 0x0\n')
+        script = restored + (b'nvme list-ns /dev/nvme1; nvme id-ns /dev/nvme1n2\n'
                              b'nvme get-feature /dev/nvme0 -f 6; nvme get-feature /dev/nvme0 -f 6 -s 1\n')
         words = '--subsystem', self.file('after.toml', left.out), 'sh', self.file('next.sh', script)
         ended = run(installed(), *words)
