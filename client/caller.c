@@ -51,8 +51,8 @@ static int read_identity(pid_t process, struct identity *identity) {
     read_about(process, "status", text, sizeof text);
     const char *users = strstr(text, "\nUid:"), *groups = strstr(text, "\nGroups:");
     *identity = (struct identity){.user = NOBODY};
-    if (!users || !groups || sscanf(users, " Uid: %*u %*u %*u %u Gid: %*u %*u %*u %u", &identity->user,
-                                    &identity->group) != 2)
+    if (!users || !groups ||
+        sscanf(users, " Uid: %*u %*u %*u %u Gid: %*u %*u %*u %u", &identity->user, &identity->group) != 2)
         return 0;
     for (const char *at = groups + strlen("\nGroups:"); identity->count < MOST_GROUPS; at = end) {
         at += strspn(at, " \t");
@@ -190,7 +190,7 @@ static int follow(const struct call *call, int at, const char *name, int link, c
     if (is_proc && !is_top)
         return openat(at, name, O_PATH | O_CLOEXEC);
     ssize_t length = readlinkat(link, "", text, PATH_MAX - 1);
-    if (length < 0 || snprintf(text + length, ROOM - (size_t)length, "/%s", left) >= ROOM - length)
+    if (length < 0 || snprintf(text + length, ROOM - (size_t)length, "%s", left) >= ROOM - length)
         return -1;
     strcpy(left, text);
     return *left == '/' ? open_about(call, "root") : fcntl(at, F_DUPFD_CLOEXEC, 0);
@@ -218,7 +218,10 @@ static int walk(const struct call *call, int at, const char *path, int flags) {
         }
         close(before);
     }
-    return at;
+    if (at < 0 || !*left || (fstat(at, &about) == 0 && S_ISDIR(about.st_mode)))
+        return at;
+    close(at);
+    return -1;
 }
 
 int look_up(const struct call *call, int directory, const char *path, const struct open_how *given) {

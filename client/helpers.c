@@ -1,8 +1,8 @@
 /* The processes that work for the launcher. The launcher itself, which passes signals on, waits for nobody: it gives
    each call to a helper, which looks at the memory and at the files of the process that made the call, as that process
    could (calls.c), and waits where it would. Each device has a keeper, which alone exchanges requests with it and
-   makes its nodes (relay.c, nodes.c), and which helpers ask. They share memory, by which they tell each other what is to
-   be done. What was killed is replaced, and what was stopped goes on. None of this is proved. */
+   makes its nodes (relay.c, nodes.c), and which helpers ask. They share memory, by which they tell each other what is
+   to be done. What was killed is replaced, and what was stopped goes on. None of this is proved. */
 #define _GNU_SOURCE
 #include "launcher.h"
 #include <errno.h>

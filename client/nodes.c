@@ -131,8 +131,8 @@ static void put(const struct device *device, unsigned controller, uint32_t nsid)
 static void hide_namespace(const struct device *device, unsigned controller, uint32_t nsid) {
     struct volume *volume = volume_at(device, nsid);
     int file = shown[controller][nsid] == volume->generation + 1 ? open_volume(device, nsid) : -1, other;
-    shown[controller][nsid] = 0;
     remove_namespace(controller, nsid);
+    shown[controller][nsid] = 0;
     if ((other = open_volume(device, nsid)) < 0 && file >= 0)
         volume->left = file;
     else if (file >= 0)

@@ -1,5 +1,5 @@
-"""Tests which calls the launcher answers in a sandbox, and by whose rights: other spellings of paths, openat2, programs of
-32 bits, identities, and signals to process groups, each as root and as another user."""
+"""Tests which calls the launcher answers in a sandbox, and by whose rights: other spellings of paths, openat2, programs
+of 32 bits, identities, and signals to process groups, each as root and as another user."""
 
 import os
 import pathlib
@@ -9,7 +9,8 @@ import sys
 import time
 import unittest
 
-from tests.modelled import PARTS, PROGRAMS, WARNINGS, ModelCase, compiled_c, installed, process_folder, static_program, works
+from tests.modelled import (PARTS, PROGRAMS, WARNINGS, ModelCase, compiled_c, installed, process_folder, static_program,
+                            works)
 from tests.support import environment, run
 
 IS_ROOT = os.geteuid() == 0
@@ -30,7 +31,8 @@ class CallCase(ModelCase):
         """Runs a shell script over the demonstration file as each user, and as another user inside of root's sandbox.
         Returns how each run ended."""
         ways = [(user, ()) for user in USERS] + [((), NOBODY)] * IS_ROOT
-        return [run(*user, *self.command(*inside, 'sh', '-c', script, 'sh', *words), limit=120) for user, inside in ways]
+        return [run(*user, *self.command(*inside, 'sh', '-c', script, 'sh', *words), limit=120)
+                for user, inside in ways]
 
     def program(self, name):
         """Returns a program of tests/programs in a place that every user can read."""
@@ -42,16 +44,18 @@ class CallCase(ModelCase):
 class Paths(CallCase):
     def test_own_links(self):
         # whatever leads to an open file of one's own, a node isn't truncated by it
-        links = {'link': '/proc/self/fd/7', 'other': '/dev/fd/7', 'third': 'link', 'proc': '/proc', 'self': '/proc/self'}
+        links = {'link': '/proc/self/fd/7', 'other': '/dev/fd/7', 'third': 'link', 'proc': '/proc',
+                 'self': '/proc/self'}
         for name, target in links.items():
             (self.folder / name).symlink_to(target)
-        paths = ('/proc/self/fd/7', '/proc//self/fd/7', '/proc/./self/fd/7', '//proc/self//fd/7', '/proc/self/fd/../fd/7',
-                 '/proc/thread-self/fd/7', '/proc/self/task/../fd/7', '/proc/../proc/self/fd/7', '/dev/fd/7', '/dev//fd/7',
-                 '/dev/../dev/fd/7', '"$1/link"', '"$1/other"', '"$1/third"', '"$1/proc/self/fd/7"', '"$1/self/fd/7"',
+        paths = ('/proc/self/fd/7', '/proc//self/fd/7', '/proc/./self/fd/7', '//proc/self//fd/7',
+                 '/proc/self/fd/../fd/7', '/proc/thread-self/fd/7', '/proc/self/task/../fd/7',
+                 '/proc/../proc/self/fd/7', '/dev/fd/7', '/dev//fd/7', '/dev/../dev/fd/7', '"$1/link"', '"$1/other"',
+                 '"$1/third"', '"$1/proc/self/fd/7"', '"$1/self/fd/7"',
                  '/proc/self/root/proc/self/fd/7', '/proc/self/cwd/proc/self/fd/7', '/proc/$$/fd/7')
         script = 'cd /; ' + FILL + 'exec 7<> /dev/nvme0n3; for p in %s; do : > "$p"; done; ' % ' '.join(paths)
-        script += ('cd /proc; : > self/fd/7; : > ./self/fd/7; cd self; : > fd/7; cd fd; : > 7; cd /proc/self/task; : > ../fd/7; '
-                   'cd "$1"; : > link; : > ./third; cd /; ') + LOOK
+        script += ('cd /proc; : > self/fd/7; : > ./self/fd/7; cd self; : > fd/7; cd fd; : > 7; cd /proc/self/task; '
+                   ': > ../fd/7; cd "$1"; : > link; : > ./third; cd /; ') + LOOK
         for user in USERS:
             with self.subTest(user=user):
                 self.ends(run(*user, *self.command('sh', '-c', script, 'sh', self.folder)), 0, b'4608 same\n', b'')
@@ -67,11 +71,12 @@ class Paths(CallCase):
         # links in circles, long names and missing ones give what Linux gives, and streams are written as ever
         (self.folder / 'circle').symlink_to('circle')
         (self.folder / 'up').symlink_to('/proc/self/fd/7/..')
-        script = ('cd "$1"; { for p in circle up none/x $(printf %0300d 1); do (: > $p); done; echo one > /dev/stdout; '
-                  'echo two > /proc/self/fd/1; echo three >> /dev/stderr; } 2>&1 | sed "s/.*: //"; : > made-$$ && rm made-$$')
+        script = ('cd "$1"; { for p in circle up none/x $(printf %0300d 1) /proc/self/fd/1/; do (: > $p); done; '
+                  'echo one > /dev/stdout; echo two > /proc/self/fd/1; echo three >> /dev/stderr; } 2>&1 | '
+                  'sed "s/.*: //"; : > made-$$ && rm made-$$')
         for ended in self.as_users(script, self.folder):
             self.ends(ended, 0, b'Too many levels of symbolic links\nDirectory nonexistent\nDirectory nonexistent\n'
-                      b'File name too long\none\ntwo\nthree\n', b'')
+                      b'File name too long\nIs a directory\none\ntwo\nthree\n', b'')
 
     def test_openat2(self):
         self.folder.chmod(0o777)
@@ -86,8 +91,8 @@ class Paths(CallCase):
         wanted = '0 0 0 0 0 -22 -22 -22 -22 -19 -13 -13 -13 -1 \n4608 same\n0\n'
         for bits in '32', '64':
             made = process_folder() / f'old{bits}'
-            ended = run('gcc', f'-m{bits}', *WARNINGS, '-nostdlib', '-static', '-fno-pic', '-no-pie', '-fno-stack-protector',
-                        '-o', made, PROGRAMS / 'old_calls.c')
+            ended = run('gcc', f'-m{bits}', *WARNINGS, '-nostdlib', '-static', '-fno-pic', '-no-pie',
+                        '-fno-stack-protector', '-o', made, PROGRAMS / 'old_calls.c')
             # (outside, it would change a node of this machine)
             if ended.status != 0 or run(*self.command(made)).status in (126, 139):
                 self.skipTest(f'programs of {bits} bits can make no call of 32 bits here')
@@ -100,9 +105,10 @@ class Paths(CallCase):
     def test_files_of_sys(self):
         # numbers that no controller has, in folders that anybody can make
         numbers = '4294967295 4294967296 4294967297 256 2 99999999999999999999 -1 00 0x0 +0 "" 0n1 1/../nvme4294967295'
-        script = ('cd /sys/devices; for n in %s; do mkdir -p "a/b/nvme/nvme$n"; for f in rescan_controller reset_controller; do '
-                  ': > "a/b/nvme/nvme$n/$f"; echo 1 > "a/b/nvme/nvme$n/$f"; done; done; '
-                  'echo text > a/own; echo > a/own; wc -c < a/own; test -c /dev/nvme0 && nvme list-ns /dev/nvme1; echo $?' % numbers)
+        script = ('cd /sys/devices; for n in %s; do mkdir -p "a/b/nvme/nvme$n"; '
+                  'for f in rescan_controller reset_controller; do '
+                  ': > "a/b/nvme/nvme$n/$f"; echo 1 > "a/b/nvme/nvme$n/$f"; done; done; echo text > a/own; '
+                  'echo > a/own; wc -c < a/own; test -c /dev/nvme0 && nvme list-ns /dev/nvme1; echo $?' % numbers)
         for user in USERS:
             ended = run(*user, *self.command('sh', '-c', script))
             self.ends(ended, 0, b'1\n0\n', b'')
@@ -120,10 +126,12 @@ class Identities(CallCase):
                     go, file = self.folder / 'go', self.folder / 'file'
                     file.write_bytes(b'')
                     file.chmod(0o666)
-                    script = 'echo x > "$1"; echo x >> "$1"; wc -l < "$1"; (: > /sys/block/nvme0n1/ro) 2>&1 | tail -c 18; echo end'
+                    script = ('echo x > "$1"; echo x >> "$1"; wc -l < "$1"; '
+                              '(: > /sys/block/nvme0n1/ro) 2>&1 | tail -c 18; echo end')
                     inner = self.command('setpriv', *user, inside, 'sh', '-c', script, 'sh', file)
-                    process = subprocess.Popen(['setpriv', groups, 'unshare', '-U', 'sh', '-c', begin, 'sh', go, *inner],
-                                               stdout=subprocess.PIPE, stderr=subprocess.PIPE, env=environment())
+                    command = 'setpriv', groups, 'unshare', '-U', 'sh', '-c', begin, 'sh', go, *inner
+                    process = subprocess.Popen(command, stdout=subprocess.PIPE, stderr=subprocess.PIPE,
+                                               env=environment())
                     time.sleep(0.3)
                     number = pathlib.Path(f'/proc/{process.pid}')
                     (number / 'uid_map').write_text('0 0 2000\n')
@@ -136,7 +144,7 @@ class Identities(CallCase):
     @unittest.skipUnless(IS_ROOT, 'root alone can become another user')
     def test_signals_of_users(self):
         # a user whose calls are answered can't signal the launcher, by which root's command would get the signal
-        script = ('trap "echo signalled" TERM; setpriv --reuid=65534 --regid=65534 --clear-groups python3 -c "$1" "$2"; echo end')
+        script = 'trap "echo signalled" TERM; ' + ' '.join(NOBODY) + ' python3 -c "$1" "$2"; echo end'
         tries = ('import os, signal, sys, threading, time\n'
                  'end, got = time.monotonic() + 2, 0\n'
                  'def call():\n'
@@ -157,9 +165,10 @@ class Identities(CallCase):
     @unittest.skipUnless(IS_ROOT, 'root alone can become another user')
     def test_many_users(self):
         # each call is answered by its own user's rights, however they mix
-        script = ('for n in 1000 1001 1002 0; do (i=0; while test $i -lt 60; do setpriv --reuid=$n --regid=$n --clear-groups sh -c '
-                  '"echo x >> \\"\\$1/by-$n\\"; (: > \\"\\$1/by-1000\\") 2> /dev/null && echo opened-$n" sh "$1"; i=$((i + 20)); done) & '
-                  'done; wait')
+        script = ('for n in 1000 1001 1002 0; do (for i in 1 2 3; do '
+                  'setpriv --reuid=$n --regid=$n --clear-groups sh -c "echo x >> \\"\\$1/by-$n\\"; '
+                  '(: > \\"\\$1/by-1000\\") 2> /dev/null && echo opened-$n" sh "$1"; '
+                  'done) & done; wait')
         for number in 1000, 1001, 1002, 0:
             file = self.file(f'by-{number}', b'')
             os.chown(file, number, number)
@@ -187,12 +196,13 @@ class Groups(CallCase):
         for signal, status in ('TERM', b'143\n'), ('KILL', b'137\n'):
             for user in USERS:
                 inside = f'sleep 100 & kill -{signal} 0; sleep 100'
-                ended = run('setsid', '-w', 'sh', '-c', outside, 'sh', *user, *self.command('sh', '-c', inside), limit=60)
+                command = self.command('sh', '-c', inside)
+                ended = run('setsid', '-w', 'sh', '-c', outside, 'sh', *user, *command, limit=60)
                 self.ends(ended, 0, status)
 
     def test_other_ways(self):
-        # a group that began inside is the kernel's; one that has no number inside can't be named; a descriptor of a process
-        # stands for no group
+        # a group that began inside is the kernel's; one that has no number inside can't be named; a descriptor of a
+        # process stands for no group
         calls = ('import ctypes, errno, os, signal\n'
                  'call = ctypes.CDLL(None, use_errno=True).syscall\n'
                  'def told(result):\n'
@@ -220,8 +230,9 @@ class Random(CallCase):
         for seed, user in enumerate(USERS):
             (self.folder / f'place{seed}').mkdir()
             (self.folder / f'place{seed}').chmod(0o777)
-            ended = run(*user, launcher, '--subsystem', self.subsystem, 'sh', '-c', script, 'sh', static_program('random_calls'),
-                        str(seed), self.folder / f'place{seed}', env={'ASAN_OPTIONS': 'verify_asan_link_order=0:detect_leaks=0'})
+            program = static_program('random_calls'), str(seed), self.folder / f'place{seed}'
+            ended = run(*user, launcher, '--subsystem', self.subsystem, 'sh', '-c', script, 'sh', *program,
+                        env={'ASAN_OPTIONS': 'verify_asan_link_order=0:detect_leaks=0'})
             self.ends(ended, 0, b'end\n0\n', b'')
 
 

@@ -1,6 +1,6 @@
-"""Tests that nothing that a command does makes the launcher wait: file systems and memory that don't answer, stopped and
-killed processes, and limits. Other calls go on, and a signal ends everything. Each is tried as root and as another user,
-as far as these can make such file systems."""
+"""Tests that nothing that a command does makes the launcher wait: file systems and memory that don't answer, stopped
+and killed processes, and limits. Other calls go on, and a signal ends everything. Each is tried as root and as another
+user, as far as these can make such file systems."""
 
 import os
 import re
@@ -77,8 +77,8 @@ class Hung(WaitingCase):
 
     def test_writers(self):
         # the server makes calls that are answered before it answers, while four writers make files
-        script = ('for k in 1 2 3 4; do (for i in $(seq 25); do echo x > "$1/w$k-$i" || echo failed; done) & done; wait; '
-                  'for k in 1 2 3 4; do test -e "$1/w$k-25" || echo missing; done; echo go')
+        script = ('for k in 1 2 3 4; do (for i in $(seq 25); do echo x > "$1/w$k-$i" || echo failed; done) & done; '
+                  'wait; for k in 1 2 3 4; do test -e "$1/w$k-25" || echo missing; done; echo go')
         for way in ways():
             with self.subTest(way=way):
                 out = self.ends_by_signal(self.mounted(script, 'sleep 100', way))
@@ -108,8 +108,8 @@ class Hung(WaitingCase):
     def test_folders(self):
         # changes of /dev wait then, and so does their device, but opening and the end don't
         script = 'python3 "$4" "$1/memory" 2 list'
-        rest = ('sleep 2; nvme attach-ns /dev/nvme1 -n 1 -c 1 > /dev/null 2>&1 & sleep 2.5; ' + OTHERS.partition('nvme')[0] +
-                'echo go; sleep 100')
+        rest = ('sleep 2; nvme attach-ns /dev/nvme1 -n 1 -c 1 > /dev/null 2>&1 & sleep 2.5; ' +
+                OTHERS.partition('nvme')[0] + 'echo go; sleep 100')
         for way in ways():
             with self.subTest(way=way):
                 copy = self.file('hung_memory.py', (PROGRAMS / 'hung_memory.py').read_bytes())
@@ -120,7 +120,8 @@ class Hung(WaitingCase):
 class Processes(WaitingCase):
     def test_stopped_device(self):
         # calls of its controllers wait, and all others go on
-        script = ('kill -STOP 2; nvme id-ctrl /dev/nvme0 > /dev/null & (echo 1 > /sys/class/nvme/nvme0/rescan_controller) 2> /dev/null & '
+        script = ('kill -STOP 2; nvme id-ctrl /dev/nvme0 > /dev/null & '
+                  '(echo 1 > /sys/class/nvme/nvme0/rescan_controller) 2> /dev/null & '
                   'sleep 0.3; '
                   + OTHERS.replace('nvme0', 'nvme2') + 'head -c 3 /dev/nvme0n1 | wc -c; echo go; sleep 100')
         for user in USERS:
@@ -142,14 +143,15 @@ class Processes(WaitingCase):
             for user in USERS:
                 with self.subTest(name, user=user):
                     out = self.ends_by_signal(self.begun(user, script, 'x', self.folder))
-                    said = b'nvme-model: the device ended, or answered what was not asked\n' * (there == 0)
-                    self.assertEqual(sorted(out.splitlines()), sorted((said + b'10\n%d\n' % there * 2 + b'go\n').splitlines()))
+                    wanted = [b'nvme-model: the device ended, or answered what was not asked'] * (there == 0)
+                    wanted += [b'10', b'%d' % there] * 2 + [b'go']
+                    self.assertEqual(sorted(out.splitlines()), sorted(wanted))
 
     @unittest.skipUnless(IS_ROOT, 'root alone can become another user')
     def test_helpers_of_users(self):
         # a user inside can signal a helper that acts for it, but others' calls go on
-        script = ('setpriv --reuid=65534 --regid=65534 --clear-groups sh -c \'(while :; do for p in $(cat /proc/1/task/1/children); do '
-                  'kill -STOP $p; kill -KILL $p; done; echo x > "$2/file-65534"; done) 2> /dev/null\' sh "$@" & sleep 0.5; '
+        script = (' '.join(NOBODY) + ' sh -c \'(while :; do for p in $(cat /proc/1/task/1/children); do kill -STOP $p; '
+                  'kill -KILL $p; done; echo x > "$2/file-65534"; done) 2> /dev/null\' sh "$@" & sleep 0.5; '
                   + OTHERS * 3 + 'echo go; sleep 100')
         running = self.begun((), script, 'x', self.folder)
         self.assertEqual(self.ends_by_signal(running), b'10\n1\n' * 3 + b'go\n')
@@ -158,8 +160,8 @@ class Processes(WaitingCase):
         # process 1 takes no turn in vain, and ends with the command
         spent = 'cut -d " " -f 14,15 /proc/1/stat | tr " " +'
         for limit in 'nofile=0:0', 'nproc=0:0', 'fsize=0:0', 'nofile=1:1', 'cpu=600:600':
-            script = (f'prlimit --pid 1 --{limit}; a=$(({"$"}({spent}))); sleep 1; b=$(({"$"}({spent}))); test $((b - a)) -lt 30 || '
-                      f'echo $a $b; echo go; test -z "$1" || sleep 100; exit 5')
+            script = (f'prlimit --pid 1 --{limit}; a=$(({"$"}({spent}))); sleep 1; b=$(({"$"}({spent}))); '
+                      f'test $((b - a)) -lt 30 || echo $a $b; echo go; test -z "$1" || sleep 100; exit 5')
             for user in USERS:
                 with self.subTest(limit, user=user):
                     self.assertEqual(self.ends_by_signal(self.begun(user, script, 'x')), b'go\n')

@@ -6,9 +6,7 @@ enum { EXIT = 1, WRITE = 4, OPEN = 5, CLOSE = 6, CREAT = 8, KILL = 37, IOCTL = 5
 enum { TRUNCATE64 = 193, FTRUNCATE64 = 194, OPENAT = 295, FALLOCATE = 324, OPENAT2 = 437 };
 enum { WRITING = 1, BOTH = 2, CUT = 01000, HERE = -100 };
 
-static struct {
-    unsigned long long flags, mode, resolve;
-} how = {BOTH | CUT, 0, 0};
+static struct { unsigned long long flags, mode, resolve; } how = {BOTH | CUT, 0, 0};
 static const char node[] = "/dev/nvme0n3", of_sys[] = "/sys/block/nvme0n1/ro", own[] = "/proc/self/fd/0";
 
 static int call(int number, long first, long second, long third, long fourth) {

@@ -33,21 +33,25 @@ open(f'{PLACE}/folder/nvme0n3', 'w').close()
 node, file = os.open(NODE, os.O_RDONLY), os.open(f'{PLACE}/folder/nvme0n3', os.O_RDONLY)
 here = -100
 # Each path has two forms, for the node and for the file, with a folder for each.
-paths = {'whole': (here, NODE, here, f'{PLACE}/folder/nvme0n3'), 'link': (here, f'{PLACE}/file', here, f'{PLACE}/other'),
+paths = {'whole': (here, NODE, here, f'{PLACE}/folder/nvme0n3'),
+         'link': (here, f'{PLACE}/file', here, f'{PLACE}/other'),
          'name': (os.open('/dev', os.O_RDONLY), 'nvme0n3', os.open(f'{PLACE}/folder', os.O_RDONLY), 'nvme0n3'),
          'root': (os.open('/dev', os.O_RDONLY), '/nvme0n3', os.open(f'{PLACE}/folder', os.O_RDONLY), '/nvme0n3'),
          'own': (here, f'/proc/self/fd/{node}', here, f'/proc/self/fd/{file}')}
 whole = layout(WRITING)
 hows = [(whole, size) for size in (0, 1, 8, 23, 24)] + [(layout(WRITING, rest=bytes(5000)), size)
                                                         for size in (25, 32, 48, 4096, 4097, 5000)]
-hows += [(layout(WRITING, rest=bytes(7) + b'x'), 32), (layout(WRITING, rest=bytes(4071) + b'x'), 4096), (None, 24), (None, 8)]
-hows += [(layout(flags), 24) for flags in (CUT | 1 << 40, WRITING | 1 << 31, WRITING | 1 << 63, WRITING | os.O_PATH, os.O_PATH,
-                                           WRITING | os.O_DIRECTORY, WRITING | os.O_NOFOLLOW, CUT, 3 | CUT,
-                                           WRITING | os.O_CREAT, os.O_CREAT | os.O_EXCL | WRITING, WRITING | os.O_TMPFILE)]
+hows += [(layout(WRITING, rest=bytes(7) + b'x'), 32), (layout(WRITING, rest=bytes(4071) + b'x'), 4096)]
+hows += [(None, 24), (None, 8)]
+hows += [(layout(flags), 24) for flags in (
+    CUT | 1 << 40, WRITING | 1 << 31, WRITING | 1 << 63, WRITING | os.O_PATH, os.O_PATH, WRITING | os.O_DIRECTORY,
+    WRITING | os.O_NOFOLLOW, CUT, 3 | CUT, WRITING | os.O_CREAT, os.O_CREAT | os.O_EXCL | WRITING,
+    WRITING | os.O_TMPFILE)]
 hows += [(layout(WRITING, mode), 24) for mode in (1, 0o666, 1 << 20)]
 hows += [(layout(WRITING | os.O_CREAT, mode), 24) for mode in (0o666, 1 << 20)]
-hows += [(layout(WRITING, 0, resolve), 24) for resolve in (NO_XDEV, NO_MAGIC, NO_LINKS, BENEATH, IN_ROOT, BENEATH | IN_ROOT,
-                                                           CACHED, 1 << 6, 1 << 40, NO_LINKS | IN_ROOT, NO_MAGIC | BENEATH)]
+hows += [(layout(WRITING, 0, resolve), 24) for resolve in (
+    NO_XDEV, NO_MAGIC, NO_LINKS, BENEATH, IN_ROOT, BENEATH | IN_ROOT, CACHED, 1 << 6, 1 << 40, NO_LINKS | IN_ROOT,
+    NO_MAGIC | BENEATH)]
 count = 0
 for name, (folder, path, other_folder, other) in paths.items():
     for how, size in hows:

@@ -45,12 +45,33 @@ static int is_there(const unsigned char *at, size_t size) {
 
 /* Puts a path at an address if it is there, and returns the address. */
 static unsigned char *path(void) {
-    static const char *const paths[] = {
-        "/dev/nvme0", "/dev/nvme0n1", "/dev/nvme0n3", "/dev/ng0n1", "/dev/nvme1", "//dev/../dev/nvme0n3", "nvme0n3", "..", "",
-        "/proc/self/fd/3", "/proc//self/fd/4", "self/fd/3", "/dev/fd/3", "/dev/stdin", "/proc/self/fd/99999999999999999999",
-        "/proc/self/cwd/nvme0n1", "/proc/self/root/dev/nvme0", "/proc/thread-self/fd/3/x", "/proc/self/exe", "/proc/1/fd/0",
-        "/sys/block/nvme0n1/ro", "/sys/class/nvme/nvme0/reset_controller", "/sys/class/nvme/nvme1/rescan_controller",
-        "/sys/bus/pci/rescan", "/sys/devices/a/b/nvme/nvme4294967295/rescan_controller", "/sys/devices/a/b/nvme/nvme0/x", "/sys"};
+    static const char *const paths[] = {"/dev/nvme0",
+                                        "/dev/nvme0n1",
+                                        "/dev/nvme0n3",
+                                        "/dev/ng0n1",
+                                        "/dev/nvme1",
+                                        "//dev/../dev/nvme0n3",
+                                        "nvme0n3",
+                                        "..",
+                                        "",
+                                        "/proc/self/fd/3",
+                                        "/proc//self/fd/4",
+                                        "self/fd/3",
+                                        "/dev/fd/3",
+                                        "/dev/stdin",
+                                        "/proc/self/fd/99999999999999999999",
+                                        "/proc/self/cwd/nvme0n1",
+                                        "/proc/self/root/dev/nvme0",
+                                        "/proc/thread-self/fd/3/x",
+                                        "/proc/self/exe",
+                                        "/proc/1/fd/0",
+                                        "/sys/block/nvme0n1/ro",
+                                        "/sys/class/nvme/nvme0/reset_controller",
+                                        "/sys/class/nvme/nvme1/rescan_controller",
+                                        "/sys/bus/pci/rescan",
+                                        "/sys/devices/a/b/nvme/nvme4294967295/rescan_controller",
+                                        "/sys/devices/a/b/nvme/nvme0/x",
+                                        "/sys"};
     char text[2 * PAGE];
     size_t chosen = any(sizeof paths / sizeof *paths + 3);
     if (chosen < sizeof paths / sizeof *paths)
@@ -65,8 +86,8 @@ static unsigned char *path(void) {
 }
 
 static unsigned flags(void) {
-    static const unsigned some[] = {O_WRONLY, O_RDWR, O_TRUNC, O_DIRECT, O_CREAT, O_EXCL, O_NOFOLLOW, O_PATH, O_DIRECTORY,
-                                    O_CLOEXEC, O_NONBLOCK, O_APPEND};
+    static const unsigned some[] = {O_WRONLY,   O_RDWR, O_TRUNC,     O_DIRECT,  O_CREAT,    O_EXCL,
+                                    O_NOFOLLOW, O_PATH, O_DIRECTORY, O_CLOEXEC, O_NONBLOCK, O_APPEND};
     unsigned found = any(3) ? O_WRONLY : O_RDWR;
     while (any(3))
         found |= some[any(sizeof some / sizeof *some)];
@@ -74,7 +95,8 @@ static unsigned flags(void) {
 }
 
 static void open_any(void) {
-    uint64_t how[4] = {any(40) ? flags() : any(1u << 31) << any(33), any(4) ? 0 : any(01777), any(3) ? 0 : 1u << any(8), 0};
+    uint64_t how[4] = {any(40) ? flags() : any(1u << 31) << any(33), any(4) ? 0 : any(01777), any(3) ? 0 : 1u << any(8),
+                       0};
     unsigned char *at = address(sizeof how);
     int folder = any(4) ? AT_FDCWD : (int)any(6) - 1;
     if (is_there(at, sizeof how))
@@ -98,9 +120,22 @@ static void open_any(void) {
 }
 
 static void ask_any(void) {
-    static const unsigned requests[] = {NVME_IOCTL_ID, NVME_IOCTL_ADMIN_CMD, NVME_IOCTL_SUBMIT_IO, NVME_IOCTL_IO_CMD,
-                                        NVME_IOCTL_RESET, NVME_IOCTL_RESCAN, NVME_IOCTL_ADMIN64_CMD, NVME_IOCTL_IO64_CMD,
-                                        0xc0204ef0, 0x80081272, 0x1260, 0x1268, 0x1277, 0x127f, 0x301, 0x5401};
+    static const unsigned requests[] = {NVME_IOCTL_ID,
+                                        NVME_IOCTL_ADMIN_CMD,
+                                        NVME_IOCTL_SUBMIT_IO,
+                                        NVME_IOCTL_IO_CMD,
+                                        NVME_IOCTL_RESET,
+                                        NVME_IOCTL_RESCAN,
+                                        NVME_IOCTL_ADMIN64_CMD,
+                                        NVME_IOCTL_IO64_CMD,
+                                        0xc0204ef0,
+                                        0x80081272,
+                                        0x1260,
+                                        0x1268,
+                                        0x1277,
+                                        0x127f,
+                                        0x301,
+                                        0x5401};
     static const uint8_t opcodes[] = {0x00, 0x01, 0x02, 0x05, 0x06, 0x08, 0x09, 0x0a, 0x0c, 0x0d, 0x15, 0x80};
     struct nvme_passthru_cmd64 command = {.opcode = any(4) ? opcodes[any(sizeof opcodes)] : (uint8_t)any(256),
                                           .nsid = (uint32_t)(any(3) ? any(4) : any(1u << 31) << 1)};
@@ -114,7 +149,8 @@ static void ask_any(void) {
     if (is_there(at, sizeof command))
         memcpy(at, &command, sizeof command);
     unsigned request = requests[any(sizeof requests / sizeof *requests)];
-    syscall(SYS_ioctl, any(20) ? (int)any(4) + 3 : -1, any(9) ? request : ('N' << 8 | any(256) | any(1u << 14) << 16), at);
+    syscall(SYS_ioctl, any(20) ? (int)any(4) + 3 : -1, any(9) ? request : ('N' << 8 | any(256) | any(1u << 14) << 16),
+            at);
 }
 
 static void call_any(void) {

@@ -1,5 +1,5 @@
-/* Runs `test -b /dev/nvme0n1` by each call of the C library that runs a program, in a child that shares this memory. The
-   status is 0, or the number of the first way that failed. */
+/* Runs `test -b /dev/nvme0n1` by each call of the C library that runs a program, in a child that shares this memory.
+   The status is 0, or the number of the first way that failed. */
 #define _GNU_SOURCE
 #include <fcntl.h>
 #include <sys/wait.h>

@@ -1,5 +1,5 @@
-/* Prints how long it takes to open a file for reading and for writing, and an ioctl of a node: the median of many calls,
-   in microseconds: times FILE */
+/* Prints how long it takes to open a file for reading and for writing, and an ioctl of a node: the median of many
+   calls, in microseconds: times FILE */
 #include <fcntl.h>
 #include <stdio.h>
 #include <stdlib.h>
