@@ -378,6 +378,25 @@ static void allocations(void) {
     }
 }
 
+/* Faults that are found before the library allocates are told without memory. Only the block for the machine, which C
+ * allocates first, isn't refused. */
+static void first_faults(void) {
+    static const struct {
+        const char *file, *fault;
+        int number;
+    } rows[] = {{"\xff", "not TOML", NVME_NOT_TOML}, {"# nothing\n", "missing top.version", NVME_MISSING}};
+    for (size_t row = 0; row < sizeof rows / sizeof rows[0]; row++) {
+        nvme_machine *machine;
+        char fault[64];
+        asked = 0;
+        refused_at = 1;
+        int number = nvme_machine_open((const uint8_t *)rows[row].file, strlen(rows[row].file), &machine, fault, 64);
+        refused_at = -1;
+        CHECK(number == rows[row].number && machine == NULL && strcmp(fault, rows[row].fault) == 0);
+        CHECK(asked == 1);
+    }
+}
+
 int main(void) {
     files();
     absent();
@@ -389,6 +408,7 @@ int main(void) {
     names();
     missing();
     allocations();
+    first_faults();
     printf("%u checks, %u failed\n", checks, failures);
     return failures != 0;
 }

@@ -1,19 +1,21 @@
 //! The calls of a program in C. Each takes the machine out of its handle, and puts it back.
 ghost use Rattle.std.specs.Prelude.{◌≡◌, ◌<◌, IfErr, IfOk, IfSome, IsTrue, None, Option, Some};
-ghost use Rattle.std.specs.Prelude.{ℕ, [], List, length, pos};
+ghost use Rattle.std.specs.Prelude.{ℕ, [], List, false, length, pos};
+ghost use Rattle.std.specs.Str.{is_utf8};
 ghost use Rattle.nv_bus.specs.Bus.{IsBus};
 ghost use Rattle.nv_controller.specs.Machine.{MachineValue, bus_of};
 ghost use Rattle.nv_file.specs.Demo.{demo_text};
+ghost use Rattle.nv_file.specs.File.{IsBlankText, no_version};
 ghost use Rattle.nv_host.specs.Pages.{are_pages};
 ghost use Rattle.nv_model.specs.LogEntry.{counts_of, log_entry_of};
 ghost use Rattle.nv_subsystem.specs.FromFile.{subsystem};
 ghost use Rattle.nvme_controller.specs.Calls.{BytesTurn, EntryTold, Opens};
 ghost use Rattle.nvme_controller.specs.Calls.{Turned, Written, read_of};
-ghost use Rattle.nvme_controller.specs.FaultText.{Tells, c_text};
+ghost use Rattle.nvme_controller.specs.FaultText.{Tells, TellsFault, c_text};
 ghost use Rattle.nvme_controller.specs.inner.FaultText.{IsFaultOf};
 ghost use Rattle.nvme_controller.specs.Open.{Goes, IsOpen};
 
-use crate::fault::{number, put_fault, put_text};
+use crate::fault::{number, put_fault, put_texts};
 use crate::handle::Handle;
 use nv_controller::{Bus, Machine};
 use nv_host::{LentBytes, LentMemory, Loan, are_pages};
@@ -33,6 +35,8 @@ fn machine_of(alloc: Global, file: &[u8]) -> Result<Box<Machine>, SubsystemError
     ensures text { IfOk result (λ _. (bytes : List ℕ) → bytes ≡ c_text (length bytes) []
         → Tells (subsystem file.now) (pos 0) bytes) }
     ensures fault { IfErr result (λ e. IsFaultOf (subsystem file.now) e) }
+    ensures no_text { is_utf8 file.now ≡ false → result ≡ Err SubsystemError.NotToml }
+    ensures blank { IsBlankText file.now → result ≡ Err no_version }
 {
     let subsystem = Subsystem::from_toml(alloc, file)?;
     let Ok(machine) = Machine::new(alloc, subsystem) else {
@@ -50,14 +54,20 @@ fn open(alloc: Global, file: &[u8], handle: &mut Handle, fault: &mut [u8]) -> i3
     ensures opens { Opens (subsystem file.now) result handle.old.machine handle.new.machine }
     ensures open { result ≡ pos 0 → IsOpen handle.new.machine }
     ensures fault { Tells (subsystem file.now) result fault.new }
+    ensures text { is_utf8 file.now ≡ false
+        → TellsFault SubsystemError.NotToml result fault.new }
+    ensures blank { IsBlankText file.now → TellsFault no_version result fault.new }
 {
     match machine_of(alloc, file) {
         Ok(machine) => {
-            put_text(&[], fault);
+            put_texts(&[], fault);
             handle.put(machine);
             0
         }
-        Err(error) => number(put_fault(alloc, error, fault)),
+        Err(error) => {
+            put_fault(error, fault);
+            number(error)
+        }
     }
 }
 
@@ -74,6 +84,9 @@ pub extern "C" fn nvme_handle_open(
     ensures opens { Opens (subsystem file.now) result handle.old.machine handle.new.machine }
     ensures open { result ≡ pos 0 → IsOpen handle.new.machine }
     ensures fault { Tells (subsystem file.now) result fault.new }
+    ensures text { is_utf8 file.now ≡ false
+        → TellsFault SubsystemError.NotToml result fault.new }
+    ensures blank { IsBlankText file.now → TellsFault no_version result fault.new }
 {
     open(alloc, file, handle, fault)
 }

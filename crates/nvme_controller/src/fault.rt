@@ -1,12 +1,12 @@
 //! The faults of a subsystem file, as a program in C gets them.
 
-ghost use Rattle.std.specs.Prelude.{◌≡◌, ◌⊎◌, length};
+ghost use Rattle.std.specs.Prelude.{◌≡◌, length, map};
+ghost use Rattle.std.specs.List.{concat};
 ghost use Rattle.nv_file.specs.FaultText.{fault_text};
 ghost use Rattle.nvme_controller.specs.Calls.{number_of};
 ghost use Rattle.nvme_controller.specs.FaultText.{c_text};
 
 use nv_subsystem::SubsystemError;
-use std::alloc::Global;
 
 /// Returns the number of a fault.
 pub(crate) fn number(fault: SubsystemError) -> i32
@@ -25,31 +25,28 @@ pub(crate) fn number(fault: SubsystemError) -> i32
     }
 }
 
-/// Writes a text and fills the room up with zeros. The text is cut so that a zero byte ends it.
-pub(crate) fn put_text(text: &[u8], room: &mut [u8])
-    ensures { room.new ≡ c_text (length room.old) text.now }
+/// Writes texts one after another, and fills the room up with zeros. They are cut so that a zero
+/// byte ends them.
+#[tactic(auto, using(crate::proofs::TextLaws::after))]
+pub(crate) fn put_texts(texts: &[&str], room: &mut [u8])
+    ensures { room.new ≡ c_text (length room.old) (concat (map (λ t. t.now) texts.now)) }
 {
-    let most = room.len().saturating_sub(1);
-    let count = text.len().min(most);
-    let (shown, rest) = room.split_at_mut(count);
-    shown.copy_from_slice(&text[..count]);
-    rest.fill(0);
+    match texts.split_first() {
+        Some((text, others)) => {
+            let count = text.len().min(room.len().saturating_sub(1));
+            let (shown, rest) = room.split_at_mut(count);
+            shown.copy_from_slice(&text.as_bytes()[..count]);
+            put_texts(others, rest);
+        }
+        None => room.fill(0),
+    }
 }
 
-/// Writes the text of a fault, and returns that fault, or `Memory` if there was too little memory
-/// for its text.
-pub(crate) fn put_fault(alloc: Global, fault: SubsystemError, room: &mut [u8]) -> SubsystemError
-    ensures whose { (result ≡ fault) ⊎ (result ≡ SubsystemError.Memory) }
-    ensures text { room.new ≡ c_text (length room.old) (fault_text result) }
+/// Writes the text of a fault.
+#[tactic(auto, using(crate::proofs::TextLaws::no_more))]
+pub(crate) fn put_fault(fault: SubsystemError, room: &mut [u8])
+    ensures { room.new ≡ c_text (length room.old) (fault_text fault) }
 {
-    match format!(in alloc; "{fault}") {
-        Ok(text) => {
-            put_text(text.as_bytes(), room);
-            fault
-        }
-        Err(_) => {
-            put_text(b"out of memory", room);
-            SubsystemError::Memory
-        }
-    }
+    let (what, table, dot, key) = fault.parts();
+    put_texts(&[what, table, dot, key], room);
 }

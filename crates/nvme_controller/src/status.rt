@@ -5,7 +5,7 @@ ghost use Rattle.nv_layout.specs.Status.{status_of_number};
 ghost use Rattle.nvme_controller.specs.FaultText.{c_text};
 ghost use Rattle.nvme_controller.specs.StatusName.{status_name};
 
-use crate::fault::put_text;
+use crate::fault::put_texts;
 use nv_command::StatusCode;
 use nv_layout::Status;
 
@@ -22,12 +22,13 @@ fn name(status: Status) -> &'static str
 
 /// Writes the name of a status, which is a status field of 15 bits, and returns how many bytes the
 /// name has.
+#[tactic(auto, using(crate::proofs::TextLaws::no_more))]
 #[unsafe(no_mangle)]
 pub extern "C" fn nvme_status_name(status: u16, room: &mut [u8]) -> usize
     ensures text { room.new ≡ c_text (length room.old) (status_name (status_of_number status)) }
     ensures length { result ≡ length (status_name (status_of_number status)) }
 {
     let name = name(Status::from_number(status));
-    put_text(name.as_bytes(), room);
+    put_texts(&[name], room);
     name.len()
 }
