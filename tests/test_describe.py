@@ -291,6 +291,17 @@ class Comments(DriveCase):
         plain = Plain()
         plain.changes[GET_FEATURES, 8] = 0x4002
         self.has(plain, "# The drive doesn't report feature 8.")
+        plain = Plain({1: namespace(), 2: namespace()})
+        plain.changes[GET_FEATURES, 5, 2] = 0x4002
+        self.has(plain, "# The drive doesn't report feature 5.")
+        plain.changes[GET_FEATURES, 5, 2] = lambda nsid, dword10, dword11: (0, 6 if dword10 >> 8 & 7 == 3 else 9, b'')
+        self.has(plain, '# Feature 5 on the drive: default 0x9.\nfid = 5',
+                 '# nvme set-feature /dev/nvme0 -n 2 -f 5 --value 0x9')
+        sensors = Plain()
+        sensors.changes[GET_FEATURES, 4] = lambda nsid, dword10, dword11: (
+            (0, 7 | dword11, b'') if dword11 >> 16 & 15 < 8 else (REFUSED, 0, b''))
+        self.has(sensors, '# Feature 4 on the drive: capabilities 0x7, no threshold 0x18, no threshold 0x8.', 'version = 2',
+                 'over = [7, 7, 7, 7, 7, 7, 7, 7, 65535]', 'under = [7, 7, 7, 7, 7, 7, 7, 7, 0]')
         old = changed(_520=b'\0')
         self.has(old, '# Feature 1 on the drive: capabilities untold, default untold.')
 
