@@ -154,7 +154,7 @@ class Examples(Case):
 
     def test_check_of_guide(self):
         """The check sees that every line succeeded, and that there was no subsystem file."""
-        section = text_of('docs/GUIDE.md').partition('\n## Check the result')[2]
+        section = text_of('docs/GUIDE.md').partition('\n## Check the result')[2].partition('\n## ')[0]
         check, query = (textwrap.dedent(block) for block in re.findall(r'(?m)(?:^    .*\n)+', section))
         for name in 'nvme-script', 'examples':
             (self.folder / name).symlink_to(TOP / name)
