@@ -290,9 +290,13 @@ void begin_helpers(void) {
     at_end = eventfd(0, EFD_CLOEXEC | EFD_NONBLOCK);
     for (unsigned at = 0; at < device_count; at++)
         asks[at] = eventfd(0, EFD_CLOEXEC | EFD_NONBLOCK);
-    for (unsigned at = 0; at < device_count; at++)
+    for (unsigned at = 0; at < device_count; at++) {
         start_keeper(devices + at, 0);
-    find_helper(1);
+        if (devices[at].keeper < 0)
+            fail_by_errno("fork");
+    }
+    if (!find_helper(1))
+        fail_by_errno("fork");
 }
 
 void end_helpers(void) {

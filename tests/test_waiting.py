@@ -167,6 +167,16 @@ class Processes(WaitingCase):
                     self.assertEqual(self.ends_by_signal(self.begun(user, script, 'x')), b'go\n')
                     self.ends(self.begun(user, script, '').end(20), 5, b'go\n')
 
+    @unittest.skipUnless(IS_ROOT, 'root alone can take the number of a user without processes')
+    def test_too_few_processes(self):
+        # a launcher that can't start what it needs says so
+        user = ('setpriv', '--reuid=54321', '--regid=54321', '--clear-groups', 'bash', '-c',
+                'ulimit -u $1; shift; exec "$@"', 'bash')
+        for count in range(4, 9):
+            ended = run(*user, str(count), *self.command('nvme', 'list-ns', '/dev/nvme0'), limit=60)
+            few = 72, b'nvme-model: fork: Resource temporarily unavailable\n'
+            self.assertIn((ended.status, ended.err), ((0, b''), few), ended)
+
     def test_many_changes(self):
         # more files are written than the kernel tells while a keeper waits; a node that became longer gets its length
         script = ('import ctypes, os, sys, time\n'
