@@ -73,15 +73,23 @@ static off_t length_of(const struct volume *volume) {
     return (off_t)((volume->blocks < most ? volume->blocks : most) << volume->power);
 }
 
-/* Opens a namespace's data under the name of a controller that shows it, or as it was left, or returns -1. */
+/* Prints the path of a namespace's data under the name of a controller that shows it, and returns whether there is one.
+ */
+static int find_volume(const struct device *device, uint32_t nsid, char path[MOST_NAME]) {
+    for (unsigned at = device->first; has_sandbox && at < device->first + device->count; at++)
+        if (shown[at][nsid] == volume_at(device, nsid)->generation + 1) {
+            print_path(path, 'b', at, nsid);
+            return 1;
+        }
+    return 0;
+}
+
+/* Opens a namespace's data by its path, or as it was left, or returns -1. */
 static int open_volume(const struct device *device, uint32_t nsid) {
     const struct volume *volume = volume_at(device, nsid);
     char path[MOST_NAME];
-    for (unsigned at = device->first; has_sandbox && at < device->first + device->count; at++)
-        if (shown[at][nsid] == volume->generation + 1) {
-            print_path(path, 'b', at, nsid);
-            return open(path, O_RDWR | O_NOFOLLOW | O_NONBLOCK | O_CLOEXEC);
-        }
+    if (find_volume(device, nsid, path))
+        return open(path, O_RDWR | O_NOFOLLOW | O_NONBLOCK | O_CLOEXEC);
     return volume->left > 0 ? fcntl(volume->left, F_DUPFD_CLOEXEC, 0) : -1;
 }
 
@@ -292,14 +300,17 @@ void make_nodes(void) {
 }
 
 /* Restores the length of a namespace's data if it is another one. (A process that doesn't load the library can make the
-   file shorter or longer until it closes it.) */
+   file shorter or longer until it closes it. What isn't to be changed isn't opened, because its end would be told.) */
 static void repair(const struct device *device, uint32_t nsid) {
-    struct volume *volume = volume_at(device, nsid);
+    const struct volume *volume = volume_at(device, nsid);
+    char path[MOST_NAME];
     struct stat about;
-    int file = volume->power != 0 ? open_volume(device, nsid) : -1;
-    if (file >= 0 && fstat(file, &about) == 0 && about.st_size != length_of(volume) &&
-        ftruncate(file, length_of(volume)) < 0)
-        cannot("/dev");
+    if (volume->power == 0 || !find_volume(device, nsid, path) || lstat(path, &about) < 0 ||
+        about.st_size == length_of(volume))
+        return;
+    int file = open_volume(device, nsid);
+    if (file >= 0 && ftruncate(file, length_of(volume)) < 0)
+        cannot(path);
     if (file >= 0)
         close(file);
 }

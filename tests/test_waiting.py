@@ -156,6 +156,25 @@ class Processes(WaitingCase):
         running = self.begun((), script, 'x', self.folder)
         self.assertEqual(self.ends_by_signal(running), b'10\n1\n' * 3 + b'go\n')
 
+    def test_idle(self):
+        # none of the launcher's processes takes a turn in vain, after a node was written or made longer
+        script = ('import ctypes, glob, os, time\n'
+                  'def spent():\n'
+                  '    lines = [open(f"/proc/{number}/stat").read().rpartition(")")[2].split()\n'
+                  '             for number in (1, *range(4, 8))\n'
+                  '             if os.path.exists(f"/proc/{number}/stat")]\n'
+                  '    return sum(int(line[11]) + int(line[12]) for line in lines)\n'
+                  'node = os.open("/dev/nvme0n3", os.O_RDWR)\n'
+                  'ctypes.CDLL(None).syscall(18, node, b"x", 1, 9999)\n'
+                  'os.close(node)\n'
+                  'time.sleep(0.5)\n'
+                  'before = spent()\n'
+                  'time.sleep(2)\n'
+                  'print(spent() - before < 20, os.lseek(os.open("/dev/nvme0n3", 0), 0, 2))\n')
+        for user in USERS:
+            with self.subTest(user=user):
+                self.ends(run(*user, *self.command('python3', '-c', script)), 0, b'True 4608\n', b'')
+
     def test_limits(self):
         # process 1 takes no turn in vain, and ends with the command
         spent = 'cut -d " " -f 14,15 /proc/1/stat | tr " " +'
