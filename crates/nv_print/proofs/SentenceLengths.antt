@@ -7,13 +7,13 @@ use Rattle.nv_layout.specs.Bits.{bit}
 use Rattle.nv_layout.specs.declared.feature.Feature.{Feature}
 use Rattle.nv_layout.specs.declared.feature.Feature.TheVariants as feature
 use Rattle.nv_print.specs.Text.{hexadecimal}
-use Rattle.nv_print.specs.Message.{feature_set, feature_text, feature_value, select_text, success}
+use Rattle.nv_print.specs.Message.{feature_set, feature_text, feature_value, select_text, success_line}
 use Rattle.nv_print.specs.declared.select.Select.{Select}
 use Rattle.nv_print.specs.declared.select.Select.TheVariants as select
 use Rattle.nv_print.proofs.Lengths.{decimal_length, hexadecimal_length}
 
 -- the line of a success is at most 65 bytes longer than its words
-pub success_length : (words : List ℕ) (nsid : ℕ) → length (success words nsid) ≤ length words + 65
+pub success_length : (words : List ℕ) (nsid : ℕ) → length (success_line words nsid) ≤ length words + 65
 success_length words nsid =
     omega (
       arith,

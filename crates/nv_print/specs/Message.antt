@@ -31,8 +31,8 @@ abbrev pub message_of : Fault → List ℕ
 message_of f = codes "line " ++ (decimal f.line ++ (codes ": " ++ (cause_text f.cause ++ 10 ∷ [])))
 
 -- "attach-ns: Success, nsid:2", and a newline
-abbrev pub success : List ℕ → ℕ → List ℕ
-success words nsid = words ++ (decimal nsid ++ 10 ∷ [])
+abbrev pub success_line : List ℕ → ℕ → List ℕ
+success_line words nsid = words ++ (decimal nsid ++ 10 ∷ [])
 
 -- "0x6 (Volatile Write Cache)"
 abbrev pub feature_text : Feature → List ℕ

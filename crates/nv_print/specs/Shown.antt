@@ -9,7 +9,7 @@ use Rattle.nv_print.specs.Records.{fields_of_id_ctrl}
 use Rattle.nv_print.specs.Records.{namespace_data, namespace_text}
 use Rattle.nv_print.specs.Records.{entries_data, entries_text, fields_of_smart, holds_error}
 use Rattle.nv_print.specs.Records.{nsids_data, nsids_text}
-use Rattle.nv_print.specs.Message.{feature_set, feature_value, reset_done, success}
+use Rattle.nv_print.specs.Message.{feature_set, feature_value, reset_done, success_line}
 use Rattle.nv_print.specs.declared.shown.Shown.{Shown}
 use Rattle.nv_print.specs.declared.shown.Shown.TheVariants as shown
 
@@ -21,11 +21,11 @@ text_of (shown.NsList nsids) = nsids_text nsids
 text_of (shown.Smart smart) = fields_text (fields_of_smart smart)
 text_of (shown.Errors entries) = entries_text entries
 text_of (shown.Devices devices) = devices_text devices
-text_of (shown.Created nsid) = success (codes "create-ns: Success, created nsid:") nsid
-text_of (shown.Attached nsid) = success (codes "attach-ns: Success, nsid:") nsid
-text_of (shown.Detached nsid) = success (codes "detach-ns: Success, nsid:") nsid
-text_of (shown.Deleted nsid) = success (codes "delete-ns: Success, deleted nsid:") nsid
-text_of (shown.Formatted nsid) = success (codes "format: Success, nsid:") nsid
+text_of (shown.Created nsid) = success_line (codes "create-ns: Success, created nsid:") nsid
+text_of (shown.Attached nsid) = success_line (codes "attach-ns: Success, nsid:") nsid
+text_of (shown.Detached nsid) = success_line (codes "detach-ns: Success, nsid:") nsid
+text_of (shown.Deleted nsid) = success_line (codes "delete-ns: Success, deleted nsid:") nsid
+text_of (shown.Formatted nsid) = success_line (codes "format: Success, nsid:") nsid
 text_of (shown.FeatureValue feature select value) = feature_value feature select value
 text_of (shown.FeatureSet feature value save) = feature_set feature value save
 text_of shown.Reset = reset_done

@@ -1,7 +1,7 @@
 //! The single lines that are shown for commands without a record.
 
 ghost use Rattle.std.specs.Prelude.{◌≡◌, ◌++◌, IfOk, string_bytes};
-ghost use Rattle.nv_print.specs.Message.{feature_set, feature_text, feature_value, reset_done, success};
+ghost use Rattle.nv_print.specs.Message.{feature_set, feature_text, feature_value, reset_done, success_line};
 
 use crate::column::push_decimal;
 use crate::hexadecimal::push_hexadecimal;
@@ -14,8 +14,8 @@ const ROOM: usize = 128;
 
 /// Returns the line of a successful command on a namespace.
 #[tactic(auto, using(crate::proofs::Fields::two_more))]
-pub(crate) fn success(alloc: Global, words: &str, nsid: u32) -> Result<String, AllocError>
-    ensures { IfOk result (λ t. string_bytes t ≡ success words.now nsid) }
+pub(crate) fn success_line(alloc: Global, words: &str, nsid: u32) -> Result<String, AllocError>
+    ensures { IfOk result (λ t. string_bytes t ≡ success_line words.now nsid) }
 {
     let mut text = String::with_capacity(alloc, ROOM)?;
     text.push_str(words)?;

@@ -13,7 +13,7 @@ use crate::logs::{entries_text, write_entries};
 use crate::namespace::{namespace_text, write_namespace};
 use crate::ns_list::{nsids_text, write_nsids};
 use crate::select::Select;
-use crate::sentence::{feature_set, feature_value, reset, success};
+use crate::sentence::{feature_set, feature_value, reset, success_line};
 use json::Writer;
 use nv_command::Borrowed;
 use nv_host::Memory;
@@ -100,11 +100,11 @@ fn string_of(alloc: Global, shown: &Shown) -> Result<String, AllocError>
         Shown::Smart(smart) => smart_text(alloc, smart.get()),
         Shown::Errors(entries) => entries_text(alloc, entries),
         Shown::Devices(devices) => devices_text(alloc, devices.as_slice()),
-        Shown::Created { nsid } => success(alloc, "create-ns: Success, created nsid:", *nsid),
-        Shown::Attached { nsid } => success(alloc, "attach-ns: Success, nsid:", *nsid),
-        Shown::Detached { nsid } => success(alloc, "detach-ns: Success, nsid:", *nsid),
-        Shown::Deleted { nsid } => success(alloc, "delete-ns: Success, deleted nsid:", *nsid),
-        Shown::Formatted { nsid } => success(alloc, "format: Success, nsid:", *nsid),
+        Shown::Created { nsid } => success_line(alloc, "create-ns: Success, created nsid:", *nsid),
+        Shown::Attached { nsid } => success_line(alloc, "attach-ns: Success, nsid:", *nsid),
+        Shown::Detached { nsid } => success_line(alloc, "detach-ns: Success, nsid:", *nsid),
+        Shown::Deleted { nsid } => success_line(alloc, "delete-ns: Success, deleted nsid:", *nsid),
+        Shown::Formatted { nsid } => success_line(alloc, "format: Success, nsid:", *nsid),
         Shown::FeatureValue {
             feature,
             select,

@@ -44,7 +44,7 @@ use Rattle.nv_print.specs.Message.{select_of}
 use Rattle.nv_print.specs.declared.select.Select.{Select}
 use Rattle.nv_print.specs.declared.shown.Shown.{Shown}
 use Rattle.nv_script.specs.Outcomes.{Act, Send}
-use Rattle.nv_script.specs.EachShown.{EachIsShown, IsListed, IsShown, place_of, places_of}
+use Rattle.nv_script.specs.EachShown.{EachIsShown, IsListed, IsShown, attached_numbers, device_numbers}
 use Rattle.nv_script.specs.Outcomes.{Exchange, Order, exchange_by, exchange_of, order_of}
 use Rattle.nv_script.specs.Orders.{errors_command, namespace_orders, orders_of_controller, orders_of_list}
 use Rattle.nv_script.specs.Outcomes.{Outcome, outcome_after, outcome_of}
@@ -185,7 +185,7 @@ order_place o = asked_place o.controller o.act
 
 -- the controllers and NSIDs of the devices in a listing
 abbrev places_in : Listing → List (ℕ × ℕ)
-places_in l = map place_of l.devices
+places_in l = map device_numbers l.devices
 
 module _ (s : State) (serials : List ℕ) (c : ℕ) (l : Listing) where
   -- an answer to this act lists the namespace that the act asks for, and no other
@@ -205,7 +205,7 @@ module _ (s : State) (serials : List ℕ) (c : ℕ) (l : Listing) where
   namespace_told n None reply e =
       let same : active_reply s c n ≡ reply = cc e in
       ap (λ r. places_in (listing_told c l (Send (command.IdentifyNamespace n)) (Ok r))) (sym same)
-      ∙ map-append place_of l.devices _
+      ∙ map-append device_numbers l.devices _
   namespace_told n (Some r) reply e = absurd (cc e)
 
   -- the answer to any accepted act lists the namespace that it asks for
@@ -256,7 +256,7 @@ asked_of_controller c (n ∷ ns) = ap (λ ps. (c, n) ∷ ps) (asked_of_controlle
 
 -- the orders of some controllers ask for the namespaces that are attached to these controllers
 asked_of_controllers : (s : State) (cs : List ℕ)
-    → flat_map order_place (flat_map (orders_of_controller s) cs) ≡ flat_map (places_of s) cs
+    → flat_map order_place (flat_map (orders_of_controller s) cs) ≡ flat_map (attached_numbers s) cs
 asked_of_controllers s [] = refl
 asked_of_controllers s (c ∷ cs) =
     flat_map-append order_place (orders_of_controller s c) (flat_map (orders_of_controller s) cs)

@@ -17,20 +17,20 @@ IsShown s serials q =
     o.refusal ≡ None → IsSome (shown_of (orders_of s q) q o.replies)
 
 -- the two numbers of a controller's namespace
-abbrev pub place_of : ListedDevice → ℕ × ℕ
-place_of d = (d.controller, d.nsid)
+abbrev pub device_numbers : ListedDevice → ℕ × ℕ
+device_numbers d = (d.controller, d.nsid)
 
 -- the namespaces that are attached to a controller
-abbrev pub places_of : State → ℕ → List (ℕ × ℕ)
-places_of s c = map (λ n. (c, n)) (above 0 (active_nsids s c))
+abbrev pub attached_numbers : State → ℕ → List (ℕ × ℕ)
+attached_numbers s c = map (λ n. (c, n)) (above 0 (active_nsids s c))
 
 -- `list` shows the namespaces of each controller in order, if none of its orders is refused
 abbrev pub IsListed : State → List ℕ → Type 0
 IsListed s serials =
     let o = outcome_of s serials (orders_of_list s) in
     o.refusal ≡ None
-    → map place_of (listing_of no_listing (orders_of_list s) (map Ok o.replies)).devices
-    ≡ flat_map (places_of s) (range_with_len 0 (length s.controllers))
+    → map device_numbers (listing_of no_listing (orders_of_list s) (map Ok o.replies)).devices
+    ≡ flat_map (attached_numbers s) (range_with_len 0 (length s.controllers))
 
 -- in every state
 pub record EachIsShown : Type 0 where

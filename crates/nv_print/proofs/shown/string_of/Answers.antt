@@ -32,27 +32,27 @@ returns-in-Errors-clause-bound c =
 
 pub returns-in-Created-clause-bound : goal.returns-in-Created-clause-bound
 returns-in-Created-clause-bound c =
-    text_within c.success.result _ _ c.success.ensures
+    text_within c.success_line.result _ _ c.success_line.ensures
     (omega (arith, success_length (codes "create-ns: Success, created nsid:") c.in-Created.nsid))
 
 pub returns-in-Attached-clause-bound : goal.returns-in-Attached-clause-bound
 returns-in-Attached-clause-bound c =
-    text_within c.success-in-Attached.result _ _ c.success-in-Attached.ensures
+    text_within c.success_line-in-Attached.result _ _ c.success_line-in-Attached.ensures
     (omega (arith, success_length (codes "attach-ns: Success, nsid:") c.in-Attached.nsid))
 
 pub returns-in-Detached-clause-bound : goal.returns-in-Detached-clause-bound
 returns-in-Detached-clause-bound c =
-    text_within c.success-in-Detached.result _ _ c.success-in-Detached.ensures
+    text_within c.success_line-in-Detached.result _ _ c.success_line-in-Detached.ensures
     (omega (arith, success_length (codes "detach-ns: Success, nsid:") c.in-Detached.nsid))
 
 pub returns-in-Deleted-clause-bound : goal.returns-in-Deleted-clause-bound
 returns-in-Deleted-clause-bound c =
-    text_within c.success-in-Deleted.result _ _ c.success-in-Deleted.ensures
+    text_within c.success_line-in-Deleted.result _ _ c.success_line-in-Deleted.ensures
     (omega (arith, success_length (codes "delete-ns: Success, deleted nsid:") c.in-Deleted.nsid))
 
 pub returns-in-Formatted-clause-bound : goal.returns-in-Formatted-clause-bound
 returns-in-Formatted-clause-bound c =
-    text_within c.success-in-Formatted.result _ _ c.success-in-Formatted.ensures
+    text_within c.success_line-in-Formatted.result _ _ c.success_line-in-Formatted.ensures
     (omega (arith, success_length (codes "format: Success, nsid:") c.in-Formatted.nsid))
 
 pub returns-in-FeatureValue-clause-bound : goal.returns-in-FeatureValue-clause-bound
