@@ -156,10 +156,10 @@ int signal_group(const struct call *call, int number) {
         return NOT_OURS;
     while ((entry = readdir(entries))) {
         pid_t process = atoi(entry->d_name);
-        if (process > 1 && group_of(process) == 0 && result != 0)
-            result = kill(process, number) == 0 ? 0 : -errno;
-        else if (process > 1 && group_of(process) == 0)
-            kill(process, number);
+        if (process <= 1 || group_of(process) != 0)
+            continue;
+        int error = kill(process, number) < 0 ? -errno : 0;
+        result = result == 0 ? 0 : error;
     }
     closedir(entries);
     return result;

@@ -1,8 +1,8 @@
 /* The calls on nodes. A filter that the command's processes inherit (filter.c) hands the ioctls of NVMe and of block
-   devices to the launcher, and in a sandbox also calls that open files for writing or change their lengths. It answers
-   those on nodes and on files of /sys from the memory of the process, as Linux does, and lets the kernel carry out all
-   others. So static programs, and those that make system calls themselves, are answered too. A result is that of the
-   call, or an error's number as a negative one. None of this is proved. */
+   devices to the launcher, and in a sandbox also calls that open files for writing or change their lengths. Its helpers
+   (helpers.c) answer those on nodes and on files of /sys from the memory of the process, as Linux does, and let the
+   kernel carry out all others. So static programs, and those that make system calls themselves, are answered too. A
+   result is that of the call, or an error's number as a negative one. None of this is proved. */
 #define _GNU_SOURCE
 #include "launcher.h"
 #include <errno.h>
@@ -228,8 +228,8 @@ static int control(const char *name) {
     return is_reset || is_scan;
 }
 
-/* Opens a file that this process has found again, as the caller could. (What a node is created or truncated for isn't
-   done, and its data has no other way.) */
+/* Opens a file that this process has found, as the caller could. (It is there already and isn't truncated, and direct
+   access has no meaning for data in memory.) */
 static int open_again(int file, uint64_t flags) {
     char place[64];
     int left_out = O_CREAT | O_EXCL | O_TRUNC | O_DIRECT | O_NOFOLLOW;
