@@ -413,11 +413,13 @@ class Drivers(ModelCase):
         running = Running('sh', '-c', commands, cwd=self.folder / 'here', env={'HOME': self.folder})
         self.assertTrue(until(lambda: (running.hear(1), b'job control turned off' in running.heard)[1], LIMIT))
         running.say(b'until nvme id-ctrl /dev/nvme0 && nvme id-ctrl /dev/nvme1; do sleep 1; done 2> /dev/null |'
-                    b' grep ^sn\nnvme list-ns /dev/nvme0; dmesg | grep nvme; echo b > /proc/sysrq-trigger\n')
+                    b' grep ^sn\necho serials: $(cat /sys/class/nvme/nvme?/serial)\n'
+                    b'nvme list-ns /dev/nvme0; dmesg | grep nvme; echo b > /proc/sysrq-trigger\n')
         ended = running.end(LIMIT)
         self.assertEqual(ended.status, 0, ended)
         said = ended.out.decode(errors='replace')
         self.assertEqual(set(re.findall(r'(?m)^sn +: (\S+)', said)), {'S0', 'S1'}, said[-3000:])
+        self.assertRegex(said, r'(?m)^serials: (S\d) \1\s*$')
         self.assertRegex(said, r'(?m)^\[ +0\]:0x1\r?$')
         for sentence in 'Could not set queue count (24578)', 'IO queues not created':
             self.assertIn(sentence, said)
