@@ -146,6 +146,8 @@ def random_file(random, controllers, namespaces):
 # Fields of a controller, of its health log and of a namespace: the key or the name, the place and the size.
 OF_CONTROLLER = {'cntlid': (78, 2), 'vid': (0, 2), 'ssvid': (2, 2), 'rab': (72, 1), 'ieee': (73, 3), 'mdts': (77, 1),
                  'elpe': (262, 1), 'wctemp': (266, 2), 'cctemp': (268, 2), 'vwc': (525, 1)}
+OF_TOP = {'nn': (516, 4), 'tnvmcap': (280, 16)}
+TEXTS = {'sn': (4, 20), 'mn': (24, 40), 'fr': (64, 8)}
 COUNTERS = ('data_units_read', 'data_units_written', 'host_read_commands', 'host_write_commands',
             'controller_busy_time', 'power_cycles', 'power_on_hours', 'unsafe_shutdowns', 'media_errors')
 OF_HEALTH = {'critical_warning': (0, 1), 'temperature': (1, 2), 'avail_spare': (3, 1), 'spare_thresh': (4, 1),
@@ -191,6 +193,10 @@ def unnamed_differences(text, drive):
     notes, place, wrong, formats = notes_in(text), -1, [], []
     for name, keys in tables_of(text):
         place += name == 'controller'
+        if name == 'top':
+            wrong += [key for key, (at, size) in OF_TOP.items()
+                      if keys[key] != number_at(drive.records[0, 6, 1, 0], at, size) and
+                      not any(note.startswith(f'{key.upper()} is ') for note in notes['top', 0])]
         if name == 'format':
             formats.append((keys['lbads'], keys.get('ms', 0), keys.get('rp', 0)))
         if name in ('controller', 'smart'):
@@ -200,6 +206,9 @@ def unnamed_differences(text, drive):
                       if keys.get(key, 0) != number_at(record, at, size) and
                       f'{key.upper()} is {number_at(record, at, size)} on the drive.' not in notes['controller', place]]
         if name == 'controller':
+            wrong += [(place, key) for key, (at, size) in TEXTS.items()
+                      if keys[key].encode() != record[at:at + size].rstrip(b' \0') and
+                      not any(note.startswith(f'{key.upper()} is ') for note in notes['controller', place])]
             said = ''.join(note for note in notes['controller', place] if note.startswith('On the drive'))
             wrong += [(place, field) for field, (at, size, here) in NAMED.items()
                       if number_at(record, at, size) != here and f' {field} 0x' not in said]
@@ -224,3 +233,53 @@ def differing_fields(keys, record, formats):
     found = [field for field, (there, here) in wanted.items() if there != here]
     usual = all(9 <= power <= 16 for power, _, _ in own)
     return found + ['formats'] * (usual and own != formats)
+
+
+def states(text):
+    """Returns the state of each feature in the model of a file after the commands at its end: the default, saved and
+    current value by the controller, the feature, and the NSID or the selector, which is None for all others; and the
+    capabilities by the controller and the feature."""
+    place, values, capabilities = -1, {}, {}
+    for name, keys in tables_of(text):
+        place += name == 'controller'
+        if name == 'controller':
+            capabilities.update({(place, fid): 4 | 2 * (fid == 5) for fid in MASKS})
+            values.update({(place, fid, None): 3 * [0] for fid in MASKS})
+        if name == 'feature':
+            fid = keys['fid']
+            capabilities[place, fid] = (keys.get('saveable', False) | 2 * (fid == 5) |
+                                        4 * keys.get('changeable', True))
+            values[place, fid, None] = 3 * [keys.get('default', 0)]
+            for at, value in enumerate(keys.get('over', []) + keys.get('under', [])):
+                values[place, fid, at if at < 9 else at + 7] = 3 * [value]
+    for line in re.findall('(?m)^# nvme set-feature /dev/nvme(.*)$', text):
+        found = re.fullmatch(r'(\d+)(?: -n (\d+))? -f (\d+) --value (0x\w+)( --save)?', line)
+        place, fid, value = int(found[1]), int(found[3]), int(found[4], 16)
+        key = value >> 16 if fid == 4 else int(found[2]) if found[2] else None
+        value &= 0xffff if fid == 4 else 0xffffffff
+        key = None if key == 0xffffffff else key
+        state = values.setdefault((place, fid, key), list(values[place, fid, None]))
+        state[1:] = [value if found[5] else state[1], value]
+    return values, capabilities
+
+
+def unnamed_values(text, drive):
+    """Returns the values of features that differ in the model of a file from those of a drive, and aren't named."""
+    notes, wrong = notes_in(text), []
+    values, capabilities = states(text)
+    for (place, fid, key), told in drive.values.items():
+        said = ''.join(note for note in notes['controller', place] if note.startswith(f'Feature {fid} on the drive'))
+        if told[0] is None:
+            is_said = fid == 4 or f"The drive doesn't report feature {fid}." in notes['controller', place]
+            wrong += [] if is_said else [(place, fid, key)]
+            continue
+        if f"The drive doesn't report feature {fid}." in notes['controller', place]:
+            continue
+        mask = 0xffff if fid == 4 else 0xffffffff
+        default, saved, current = values.get((place, fid, key if fid in (4, 5) else None)) or values[place, fid, None]
+        for select, name, here in ((0, 'current value', current), (1, 'default', default), (2, 'saved value', saved),
+                                   (3, 'capabilities', capabilities[place, fid])):
+            there = told.get(select)
+            if there is not None and there & mask != here and f'{name} {there & mask:#x}' not in said:
+                wrong.append((place, fid, key, name, there, here))
+    return wrong

@@ -30,10 +30,10 @@ PROGRAM = loaded()
 class Drive:
     """A drive, by what its controllers answer: `answer` takes a controller, an opcode, an NSID, dwords 10 and 11 and
     the size of the data, and returns a status, the completion's dword and the data, or raises an OSError. The drive
-    keeps what it was sent, and the records that it returned."""
+    keeps what it was sent, and the records and values that it returned."""
 
     def __init__(self, answer):
-        self.answer, self.sent, self.records = answer, [], {}
+        self.answer, self.sent, self.records, self.values = answer, [], {}, {}
 
     def ioctl(self, file, request, command):
         """Answers as Linux does."""
@@ -44,6 +44,9 @@ class Drive:
         self.sent.append((controller, opcode, nsid, dword10, dword11, size))
         status, dword, data = self.answer(controller, opcode, nsid, dword10, dword11, size)
         assert len(data) <= size
+        if opcode == GET_FEATURES:
+            key = controller, dword10 & 0xff, nsid or dword11 >> 16
+            self.values.setdefault(key, {})[dword10 >> 8 & 7] = dword if status == 0 else None
         if status == 0 and size:
             self.records[controller, opcode, dword10 & 0xff, nsid] = bytes(data).ljust(size, b'\0')
         ctypes.memmove(address, bytes(data), len(data))
