@@ -16,8 +16,9 @@
 #include <sys/wait.h>
 #include <unistd.h>
 
-/* The helpers that are started as soon as all others are at work, and the most if these are so for long. */
-enum { USUAL_HELPERS = 8, MOST_HELPERS = 64 };
+/* The helpers that are started as soon as all others are at work, and the most if these are so for long. (They are
+   fewer if there are no addresses for the data of so many.) */
+enum { USUAL_HELPERS = 8, MOST_HELPERS = 512 };
 
 struct helper {
     pid_t process;               /* 0 if there is none */
@@ -32,6 +33,7 @@ struct helper {
 static pid_t launcher;                /* the process that gives calls to helpers */
 static struct helper *helpers, *self; /* (`self` only in a helper) */
 static unsigned char *all_data;       /* room for the data of each helper's request */
+static unsigned most_helpers = MOST_HELPERS;
 static int at_end = -1;               /* where a helper that has nothing to do tells it, if it waits for one */
 static int asks[MOST_DEVICES];        /* where keepers are told that there is a request */
 
@@ -82,8 +84,12 @@ static unsigned await_files(const int *files, unsigned count, int milliseconds) 
     return ready;
 }
 
+static void *map(size_t size) {
+    return mmap(NULL, size, PROT_READ | PROT_WRITE, MAP_SHARED | MAP_ANONYMOUS | MAP_NORESERVE, -1, 0);
+}
+
 void *share(size_t size) {
-    void *shared = mmap(NULL, size, PROT_READ | PROT_WRITE, MAP_SHARED | MAP_ANONYMOUS | MAP_NORESERVE, -1, 0);
+    void *shared = map(size);
     if (shared == MAP_FAILED)
         fail_by_errno("memory can't be shared");
     return shared;
@@ -229,7 +235,7 @@ static int give_call(int is_late) {
     struct helper *helper = find_helper(USUAL_HELPERS);
     store(&shared->is_awaited, !helper);
     if (!helper)
-        helper = find_helper(is_late ? MOST_HELPERS : USUAL_HELPERS);
+        helper = find_helper(is_late ? most_helpers : USUAL_HELPERS);
     if (!helper && !is_late)
         return 0;
     if (!receive_call(helper ? &helper->notice : &spare))
@@ -285,7 +291,10 @@ void replace(pid_t process, int how) {
 void begin_helpers(void) {
     launcher = getpid();
     helpers = share(MOST_HELPERS * sizeof *helpers);
-    all_data = share((size_t)MOST_HELPERS * MOST_DATA);
+    while ((all_data = map((size_t)most_helpers * MOST_DATA)) == MAP_FAILED && most_helpers > USUAL_HELPERS)
+        most_helpers /= 2;
+    if (all_data == MAP_FAILED)
+        fail_by_errno("memory can't be shared");
     shared = share(sizeof *shared);
     at_end = eventfd(0, EFD_CLOEXEC | EFD_NONBLOCK);
     for (unsigned at = 0; at < device_count; at++)

@@ -86,14 +86,15 @@ class Hung(WaitingCase):
 
     def test_paths(self):
         # more opens that hang than there are helpers at most
-        for count in 20, 300:
-            script = f'for i in $(seq {count}); do (: > "$1/hangs") & done; sleep 2; : > "$2/started"; wait'
+        for count, time_for_all in (20, 1), (600, 8):
+            script = (f'for i in $(seq {count}); do (: > "$1/hangs") & done; sleep {time_for_all}; : > "$2/started"; '
+                      'wait')
             rest = 'until test -e "$2/started"; do sleep 0.1; done; ' + OTHERS + 'rm "$2/started"; echo go; sleep 100'
             for way in ways():
                 with self.subTest(count, way=way):
                     out = self.ends_by_signal(self.mounted(script, rest, way), 60)
                     # (with so many, an ioctl is told to be made again)
-                    self.assertIn(out, (b'ready\n10\n1\ngo\n', *[b'ready\n10\n0\ngo\n'] * (count == 300)))
+                    self.assertIn(out, (b'ready\n10\n1\ngo\n', *[b'ready\n10\n0\ngo\n'] * (count == 600)))
 
     def test_memory(self):
         script = 'python3 "$4" "$1/memory" 12'
@@ -133,6 +134,15 @@ class Processes(WaitingCase):
         script = 'kill -STOP 2; (nvme id-ctrl /dev/nvme0 | grep -c S0) & sleep 0.3; echo go; kill -CONT 2; wait'
         for user in USERS:
             self.ends(self.begun(user, script).end(60), 0, b'go\n1\n')
+
+    def test_many_callers(self):
+        # more callers than helpers wait for a device, and each gets its answer
+        script = ('kill -STOP 2; for i in $(seq 100); do (nvme id-ctrl /dev/nvme0 | grep -c S0) & done; sleep 3; '
+                  'echo x > "$1"; cat "$1"; kill -CONT 2; wait')
+        for user in USERS:
+            with self.subTest(user=user):
+                ended = run(*user, *self.command('sh', '-c', script, 'sh', self.folder / f'file{len(user)}'))
+                self.ends(ended, 0, b'x\n' + b'1\n' * 100, b'')
 
     def test_stopped_and_killed_helpers(self):
         # (the first child of the launcher is the device, and the second one the command)
