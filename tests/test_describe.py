@@ -303,7 +303,7 @@ class Comments(DriveCase):
         self.has(sensors, '# Feature 4 on the drive: capabilities 0x7, no threshold 0x18, no threshold 0x8.',
                  'version = 2', 'over = [7, 7, 7, 7, 7, 7, 7, 7, 65535]', 'under = [7, 7, 7, 7, 7, 7, 7, 7, 0]')
         old = changed(_520=b'\0')
-        self.has(old, '# Feature 1 on the drive: capabilities untold, default untold.')
+        self.has(old, '# Feature 1 on the drive: capabilities not reported, default not reported.')
 
     def test_health(self):
         plain = Plain()
