@@ -5,13 +5,11 @@ import os
 import pathlib
 import shutil
 import subprocess
-import sys
-import time
 import unittest
 
 from tests.modelled import (PARTS, PROGRAMS, WARNINGS, ModelCase, compiled_c, installed, process_folder, static_program,
                             works)
-from tests.support import environment, run
+from tests.support import environment, run, until
 
 IS_ROOT = os.geteuid() == 0
 NOBODY = 'setpriv', '--reuid=65534', '--regid=65534', '--clear-groups'
@@ -132,8 +130,8 @@ class Identities(CallCase):
                     command = 'setpriv', groups, 'unshare', '-U', 'sh', '-c', begin, 'sh', go, *inner
                     process = subprocess.Popen(command, stdout=subprocess.PIPE, stderr=subprocess.PIPE,
                                                env=environment())
-                    time.sleep(0.3)
-                    number = pathlib.Path(f'/proc/{process.pid}')
+                    number, own = pathlib.Path(f'/proc/{process.pid}'), os.readlink('/proc/self/ns/user')
+                    self.assertTrue(until(lambda: os.readlink(number / 'ns/user') != own, 60))
                     (number / 'uid_map').write_text('0 0 2000\n')
                     (number / 'gid_map').write_text('0 0 1\n7 7 1\n')
                     go.write_bytes(b'')
@@ -182,8 +180,8 @@ class Groups(CallCase):
     def test_signals_to_the_group(self):
         # they reach the processes inside, but no process of the caller's group outside
         for number, trap in ('USR1', 'USR1'), ('0', 'USR1'), ('HUP', 'HUP'):
-            inside = (f'trap "echo inside" {trap}; sh -c \'trap "echo child" {trap}; sleep 0.5; :\' & sleep 0.2; '
-                      f'kill -{number} 0; wait; sleep 0.2; echo end')
+            inside = (f'trap "echo inside" {trap}; sh -c \'trap "echo child" {trap}; sleep 2; :\' & sleep 1; '
+                      f'kill -{number} 0; wait; sleep 1; echo end')
             outside = f'trap "echo outside" USR1 HUP TERM; "$@"; sleep 0.2'
             for user in USERS:
                 with self.subTest(number, user=user):

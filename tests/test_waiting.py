@@ -3,14 +3,12 @@ and killed processes, and limits. Other calls go on, and a signal ends everythin
 user, as far as these can make such file systems."""
 
 import os
-import re
-import signal
 import subprocess
 import time
 import unittest
 
-from tests.modelled import PARTS, PROGRAMS, WARNINGS, ModelCase, compiled_c, installed, process_folder, works
-from tests.support import Running, environment, program, run, until
+from tests.modelled import PROGRAMS, WARNINGS, ModelCase, process_folder, works
+from tests.support import Running, run
 
 IS_ROOT = os.geteuid() == 0
 NOBODY = 'setpriv', '--reuid=65534', '--regid=65534', '--clear-groups'
@@ -97,25 +95,26 @@ class Hung(WaitingCase):
                     self.assertIn(out, (b'ready\n10\n1\ngo\n', *[b'ready\n10\n0\ngo\n'] * (count == 600)))
 
     def test_memory(self):
-        script = 'python3 "$4" "$1/memory" 12'
-        rest = 'sleep 2; ' + OTHERS + 'echo go; sleep 100'
+        script = 'python3 "$4" "$1/memory" 12 "$2/started"'
+        rest = 'until test -e "$2/started"; do sleep 0.1; done; ' + OTHERS + 'rm -f "$2/started"; echo go; sleep 100'
         for way in ways():
             with self.subTest(way=way):
                 copy = self.file('hung_memory.py', (PROGRAMS / 'hung_memory.py').read_bytes())
                 out = self.ends_by_signal(self.mounted(script, rest, way, [copy]))
-                self.assertEqual(out, b'ready\nmade\n10\n1\ngo\n')
+                self.assertEqual(out, b'ready\n10\n1\ngo\n')
 
 
     def test_folders(self):
         # changes of /dev wait then, and so does their device, but opening and the end don't
-        script = 'python3 "$4" "$1/memory" 2 list'
-        rest = ('sleep 2; nvme attach-ns /dev/nvme1 -n 1 -c 1 > /dev/null 2>&1 & sleep 2.5; ' +
+        script = 'python3 "$4" "$1/memory" 2 "$2/started" list'
+        rest = ('until test -e "$2/started"; do sleep 0.1; done; rm -f "$2/started"; '
+                'nvme attach-ns /dev/nvme1 -n 1 -c 1 > /dev/null 2>&1 & sleep 2.5; ' +
                 OTHERS.partition('nvme')[0] + 'echo go; sleep 100')
         for way in ways():
             with self.subTest(way=way):
                 copy = self.file('hung_memory.py', (PROGRAMS / 'hung_memory.py').read_bytes())
                 out = self.ends_by_signal(self.mounted(script, rest, way, [copy]))
-                self.assertEqual(out, b'ready\nmade\n10\ngo\n')
+                self.assertEqual(out, b'ready\n10\ngo\n')
 
 
 class Processes(WaitingCase):
@@ -211,9 +210,11 @@ class Processes(WaitingCase):
         script = ('import ctypes, os, sys, time\n'
                   'call, device = ctypes.CDLL(None).syscall, 2\n'
                   'os.kill(device, 19)\n'
+                  'controller = os.open("/dev/nvme0", os.O_RDWR)\n'
                   'if os.fork() == 0:\n'
-                  '    os.execlp("nvme", "nvme", "reset", "/dev/nvme0")\n'
-                  'time.sleep(0.5)\n'
+                  '    call(16, controller, 0x4e44)\n'
+                  '    os._exit(0)\n'
+                  'time.sleep(1)\n'
                   'for number in range(10000):\n'
                   '    for name in "/dev/one", "/dev/other":\n'
                   '        os.close(os.open(name, os.O_WRONLY | os.O_CREAT))\n'
@@ -223,7 +224,7 @@ class Processes(WaitingCase):
                   'print(os.lseek(os.open("/dev/nvme0n3", 0), 0, 2))\n'
                   'os.kill(device, 18)\n'
                   'os.wait()\n'
-                  'time.sleep(0.5)\n'
+                  'time.sleep(1)\n'
                   'print(os.lseek(os.open("/dev/nvme0n3", 0), 0, 2))\n')
         for user in USERS:
             with self.subTest(user=user):
