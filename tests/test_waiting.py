@@ -156,6 +156,15 @@ class Processes(WaitingCase):
                     wanted += [b'10', b'%d' % there] * 2 + [b'go']
                     self.assertEqual(sorted(out.splitlines()), sorted(wanted))
 
+    def test_call_of_a_killed_helper(self):
+        # (the third child is the device's keeper)
+        script = ('kill -STOP 2; (nvme id-ctrl /dev/nvme0 2>&1 | grep -o "Input/output error") & sleep 2; '
+                  'kill -KILL $(cat /proc/1/task/1/children | cut -d " " -f 4-); wait; kill -CONT 2; '
+                  'nvme id-ctrl /dev/nvme0 | grep -c S0')
+        for user in USERS:
+            with self.subTest(user=user):
+                self.ends(run(*user, *self.command('sh', '-c', script), limit=60), 0, b'Input/output error\n1\n', b'')
+
     @unittest.skipUnless(IS_ROOT, 'root alone can become another user')
     def test_helpers_of_users(self):
         # a user inside can signal a helper that acts for it, but others' calls go on
