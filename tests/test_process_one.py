@@ -19,7 +19,8 @@ def helper(name, *sources):
     """Compiles a program of tests/programs, which all users can run."""
     made = process_folder() / name
     if not made.exists():
-        subprocess.run(['cc', '-g', *WARNINGS, '-I', CLIENT, '-o', made, TOP / f'tests/programs/{name}.c', *sources], check=True)
+        source = TOP / f'tests/programs/{name}.c'
+        subprocess.run(['cc', '-g', *WARNINGS, '-I', CLIENT, '-o', made, source, *sources], check=True)
     return made
 
 
@@ -54,11 +55,11 @@ class Confined(ModelCase):
     def test_calls(self):
         # (what is tried is in tests/programs/confined.c)
         program = helper('confined', CLIENT / 'filter.c')
-        for which in 'launcher', 'device':
-            self.ends(run(program, which), 0, b'end\n', b'')
+        for which, wanted in ('launcher', b'end\n'), ('device', b'end\nend\n'):
+            self.ends(run(program, which), 0, wanted, b'')
 
     def test_other_processes(self):
-        # process 1, and its children but for the command: devices, keepers and helpers, one of which has acted as a user
+        # process 1 and its children, apart from the command: devices, keepers, and helpers, one of which acts as a user
         pries = helper('pries')
         script = ('echo x >> /dev/nvme0n1; read -r all < /proc/1/task/1/children; '
                   'others="1 $(echo $all | sed "s/\\b$$\\b//")"; for process in $others; do '
@@ -139,6 +140,11 @@ class Outside(ModelCase):
                  'unshare -Urm mount -t $kind x /mnt && echo mounted; done; echo end')
         if IS_ROOT:
             self.assertEqual(self.shell(mount).out, b'end\n')
+        # what users mount there isn't theirs
+        change = ('unshare -UrmC sh -c \'for kind in cgroup2 cgroup; do mount -t $kind x /mnt && mkdir /mnt/made && '
+                  'echo made && rmdir /mnt/made; done; echo end\'')
+        if IS_ROOT:
+            self.assertEqual(run(*NOBODY, *self.command('sh', '-c', change)).out, b'end\n')
 
     def test_namespaces_of_users(self):
         # a user can still make each kind of namespace at once, as bwrap does

@@ -1,5 +1,5 @@
 """Starts ./nvme-model with standard streams of all kinds, as root and as another user. Only what is on a list comes
-into the sandbox, and process 1 there keeps nothing else of the machine."""
+into the sandbox, and the launcher there keeps nothing else of the machine."""
 
 import contextlib
 import ctypes
@@ -76,9 +76,9 @@ KINDS = {
     'changes': (lambda folder: [LIBC.inotify_init1(0)], KERNEL),
     'secret memory': (lambda folder: [LIBC.syscall(MEMFD_SECRET, 0)], KERNEL)}
 
-# What process 1 has open besides the streams, and whether it must be in one of the sandbox's own mounts.
-KEPT = {r'socket:\[\d+\]': False, r'pipe:\[\d+\]': False, 'anon_inode:.*(eventfd|signalfd|seccomp notify).*': False,
-        r'/proc/\d+/status': False, '/sys(/.*)?': True}
+# What the launcher has open besides the streams, and whether it must be in one of the sandbox's own mounts.
+KEPT = {r'socket:\[\d+\]': False, r'pipe:\[\d+\]': False, r'/proc/\d+/status': False, '/sys(/.*)?': True,
+        'anon_inode:.*(eventfd|inotify|signalfd|seccomp notify).*': False}
 
 
 class StreamCase(ModelCase):
@@ -109,15 +109,16 @@ class StreamCase(ModelCase):
         return subprocess.Popen(command, stdin=streams[0], stdout=streams[1], stderr=streams[2], preexec_fn=close,
                                 env=environment())
 
-    def process_one(self):
-        """Returns the folder in /proc of process 1."""
+    def launchers(self):
+        """Returns the folders in /proc of the launcher's processes in the sandbox: process 1, keepers and helpers."""
         found = [pathlib.Path(f'/proc/{number}') for number in processes_of(self.subsystem)]
-        inside = [path for path in found if re.search(r'(?m)^NSpid:.*\t1$', (path / 'status').read_text())]
-        self.assertEqual(len(inside), 1, found)
-        return inside[0]
+        inside = [path for path in found if (path / 'cmdline').read_bytes().startswith(b'/sys/fs/nvme-model/launcher')]
+        first = [path for path in inside if re.search(r'(?m)^NSpid:.*\t1$', (path / 'status').read_text())]
+        self.assertTrue(len(first) == 1 and len(inside) > 2, found)
+        return inside
 
     def check_kept(self, process, streams):
-        """Checks what process 1 has open: of a closed stream, /dev/null of the sandbox, which can't be used."""
+        """Checks what a process has open: of a closed stream, /dev/null of the sandbox, which can't be used."""
         mounts = {line.split()[0] for line in (process / 'mountinfo').read_text().splitlines()}
         for entry in (process / 'fd').iterdir():
             number, name = int(entry.name), os.readlink(entry)
@@ -133,7 +134,7 @@ class StreamCase(ModelCase):
                 self.assertTrue(os.path.samestat(entry.stat(), os.fstat(streams[number])), f'{number} is {name}')
 
     def try_streams(self, user, kinds):
-        """Starts a command with these kinds of streams, and checks whether it runs, and what process 1 has then."""
+        """Starts a command with these kinds of streams, and checks whether it runs, and what the launcher has then."""
         with contextlib.ExitStack() as files:
             streams = [self.stream(kind, files) for kind in kinds]
             reasons = [KINDS[kind][1] if number is not None else '' for kind, number in zip(kinds, streams)]
@@ -145,7 +146,8 @@ class StreamCase(ModelCase):
                 self.assertTrue(until(lambda: self.seen.exists() or process.poll() is not None))
                 try:
                     self.assertIsNone(process.poll(), kinds)
-                    self.check_kept(self.process_one(), streams)
+                    for launcher in self.launchers():
+                        self.check_kept(launcher, streams)
                 finally:
                     self.seen.unlink(missing_ok=True)
                     self.assertEqual(process.wait(60), 0, kinds)

@@ -1,5 +1,5 @@
 /* Becomes as confined as the launcher or a device (client/filter.c), and prints which of the calls that could reach
-   more it can still make: confined launcher|device */
+   more it can still make: confined launcher|device. As a device it then becomes another program, and tries again. */
 #define _GNU_SOURCE
 #include "launcher.h"
 #include <errno.h>
@@ -93,11 +93,12 @@ static void try_old(void) {
 }
 
 int main(int count, char **arguments) {
-    int is_device = count > 1 && strcmp(arguments[1], "device") == 0;
+    int is_again = count > 1 && strcmp(arguments[1], "again") == 0;
+    int is_device = is_again || (count > 1 && strcmp(arguments[1], "device") == 0);
     setbuf(stdout, NULL);
     if (!is_device)
         confine_launcher();
-    else if (confine_device() < 0)
+    else if (!is_again && confine_device() < 0)
         fail_by_errno("confine_device");
     for (unsigned at = 0; at < sizeof calls_of_both / sizeof *calls_of_both; at++)
         try(calls_of_both[at].name, calls_of_both[at].number, calls_of_both[at].first, calls_of_both[at].second, 0);
@@ -109,5 +110,7 @@ int main(int count, char **arguments) {
         try_old();
     }
     puts("end");
-    return 0;
+    if (is_device && !is_again)
+        execl(arguments[0], arguments[0], "again", (char *)NULL);
+    return is_device && !is_again;
 }
