@@ -63,7 +63,7 @@ class Confined(ModelCase):
         pries = helper('pries')
         script = ('echo x >> /dev/nvme0n1; read -r all < /proc/1/task/1/children; '
                   'others="1 $(echo $all | sed "s/\\b$$\\b//")"; for process in $others; do '
-                  'grep -h "^Seccomp:\|^NoNewPrivs:" /proc/$process/status; done | sort -u; "$1" $others')
+                  'grep -h -e "^Seccomp:" -e "^NoNewPrivs:" /proc/$process/status; done | sort -u; "$1" $others')
         for user in [*USERS, NESTED] if works(*NESTED) else USERS:
             for inside in [(), NOBODY] if IS_ROOT and not user else [()]:
                 with self.subTest(user=user, inside=inside):
