@@ -36,11 +36,9 @@ static int map(struct function *function, const unsigned char *payload) {
     uint32_t flags = number_at(payload + 4, 4);
     struct section section = {number_at(payload + 16, 8), number_at(payload + 24, 8), number_at(payload + 8, 8),
                               .is_writable = flags == (MAY_READ | MAY_WRITE)};
-    if (function->files.has_lost)
-        return -EMFILE;
-    return (flags != MAY_READ && !section.is_writable) || function->files.count > 1
-               ? -EINVAL
-               : -add_section(function, section, function->files.at);
+    if ((flags != MAY_READ && !section.is_writable) || function->files.count > 1)
+        return -EINVAL;
+    return function->files.has_lost ? -EMFILE : -add_section(function, section, function->files.at);
 }
 
 /* (All sections at once have a flag of their own, and the size 0.) */
