@@ -210,7 +210,9 @@ static void start_command(char **arguments) {
     umask(creation_mask);
     sigprocmask(SIG_SETMASK, &mask, NULL);
     filter_calls();
+    prctl(PR_SET_PDEATHSIG, SIGKILL); /* (while it is stopped) */
     kill(getpid(), SIGSTOP);
+    prctl(PR_SET_PDEATHSIG, 0);
     execvp(arguments[0], arguments);
     int is_found = errno != ENOENT && errno != ENOTDIR;
     fprintf(stderr, "nvme-model: %s: %s\n", arguments[0], strerror(errno));
