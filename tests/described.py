@@ -165,7 +165,7 @@ def notes_in(text):
     """Returns the comments of each table of a file, by its kind and place: the NSID of a namespace, or the position of
     a controller, with which its features and health log are. A comment of several tables is with each."""
     found, kind, place, positions = {}, 'top', 0, {'controller': -1, 'format': -1}
-    lines = iter(text.splitlines())
+    lines = iter(text.replace('\n# (Likewise ', ' (Likewise ').splitlines())
     for line in lines:
         heading = re.fullmatch(r'\[\[?(controller|format|namespace)?\.?(\w*)\]\]?', line)
         if heading and not heading[2]:
