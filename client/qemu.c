@@ -70,25 +70,25 @@ static int await(struct function *function, struct pollfd awaited[2]) {
     return function->has_more ? 0 : is_paused ? PAUSE : wait;
 }
 
-/* Serves until QEMU ends, and returns its status as a shell does, or until a signal ends this process, and returns
-   minus its number. (Those of the terminal's keys are QEMU's.) */
+/* Serves until QEMU has ended and nothing that it sent is left, and returns its status as a shell does, or until a
+   signal ends this process, and returns minus its number. (Those of the terminal's keys are QEMU's.) */
 static int serve_all(int signals) {
     struct pollfd awaited[1 + 2 * MOST_FUNCTIONS] = {{signals, POLLIN, 0}};
     struct signalfd_siginfo about = {.ssi_signo = SIGCHLD};
-    int how = 0;
+    int how = 0, has_ended = 0;
     while (about.ssi_signo == SIGCHLD || (!is_server && (about.ssi_signo == SIGINT || about.ssi_signo == SIGQUIT))) {
         int wait = -1;
         for (unsigned at = 0; at < function_count; at++) {
             int its = await(functions + at, awaited + 1 + 2 * at);
             wait = its >= 0 && (wait < 0 || its < wait) ? its : wait;
         }
-        if (poll(awaited, 1 + 2 * function_count, wait) < 0)
-            continue;
-        for (unsigned at = 0; at < function_count; at++)
-            serve(functions + at, awaited + 1 + 2 * at);
-        if (awaited[0].revents && read(signals, &about, sizeof about) > 0 && !is_server &&
-            waitpid(qemu, &how, WNOHANG) != 0)
+        int ready = poll(awaited, 1 + 2 * function_count, has_ended ? 0 : wait);
+        if (ready <= 0 && has_ended)
             return WIFEXITED(how) ? WEXITSTATUS(how) : 128 + WTERMSIG(how);
+        for (unsigned at = 0; ready >= 0 && at < function_count; at++)
+            serve(functions + at, awaited + 1 + 2 * at);
+        if (ready > 0 && awaited[0].revents && read(signals, &about, sizeof about) > 0 && !is_server)
+            has_ended |= waitpid(qemu, &how, WNOHANG) != 0;
     }
     return -(int)about.ssi_signo;
 }

@@ -401,7 +401,7 @@ class Drivers(ModelCase):
 
     def test_recipe(self):
         # the page's commands, word for word, pack a guest, boot it, and leave nothing in the folder where they run
-        release = sorted(os.listdir('/lib/modules'))[-1:]
+        release = sorted(path.name for path in pathlib.Path('/lib/modules').glob('*'))[-1:]
         if not release or not os.path.exists(f'/boot/vmlinuz-{release[0]}') or not shutil.which('cpio'):
             self.skipTest('there is no cpio, or no kernel whose modules are the last ones in /lib/modules')
         page = (TOP / 'docs/QEMU.md').read_text()
