@@ -1,4 +1,4 @@
--- How a fault of the arguments is told.
+-- How a program reports a fault of its arguments.
 use Rattle.std.specs.Prelude.{ℕ, List, codes}
 use Rattle.nv_arguments.specs.declared.fault.ArgumentsFault.{ArgumentsFault}
 use Rattle.nv_arguments.specs.declared.fault.ArgumentsFault.TheVariants.{Memory, Refused}

@@ -1,4 +1,4 @@
--- What is known about data from the form of a command.
+-- What the form of a command says about its data.
 use Rattle.std.proofs.Common.{◌≡◌, ℕ, ◌==◌, Bool, true, arith, refl, subst, sym}
 use Rattle.std.proofs.lemmas.Bool.Decides.{nat_tests}
 use Rattle.nv_command.specs.Command.{bytes_to_host, transfer_by}

@@ -163,7 +163,7 @@ pub log_size : (page : LogPage) (offset dwords : ℕ) → IsWhole page offset dw
 log_size ErrorInformation offset dwords whole = omega (arith, whole.1.few)
 log_size Health offset dwords whole = whole.1
 
--- ---- what is known about a reply without its phase tags
+-- ---- facts about a reply without its phase tags
 
 -- the kind of a reply doesn't depend on phase tags
 kind-without_phases : (r : Reply) → kind_of (without_phases r) ≡ kind_of r

@@ -31,7 +31,7 @@ use Rattle.nv_subsystem.specs.Tagged.{untagged, untagged_log}
 
 -- ---- answers
 
--- what is known if a command is accepted: its reply is that of the step, except for phase tags
+-- what follows if a command is accepted: its reply is that of the step, except for phase tags
 pub record IsAnswered (s : State) (c : ℕ) (k : Command) (cid : ℕ) : Type 0 where
   pub is_reply : IsReplyTo k (reply_of s c k)
   pub fits : FitsRecord (reply_of s c k)

@@ -53,8 +53,8 @@ module _ {g : Geometry} {mem : PagedBytes} {ls : List QueuePairFields} {d : Driv
   pair_is = ap (λ (v : DriverValue). pair_at v.pairs c) (sym value) ∙ at
 
   -- the driver and the queue pair agree on the command identifier that is due
-  pub serial_is : (pair_at d.pairs c).serial ≡ l.serial
-  serial_is = ap (λ (v : QueuePair). v.serial) pair_is
+  pub cid_is : (pair_at d.pairs c).next_cid ≡ l.next_cid
+  cid_is = ap (λ (v : QueuePair). v.next_cid) pair_is
 
   -- its queue pair is where it was placed
   pub placed_at : IsPlaced g c (pair_value l)
@@ -178,15 +178,15 @@ settled_after end page_size old new vs c v u s below here size keeps ends laid t
         (ap (λ (q : QueuePair). q.sq) is, ap (end_of page_size) is))
         (rw (same_one d) (sq, rw (first, count) refl)) i d h
 
--- what is left of a driver, of which a queue pair's number and serial change
+-- what is left of a driver, of which a queue pair's number and next command identifier change
 module _ {g : Geometry} {mem new : PagedBytes} {ls : List QueuePairFields} {d : DriverValue} {b b' : BusValue} {c : ℕ}
-    {l l' : QueuePairFields} {n serial end : ℕ} (is : IsDriver g mem ls) (value : driver_value g mem ls ≡ d)
+    {l l' : QueuePairFields} {n next_cid end : ℕ} (is : IsDriver g mem ls) (value : driver_value g mem ls ≡ d)
     (ctrl : c < length d.pairs) (here : l ≡ get_or ls c l)
-    (left : IsLeft g c end (record (pair_value l) { number = n; serial = serial })
+    (left : IsLeft g c end (record (pair_value l) { number = n; next_cid = next_cid })
     (side b l mem.page_size mem.bytes) (side b' l' new.page_size new.bytes)) where
   -- a queue pair with another number and command identifier is still where it was placed
-  stays_placed : (v : QueuePair) → IsPlaced g c v → IsPlaced g c (record v { number = n; serial = serial })
-  stays_placed v placed = ap (λ (q : QueuePair). record q { number = n; serial = serial }) placed
+  stays_placed : (v : QueuePair) → IsPlaced g c v → IsPlaced g c (record v { number = n; next_cid = next_cid })
+  stays_placed v placed = ap (λ (q : QueuePair). record q { number = n; next_cid = next_cid }) placed
 
   -- after a command of controller c, the driver is still one
   pub driver_after : ((i : ℕ) (e : QueuePair) → i < length ls
@@ -230,7 +230,7 @@ module _ {g : Geometry} {mem new : PagedBytes} {ls : List QueuePairFields} {d : 
 
   -- the value of the driver, if this is what happens to the queue pair
   pub value_after : (f : QueuePair → QueuePair)
-      → f (pair_value l) ≡ record (pair_value l) { number = n; serial = serial }
+      → f (pair_value l) ≡ record (pair_value l) { number = n; next_cid = next_cid }
       → driver_value g new (slice_set ls c l') ≡ record d { pairs = slice_set d.pairs c (f (pair_at d.pairs c)) }
   value_after f by =
       rw (left.len, left.page, map-set pair_value ls c l', left.pair ∙ sym by ∙ ap f (sym (at is value ctrl here)))

@@ -2,11 +2,11 @@
 use Rattle.std.proofs.Common.{◌≡◌, ◌∙◌, ℕ, zero, suc, ◌+◌, ◌<◌, List, [], ◌∷◌, ◌++◌, add-one, ap, arith, get_or, length}
 use Rattle.std.proofs.Common.{map, refl, take, ◌%◌, ◌≤◌, sym}
 use Rattle.std.proofs.lemmas.List.{take-map, take-take}
-use Rattle.nv_driver.proofs.Words.{Answer, Command, Sent, State, answers_to, length-map, mod_below, next_serial}
+use Rattle.nv_driver.proofs.Words.{Answer, Command, Sent, State, answers_to, length-map, mod_below, cid_after}
 use Rattle.nv_driver.proofs.Words.{numbered, step_of}
 use Rattle.nv_driver.specs.Request.{received_as}
 use Rattle.nv_driver.specs.Schedule.{Numbered, after, answers_of_all, state_after_all, step_after}
-use Rattle.nv_driver.specs.Batch.{answers_of, from_serial, numbered_command, state_after}
+use Rattle.nv_driver.specs.Batch.{answers_of, from_cid, numbered_command, state_after}
 
 -- ---- commands that were sent
 
@@ -48,36 +48,36 @@ answer_at c s [] n d e h = absurd (omega arith)
 answer_at c s (x ∷ xs) zero d e h = refl
 answer_at c s (x ∷ xs) (suc n) d e h = answer_at c (step_of c s (numbered x)).state xs n d e (omega arith)
 
--- ---- serials
+-- ---- command identifiers
 
 -- the command identifier after n more ones is followed by the one after n + 1
-pub serial_next : (serial n : ℕ) → next_serial ((serial + n) % 65535) ≡ (serial + (n + 1)) % 65535
-serial_next serial n = omega arith
+pub cid_next : (next_cid n : ℕ) → cid_after ((next_cid + n) % 65535) ≡ (next_cid + (n + 1)) % 65535
+cid_next next_cid n = omega arith
 
 -- ---- the commands of a schedule
 
 -- element n of the numbered commands is command n with the command identifier that is n further
-pub command_at : (serial n : ℕ) (ks : List Command) (d : Numbered) (e : Command) → serial < 65535 → n < length ks
-    → get_or (from_serial serial ks) n d ≡ numbered_command (get_or ks n e) ((serial + n) % 65535)
-command_at serial n [] d e below inside = absurd (omega arith)
-command_at serial zero (k ∷ ks) d e below inside =
-    let first : serial ≡ (serial + 0) % 65535 = omega arith in ap (numbered_command k) first
-command_at serial (suc n) (k ∷ ks) d e below inside =
-    let same : (next_serial serial + n) % 65535 ≡ (serial + suc n) % 65535 = omega arith in
-    command_at (next_serial serial) n ks d e (mod_below (serial + 1) 65535 (omega arith)) (omega arith)
+pub command_at : (next_cid n : ℕ) (ks : List Command) (d : Numbered) (e : Command) → next_cid < 65535 → n < length ks
+    → get_or (from_cid next_cid ks) n d ≡ numbered_command (get_or ks n e) ((next_cid + n) % 65535)
+command_at next_cid n [] d e below inside = absurd (omega arith)
+command_at next_cid zero (k ∷ ks) d e below inside =
+    let first : next_cid ≡ (next_cid + 0) % 65535 = omega arith in ap (numbered_command k) first
+command_at next_cid (suc n) (k ∷ ks) d e below inside =
+    let same : (cid_after next_cid + n) % 65535 ≡ (next_cid + suc n) % 65535 = omega arith in
+    command_at (cid_after next_cid) n ks d e (mod_below (next_cid + 1) 65535 (omega arith)) (omega arith)
     ∙ ap (numbered_command (get_or ks n e)) same
 
 -- there are as many numbered commands as commands
-pub length-from_serial : (serial : ℕ) (ks : List Command) → length (from_serial serial ks) ≡ length ks
-length-from_serial serial [] = refl
-length-from_serial serial (k ∷ ks) = ap suc (length-from_serial (next_serial serial) ks)
+pub length-from_cid : (next_cid : ℕ) (ks : List Command) → length (from_cid next_cid ks) ≡ length ks
+length-from_cid next_cid [] = refl
+length-from_cid next_cid (k ∷ ks) = ap suc (length-from_cid (cid_after next_cid) ks)
 
 -- the first n numbered commands are the first n commands, numbered
-take-from_serial : (n serial : ℕ) (ks : List Command) → take n (from_serial serial ks) ≡ from_serial serial (take n ks)
-take-from_serial zero serial ks = refl
-take-from_serial (suc n) serial [] = refl
-take-from_serial (suc n) serial (k ∷ ks) =
-    ap (λ xs. numbered_command k serial ∷ xs) (take-from_serial n (next_serial serial) ks)
+take-from_cid : (n next_cid : ℕ) (ks : List Command) → take n (from_cid next_cid ks) ≡ from_cid next_cid (take n ks)
+take-from_cid zero next_cid ks = refl
+take-from_cid (suc n) next_cid [] = refl
+take-from_cid (suc n) next_cid (k ∷ ks) =
+    ap (λ xs. numbered_command k next_cid ∷ xs) (take-from_cid n (cid_after next_cid) ks)
 
 -- the first n answers are the answers to the first n requests
 take-answers : (n c : ℕ) (s : State) (xs : List Numbered)
@@ -88,19 +88,20 @@ take-answers (suc n) c s (x ∷ xs) =
     ap (λ ys. received_as x.asked (step_of c s x).answer ∷ ys) (take-answers n c (step_of c s x).state xs)
 
 -- the requests are the first m of a list
-module _ (serial : ℕ) (ks : List Command) (xs : List Sent) (m : ℕ)
-    (are : map numbered xs ≡ take m (from_serial serial ks)) where
+module _ (next_cid : ℕ) (ks : List Command) (xs : List Sent) (m : ℕ)
+    (are : map numbered xs ≡ take m (from_cid next_cid ks)) where
   -- the first n requests are the first n commands of the list
-  first_are : (n : ℕ) → n ≤ m → take n (map numbered xs) ≡ take n (from_serial serial ks)
-  first_are n few = ap (take n) are ∙ take-take n m (from_serial serial ks) few
+  first_are : (n : ℕ) → n ≤ m → take n (map numbered xs) ≡ take n (from_cid next_cid ks)
+  first_are n few = ap (take n) are ∙ take-take n m (from_cid next_cid ks) few
 
   -- the first n requests leave the same state as the first n commands
-  pub state_is : (c : ℕ) (s : State) (n : ℕ) → n ≤ m → after c s (take n xs) ≡ state_after c s serial (take n ks)
+  pub state_is : (c : ℕ) (s : State) (n : ℕ) → n ≤ m → after c s (take n xs) ≡ state_after c s next_cid (take n ks)
   state_is c s n few =
-      ap (state_after_all c s) (sym (take-map numbered n xs) ∙ first_are n few ∙ take-from_serial n serial ks)
+      ap (state_after_all c s) (sym (take-map numbered n xs) ∙ first_are n few ∙ take-from_cid n next_cid ks)
 
   -- the first n answers to the requests are the first n answers to the commands
-  pub answers_are : (c : ℕ) (s : State) (n : ℕ) → n ≤ m → take n (answers_to c s xs) ≡ take n (answers_of c s serial ks)
+  pub answers_are : (c : ℕ) (s : State) (n : ℕ) → n ≤ m
+      → take n (answers_to c s xs) ≡ take n (answers_of c s next_cid ks)
   answers_are c s n few =
       take-answers n c s (map numbered xs) ∙ ap (answers_of_all c s) (first_are n few)
-      ∙ sym (take-answers n c s (from_serial serial ks))
+      ∙ sym (take-answers n c s (from_cid next_cid ks))

@@ -26,12 +26,14 @@ sets_queues wrote c l x s1 s2 q1 q2 {old} {aqa} {low} {asq} {behind} {new} is lo
 
 -- what follows from the calls that set EN, with the CC of the geometry, whether RDY became 1 or not
 pub configured : {A E B P Q : Type 0} (wrote : Write B) (read : Read B) (c x y : ℕ) (old new : B) (r : Result A E)
+    (unready : E)
     → x ≡ y → (Configures wrote read c y true old new → P) → (GivesUp wrote read c x true old new → Q)
-    → MatchResult r (λ _. Configures wrote read c x true old new) (λ _. GivesUp wrote read c x true old new)
-    → MatchResult r (λ _. P) (λ _. Q)
-configured wrote read c x y old new (Ok a) is met unmet steps =
+    → MatchResult r (λ _. Configures wrote read c x true old new)
+    (λ e. (e ≡ unready) × GivesUp wrote read c x true old new)
+    → MatchResult r (λ _. P) (λ e. (e ≡ unready) × Q)
+configured wrote read c x y old new (Ok a) unready is met unmet steps =
     met (subst (λ v. Configures wrote read c v true old new) is steps)
-configured wrote read c x y old new (Err e) is met unmet steps = unmet steps
+configured wrote read c x y old new (Err e) unready is met unmet steps = (steps.0, unmet steps.1)
 
 -- the zeroed ring is the controller's
 pub zeroes_own : {B : Type 0} (zeroed : Zeroes B) (g : Geometry) (c : ℕ) {l : QueuePairFields} {off : B}

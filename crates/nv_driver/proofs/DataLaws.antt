@@ -26,7 +26,8 @@ HasShape (FromHost n) = n ≡ 4096
 
 -- the data of a log that is read whole has at most 16,384 bytes
 log_shape : (page : LogPage) (offset dwords : ℕ) → IsWhole page offset dwords → HasShape (ToHost (4 * dwords))
-log_shape ErrorInformation offset dwords whole = let e = whole.1 in (omega (arith, e.whole, e.some), omega (arith, e.whole, e.few))
+log_shape ErrorInformation offset dwords whole =
+    let e = whole.1 in (omega (arith, e.whole, e.some), omega (arith, e.whole, e.few))
 log_shape Health offset dwords whole = (omega (arith, whole.1), omega (arith, whole.1))
 
 -- data of at most a page has such a shape

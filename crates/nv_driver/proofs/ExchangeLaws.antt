@@ -1,6 +1,7 @@
 -- A single request: how it begins, and the state after it was answered.
 use Rattle.std.proofs.Common.{[], ◌≡◌, ◌∙◌, ℕ, ◌+◌, ◌*◌, ◌<◌, ◌≤◌, List, ◌∷◌, ap, arith, get_or, length, Err, Ok, refl}
 use Rattle.std.proofs.Common.{subst, sym, true}
+use Rattle.std.specs.List.{range_with_len}
 use Rattle.nv_prp.specs.Buffer.{buffer_places}
 use Rattle.nv_layout.specs.declared.cqe.Status.{Status}
 use Rattle.nv_bus.specs.declared.told.Told.{Told}
@@ -11,13 +12,13 @@ use Rattle.nv_driver.proofs.Words.{IsAnswered, IsBus, IsOnWay, IsPlaceFor, IsRea
 use Rattle.nv_driver.proofs.Words.{KeepsBelow, QueuePairFields, RequestPlace, Run, Sent, Setting, Sqe, SqeFits}
 use Rattle.nv_driver.proofs.Words.{awaited_completion, bank_at, collected_one, entry, greatest_limit, known_to}
 use Rattle.nv_driver.proofs.Words.{length_of, limit_bounds, limit_of, mul-le-mul_right, numbered, padded}
-use Rattle.nv_driver.proofs.Words.{pages_of_entry, pair_value, place_from, places, received_from, run_of, sent_at}
+use Rattle.nv_driver.proofs.Words.{pages_of_entry, pair_value, place_in, places, received_from, run_of, sent_at}
 use Rattle.nv_driver.proofs.Words.{sent_for, setting_of, side, slice_set, step_of, transfer_for, way, with_register_at}
 use Rattle.nv_queue.specs.Numbers.{next, slot_of}
 use Rattle.nv_queue.specs.Slots.{submission_at}
 use Rattle.nv_driver.specs.BringingUp.{Write}
 use Rattle.nv_driver.specs.Passing.{BusTurn, HoldsEntry, Passes, TailWrite}
-use Rattle.nv_driver.specs.inner.Alone.{IsAlone, IsExchanged, came_with, request_in}
+use Rattle.nv_driver.specs.inner.Alone.{IsAlone, IsExchanged, came_with, entry_pages, request_in}
 use Rattle.nv_driver.specs.Alone.{Comes, IsReceived, asked_in, entry_step}
 use Rattle.nv_driver.specs.Layout.{data_count}
 use Rattle.nv_driver.specs.Request.{request_for}
@@ -31,10 +32,11 @@ use Rattle.nv_driver.proofs.AnswerLaws.{IsAnswerTo, answer_sound}
 use Rattle.nv_driver.proofs.RequestLaws.{every_entry}
 use Rattle.nv_driver.proofs.KeptLaws.{number_zero}
 use Rattle.nv_driver.proofs.PointerLaws.{entry_places}
-use Rattle.nv_driver.proofs.OnWayLaws.{answer_next, begins, collects_on, completion_is, first_way, held, left_after}
+use Rattle.nv_driver.proofs.OnWayLaws.{answer_next, begins, collects_on, completion_is, held, left_after}
 use Rattle.nv_driver.proofs.OnWayLaws.{rings, submits_on, tells_on, turned}
 use Rattle.nv_driver.proofs.PaddingLaws.{length-padded}
-use Rattle.nv_driver.proofs.ShareLaws.{data_fits, length-pages, page_at, place_fits}
+use Rattle.nv_driver.proofs.CommandPageLaws.{from_first, place_of_range}
+use Rattle.nv_driver.proofs.ShareLaws.{data_fits}
 use Rattle.nv_driver.proofs.QuietLaws.{others_kept}
 use Rattle.nv_driver.proofs.SubmittingLaws.{AreFrom, outside_before, requests_same, submitted_as}
 use Rattle.nv_bus.specs.Turn as T
@@ -62,22 +64,21 @@ comes_by (Err code) (Err refused) status bytes is sound delivered = rw (is, soun
 abbrev pub ever : Doing (Unit {0})
 ever e w w' old new = Unit {0}
 
--- an entry was submitted over a queue pair without outstanding commands, with its data at a place after the queue
--- pair whose first page is the list's
+-- an entry was submitted over a queue pair without outstanding commands, with its data in pages after the queue
+-- pair, from this one on
 pub record IsBegun (g : Geometry) (bus : BusValue) (c : ℕ) (l : QueuePairFields) (bytes : List ℕ) (e : Sqe)
-    (given : List ℕ) (at : RequestPlace) (now : ℕ) (l' : QueuePairFields) (mem : List ℕ) (now1 tail : ℕ) : Type 0 where
+    (given : List ℕ) (lowest now : ℕ) (l' : QueuePairFields) (mem : List ℕ) (now1 tail : ℕ) : Type 0 where
   -- the controller is ready, with no command outstanding
   pub ready : IsReady g bus c l now bytes
   pub fits : SqeFits e
-  pub place : IsPlaceFor bytes now at (length_of (transfer_for e))
-  pub first : AreFrom at.first at
-  pub last : l.pages.first + l.pages.count ≤ at.first
-  pub is_place : at ≡ place_from g at.first (length_of (transfer_for e))
-  pub sub : IsSubmittedAt g.page_size at (request_for (limit_of bus.state c) e given) l l' bytes mem now1 tail
+  pub place : IsPlaceFor bytes now (place_in g (entry_pages g lowest e)) (length_of (transfer_for e))
+  pub last : l.pages.first + l.pages.count ≤ lowest
+  pub sub : IsSubmittedAt g.page_size (place_in g (entry_pages g lowest e)) (request_for (limit_of bus.state c) e given)
+      l l' bytes mem now1 tail
 
 module _ {g : Geometry} {bus : BusValue} {c : ℕ} {l : QueuePairFields} {bytes : List ℕ} {e : Sqe} {given : List ℕ}
-    {at : RequestPlace} {now now1 tail : ℕ} {l' : QueuePairFields} {mem : List ℕ}
-    (b : IsBegun g bus c l bytes e given at now l' mem now1 tail) where
+    {lowest now now1 tail : ℕ} {l' : QueuePairFields} {mem : List ℕ}
+    (b : IsBegun g bus c l bytes e given lowest now l' mem now1 tail) where
   -- the controller is ready, with no command outstanding
   ready : IsReady g bus c l now bytes
   ready = b.ready
@@ -90,9 +91,17 @@ module _ {g : Geometry} {bus : BusValue} {c : ℕ} {l : QueuePairFields} {bytes 
   abbrev t : Setting
   t = setting_of run
 
+  -- the place of its data
+  abbrev pub at : RequestPlace
+  at = place_in g (entry_pages g lowest e)
+
+  -- no page of it comes before the lowest one
+  no_lower : AreFrom lowest at
+  no_lower = from_first g lowest (data_count g (length_of (transfer_for e)))
+
   -- the request as it was sent
   abbrev pub sent : Sent
-  sent = sent_at at (request_for (limit_of bus.state c) e given) l.serial b.sub.prp1 b.sub.prp2
+  sent = sent_at at (request_for (limit_of bus.state c) e given) l.next_cid b.sub.prp1 b.sub.prp2
 
   -- the entry with the host's bytes is a request
   can : IsRequest (limit_of bus.state c) sent.request
@@ -106,8 +115,8 @@ module _ {g : Geometry} {bus : BusValue} {c : ℕ} {l : QueuePairFields} {bytes 
   -- the request was submitted
   submitted : IsOnWay ever tt (way run (record { sent = sent ∷ []; answers = []; events = Submit sent ∷ [] }) 0 0 0) bus
       tt l' now1 mem
-  submitted = submits_on (begins {doing = ever} {start = tt} [] ready) b.sub can b.place b.first (omega (arith, b.last))
-      (omega (arith, ready.laid.deep.0)) (λ n d from below. absurd (omega arith)) tt
+  submitted = submits_on (begins {doing = ever} {start = tt} [] ready) b.sub can b.place no_lower
+      (omega (arith, b.last)) (omega (arith, ready.laid.deep.0)) (λ n d from below. absurd (omega arith)) tt
 
   -- the tail doorbell was rung for it, and the controller had a turn, which took it
   pub took : {now2 count : ℕ} {one two : BusValue} {mem2 : List ℕ} → one.state ≡ bus.state
@@ -141,7 +150,7 @@ module _ {g : Geometry} {bus : BusValue} {c : ℕ} {l : QueuePairFields} {bytes 
         sent = k.to_send 0 sent (omega arith) (omega arith);
       })
 
-  -- the head that is told is the slot of the next number
+  -- the head that the host writes is the slot of the next number
   head_next : (q : ℕ) {l1 : QueuePairFields}
       → l1 ≡ record l' { submission = known_to l'.submission q; completion = collected_one l'.completion }
       → slot_of l1.completion.depth l1.completion.collected
@@ -200,15 +209,14 @@ module _ {g : Geometry} {bus : BusValue} {c : ℕ} {l : QueuePairFields} {bytes 
     on_way = tells_on (collects_on u one awaited first tt) refl (omega arith) reported tt
 
     -- these events ran from the memory before the request to the one after it, over this controller alone
-    alone : IsAlone g c (request_in g c e given at.first (side bus l now bytes) b.sub.prp1 b.sub.prp2)
+    alone : IsAlone g c (request_in g c e given lowest (side bus l now bytes) b.sub.prp1 b.sub.prp2)
         (side bus l now bytes) (side bus' q' now2 mem2)
-    alone = subst (λ p. IsAlone g c (sent_at p (request_for (limit_of bus.state c) e given) l.serial b.sub.prp1
-        b.sub.prp2) (side bus l now bytes) (side bus' q' now2 mem2)) b.is_place (record {
-          points = record { list = λ m. b.sub.list; none = b.sub.pointer };
-          last = world_of (way run one_collected 1 1 1) bus' mem2;
-          ran = on_way.ran;
-          seen = record { mem = refl; state = refl; bank = refl };
-        })
+    alone = record {
+      points = record { list = λ m. b.sub.list; none = b.sub.pointer };
+      last = world_of (way run one_collected 1 1 1) bus' mem2;
+      ran = on_way.ran;
+      seen = record { mem = refl; state = refl; bank = refl };
+    }
 
     -- its completion and its data hold the answer of its step
     answer : IsAnswered g.page_size sent mem2 completion (step_of c bus.state (numbered sent)).answer
@@ -226,18 +234,18 @@ module _ {g : Geometry} {bus : BusValue} {c : ℕ} {l : QueuePairFields} {bytes 
         ∙ ap (λ (o : QueuePairFields). o.pages) b.sub.pair
 
     -- what is before the request's pages and outside the queue pair doesn't change
-    others_stay : KeepsBelow (at.first * g.page_size) g.page_size (pair_value l) bytes mem2
+    others_stay : KeepsBelow (lowest * g.page_size) g.page_size (pair_value l) bytes mem2
     others_stay from n low apart =
         others_kept ready on_way.others from n apart (λ i d h. let zero : i ≡ 0 = omega arith in
         subst (λ j. AreOutside g.page_size (get_or (sent ∷ []) j d) from n) (sym zero)
-        (outside_before g.page_size at.first sent from n b.first low))
+        (outside_before g.page_size lowest sent from n no_lower low))
 
     -- the bytes that are read by the status, with zeros after them, are what the host receives
     received_by : (n : ℕ) {size : ℕ} {out : List ℕ} → size ≡ g.page_size
         → out ≡ padded n (came_with completion.status
         (received_from (transfer_for e) mem2
         (buffer_places size at.pages at.offset (length_of (transfer_for e)))))
-        → IsReceived (asked_in bus.state c e given) (entry_step bus.state c e given l.serial).answer out
+        → IsReceived (asked_in bus.state c e given) (entry_step bus.state c e given l.next_cid).answer out
     received_by n {size} {out} page filled =
         let bytes = bytes_read g.page_size sent mem2 in
         let came = came_with completion.status bytes in
@@ -246,7 +254,7 @@ module _ {g : Geometry} {bus : BusValue} {c : ℕ} {l : QueuePairFields} {bytes 
         record {
           came = came;
           comes = comes_by sent.request.asked (step_of c bus.state (numbered sent)).answer completion.status bytes
-              answer.status (answer_sound sent.request.asked bus.state c e.nsid l.serial ready.bus.state)
+              answer.status (answer_sound sent.request.asked bus.state c e.nsid l.next_cid ready.bus.state)
               answer.bytes;
           filled = is ∙ ap (λ k. padded k came) (sym long);
         }
@@ -255,7 +263,7 @@ module _ {g : Geometry} {bus : BusValue} {c : ℕ} {l : QueuePairFields} {bytes 
     pub exchanged : (n : ℕ) {out : List ℕ} → out ≡ padded n (came_with completion.status
         (received_from (transfer_for e) mem2
         (buffer_places now2 at.pages at.offset (length_of (transfer_for e)))))
-        → IsExchanged g c e given at.first (side bus l now bytes) (side bus' q' now2 mem2)
+        → IsExchanged g c e given lowest (side bus l now bytes) (side bus' q' now2 mem2)
         (told completion.command_specific completion.status) out
     exchanged n filled =
         record {
@@ -268,6 +276,15 @@ module _ {g : Geometry} {bus : BusValue} {c : ℕ} {l : QueuePairFields} {bytes 
           left = left_after 1 on_way refl refl refl refl refl pages_stay ready.page_size others_stay;
         }
 
+-- an entry was submitted at its place, and a turn took it
+pub record IsTaken (at : RequestPlace) (g : Geometry) (bus : BusValue) (c : ℕ) (l : QueuePairFields) (bytes : List ℕ)
+    (e : Sqe) (given : List ℕ) (lowest now : ℕ) (l' : QueuePairFields) (mem : List ℕ) (now1 tail count : ℕ)
+    (two : BusValue) (now2 : ℕ) (mem2 : List ℕ) : Type 0 where
+  pub there : at ≡ place_in g (entry_pages g lowest e)
+  pub begun : IsBegun g bus c l bytes e given lowest now l' mem now1 tail
+  pub on_way : IsOnWay ever tt (way (run begun) (one_sent begun) 1 1 0) two tt l' now2 mem2
+  pub one : count ≡ 1
+
 -- a queue pair without outstanding commands has a free slot
 pub has_slot : {g : Geometry} {bus : BusValue} {c : ℕ} {l : QueuePairFields} {bytes : List ℕ} {now : ℕ}
     → IsReady g bus c l now bytes → HasFreeSlot l bytes
@@ -275,24 +292,27 @@ has_slot ready = W.free_slot (W.begins {doing = ever} {start = tt} [] ready) (om
 
 -- ---- the place of its data
 
-module _ {g : Geometry} {c first len : ℕ} {e : Sqe} {bus : BusValue} {l : QueuePairFields} {now : ℕ}
-    {bytes : List ℕ} {at : RequestPlace} (q : Outgoing) (ready : IsReady g bus c l now bytes) (fits : SqeFits e)
-    (inside : (first + pages_of_entry g.page_size) * g.page_size ≤ length bytes)
-    (last : l.pages.first + l.pages.count ≤ first) (entry : q.entry ≡ e) (moves : q.transfer ≡ transfer_for e)
+module _ {g : Geometry} {c lowest len count : ℕ} {e : Sqe} {bus : BusValue} {l : QueuePairFields} {now : ℕ}
+    {bytes pages : List ℕ} {at : RequestPlace} (q : Outgoing) (ready : IsReady g bus c l now bytes) (fits : SqeFits e)
+    (inside : (lowest + pages_of_entry g.page_size) * g.page_size ≤ length bytes)
+    (last : l.pages.first + l.pages.count ≤ lowest) (entry : q.entry ≡ e) (moves : q.transfer ≡ transfer_for e)
     (few : length_of q.transfer ≤ greatest_limit) (long : len ≡ length_of q.transfer)
-    {p : Geometry} (shape : p ≡ g) (place : at ≡ place_from p first len) where
+    {p : Geometry} (shape : p ≡ g) (many : count ≡ data_count p len + 2)
+    (numbers : pages ≡ range_with_len lowest count) (place : at ≡ place_in p pages) where
   -- the place is the place of the entry's data
-  there : at ≡ place_from g first (length_of (transfer_for e))
-  there = place ∙ ap (λ o. place_from o first len) shape ∙ ap (place_from g first) (long ∙ ap length_of moves)
+  pub there : at ≡ place_in g (entry_pages g lowest e)
+  there = place ∙ ap (λ o. place_in o pages) shape
+      ∙ ap (place_in g) (numbers ∙ ap (range_with_len lowest) (many ∙ ap (λ o. data_count o len + 2) shape
+      ∙ ap (λ n. data_count g n + 2) (long ∙ ap length_of moves)))
 
   -- the data of the entry fits in that place
-  fits_there : IsPlaceFor bytes now (place_from g first (length_of (transfer_for e))) (length_of (transfer_for e))
+  fits_there : IsPlaceFor bytes now (place_in g (entry_pages g lowest e)) (length_of (transfer_for e))
   fits_there =
       let n = length_of (transfer_for e) in
       let all = (data_fits g n greatest_limit ready.geometry (rw moves at few)).1 in
-      let end : first + data_count g n + 2 ≤ first + pages_of_entry g.page_size = omega (arith, all) in
-      place_fits g first n bytes now ready.geometry ready.page_size
-      (omega (arith, mul-le-mul_right g.page_size end, inside))
+      let end : lowest + (data_count g n + 2) ≤ lowest + pages_of_entry g.page_size = omega (arith, all) in
+      place_of_range g (record l.pages { first = lowest; count = data_count g n + 2 }) bytes now n ready.geometry
+      ready.page_size (omega (arith, mul-le-mul_right g.page_size end, inside)) refl
 
   -- the data of the request fits in its place
   pub its_place : IsPlaceFor bytes now at (length_of q.transfer)
@@ -302,15 +322,12 @@ module _ {g : Geometry} {c first len : ℕ} {e : Sqe} {bus : BusValue} {l : Queu
   pub begun_by : {given mem : List ℕ} {now1 tail : ℕ} {l' : QueuePairFields}
       → sent_by q.sends ≡ sent_for (transfer_for e) given
       → ((asked : Asked) → IsSubmittedAt now at (request_as q asked) l l' bytes mem now1 tail)
-      → IsBegun g bus c l bytes e given (place_from g first (length_of (transfer_for e))) now l' mem now1 tail
+      → IsBegun g bus c l bytes e given lowest now l' mem now1 tail
   begun_by {given = given} sends sub = record {
     ready = ready;
     fits = fits;
     place = fits_there;
-    first = λ i d h. let n = length_of (transfer_for e) in
-        omega (arith, page_at g first n i d (omega (arith, h, length-pages g first n)));
     last = last;
-    is_place = refl;
     sub = submitted_as ready.page_size there (requests_same entry moves sends)
         (sub (asked_by (limit_of bus.state c) e (sent_for (transfer_for e) given)));
   }

@@ -5,21 +5,21 @@ use Rattle.std.proofs.Math.Seq.{map-set_same}
 use Rattle.std.proofs.lemmas.List.{length-set, map-append, map-set, replicate_more}
 use Rattle.std.proofs.lemmas.List.FromFn.{map-range_with_len_more}
 use Rattle.nv_driver.proofs.Words.{BusValue, DriverValue, Geometry, QueuePair, after_command, enabled_in, get_or-map}
-use Rattle.nv_driver.proofs.Words.{idle_bank, length-map, mps_of, next_serial, pair_of, pairs_of, renewed_pair}
+use Rattle.nv_driver.proofs.Words.{idle_bank, length-map, mps_of, cid_after, pair_of, pairs_of, renewed_pair}
 use Rattle.nv_driver.proofs.Words.{replicate}
 use Rattle.nv_driver.specs.Driver.{after_reset, new_driver, no_pair, pair_at}
 use Rattle.nv_driver.specs.inner.Driver.{error_without}
 use Rattle.nv_driver.specs.Geometry.{fault_of}
 use Rattle.nv_driver.specs.Exchange.{after_one}
 use Rattle.nv_driver.specs.Linked.{IsLinked}
-use Rattle.nv_driver.specs.inner.Linked.{serials_of}
+use Rattle.nv_driver.specs.inner.Linked.{next_cids_of}
 use Rattle.nv_driver.specs.declared.error.DriverError.{DriverError}
 use Rattle.nv_driver.specs.declared.geometry_field.GeometryField.{GeometryField}
 use Rattle.nv_driver.specs.declared.error.DriverError.TheVariants as error
 
 -- the command identifier that is due at a queue pair
-abbrev serial : QueuePair → ℕ
-serial l = l.serial
+abbrev next_cid : QueuePair → ℕ
+next_cid l = l.next_cid
 
 -- a driver has a queue pair for each controller
 pub pair_count : (b : BusValue) (d : DriverValue) → IsLinked b d → length d.pairs ≡ length b.state.controllers
@@ -27,15 +27,15 @@ pair_count b d is =
     sym (length-map d.pairs (idle_bank (mps_of d.geometry.page_size) d.geometry.page_size)) ∙ sym (ap length is.left)
     ∙ is.bus.banks
 
--- before the first command, every serial is 0
-pub first_serials : (g : Geometry) (n : ℕ) → serials_of (new_driver g n) ≡ replicate n 0
-first_serials g zero = refl
-first_serials g (suc n) =
+-- before the first command, every next command identifier is 0
+pub first_cids : (g : Geometry) (n : ℕ) → next_cids_of (new_driver g n) ≡ replicate n 0
+first_cids g zero = refl
+first_cids g (suc n) =
     let next : suc n ≡ n + 1 = omega arith in
-    subst (λ k. serials_of (new_driver g k) ≡ replicate k 0) (sym next)
-    (ap (map serial) (map-range_with_len_more (pair_of g) 0 n n (zero-add n))
-    ∙ map-append serial (pairs_of g n) (pair_of g n ∷ [])
-    ∙ ap (λ xs. xs ++ 0 ∷ []) (first_serials g n)
+    subst (λ k. next_cids_of (new_driver g k) ≡ replicate k 0) (sym next)
+    (ap (map next_cid) (map-range_with_len_more (pair_of g) 0 n n (zero-add n))
+    ∙ map-append next_cid (pairs_of g n) (pair_of g n ∷ [])
+    ∙ ap (λ xs. xs ++ 0 ∷ []) (first_cids g n)
     ∙ replicate_more n 0)
 
 -- a driver's controllers are enabled
@@ -49,21 +49,21 @@ all_enabled b d is = ap enabled_in is.left ∙ each d.pairs ∙ ap (λ n. replic
     each [] = refl
     each (l ∷ ls) = ap (λ xs. true ∷ xs) (each ls)
 
--- the command identifier of a queue pair is the serial of its controller
-pub serial_at : (d : DriverValue) (c : ℕ) → c < length d.pairs
-    → (pair_at d.pairs c).serial ≡ get_or (serials_of d) c 0
-serial_at d c below = sym (get_or-map serial d.pairs c no_pair 0 below)
+-- a queue pair's next command identifier is that of its controller
+pub cid_at : (d : DriverValue) (c : ℕ) → c < length d.pairs
+    → (pair_at d.pairs c).next_cid ≡ get_or (next_cids_of d) c 0
+cid_at d c below = sym (get_or-map next_cid d.pairs c no_pair 0 below)
 
--- the serials after a command: the next one is due
-pub serials_after : (d after : DriverValue) (c : ℕ) → c < length d.pairs → after ≡ after_command d c
-    → serials_of after ≡ set (serials_of d) c (next_serial (get_or (serials_of d) c 0))
-serials_after d after c below is = ap serials_of is ∙ map-set serial d.pairs c (after_one (pair_at d.pairs c))
-    ∙ ap (λ n. set (serials_of d) c (next_serial n)) (serial_at d c below)
+-- the command identifiers after a command: the controller's next one is due
+pub cids_after : (d after : DriverValue) (c : ℕ) → c < length d.pairs → after ≡ after_command d c
+    → next_cids_of after ≡ set (next_cids_of d) c (cid_after (get_or (next_cids_of d) c 0))
+cids_after d after c below is = ap next_cids_of is ∙ map-set next_cid d.pairs c (after_one (pair_at d.pairs c))
+    ∙ ap (λ n. set (next_cids_of d) c (cid_after n)) (cid_at d c below)
 
--- a reset doesn't change the serials
-pub serials_reset : (d after : DriverValue) (c : ℕ) → after ≡ after_reset d c → serials_of after ≡ serials_of d
-serials_reset d after c is =
-    ap serials_of is ∙ map-set_same serial d.pairs c (renewed_pair (pair_at d.pairs c)) no_pair refl
+-- a reset doesn't change the next command identifiers
+pub cids_reset : (d after : DriverValue) (c : ℕ) → after ≡ after_reset d c → next_cids_of after ≡ next_cids_of d
+cids_reset d after c is =
+    ap next_cids_of is ∙ map-set_same next_cid d.pairs c (renewed_pair (pair_at d.pairs c)) no_pair refl
 
 -- a command doesn't change the number of queue pairs
 pub same_pairs : (d after : DriverValue) (c : ℕ) → after ≡ after_command d c → length after.pairs ≡ length d.pairs

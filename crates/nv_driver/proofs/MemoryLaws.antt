@@ -71,7 +71,7 @@ pair_laid g n i size is h e =
     record {
       deep = deep;
       number = omega arith;
-      serial = omega arith;
+      next_cid = omega arith;
       rings = after first (submission_pages g) g.page_size (64 * g.depth) fit.0;
       pages = after (first + submission_pages g) (completion_pages g) g.page_size (16 * g.depth) fit.1;
       inside = omega (arith, pair_ends g i n h, e);

@@ -13,14 +13,14 @@ use Rattle.nv_driver.proofs.Words.{IsSubmittedAt, IsTold, KeepsBelow, QueuePairF
 use Rattle.nv_driver.proofs.Words.{RequestPlace, Run, Sent, Setting, State, Submit, Tell, Turn, World, after_some}
 use Rattle.nv_driver.proofs.Words.{answer_awaited, awaited_completion, bank_at, collected_one, completion_at}
 use Rattle.nv_driver.proofs.Words.{entry, get_or-set_same, known_to, length_of, limit_of, mod_below}
-use Rattle.nv_driver.proofs.Words.{mul-le-mul_right, nat_tests, new_bank, next_serial, number, pair_value, run_of}
+use Rattle.nv_driver.proofs.Words.{mul-le-mul_right, nat_tests, new_bank, cid_after, number, pair_value, run_of}
 use Rattle.nv_driver.proofs.Words.{sent_at, setting_of, side, slice_set, slot, submit_ring, way, with_register_at}
 use Rattle.nv_driver.proofs.Words.{with_submission}
 use Rattle.nv_driver.specs.Schedule.{Doing, Event, Follows, MaySubmit, awaited, collect_ring}
 use Rattle.nv_driver.specs.inner.Submitting.{CanCollect}
 use Rattle.nv_host.specs.PageSets.{Pages}
-use Rattle.nv_driver.specs.UnderWay.{Course, Way, beginning, first_world, pair_after, serial_at, world_by, world_of}
-use Rattle.nv_driver.proofs.BatchLaws.{serial_next}
+use Rattle.nv_driver.specs.UnderWay.{Course, Way, beginning, first_world, pair_after, cid_at, world_by, world_of}
+use Rattle.nv_driver.proofs.BatchLaws.{cid_next}
 use Rattle.nv_driver.proofs.CountLaws.{number_above, number_below, number_next}
 use Rattle.nv_driver.proofs.KeptLaws.{bell_keeps, collect_keeps, idle_keeps, is_found, tell_keeps}
 use Rattle.nv_driver.proofs.QuietLaws.{collect_ring_is, is_idle, submit_ring_is}
@@ -79,7 +79,7 @@ begins {g = g} {c = c} {bus = bus} {l = l} {now = now} {bytes = bytes} ks ready 
     let r = run_of g c bus l bytes ks in
     let t = setting_of r in
     let same = same_world (first_way r) bytes {s = bus.state} {s' = bus.state} refl ready.bank in
-    let serial : l.serial ≡ serial_at r 0 = omega (arith, ready.laid.serial) in
+    let next_cid : l.next_cid ≡ cid_at r 0 = omega (arith, ready.laid.next_cid) in
     record {
       begun = subst (λ n. IsReady g bus c l n bytes) ready.page_size ready;
       page_size = ready.page_size;
@@ -89,7 +89,7 @@ begins {g = g} {c = c} {bus = bus} {l = l} {now = now} {bytes = bytes} ks ready 
       lawful = ready.bus;
       banks = sym (set-get_or bus.banks c new_bank);
       pair = pairs_same (submit_ring_is g c (limit_of bus.state c) bytes l ready.quiet ready.laid.number)
-          (collect_ring_is g c (limit_of bus.state c) bytes l ready.quiet ready.laid.number) serial;
+          (collect_ring_is g c (limit_of bus.state c) bytes l ready.quiet ready.laid.number) next_cid;
       ran = (same, refl);
     }
 
@@ -134,7 +134,7 @@ module _ {B : Type 0} {doing : Doing B} {start on : B} {w : Way} {bus : BusValue
       let far = number_above t (length w.course.answers) (length w.course.sent) (omega (arith, u.begun.laid.deep.0))
       (omega (arith, c.collected, c.done, c.rung)) (omega (arith, free)) in
       rw u.pair (record {
-        serial = mod_below (w.run.pair.serial + length w.course.sent) 65535 (omega arith);
+        next_cid = mod_below (w.run.pair.next_cid + length w.course.sent) 65535 (omega arith);
         ring = u.keeps.placed.submissions;
         free = λ full. omega (arith, far, full, free);
       })
@@ -147,12 +147,12 @@ module _ {B : Type 0} {doing : Doing B} {start on : B} {w : Way} {bus : BusValue
       → IsPlaceFor bytes now at (length_of q.transfer) → AreFrom first at → w.run.pair.pages.first ≤ first
       → length w.course.sent + 1 < length w.course.answers + t.depth
       → ((n : ℕ) (d : Sent) → length w.course.answers ≤ n → n < length w.course.sent
-      → AreApart (get_or w.course.sent n d) (sent_at at q l.serial sub.prp1 sub.prp2))
-      → doing (Submit (sent_at at q l.serial sub.prp1 sub.prp2)) world (world_of (more_sent
-      (sent_at at q l.serial sub.prp1 sub.prp2)) bus mem) on on
-      → IsOnWay doing start (more_sent (sent_at at q l.serial sub.prp1 sub.prp2)) bus on l' now' mem
+      → AreApart (get_or w.course.sent n d) (sent_at at q l.next_cid sub.prp1 sub.prp2))
+      → doing (Submit (sent_at at q l.next_cid sub.prp1 sub.prp2)) world (world_of (more_sent
+      (sent_at at q l.next_cid sub.prp1 sub.prp2)) bus mem) on on
+      → IsOnWay doing start (more_sent (sent_at at q l.next_cid sub.prp1 sub.prp2)) bus on l' now' mem
   submits_on {first = first} {at} {q} {mem = mem} {s} sub can its_place from behind free apart its_time =
-      let x = sent_at at q l.serial sub.prp1 sub.prp2 in
+      let x = sent_at at q l.next_cid sub.prp1 sub.prp2 in
       let laid = u.begun.laid in
       let size = w.run.geometry.page_size in
       let place = rw (u.page_size) at its_place in
@@ -160,7 +160,7 @@ module _ {B : Type 0} {doing : Doing B} {start on : B} {w : Way} {bus : BusValue
       let may : MaySubmit t world x = record {
         free = free;
         can = can;
-        cid = omega (arith, (free_slot free).serial);
+        cid = omega (arith, (free_slot free).next_cid);
         buffer = place.buffer;
         list = place.list;
         distinct = place.distinct;
@@ -181,11 +181,11 @@ module _ {B : Type 0} {doing : Doing B} {start on : B} {w : Way} {bus : BusValue
       in
       let pair = pages_of_pair _ _ _ (sub.pair ∙ ap (λ (o : QueuePairFields). record o {
         submission = submitted_one o.submission;
-        serial = next_serial o.serial;
+        next_cid = cid_after o.next_cid;
         pages = s;
       }) u.pair
       ∙ pairs_same (ap (λ n. record (submit_ring t m k) { submitted = n }) (number_next t m)
-      ∙ ap (λ n. submit_ring t n k) more) refl (serial_next w.run.pair.serial m ∙ ap (serial_at w.run) more)) in
+      ∙ ap (λ n. submit_ring t n k) more) refl (cid_next w.run.pair.next_cid m ∙ ap (cid_at w.run) more)) in
       let ran : Follows doing t (Submit x ∷ w.course.events) (first_world w.run) start (world_of v bus mem) on =
       (world, on, u.ran, its_time, happens) in assumption (sub.page, sub.len ∙ u.size, keeps, others, pair, ran, u)
 
@@ -411,13 +411,13 @@ left_after {w = w} {bus} {l} {now} {before} {bytes = bytes} n u sent collected r
     let laid = begun.laid in
     let deep = laid.deep in
     let is : l ≡ pair_after r n n n r.pair.pages =
-    u.pair ∙ pairs_same (rw (sent, collected) refl) (rw (collected, told) refl) (ap (serial_at r) sent)
+    u.pair ∙ pairs_same (rw (sent, collected) refl) (rw (collected, told) refl) (ap (cid_at r) sent)
     ∙ ap (pair_after r n n n) pages in
     record {
       ready = subst (λ q. IsReady r.geometry bus r.controller q now bytes) (sym is) (assumption (
         sym (none_untold n),
         number_below t n (omega (arith, deep.0)),
-        mod_below (r.pair.serial + n) 65535 (omega arith),
+        mod_below (r.pair.next_cid + n) 65535 (omega arith),
         rw (sym u.size) at laid.inside,
         rw (done) at u.keeps.tags,
         has_bank u,

@@ -151,10 +151,10 @@ not_stopped b c x off = rw off refl
 -- the queues of a controller that was enabled for this queue pair stay set
 pub kept_queues : (a b : List RegisterBank) (c m p n s : ℕ) (l : QueuePair) → c < length a
     → b ≡ slice_set a c (with_register_at (bank_at a c) 0x14 0)
-    → bank_at a c ≡ idle_bank m p (record l { number = n; serial = s })
+    → bank_at a c ≡ idle_bank m p (record l { number = n; next_cid = s })
     → b ≡ slice_set b c (with_queues (bank_at b c) l)
 kept_queues a b c m p n s l below off is =
-    let at : bank_at b c ≡ with_register_at (idle_bank m p (record l { number = n; serial = s })) 0x14 0 =
+    let at : bank_at b c ≡ with_register_at (idle_bank m p (record l { number = n; next_cid = s })) 0x14 0 =
     ap (λ x. bank_at x c) off ∙ get_or-set_same a c _ new_bank below ∙ ap (λ q. with_register_at q 0x14 0) is in
     sym (set-get_or b c new_bank) ∙ ap (slice_set b c) (at ∙ sym (ap (λ q. with_queues q l) at))
 

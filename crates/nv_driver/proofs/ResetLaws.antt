@@ -88,7 +88,7 @@ pub kept_again : {g : Geometry} {b : BusValue} {c : ℕ} {l : QueuePairFields} {
 kept_again {g} {b} {c} {l} r placed banks off =
     let v = pair_value l in
     let m = mps_of g.page_size in
-    kept_queues b.banks banks c m g.page_size v.number v.serial (pair_of g c) r.controller off
+    kept_queues b.banks banks c m g.page_size v.number v.next_cid (pair_of g c) r.controller off
     (r.bank ∙ ap (idle_bank m g.page_size) placed)
 
 -- what a reset leaves of a queue pair without outstanding commands

@@ -1,18 +1,16 @@
 -- A list of commands while it is executed: doorbells, turns, answers, its beginning and its end.
 use Rattle.std.specs.Prelude.{set}
 use Rattle.std.proofs.Common.{min, ◌≡◌, ◌∙◌, ℕ, ◌+◌, ◌-◌, ◌<◌, ◌≤◌, List, ap, arith, inl, inr, length, subst, sym, take}
-use Rattle.std.proofs.Common.{[], ◌∷◌, ◌++◌, Ok, get_or, length-append, All, refl}
+use Rattle.std.proofs.Common.{[], ◌∷◌, ◌++◌, Ok, get_or, length-append, All, refl, ◌≢◌, ◌%◌, AllPairs, add-one, drop}
+use Rattle.std.proofs.Common.{false, true}
 use Rattle.nv_driver.proofs.Words.{Answer, Asked, Batch, BusValue, CanBeSent, Command, Cqe, Geometry, HasAnswers, Holds}
 use Rattle.nv_driver.proofs.Words.{IsBus, IsLeft, IsOnWay, IsReadable, IsReady, IsTold, IsUnderWay, QueuePairFields}
-use Rattle.nv_driver.proofs.Words.{Request, Run, Sent, after_some, answers_to, awaited_completion, bank_at}
-use Rattle.nv_driver.proofs.Words.{cases_eq, cases_lt, collected_one, completion_at, known_to, length_of, own_pages}
-use Rattle.nv_driver.proofs.Words.{pair_value}
-use Rattle.nv_driver.specs.Schedule.{places as places_of}
-use Rattle.nv_driver.proofs.Words.{received_from, request_of, run_of, setting_of, side, slice_set, slot}
-use Rattle.nv_driver.proofs.Words.{transfer_by, way, with_register_at}
-use Rattle.nv_driver.specs.Batch.{state_after, answers_of, from_serial}
-use Rattle.nv_driver.specs.Schedule.{Event, Numbered, answer_from, answer_read, answer_to}
-use Rattle.nv_driver.proofs.Words.{Bell, Collect, Tell, Turn}
+use Rattle.nv_driver.proofs.Words.{Request, Run, Sent, after_some, answers_to, awaited_completion, bank_at, cases_eq}
+use Rattle.nv_driver.proofs.Words.{cases_lt, collected_one, completion_at, known_to, length_of, own_pages, pair_value}
+use Rattle.nv_driver.proofs.Words.{received_from, request_of, run_of, setting_of, side, slice_set, slot, transfer_by}
+use Rattle.nv_driver.proofs.Words.{way, with_register_at, Bell, Collect, Tell, Turn}
+use Rattle.nv_driver.specs.Schedule.{places as places_of, Event, Numbered, answer_from, answer_read, answer_to}
+use Rattle.nv_driver.specs.Batch.{state_after, answers_of, from_cid}
 use Rattle.nv_driver.specs.BringingUp.{Write}
 use Rattle.nv_driver.specs.Passing.{BusTurn, TailWrite}
 use Rattle.nv_queue.specs.Numbers.{slot_of}
@@ -26,20 +24,18 @@ use Rattle.nv_driver.specs.declared.command_pages.CommandPages.{CommandPages}
 use Rattle.nv_host.specs.PageSets.{IsOf, Pages}
 use Rattle.nv_prp.specs.Buffer.{IsBuffer, buffer_places}
 use Rattle.std.specs.FinSet as set
-use Rattle.std.proofs.Common.{◌≢◌, ◌%◌, AllPairs, add-one, drop, false, true}
-use Rattle.std.proofs.Math.Seq.{drop-cons, drop-length}
+use Rattle.std.proofs.Math.Seq.{drop-cons, drop-length, take-length}
 use Rattle.nv_driver.proofs.CommandPageLaws.{own_is, place_of_set}
 use Rattle.nv_driver.proofs.WindowPageLaws.{given_back, gone, taken_first, taken_none, taken_rest}
 use Rattle.nv_driver.specs.inner.Pace.{IsPaced, IsToldInTime}
 use Rattle.nv_driver.specs.inner.UnderWay.{left_of}
 use Rattle.nv_driver.proofs.BatchLaws.{state_is, answer_at, answers_are, length-answers, length-answers_of_all}
-use Rattle.nv_driver.proofs.BatchLaws.{length-from_serial}
+use Rattle.nv_driver.proofs.BatchLaws.{length-from_cid}
 use Rattle.nv_driver.proofs.UnderWayLaws.{counts, command_of, has_collected, held, is_full, world}
 use Rattle.std.proofs.Math.ListN.{length-set}
 use Rattle.std.proofs.lemmas.List.{take_more, take_more_set}
 use Rattle.nv_command.specs.Logs.{IsSendable}
 use Rattle.nv_driver.proofs.TurnLaws.{no_command}
-use Rattle.std.proofs.Math.Seq.{take-length}
 use Rattle.nv_driver.proofs.OnWayLaws.{begins, left_after}
 use Rattle.nv_driver.proofs.QuietLaws.{all_others_kept}
 use Rattle.nv_bus.specs.Turn as T
@@ -127,21 +123,11 @@ module _ {B : Type 0} {wrote : Write B} {rang : TailWrite B} {turned : BusTurn B
       (goes_on (Turn most) refl next.0, next.1)
 
   -- the state is the one after the commands that turns took
-  pub state_on : bus.state ≡ state_after r.controller r.bus.state r.pair.serial (take turns r.commands)
+  pub state_on : bus.state ≡ state_after r.controller r.bus.state r.pair.next_cid (take turns r.commands)
   state_on =
       let k = counts u in
-      u.keeps.state ∙ state_is r.pair.serial r.commands u.course.sent b.sent u.commands r.controller r.bus.state turns
+      u.keeps.state ∙ state_is r.pair.next_cid r.commands u.course.sent b.sent u.commands r.controller r.bus.state turns
       (omega (arith, k.done, k.rung))
-
--- a turn that takes none while a command is waiting finds no free slot
-pub none_free : (most waiting depth done told count : ℕ) → count ≡ min most (min waiting (depth - 1 - (done - told)))
-    → count ≡ 0 → 1 ≤ most → 1 ≤ waiting → 2 ≤ depth → (told < done) × (told + depth ≤ done + 1)
-none_free most waiting depth done told count is none some waits deep =
-    let full : depth - 1 - (done - told) ≡ 0 = no_slot (depth - 1 - (done - told)) (sym none ∙ is) in
-    (omega (arith, full, deep), omega (arith, full, deep))
-  where
-    no_slot : (free : ℕ) → 0 ≡ min most (min waiting free) → free ≡ 0
-    no_slot free e = omega arith
 
 -- a round makes progress: it collects an answer, or reports what wasn't reported
 pub comes_further : (n : ℕ) (b b' : Batch) → b.collected < n → b.collected ≤ b'.collected
@@ -348,7 +334,7 @@ module _ {B : Type 0} {wrote : Write B} {rang : TailWrite B} {turned : BusTurn B
               let xs = u.course.sent in
               let size = length-answers c state xs in
               let few = no_more in
-              let all = answers_are r.pair.serial r.commands xs b.sent u.commands c state in
+              let all = answers_are r.pair.next_cid r.commands xs b.sent u.commands c state in
               record {
                 len = length-set answers b.collected a ∙ has.len;
                 first = take_more_set answers b.collected a (omega (arith, has.len, number_inside))
@@ -418,7 +404,7 @@ all_collected is u enough =
 -- what holds if all commands were sent, and their answers collected and reported
 pub record HasEnded {B : Type 0} (wrote : Write B) (rang : TailWrite B) (turned : BusTurn B) (start : B) (r : Run)
     (before : ℕ) (bus : BusValue) (on : B) (l' : QueuePairFields) (now : ℕ) (mem : List ℕ) : Type 0 where
-  pub state : bus.state ≡ state_after r.controller r.bus.state r.pair.serial r.commands
+  pub state : bus.state ≡ state_after r.controller r.bus.state r.pair.next_cid r.commands
   pub paced : IsPaced wrote rang turned r start on bus mem
   pub left : IsLeft r.geometry r.controller (length r.bytes) (after_some (length r.commands) (pair_value r.pair))
       (side r.bus r.pair before r.bytes) (side bus l' now mem)
@@ -435,7 +421,7 @@ at_end {r = r} {n} {b = b} u all sent collected told page =
     ap (λ i. drop i u.course.sent) (collected ∙ sym (u.sent ∙ sent)) ∙ drop-length u.course.sent in
     let pages = u.left ∙ ap (λ xs. without r.pair.pages (pages_of_all xs)) none ∙ (taken_none r.pair.pages).1 in
     record {
-      state = state_on u ∙ ap (state_after r.controller r.bus.state r.pair.serial)
+      state = state_on u ∙ ap (state_after r.controller r.bus.state r.pair.next_cid)
           (ap (λ i. take i r.commands) all ∙ take-length r.commands);
       paced = record {
         last = world u;
@@ -500,11 +486,11 @@ ends_all meaning {wrote} {rang} {turned} {start} {on} {on'} {before = before} {l
 pub answers_all : {g : Geometry} {c : ℕ} {old : BusValue} {l : QueuePairFields} {bytes : List ℕ}
     {commands : List Command} {r : Run} {n : ℕ} {answers : List Answer}
     → r ≡ run_of g c old l bytes commands → HasAnswers r n answers → n ≡ length commands
-    → answers ≡ answers_of c old.state l.serial commands
+    → answers ≡ answers_of c old.state l.next_cid commands
 answers_all {g} {c} {old} {l} {bytes} {commands} {r} {n} {answers} is has all =
     let h = subst (λ x. HasAnswers x n answers) is has in
-    let whole = answers_of c old.state l.serial commands in
-    let size = length-answers_of_all c old.state (from_serial l.serial commands)
-    ∙ length-from_serial l.serial commands in
+    let whole = answers_of c old.state l.next_cid commands in
+    let size = length-answers_of_all c old.state (from_cid l.next_cid commands)
+    ∙ length-from_cid l.next_cid commands in
     sym (take-length answers) ∙ ap (λ i. take i answers) (h.len ∙ sym all) ∙ h.first
     ∙ ap (λ i. take i whole) (all ∙ sym size) ∙ take-length whole

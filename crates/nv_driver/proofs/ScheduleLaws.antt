@@ -139,8 +139,8 @@ runs_stay t s (e ∷ events) w w' k runs =
     )
 
 -- what holds for a schedule says that it is serial
-serial : (t : Setting) (s : State) (w : World) → Keeps t s w → IsSerial t s w
-serial t s w keeps = record {
+is_serial : (t : Setting) (s : State) (w : World) → Keeps t s w → IsSerial t s w
+is_serial t s w keeps = record {
   answers = keeps.answers;
   state = keeps.state;
   collected = keeps.counts.collected;
@@ -154,5 +154,5 @@ serial t s w keeps = record {
 
 -- every schedule from an idle controller is serial
 pub every_schedule : EveryScheduleIsSerial
-every_schedule t events old new idle runs = serial t old.state new
+every_schedule t events old new idle runs = is_serial t old.state new
     (runs_stay t old.state events old new (idle_keeps t old idle) runs).0

@@ -135,7 +135,7 @@ request e m xs asked = record { entry = e; transfer = m; sends = xs; asked = ask
 
 -- queue pairs of the same parts
 abbrev pub pair_by : SubmitNumbers → CollectNumbers → ℕ → Geometry → Pages → QueuePairFields
-pair_by a c n g p = record { submission = a; completion = c; serial = n; geometry = g; pages = p }
+pair_by a c n g p = record { submission = a; completion = c; next_cid = n; geometry = g; pages = p }
 
 -- queue pairs of equal parts are equal
 pub pairs_same : {a a' : SubmitNumbers} {c c' : CollectNumbers} {n n' : ℕ} {g : Geometry} {p : Pages} → a ≡ a'

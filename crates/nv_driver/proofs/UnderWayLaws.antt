@@ -1,4 +1,4 @@
--- A list of commands while it is executed: what is known about it, and submissions.
+-- A list of commands while a controller executes it: what holds meanwhile, and submissions.
 use Rattle.std.proofs.Common.{[], ◌≡◌, ◌∙◌, ℕ, ◌+◌, ◌*◌, ◌<◌, ◌≤◌, All, List, ◌∷◌, ◌++◌, ap, arith, get_or, length}
 use Rattle.std.proofs.Common.{length-append, min, refl, subst, sym, take}
 use Rattle.std.proofs.lemmas.List.{get_or-take, map_push, take_more}
@@ -13,9 +13,9 @@ use Rattle.nv_driver.specs.Layout.{most_bytes, pages_of_command}
 use Rattle.nv_driver.specs.BringingUp.{Write}
 use Rattle.nv_driver.specs.Passing.{BusTurn, TailWrite}
 use Rattle.nv_driver.specs.UnderWay.{Course, DoesNext, HasCollected, IsDue, IsKept, numbered_of, sent_in_window}
-use Rattle.nv_driver.specs.UnderWay.{serial_at, world_of}
+use Rattle.nv_driver.specs.UnderWay.{cid_at, world_of}
 use Rattle.nv_driver.specs.inner.Pace.{IsToldInTime}
-use Rattle.nv_driver.proofs.BatchLaws.{command_at, length-from_serial}
+use Rattle.nv_driver.proofs.BatchLaws.{command_at, length-from_cid}
 use Rattle.nv_driver.proofs.DataLaws.{most, shape_as}
 use Rattle.nv_driver.proofs.RequestLaws.{is_request}
 use Rattle.nv_driver.proofs.CommandPageLaws.{first_two, own_is, place_of_set}
@@ -40,7 +40,7 @@ use Rattle.nv_driver.proofs.SubmitLaws.{each_more}
 use Rattle.nv_driver.proofs.TurnLaws.{no_command}
 use Rattle.nv_driver.proofs.OnWayLaws as W
 
--- ---- what is known meanwhile
+-- ---- what holds meanwhile
 
 module _ {B : Type 0} {wrote : Write B} {rang : TailWrite B} {turned : BusTurn B} {start on : B} {r : Run}
     {bells turns : ℕ} {b : Batch} {bus : BusValue} {l : QueuePairFields} {now : ℕ} {bytes : List ℕ}
@@ -70,12 +70,12 @@ module _ {B : Type 0} {wrote : Write B} {rang : TailWrite B} {turned : BusTurn B
 
   -- request n is command n of the list with its command identifier
   pub command_of : (n : ℕ) (e : Command) → n < b.sent
-      → numbered (get_or u.course.sent n no_command) ≡ numbered_command (get_or r.commands n e) (serial_at r n)
+      → numbered (get_or u.course.sent n no_command) ≡ numbered_command (get_or r.commands n e) (cid_at r n)
   command_of n e below =
       sym (get_or-map numbered u.course.sent n no_command (numbered no_command) (omega (arith, u.sent)))
       ∙ ap (λ xs. get_or xs n (numbered no_command)) u.commands
       ∙ get_or-take b.sent (numbered_of r) n (numbered no_command) below
-      ∙ command_at r.pair.serial n r.commands (numbered no_command) e u.begun.laid.serial (omega (arith, u.some))
+      ∙ command_at r.pair.next_cid n r.commands (numbered no_command) e u.begun.laid.next_cid (omega (arith, u.some))
 
   -- the pages of the outstanding commands
   abbrev pub held : List ℕ
@@ -149,7 +149,7 @@ module _ {B : Type 0} {wrote : Write B} {rang : TailWrite B} {turned : BusTurn B
     (can : CanBeSent k) (sub : IsSentIn r.geometry k o l l' bytes mem now' tail) where
   -- the command as it was sent
   abbrev new_one : Sent
-  new_one = sent_at (place_in r.geometry (all_pages o)) (request_of k) l.serial sub.one.prp1 sub.one.prp2
+  new_one = sent_at (place_in r.geometry (all_pages o)) (request_of k) l.next_cid sub.one.prp1 sub.one.prp2
 
   -- it has the pages that were taken
   all_long : length (all_pages o) ≡ o.count
@@ -244,10 +244,10 @@ module _ {B : Type 0} {wrote : Write B} {rang : TailWrite B} {turned : BusTurn B
   next_numbered : b.sent < length r.commands → ((d : Command) → k ≡ get_or r.commands b.sent d)
       → numbered new_one ≡ get_or (numbered_of r) b.sent (numbered new_one)
   next_numbered below is =
-      ap (λ q. numbered_command q l.serial) (is k)
-      ∙ ap (λ (q : QueuePairFields). numbered_command (get_or r.commands b.sent k) q.serial) u.pair
-      ∙ ap (λ n. numbered_command (get_or r.commands b.sent k) (serial_at r n)) u.sent
-      ∙ sym (command_at r.pair.serial b.sent r.commands (numbered new_one) k u.begun.laid.serial below)
+      ap (λ q. numbered_command q l.next_cid) (is k)
+      ∙ ap (λ (q : QueuePairFields). numbered_command (get_or r.commands b.sent k) q.next_cid) u.pair
+      ∙ ap (λ n. numbered_command (get_or r.commands b.sent k) (cid_at r n)) u.sent
+      ∙ sym (command_at r.pair.next_cid b.sent r.commands (numbered new_one) k u.begun.laid.next_cid below)
 
   -- and its turn has come
   is_due : turns ≡ b.collected → IsToldInTime r b → b.sent < length r.commands
@@ -284,7 +284,7 @@ module _ {B : Type 0} {wrote : Write B} {rang : TailWrite B} {turned : BusTurn B
           commands = map_push numbered xs new_one ∙ ap (λ ys. ys ++ numbered new_one ∷ []) u.commands
               ∙ ap (λ y. take b.sent (numbered_of r) ++ y ∷ []) (next_numbered below is)
               ∙ sym (take_more (numbered_of r) b.sent (numbered new_one)
-              (omega (arith, below, length-from_serial r.pair.serial r.commands)));
+              (omega (arith, below, length-from_cid r.pair.next_cid r.commands)));
           kept = λ n d h. each_more (λ i y. IsKept r y) 0 xs new_one
               (λ i e from low. u.kept i e (omega (arith, u.sent))) kept_new n d (omega arith)
               (omega (arith, h, u.sent, more_sent));

@@ -23,8 +23,7 @@ pub use Rattle.nv_driver.specs.Schedule.{Turn, World, answer_awaited, answers_to
 pub use Rattle.nv_driver.specs.Schedule.{entry, number, numbered, own_pages, places, pointed, received_from, slot}
 pub use Rattle.nv_driver.specs.Schedule.{step_of, submit_ring}
 pub use Rattle.nv_driver.specs.Settled.{DriverValue, end_of}
-pub use Rattle.nv_driver.specs.Submitting.{RequestPlace, sent_at}
-pub use Rattle.nv_driver.specs.inner.Submitting.{place_from}
+pub use Rattle.nv_driver.specs.Submitting.{RequestPlace, place_in, sent_at}
 pub use Rattle.nv_driver.specs.UnderWay.{IsOnWay, IsUnderWay, Run, run_of, setting_of, way}
 pub use Rattle.nv_driver.specs.declared.batch.Batch.{Batch}
 pub use Rattle.nv_driver.specs.declared.geometry.Geometry.{Geometry}
@@ -43,7 +42,7 @@ pub use Rattle.nv_layout.specs.declared.sqe.Sqe.{Sqe}
 pub use Rattle.nv_model.proofs.LimitLaws.{limit_bounds}
 pub use Rattle.nv_model.specs.Conditions.{greatest_limit, limit_of}
 pub use Rattle.nv_model.specs.State.{State}
-pub use Rattle.nv_model.specs.Step.{next_serial}
+pub use Rattle.nv_model.specs.Step.{cid_after}
 pub use Rattle.nv_prp.proofs.PlaceLaws.{length-written_at}
 pub use Rattle.nv_prp.specs.Buffer.{IsApart, KeepsList}
 pub use Rattle.nv_prp.specs.Place.{AreDistinct}

@@ -38,9 +38,9 @@ abbrev pub HasEntryPages : DriverValue → Type 0
 HasEntryPages d =
     pages_of d.geometry (length d.pairs) + pages_of_entry d.geometry.page_size ≤ d.pages
 
--- a queue pair is where it was first placed; only its number and its serial change
+-- a queue pair is where it was first placed; only its number and its next command identifier change
 abbrev pub IsPlaced : Geometry → ℕ → QueuePair → Type 0
-IsPlaced g i l = l ≡ record (pair_of g i) { number = l.number; serial = l.serial }
+IsPlaced g i l = l ≡ record (pair_of g i) { number = l.number; next_cid = l.next_cid }
 
 -- the queue pairs are where they were placed, without outstanding commands, in a memory of whole pages
 pub record IsDriver (g : Geometry) (mem : PagedBytes) (pairs : List QueuePairFields) : Type 0 where
@@ -67,7 +67,7 @@ no_pair = record {
   cq = 0;
   depth = 0;
   number = 0;
-  serial = 0;
+  next_cid = 0;
   geometry = no_geometry;
   first_page = 0;
   page_count = 0;

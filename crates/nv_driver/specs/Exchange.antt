@@ -2,8 +2,8 @@
 use Rattle.std.specs.Prelude.{◌≡◌, ℕ, ◌+◌, ◌*◌, ◌%◌, ◌<◌, List, length}
 use Rattle.nv_queue.specs.Numbers.{kept_number, next}
 use Rattle.nv_queue.specs.Slots.{HoldsTags}
-use Rattle.nv_model.specs.Step.{next_serial}
-use Rattle.nv_model.specs.Ranges.{serial_count}
+use Rattle.nv_model.specs.Step.{cid_after}
+use Rattle.nv_model.specs.Ranges.{cid_count}
 use Rattle.nv_bus.specs.Bus.{BusValue, IsBus, bank_at}
 use Rattle.nv_driver.specs.Geometry.{IsGeometry}
 use Rattle.nv_driver.specs.QueuePair.{IsLaid, QueuePair, idle_bank}
@@ -31,9 +31,9 @@ pub record IsReady (g : Geometry) (b : BusValue) (c : ℕ) (l : QueuePairFields)
 
 -- the queue pair after a command
 abbrev pub after_one : QueuePair → QueuePair
-after_one l = record l { number = next l.depth l.number; serial = next_serial l.serial }
+after_one l = record l { number = next l.depth l.number; next_cid = cid_after l.next_cid }
 
 -- the queue pair after n commands
 abbrev pub after_some : ℕ → QueuePair → QueuePair
 after_some n l =
-    record l { number = kept_number l.depth (l.number + n); serial = (l.serial + n) % serial_count }
+    record l { number = kept_number l.depth (l.number + n); next_cid = (l.next_cid + n) % cid_count }

@@ -27,7 +27,7 @@ pub record HoldsEntry (page_size : ℕ) (l : QueuePair) (e : Sqe) (given mem : L
   pub prp1 : ℕ
   pub prp2 : ℕ
   pub places : List ℕ
-  pub entry : next_entry l mem ≡ record e { cid = l.serial; prp1 = prp1; prp2 = prp2 }
+  pub entry : next_entry l mem ≡ record e { cid = l.next_cid; prp1 = prp1; prp2 = prp2 }
   pub named : data_places page_size mem (next_entry l mem) (transfer_for e) ≡ Ok places
   pub sent : sent_from (transfer_for e) mem places ≡ sent_for (transfer_for e) given
 

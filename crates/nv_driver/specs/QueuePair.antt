@@ -4,7 +4,7 @@ use Rattle.nv_queue.specs.Numbers.{IsDepth}
 use Rattle.nv_register.specs.declared.register_bank.RegisterBank.{RegisterBank}
 use Rattle.nv_register.specs.declared.readiness.Readiness.TheVariants.{Ready}
 use Rattle.nv_register.specs.declared.rings.Rings.{Rings}
-use Rattle.nv_model.specs.Ranges.{serial_count}
+use Rattle.nv_model.specs.Ranges.{cid_count}
 use Rattle.nv_driver.specs.declared.geometry.Geometry.{Geometry}
 
 -- the addresses of its rings, the number of its next command, as the rings keep it, with its command
@@ -14,7 +14,7 @@ pub record QueuePair : Type 0 where
   pub cq : ℕ
   pub depth : ℕ
   pub number : ℕ
-  pub serial : ℕ
+  pub next_cid : ℕ
   pub geometry : Geometry
   pub first_page : ℕ
   pub page_count : ℕ
@@ -46,7 +46,7 @@ idle_bank mps page_size l = record {
 pub record IsLaid (page_size size : ℕ) (l : QueuePair) : Type 0 where
   pub deep : IsDepth l.depth
   pub number : l.number < 2 * l.depth
-  pub serial : l.serial < serial_count
+  pub next_cid : l.next_cid < cid_count
   pub rings : l.sq + 64 * l.depth ≤ l.cq
   pub pages : l.cq + 16 * l.depth ≤ l.first_page * page_size
   pub inside : (l.first_page + l.page_count) * page_size ≤ size

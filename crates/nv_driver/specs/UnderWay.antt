@@ -6,11 +6,11 @@ use Rattle.nv_command.specs.Command.{transfer_by}
 use Rattle.nv_command.specs.declared.command.Command.{Command}
 use Rattle.nv_register.specs.declared.register_bank.RegisterBank.{RegisterBank}
 use Rattle.nv_model.specs.Conditions.{limit_of}
-use Rattle.nv_model.specs.Ranges.{serial_count}
+use Rattle.nv_model.specs.Ranges.{cid_count}
 use Rattle.nv_model.specs.State.{State}
 use Rattle.nv_bus.specs.Bus.{BusValue, IsBus, bank_at}
 use Rattle.nv_bus.specs.Call.{length_of}
-use Rattle.nv_driver.specs.Batch.{from_serial}
+use Rattle.nv_driver.specs.Batch.{from_cid}
 use Rattle.nv_driver.specs.BringingUp.{Write}
 use Rattle.nv_driver.specs.Exchange.{IsReady}
 use Rattle.nv_driver.specs.Layout.{data_count, pages_of_command}
@@ -75,11 +75,11 @@ setting_of r =
 
 -- its commands under their command identifiers, and that of command n
 abbrev pub numbered_of : Run → List Numbered
-numbered_of r = from_serial r.pair.serial r.commands
+numbered_of r = from_cid r.pair.next_cid r.commands
 
 -- the command identifier of the run's command n
-abbrev pub serial_at : Run → ℕ → ℕ
-serial_at r n = (r.pair.serial + n) % serial_count
+abbrev pub cid_at : Run → ℕ → ℕ
+cid_at r n = (r.pair.next_cid + n) % cid_count
 
 -- ---- requests on their way
 
@@ -124,7 +124,7 @@ abbrev pub pair_after : Run → (sent collected told : ℕ) → Pages → QueueP
 pair_after r sent collected told pages = record {
   submission = submit_ring (setting_of r) sent collected;
   completion = collect_ring (setting_of r) collected told;
-  serial = serial_at r sent;
+  next_cid = cid_at r sent;
   geometry = r.pair.geometry;
   pages = pages;
 }

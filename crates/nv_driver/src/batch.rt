@@ -1,8 +1,6 @@
 //! A list of commands and their answers, with several commands outstanding.
 
-ghost use Rattle.std.specs.Prelude.{◌≡◌, ℕ, ◌+◌, ◌<◌, All, length, min};
-ghost use Rattle.std.specs.Prelude.{slice_set};
-ghost use Rattle.nv_bus.specs.Bus.{BusValue, IsBus, bank_at};
+ghost use Rattle.std.specs.Prelude.{◌≡◌, ◌+◌, ◌<◌, All, length, min};
 ghost use Rattle.nv_driver.specs.Batch.{answers_of, state_after};
 ghost use Rattle.nv_driver.specs.Exchange.{IsReady, after_some};
 ghost use Rattle.nv_driver.specs.inner.Exchange.{IsLeft, side};
@@ -155,9 +153,9 @@ pub(crate) fn exchange_all<B: Bus + Ringing, M: HostMemory>(
     requires can { All CanBeSent commands.now }
     requires len { length answers.old ≡ length commands.now }
     ensures answers { answers.new
-        ≡ answers_of ctrl (B.meaning bus.old).state pair.old.serial commands.now }
+        ≡ answers_of ctrl (B.meaning bus.old).state pair.old.next_cid commands.now }
     ensures state { (B.meaning bus.new).state
-        ≡ state_after ctrl (B.meaning bus.old).state pair.old.serial commands.now }
+        ≡ state_after ctrl (B.meaning bus.old).state pair.old.next_cid commands.now }
     ensures paced { IsPaced B.was_written B.was_rung B.was_turned begun.run begun.start bus.new
         (B.meaning bus.new) (M.bytes host.new.mem) }
     ensures left { IsLeft pair.old.geometry ctrl (length (M.bytes host.old.mem))

@@ -25,11 +25,10 @@ use crate::command_pages::CommandPages;
 use crate::enabling::{enable_all, reset};
 use crate::error::DriverError;
 use crate::geometry::Geometry;
-use crate::host_side::{HostSide, MOST_OUTSTANDING};
+use crate::host_side::{HostSide, MOST_ENTRY_PAGES, MOST_OUTSTANDING};
 use crate::passthrough::{Passed, exchange_entry};
 use crate::queue_pair::{QueuePair, new_pairs};
 use crate::ringing::Ringing;
-use crate::submitting::MOST_PAGES;
 use crate::zeroing::Zeroing;
 use nv_bus::{Bus, Told};
 use nv_command::Command;
@@ -133,7 +132,7 @@ impl Driver {
         let host = HostSide {
             mem,
             spans: Spans::new(),
-            pages: [0; MOST_PAGES],
+            pages: [0; MOST_ENTRY_PAGES],
             data: [0; 16384],
             taken: [CommandPages::NONE; MOST_OUTSTANDING],
         };
@@ -179,9 +178,9 @@ impl Driver {
         requires fits { CommandFits command.now }
         requires sends { IsSendable command.now }
         ensures answer { result ≡ answer_received command.now (step (B.meaning bus.old).state
-            ctrl command.now (pair_at self.old.pairs ctrl).serial).answer }
+            ctrl command.now (pair_at self.old.pairs ctrl).next_cid).answer }
         ensures state { (B.meaning bus.new).state ≡ (step (B.meaning bus.old).state
-            ctrl command.now (pair_at self.old.pairs ctrl).serial).state }
+            ctrl command.now (pair_at self.old.pairs ctrl).next_cid).state }
         ensures driver { self.new ≡ after_command self.old ctrl }
         ensures linked { IsLinked (B.meaning bus.new) self.new }
         ensures steps { Sends B.was_written B.was_rung B.was_turned self.old ctrl (command.now ∷ [])
@@ -210,9 +209,9 @@ impl Driver {
         requires sends { All IsSendable commands.now }
         requires len { length answers.old ≡ length commands.now }
         ensures answers { answers.new ≡ answers_of ctrl (B.meaning bus.old).state
-            (pair_at self.old.pairs ctrl).serial commands.now }
+            (pair_at self.old.pairs ctrl).next_cid commands.now }
         ensures state { (B.meaning bus.new).state ≡ state_after ctrl (B.meaning bus.old).state
-            (pair_at self.old.pairs ctrl).serial commands.now }
+            (pair_at self.old.pairs ctrl).next_cid commands.now }
         ensures driver { self.new ≡ after_commands self.old ctrl (length commands.now) }
         ensures linked { IsLinked (B.meaning bus.new) self.new }
         ensures steps { Sends B.was_written B.was_rung B.was_turned self.old ctrl commands.now
@@ -242,13 +241,13 @@ impl Driver {
         requires room { HasEntryPages self.old }
         requires fits { SqeFits entry.now }
         ensures answer { result ≡ told_by (entry_step (B.meaning bus.old).state ctrl
-            entry.now bytes.now (pair_at self.old.pairs ctrl).serial).answer }
+            entry.now bytes.now (pair_at self.old.pairs ctrl).next_cid).answer }
         ensures out { IsReceived (asked_in (B.meaning bus.old).state ctrl entry.now bytes.now)
             (entry_step (B.meaning bus.old).state ctrl
-            entry.now bytes.now (pair_at self.old.pairs ctrl).serial).answer out.new }
+            entry.now bytes.now (pair_at self.old.pairs ctrl).next_cid).answer out.new }
         ensures room { length out.new ≡ length out.old }
         ensures state { (B.meaning bus.new).state ≡ (entry_step (B.meaning bus.old).state ctrl
-            entry.now bytes.now (pair_at self.old.pairs ctrl).serial).state }
+            entry.now bytes.now (pair_at self.old.pairs ctrl).next_cid).state }
         ensures driver { self.new ≡ after_command self.old ctrl }
         ensures entries { HasEntryPages self.new }
         ensures linked { IsLinked (B.meaning bus.new) self.new }

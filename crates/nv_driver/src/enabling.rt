@@ -16,6 +16,7 @@ ghost use Rattle.nv_driver.specs.inner.Exchange.{IsLeft, KeepsBelow, side};
 ghost use Rattle.nv_driver.specs.QueuePair.{IsLaid, idle_bank, renewed_pair};
 ghost use Rattle.nv_driver.specs.Layout.{pair_of, pairs_of};
 ghost use Rattle.nv_driver.specs.Quiet.{IsQuiet, pair_value};
+ghost use Rattle.nv_driver.specs.declared.error.DriverError.TheVariants.{NoReady};
 ghost use Rattle.nv_driver.specs.inner.Registers.{with_queues};
 ghost use Rattle.nv_driver.specs.Registers.{idle_banks, mps_of};
 ghost use Rattle.nv_driver.specs.Settled.{IsSettled};
@@ -65,7 +66,7 @@ fn configure<B: AnyBus>(bus: &mut B, ctrl: u16, cc: u32, ready: bool) -> Result<
     ensures bus { B.is_lawful → IsBus (B.meaning bus.old) → IsBus (B.meaning bus.new) }
     ensures steps { MatchResult result
         (λ _. Configures B.was_written B.was_read ctrl cc ready bus.old bus.new)
-        (λ _. GivesUp B.was_written B.was_read ctrl cc ready bus.old bus.new) }
+        (λ e. (e ≡ NoReady) × GivesUp B.was_written B.was_read ctrl cc ready bus.old bus.new) }
 {
     bus.write(ctrl, offset::CC, cc);
     for _ in 0..READS {
@@ -127,7 +128,7 @@ fn enable<B: AnyBus + Zeroing, M: HostMemory>(
     ensures steps { MatchResult result
         (λ _. Enables B.was_written B.was_read B.was_zeroed geometry ctrl
         bus.old (M.bytes mem.old) bus.new (M.bytes mem.new))
-        (λ _. EndsUnready B.was_written B.was_read bus.new) }
+        (λ e. (e ≡ NoReady) × EndsUnready B.was_written B.was_read bus.new) }
 {
     configure(bus, ctrl, 0, false)?;
     bus.zero(&pair.completion, mem);
@@ -161,7 +162,7 @@ pub(crate) fn enable_all<B: AnyBus + Zeroing, M: HostMemory>(
     ensures steps { MatchResult result
         (λ _. EnablesFirst B.was_written B.was_read B.was_zeroed geometry
         (length (B.meaning bus.old).banks) bus.old (M.bytes mem.old) bus.new (M.bytes mem.new))
-        (λ _. EndsUnready B.was_written B.was_read bus.new) }
+        (λ e. (e ≡ NoReady) × EndsUnready B.was_written B.was_read bus.new) }
 {
     for ctrl in 0..bus.count() {
         enable(bus, ctrl, mem, &pairs[ctrl as usize], geometry)?;
@@ -190,7 +191,7 @@ pub(crate) fn reset<B: AnyBus + Zeroing, M: HostMemory>(
     ensures steps { MatchResult result
         (λ _. Restarts B.was_written B.was_read B.was_zeroed geometry ctrl
         bus.old (M.bytes mem.old) bus.new (M.bytes mem.new))
-        (λ _. EndsUnready B.was_written B.was_read bus.new) }
+        (λ e. (e ≡ NoReady) × EndsUnready B.was_written B.was_read bus.new) }
 {
     configure(bus, ctrl, 0, false)?;
     pair.renew(bus, mem);

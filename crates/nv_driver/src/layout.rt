@@ -1,6 +1,7 @@
 //! Where each controller's rings and pages lie in the host's memory.
 
 ghost use Rattle.std.specs.Prelude.{◌≡◌, ◌+◌, ◌*◌, ◌^◌, ◌<◌, ◌≤◌, if◌then◌else◌};
+ghost use Rattle.nv_model.specs.Conditions.{greatest_limit};
 ghost use Rattle.nv_driver.specs.Layout.{completion_pages, pages_of_entry, pair_of, pair_pages, pages_of};
 ghost use Rattle.nv_driver.specs.Layout.{data_count, most_bytes, pages_of_command, set_pages, submission_pages};
 
@@ -59,6 +60,18 @@ impl CheckedGeometry {
         u32::from(self.window) * (MOST_BYTES.div_ceil(self.page_size) + MORE_PAGES)
     }
 
+    /// Returns how many pages `len` bytes of data lie in.
+    pub(crate) fn pages_with(self, len: u32) -> u32
+        requires { len ≤ greatest_limit }
+        ensures pages { result ≡ data_count self len }
+        ensures entry { result + 2 ≤ pages_of_entry self.page_size }
+        ensures most { result + 2 ≤ 259 }
+        ensures command { len ≤ most_bytes
+            → (result + 2 ≤ pages_of_command self.page_size) × (result + 2 ≤ 7) }
+    {
+        (self.offset + len).div_ceil(self.page_size)
+    }
+
     /// Returns how many pages `len` bytes of a command's data lie in.
     pub(crate) fn data_count(self, len: u32) -> u32
         requires { len ≤ most_bytes }
@@ -66,7 +79,7 @@ impl CheckedGeometry {
         ensures few { result + 2 ≤ pages_of_command self.page_size }
         ensures seven { result + 2 ≤ 7 }
     {
-        (self.offset + len).div_ceil(self.page_size)
+        self.pages_with(len)
     }
 
     /// Returns how many pages one controller takes.

@@ -1,5 +1,6 @@
 //! Sends an entry unchanged.
 
+ghost use Rattle.std.specs.List.{range_with_len};
 ghost use Rattle.std.specs.Prelude.{◌≡◌, ◌+◌, ◌*◌, ◌<◌, ◌≤◌, ◌^◌, length};
 ghost use Rattle.nv_layout.specs.Sqe.{SqeFits};
 ghost use Rattle.nv_driver.specs.inner.Alone.{IsExchanged};
@@ -10,7 +11,7 @@ ghost use Rattle.nv_driver.specs.Passing.{Passes};
 ghost use Rattle.nv_driver.specs.Quiet.{pair_value};
 
 use crate::entry_data::receive;
-use crate::host_side::HostSide;
+use crate::host_side::{HostSide, MOST_ENTRY_PAGES};
 use crate::queue_pair::QueuePair;
 use crate::ringing::Ringing;
 use crate::submitting::{DataPlace, Outgoing, submit};
@@ -25,6 +26,18 @@ pub struct Passed<'a> {
     pub entry: &'a Sqe,
     pub bytes: &'a [u8],
     pub first_page: PageNo,
+}
+
+/// Puts consecutive numbers from the first one on into `pages`, and returns these.
+fn consecutive(pages: &mut [PageNo; MOST_ENTRY_PAGES], first: PageNo, count: usize) -> &[PageNo]
+    requires few { count ≤ 259 }
+    requires numbered { first + count ≤ 2 ^ 32 }
+    ensures { result.now ≡ range_with_len first count }
+{
+    for at in 0..count {
+        pages[at] = first + at as u32;
+    }
+    &pages[..count]
 }
 
 /// Sends an entry to a controller, unchanged except for its command identifier and data pointer,
@@ -63,7 +76,8 @@ pub(crate) fn exchange_entry<B: Bus + Ringing, M: HostMemory>(
     } = host;
     let request = Outgoing::of_entry(passed.entry, passed.bytes);
     let len = request.transfer.bytes() as u32;
-    let place = DataPlace::new(geometry, passed.first_page, len, pages);
+    let count = geometry.pages_with(len) as usize + 2;
+    let place = DataPlace::within(geometry, consecutive(pages, passed.first_page, count));
     let tail = submit(mem, pair, &place, &request, spans);
     bus.ring(ctrl, mem, tail);
     bus.turn(ctrl, mem, 1);

@@ -1,6 +1,6 @@
 //! The host's side of one controller: its rings and its free pages.
 
-ghost use Rattle.std.specs.Prelude.{◌≡◌, ◌+◌, ◌*◌, ◌<◌, ◌≤◌, ◌^◌, All, IfOk, false, length, map, replicate, true};
+ghost use Rattle.std.specs.Prelude.{◌≡◌, ◌+◌, ◌*◌, ◌<◌, ◌≤◌, All, IfOk, false, length, map, replicate, true};
 ghost use Rattle.nv_host.specs.Bytes.{with_bytes};
 ghost use Rattle.nv_queue.specs.Numbers.{slot_of};
 ghost use Rattle.nv_queue.specs.Rings.{collected_one, known_to};
@@ -26,7 +26,7 @@ pub struct QueuePair {
     pub submission: SubmitRing,
     pub completion: CompletionRing,
     /// The command identifier of the next command.
-    pub serial: u16,
+    pub next_cid: u16,
     geometry: CheckedGeometry,
     /// The pages that no outstanding command has.
     pub pages: PageSet,
@@ -48,7 +48,7 @@ impl QueuePair {
         Ok(QueuePair {
             submission: SubmitRing::new(place.sq, geometry.depth),
             completion: CompletionRing::new(place.cq, geometry.depth),
-            serial: 0,
+            next_cid: 0,
             geometry,
             pages,
         })

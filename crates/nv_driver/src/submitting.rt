@@ -1,19 +1,18 @@
 //! A request that is sent to a controller: its entry, its data, where these lie, and how it is
 //! submitted.
 
-ghost use Rattle.std.specs.Prelude.{◌≡◌, ◌+◌, ◌*◌, ◌<◌, ◌≤◌, ◌^◌, length};
+ghost use Rattle.std.specs.Prelude.{◌≡◌, ◌+◌, ◌*◌, ◌<◌, ◌≤◌, length};
 ghost use Rattle.nv_prp.specs.Buffer.{IsBuffer, KeepsOutsideList, StaysFor, buffer_places};
 ghost use Rattle.nv_prp.specs.Place.{written_at};
 ghost use Rattle.nv_prp.specs.Transfer.{data_pages, room, transfer};
 ghost use Rattle.nv_command.specs.Command.{bytes_from_host};
 ghost use Rattle.nv_bus.specs.Call.{HasRoom, length_of};
 ghost use Rattle.nv_model.specs.Conditions.{greatest_limit};
-ghost use Rattle.nv_driver.specs.Layout.{data_count};
 ghost use Rattle.nv_driver.specs.Request.{Asked, sent_for, transfer_for};
 ghost use Rattle.nv_driver.specs.Submitting.{place_in};
 ghost use Rattle.nv_driver.specs.inner.Submitting.{HasFreeSlot, IsPlaceFor, IsSubmittedAt};
 ghost use Rattle.nv_driver.specs.HostData.{sent_by};
-ghost use Rattle.nv_driver.specs.inner.Submitting.{place_from, request_as, request_place};
+ghost use Rattle.nv_driver.specs.inner.Submitting.{request_as, request_place};
 
 use crate::checked_geometry::CheckedGeometry;
 use crate::layout::MOST_ENTRY_BYTES;
@@ -21,7 +20,7 @@ use crate::queue_pair::QueuePair;
 use nv_command::{Command, Decoded, Transfer};
 use nv_host::{HostMemory, PageNo, Payload};
 use nv_layout::Sqe;
-use nv_model::SERIALS;
+use nv_model::CID_COUNT;
 use nv_prp::{Buffer, ListPlace, Spans, build, write_out};
 
 /// The data that the host sends with a request. It is made where it belongs.
@@ -109,10 +108,6 @@ impl<'a, 'b> Outgoing<'a, 'b> {
     }
 }
 
-/// The greatest number of pages of a request's data: 1,048,576 bytes that begin inside a page of
-/// 4,096.
-pub(crate) const MOST_PAGES: usize = 257;
-
 /// Where the data of a request lies, and where its list does if it has one.
 #[derive(Clone, Copy)]
 pub struct DataPlace<'a> {
@@ -136,35 +131,6 @@ impl<'a> DataPlace<'a> {
                 first: pages[0],
                 second: pages[1],
                 offset: in_list_page,
-            },
-        }
-    }
-
-    /// Returns the place of `len` bytes in consecutive pages from the first one on: two for a list,
-    /// and then those of the data, whose numbers are put into `pages`.
-    pub(crate) fn new(
-        geometry: CheckedGeometry,
-        first: PageNo,
-        len: u32,
-        pages: &'a mut [PageNo; MOST_PAGES],
-    ) -> DataPlace<'a>
-        requires limit { len ≤ greatest_limit }
-        requires numbered { first + data_count geometry len + 2 ≤ 2 ^ 32 }
-        ensures { request_place result ≡ place_from geometry first len }
-    {
-        let count = (geometry.offset + len).div_ceil(geometry.page_size) as usize;
-        for at in 0..count {
-            pages[at] = first + 2 + at as u32;
-        }
-        DataPlace {
-            buffer: Buffer {
-                pages: &pages[..count],
-                offset: geometry.offset,
-            },
-            list: ListPlace {
-                first,
-                second: first + 1,
-                offset: geometry.list_offset,
             },
         }
     }
@@ -241,10 +207,10 @@ pub(crate) fn submit<M: HostMemory>(
     let (prp1, prp2) = point_to(mem, place, len);
     write_sent(mem, &place.buffer, request, spans);
     let mut entry = request.entry;
-    entry.cid = pair.serial;
+    entry.cid = pair.next_cid;
     entry.prp1 = prp1;
     entry.prp2 = prp2;
     let tail = pair.submission.push(mem, &entry).unwrap();
-    pair.serial = (pair.serial + 1) % SERIALS;
+    pair.next_cid = (pair.next_cid + 1) % CID_COUNT;
     tail
 }

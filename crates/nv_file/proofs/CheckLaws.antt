@@ -4,7 +4,7 @@ use Rattle.std.proofs.Common.{Some, None, IfSome, Result, Ok, Err, refl, subst, 
 use Rattle.std.specs.Option.{option_map_or}
 use Rattle.nv_file.specs.declared.error.SubsystemError.{SubsystemError}
 use Rattle.nv_file.specs.declared.error.SubsystemError.TheVariants.{Memory}
-use Rattle.nv_file.specs.Check.{Check, check, checked, first_fault}
+use Rattle.nv_file.specs.Check.{Check, check, checked, first_error}
 use Rattle.nv_layout.specs.UnlessMemory.{IsUnlessMemory}
 use Rattle.nv_file.specs.inner.Reading.{IsCheckedUnlessMemory, IsToldFirst}
 
@@ -20,30 +20,30 @@ by_first true e r s = refl
 by_first false e r s = refl
 
 -- the first fault of two lists of checks is the one of the first list, or else the one of the second
-pub faults_append : (cs ds : List Check) → first_fault (cs ++ ds) ≡ or_else (first_fault cs) (first_fault ds)
-unfolding first_fault
+pub faults_append : (cs ds : List Check) → first_error (cs ++ ds) ≡ or_else (first_error cs) (first_error ds)
+unfolding first_error
 faults_append [] ds = refl
-faults_append (c ∷ cs) ds = rw (faults_append cs ds) (by_first c.holds c.fault (first_fault cs) (first_fault ds))
+faults_append (c ∷ cs) ds = rw (faults_append cs ds) (by_first c.holds c.fault (first_error cs) (first_error ds))
 
 -- an empty list of checks has no fault
-pub faults_none : first_fault [] ≡ None
-unfolding first_fault
+pub faults_none : first_error [] ≡ None
+unfolding first_error
 faults_none = refl
 
 -- a single check has its fault if it doesn't hold, and none if it does
-pub fault_of : (b : Bool) (e : SubsystemError) → first_fault (check b e) ≡ (if b then None else Some e)
-unfolding first_fault check
+pub fault_of : (b : Bool) (e : SubsystemError) → first_error (check b e) ≡ (if b then None else Some e)
+unfolding first_error check
 fault_of b e = refl
 
 -- the fault of the second of two lists, if the first one passes
-pub past : (cs ds : List Check) (o : Option SubsystemError) → first_fault cs ≡ None → first_fault ds ≡ o
-    → first_fault (cs ++ ds) ≡ o
-past cs ds o passes h = faults_append cs ds ∙ ap (λ f. or_else f (first_fault ds)) passes ∙ h
+pub past : (cs ds : List Check) (o : Option SubsystemError) → first_error cs ≡ None → first_error ds ≡ o
+    → first_error (cs ++ ds) ≡ o
+past cs ds o passes h = faults_append cs ds ∙ ap (λ f. or_else f (first_error ds)) passes ∙ h
 
 -- if the first of two lists of checks has a fault, both together have it
-pub fails_first : (cs ds : List Check) (e : SubsystemError) → first_fault cs ≡ Some e
-    → first_fault (cs ++ ds) ≡ Some e
-fails_first cs ds e fails = faults_append cs ds ∙ ap (λ f. or_else f (first_fault ds)) fails
+pub fails_first : (cs ds : List Check) (e : SubsystemError) → first_error cs ≡ Some e
+    → first_error (cs ++ ds) ≡ Some e
+fails_first cs ds e fails = faults_append cs ds ∙ ap (λ f. or_else f (first_error ds)) fails
 
 pub ruleset faults = (faults_append, faults_none, fault_of)
 
@@ -54,11 +54,11 @@ none_by None r x is told = refl
 none_by (Some e) r x is told = absurd (cc)
 
 pub none_told : {X : Type 0} (checks : List Check) (r : Result X SubsystemError) (x : X) → r ≡ Ok x
-    → IsToldFirst checks r → first_fault checks ≡ None
-none_told checks r x is told = none_by (first_fault checks) r x is told
+    → IsToldFirst checks r → first_error checks ≡ None
+none_told checks r x is told = none_by (first_error checks) r x is told
 
--- nothing is told if no check fails
-pub told_none : {X : Type 0} (checks : List Check) (r : Result X SubsystemError) → first_fault checks ≡ None
+-- there is no error if no check fails
+pub told_none : {X : Type 0} (checks : List Check) (r : Result X SubsystemError) → first_error checks ≡ None
     → IsToldFirst checks r
 told_none checks r none = subst (λ o. IfSome o (λ e. r ≡ Err e)) (sym none) tt
 

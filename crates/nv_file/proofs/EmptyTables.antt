@@ -5,20 +5,20 @@ use Rattle.nv_model.specs.Logs.{zero_smart}
 use Rattle.nv_file.specs.declared.error.SubsystemError.TheVariants.{Missing}
 use Rattle.nv_file.specs.declared.key.Key.{Key}
 use Rattle.nv_file.specs.declared.table_name.TableName.{TableName}
-use Rattle.nv_file.specs.Check.{check, first_fault}
+use Rattle.nv_file.specs.Check.{check, first_error}
 use Rattle.nv_file.specs.KeyChecks.{integer, integers_at, number_at, of_kind, optional_integer, optional_list}
 use Rattle.nv_file.specs.TableChecks.{counters_checks, counters_value, smart_checks, smart_value}
 use Rattle.nv_file.proofs.CheckLaws.{faults}
 
 -- in a table without members, an integer that must be there is missing
 pub nothing_there : (t : TableName) (k : Key) (low high : ℕ)
-    → first_fault (integer t k low high no_members) ≡ Some (Missing t k)
-unfolding integer first_fault check
+    → first_error (integer t k low high no_members) ≡ Some (Missing t k)
+unfolding integer first_error check
 nothing_there t k low high = refl
 
 -- a table without members is a health log without a fault
-pub no_smart_fault : first_fault (smart_checks no_members) ≡ None
-unfolding smart_checks counters_checks optional_integer optional_list of_kind integers_at first_fault check
+pub no_smart_fault : first_error (smart_checks no_members) ≡ None
+unfolding smart_checks counters_checks optional_integer optional_list of_kind integers_at first_error check
 no_smart_fault = refl
 
 -- the health log of a table without members is all zeros

@@ -1,4 +1,4 @@
--- The checks of one key whose value is known.
+-- The checks of one key with a given value.
 use Rattle.std.proofs.Common.{◌≡◌, ◌∙◌, ℕ, Bool, true, false, ◌&&◌, List, [], length, Option, Some, None, is_some}
 use Rattle.std.proofs.Common.{unwrap_or, nat_le, refl, sym, ap}
 use Rattle.toml.specs.Data.{Data, Members, get_member}
@@ -6,7 +6,7 @@ use Rattle.nv_file.specs.declared.error.SubsystemError.{SubsystemError}
 use Rattle.nv_file.specs.declared.error.SubsystemError.TheVariants.{Range}
 use Rattle.nv_file.specs.declared.key.Key.{Key}
 use Rattle.nv_file.specs.declared.table_name.TableName.{TableName}
-use Rattle.nv_file.specs.Check.{check, first_fault}
+use Rattle.nv_file.specs.Check.{check, first_error}
 use Rattle.nv_file.specs.KeyChecks.{as_tables, in_limits, of_kind, tables, tables_at}
 use Rattle.nv_file.specs.Names.{key_text}
 
@@ -14,69 +14,69 @@ use Rattle.nv_file.specs.Names.{key_text}
 
 -- a check for a value of a kind has no fault if there is one
 pub is_of_kind : {A : Type 0} (o : Option A) (x : A) (e : SubsystemError) → o ≡ Some x
-    → first_fault (check (is_some o) e) ≡ None
-unfolding first_fault check
+    → first_error (check (is_some o) e) ≡ None
+unfolding first_error check
 is_of_kind o x e h = rw h refl
 
 -- a check for a value of a kind has its fault if there is none
 pub is_not_of_kind : {A : Type 0} (o : Option A) (e : SubsystemError) → o ≡ None
-    → first_fault (check (is_some o) e) ≡ Some e
-unfolding first_fault check
+    → first_error (check (is_some o) e) ≡ Some e
+unfolding first_error check
 is_not_of_kind o e h = rw h refl
 
 -- if the check for a list passed, the list that was found, or else an empty one, is the list
 pub list_of_kind : {A : Type 0} (o : Option (List A)) (e : SubsystemError) (found : List A)
-    → first_fault (check (is_some o) e) ≡ None → found ≡ unwrap_or o [] → o ≡ Some found
-unfolding first_fault check
+    → first_error (check (is_some o) e) ≡ None → found ≡ unwrap_or o [] → o ≡ Some found
+unfolding first_error check
 list_of_kind (Some xs) e found passes is = ap (λ ys. Some ys) (sym is)
 list_of_kind None e found passes is = absurd (cc passes)
 
 -- ---- something is allowed, or isn't
 
 -- a check of limits has no fault if they are kept
-pub is_in_limits : (t : TableName) (k : Key) (b : Bool) → b ≡ true → first_fault (in_limits t k b) ≡ None
-unfolding first_fault check
+pub is_in_limits : (t : TableName) (k : Key) (b : Bool) → b ≡ true → first_error (in_limits t k b) ≡ None
+unfolding first_error check
 is_in_limits t k b h = rw h refl
 
 -- a check of limits has the fault Range if they aren't kept
 pub is_out_of_limits : (t : TableName) (k : Key) (b : Bool) → b ≡ false
-    → first_fault (in_limits t k b) ≡ Some (Range t k)
-unfolding first_fault check
+    → first_error (in_limits t k b) ≡ Some (Range t k)
+unfolding first_error check
 is_out_of_limits t k b h = rw h refl
 
 -- if a check of limits has no fault, they are kept
-pub was_in_limits : (t : TableName) (k : Key) (b : Bool) → first_fault (in_limits t k b) ≡ None → b ≡ true
-unfolding first_fault check
+pub was_in_limits : (t : TableName) (k : Key) (b : Bool) → first_error (in_limits t k b) ≡ None → b ≡ true
+unfolding first_error check
 was_in_limits t k true passes = refl
 was_in_limits t k false passes = absurd (cc passes)
 
 -- if a check of limits has a fault, they aren't kept
 pub was_out_of_limits : (t : TableName) (k : Key) (b : Bool) (e : SubsystemError)
-    → first_fault (in_limits t k b) ≡ Some e → b ≡ false
-unfolding first_fault check
+    → first_error (in_limits t k b) ≡ Some e → b ≡ false
+unfolding first_error check
 was_out_of_limits t k true e fails = absurd (cc fails)
 was_out_of_limits t k false e fails = refl
 
 -- if a check of limits fails with e, another check of the same key that fails also fails with e
 pub same_fault : (t : TableName) (k : Key) (a b : Bool) (e : SubsystemError)
-    → first_fault (in_limits t k a) ≡ Some e → b ≡ false → first_fault (in_limits t k b) ≡ Some e
+    → first_error (in_limits t k a) ≡ Some e → b ≡ false → first_error (in_limits t k b) ≡ Some e
 same_fault t k a b e fails h =
-    ap (λ x. first_fault (in_limits t k x)) (h ∙ sym (was_out_of_limits t k a e fails)) ∙ fails
+    ap (λ x. first_error (in_limits t k x)) (h ∙ sym (was_out_of_limits t k a e fails)) ∙ fails
 
 -- ---- a key has a list of tables
 
 -- for a key with a list of tables, only their number is left to check, and they are the tables at the key
 pub tables_there : (t : TableName) (k : Key) (most : ℕ) (m : Members) (d : Data) (found : List Members)
     → get_member (key_text k) m ≡ Some d → as_tables d ≡ Some found
-    → (first_fault (tables t k most m)
-    ≡ first_fault (in_limits t k (nat_le 1 (length found) && nat_le (length found) most)))
+    → (first_error (tables t k most m)
+    ≡ first_error (in_limits t k (nat_le 1 (length found) && nat_le (length found) most)))
     × (found ≡ tables_at k m)
-unfolding tables of_kind tables_at first_fault check
+unfolding tables of_kind tables_at first_error check
 tables_there t k most m d found there is = (rw there (rw is refl), rw there (rw is refl))
 
 -- ---- one of a list is there
 
 -- a check for an element that must be there has no fault if it is there
 pub is_there : {A : Type 0} (t : TableName) (k : Key) (o : Option A) (x : A) → o ≡ Some x
-    → (first_fault (in_limits t k (is_some o)) ≡ None) × (Some x ≡ o)
+    → (first_error (in_limits t k (is_some o)) ≡ None) × (Some x ≡ o)
 is_there t k o x h = (is_of_kind o x (Range t k) h, sym h)

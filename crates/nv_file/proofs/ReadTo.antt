@@ -9,7 +9,7 @@ use Rattle.toml.specs.View.{table_view}
 use Rattle.toml.specs.declared.value.Value.{Value}
 use Rattle.nv_file.specs.declared.error.SubsystemError.{SubsystemError}
 use Rattle.nv_file.specs.declared.error.SubsystemError.TheVariants.{Memory}
-use Rattle.nv_file.specs.Check.{Check, first_fault}
+use Rattle.nv_file.specs.Check.{Check, first_error}
 use Rattle.nv_file.specs.KeyChecks.{each}
 use Rattle.nv_file.specs.inner.SectionView.{tables_view}
 use Rattle.nv_file.proofs.CheckLaws.{or_else, faults_append, faults_none}
@@ -26,8 +26,8 @@ module _ {A : Type 0} (number_of : Members → ℕ) (checks : List ℕ → Membe
 
   -- no check of the tables before fails, and these are their values
   pub record IsReadTo (ts : List Place) (i : ℕ) (values : List A) : Type 0 where
-    pub rest : first_fault (each number_of checks (before ts i) (tables_view (drop i ts)))
-        ≡ first_fault (each number_of checks [] (tables_view ts))
+    pub rest : first_error (each number_of checks (before ts i) (tables_view (drop i ts)))
+        ≡ first_error (each number_of checks [] (tables_view ts))
     pub are : values ≡ map value (tables_view (take i ts))
 
   -- the numbers of the values of tables are the numbers of the tables
@@ -62,12 +62,12 @@ module _ {A : Type 0} (number_of : Members → ℕ) (checks : List ℕ → Membe
   -- a table without a fault is read, and its value is added
   pub read_more : (ts : List Place) (i : ℕ) (values : List A) (t : Place) (v : A) → IsReadTo ts i values
       → i < length ts → t ≡ get_or ts i t
-      → first_fault (checks (before ts i) (table_view t.now)) ≡ None
+      → first_error (checks (before ts i) (table_view t.now)) ≡ None
       → v ≡ value (table_view t.now) → IsReadTo ts (i + 1) (values ++ v ∷ [])
   read_more ts i values t v read h is passes same = record {
-    rest = sym (ap first_fault (at_index ts i t h is)
+    rest = sym (ap first_error (at_index ts i t h is)
         ∙ faults_append (checks (before ts i) (table_view t.now)) _
-        ∙ ap (λ f. or_else f (first_fault (each number_of checks (before ts (i + 1))
+        ∙ ap (λ f. or_else f (first_error (each number_of checks (before ts (i + 1))
         (tables_view (drop (i + 1) ts))))) passes) ∙ read.rest;
     are = rw (take_more ts i t h, ← is, map_push, map_push, same, read.are);
   }
@@ -75,24 +75,24 @@ module _ {A : Type 0} (number_of : Members → ℕ) (checks : List ℕ → Membe
   -- a fault of table i is the first fault of all tables
   pub read_fails : (ts : List Place) (i : ℕ) (values : List A) (t : Place) (e : SubsystemError)
       → IsReadTo ts i values → i < length ts → t ≡ get_or ts i t
-      → first_fault (checks (before ts i) (table_view t.now)) ≡ Some e
-      → first_fault (each number_of checks [] (tables_view ts)) ≡ Some e
+      → first_error (checks (before ts i) (table_view t.now)) ≡ Some e
+      → first_error (each number_of checks [] (tables_view ts)) ≡ Some e
   read_fails ts i values t e read h is fails =
-      sym read.rest ∙ ap first_fault (at_index ts i t h is)
+      sym read.rest ∙ ap first_error (at_index ts i t h is)
       ∙ faults_append (checks (before ts i) (table_view t.now)) _
-      ∙ ap (λ f. or_else f (first_fault (each number_of checks (before ts (i + 1))
+      ∙ ap (λ f. or_else f (first_error (each number_of checks (before ts (i + 1))
       (tables_view (drop (i + 1) ts))))) fails
 
   -- the same, unless memory ran out
   pub read_fails_unless_memory : (ts : List Place) (i : ℕ) (values : List A) (t : Place)
       (e : SubsystemError) → IsReadTo ts i values → i < length ts → t ≡ get_or ts i t
-      → (e ≡ Memory) ⊎ (first_fault (checks (before ts i) (table_view t.now)) ≡ Some e)
-      → (e ≡ Memory) ⊎ (first_fault (each number_of checks [] (tables_view ts)) ≡ Some e)
+      → (e ≡ Memory) ⊎ (first_error (checks (before ts i) (table_view t.now)) ≡ Some e)
+      → (e ≡ Memory) ⊎ (first_error (each number_of checks [] (tables_view ts)) ≡ Some e)
   read_fails_unless_memory ts i values t e read h is fails =
       elim fails [ inl memory ↦ inl memory | inr fault ↦ inr (read_fails ts i values t e read h is fault) ]
 
   -- when all tables were read, they have no fault, and the values are theirs
   pub read_all : (ts : List Place) (i : ℕ) (values : List A) → IsReadTo ts i values → length ts ≤ i
-      → (first_fault (each number_of checks [] (tables_view ts)) ≡ None) × (values ≡ map value (tables_view ts))
+      → (first_error (each number_of checks [] (tables_view ts)) ≡ None) × (values ≡ map value (tables_view ts))
   read_all ts i values read h =
       (sym read.rest ∙ rw (drop_all i ts h) faults_none, read.are ∙ rw (take_all i ts h))

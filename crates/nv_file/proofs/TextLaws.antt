@@ -1,5 +1,6 @@
 -- Bytes that aren't UTF-8, and texts of white space and comments alone.
-use Rattle.std.proofs.Common.{◌≡◌, ◌∙◌, ℕ, List, Bool, true, false, [], ◌++◌, Some, Err, ap, append_assoc, append-nil, sym}
+use Rattle.std.proofs.Common.{◌≡◌, ◌∙◌, ℕ, List, Bool, true, false, [], ◌++◌, Some, Err}
+use Rattle.std.proofs.Common.{ap, append_assoc, append-nil, sym}
 use Rattle.std.proofs.lemmas.Str.{IsUtf8-from_is_utf8, is_utf8-from_IsUtf8}
 use Rattle.std.specs.Option.{ok_or}
 use Rattle.std.specs.Str.{IsUtf8, is_utf8}

@@ -12,11 +12,11 @@ pub record Check : Type 0 where
 unfoldable pub check : Bool → SubsystemError → List Check
 check holds fault = record { holds = holds; fault = fault } ∷ []
 
--- the fault of the first check that fails, if one does
-unfoldable pub first_fault : List Check → Option SubsystemError
-first_fault [] = None
-first_fault (c ∷ checks) = if c.holds then first_fault checks else Some c.fault
+-- the error of the first check that fails, if one does
+unfoldable pub first_error : List Check → Option SubsystemError
+first_error [] = None
+first_error (c ∷ checks) = if c.holds then first_error checks else Some c.fault
 
 -- the first fault, or the value if no check fails
 abbrev pub checked : {A : Type 0} → List Check → A → Result A SubsystemError
-checked checks value = option_map_or (λ fault. Err fault) (first_fault checks) (Ok value)
+checked checks value = option_map_or (λ fault. Err fault) (first_error checks) (Ok value)

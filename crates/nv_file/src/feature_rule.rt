@@ -1,5 +1,6 @@
 //! The features of a controller of a file.
-ghost use Rattle.std.specs.Prelude.{◌≡◌, ◌≢◌, ◌==◌, ◌&&◌, ◌++◌, not, [], map, All, AllPairs, IfOk, Some, false, is_some};
+ghost use Rattle.std.specs.Prelude.{◌≡◌, ◌≢◌, ◌==◌, ◌&&◌, ◌++◌, not, [], map};
+ghost use Rattle.std.specs.Prelude.{All, AllPairs, IfOk, Some, false, is_some};
 ghost use Rattle.toml.specs.View.{table_view};
 ghost use Rattle.nv_layout.specs.Feature.{feature_of, is_value};
 ghost use Rattle.nv_file.specs.KeyChecks.{each, has_key, in_limits, is_among};

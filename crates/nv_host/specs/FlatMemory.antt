@@ -1,4 +1,4 @@
--- A page of a memory in one vector, which is lent to be changed. (An implementation of the trait can
+-- A page of a memory in one vector, which the memory lends to be changed. (An implementation of the trait can
 -- name only what is in specs.)
 use Rattle.std.proofs.Common.{◌≡◌, ℕ, ◌*◌, List, arith, length, length-append, length-drop, length-take, take}
 use Rattle.std.proofs.lemmas.List.{take_all}

@@ -1,4 +1,4 @@
-//! A host's memory in bytes that are lent.
+//! A host's memory in bytes that a caller lends.
 
 ghost use Rattle.std.specs.Prelude.{◌≡◌, ◌*◌, IsTrue, length};
 ghost use Rattle.std.specs.Borrow.{GName};
@@ -9,10 +9,10 @@ use crate::paged::PagedMemory;
 use crate::{OutOfMemoryRange, Payload};
 use std::marker::{Brand, PhantomData};
 
-/// By which reference bytes are lent. A function that makes a [`LentMemory`] has a parameter with
-/// this bound, takes the bytes as `&'a mut [u8]`, and returns what they are given back as. (So the
-/// reference keeps its name. One that is let go in between was lent anew, under another name.) Its
-/// caller passes `Brand`, and the proof of that call picks the reference.
+/// By which reference a caller lends bytes. A function that makes a [`LentMemory`] has a parameter
+/// with this bound, takes the bytes as `&'a mut [u8]`, and returns what it gives back. (So the
+/// reference keeps its name. A reference that is let go in between gets another name.) Its caller
+/// passes `Brand`, and the proof of that call picks the reference.
 pub trait Loan {
     ghost reference: { GName };
 }
@@ -21,14 +21,14 @@ impl Loan for Brand {
     ghost reference = { 0 };
 }
 
-/// Bytes that were lent to a [`LentMemory`].
+/// The bytes of a [`LentMemory`].
 #[derive(Drop)]
 pub struct LentBytes<'a> {
     pub bytes: &'a mut [u8],
 }
 
-/// A host's memory in bytes that are lent: what it holds at its end is what they are then. Since
-/// its type names the reference, no call can put other bytes in their place.
+/// A host's memory in bytes that a caller lends: what it holds at its end is what they are then.
+/// Since its type names the reference, no call can put other bytes in their place.
 #[derive(Drop)]
 pub struct LentMemory<'a, L: Loan> {
     page_size: u32,

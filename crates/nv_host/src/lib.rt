@@ -38,8 +38,8 @@ pub fn store_then_load()
     ensures length { LengthStays }
 {}
 
-/// States the laws of a page that is lent to be changed: its bytes are then those that were written
-/// there, and no other page changes. The call does nothing.
+/// States the laws of a page that a memory lends to be changed: its bytes are then those that were
+/// written there, and no other page changes. The call does nothing.
 pub fn page_mut_then_page()
     ensures page { PageIsWritten }
     ensures others { PagesStay }

@@ -14,7 +14,7 @@ use Rattle.std.proofs.Math.Seq.{drop-append_seam, take-append-add, take-append_s
 use Rattle.byteorder.specs.Endian.{little_bytes, little_from, little_number}
 use Rattle.byteorder.specs.Numbers.{length-bytes_low_first, little_from-take}
 use Rattle.nv_layout.specs.Parts.{Part, bytes_of, number, number_at, numbers, numbers_at, part}
-use Rattle.nv_layout.specs.Parts.{place_of, placed, text, text_at, width_of, zeros}
+use Rattle.nv_layout.specs.Parts.{start_of, placed, text, text_at, width_of, zeros}
 use Rattle.nv_layout.specs.Bits.{at_bits}
 
 -- zeros n has n elements
@@ -58,10 +58,10 @@ length_over : (b c : List ℕ) (at width : ℕ) → length c ≡ width → at + 
 length_over b c at width e h = grind (arith, common_steps)
 
 -- bytes with a field written within them have as many bytes as before
-pub length-placed : (b : List ℕ) (p : Part) → IsSized p → place_of p + width_of p ≤ length b
+pub length-placed : (b : List ℕ) (p : Part) → IsSized p → start_of p + width_of p ≤ length b
     → length (placed b p) ≡ length b
 unfolding placed
-length-placed b p s h = length_over b (bytes_of p) (place_of p) (width_of p) (length-bytes_of p s) h
+length-placed b p s h = length_over b (bytes_of p) (start_of p) (width_of p) (length-bytes_of p s) h
 
 -- the `width` bytes at `at` are the bytes that were put there
 read_over : (b c d : List ℕ) (at width : ℕ) → length c ≡ width → at ≤ length b
@@ -74,11 +74,11 @@ read_over b c d at width e h =
     ∙ take-append_seam c d
 
 -- a field that was written has its bytes at its place
-pub text_at-placed : (b : List ℕ) (p : Part) → IsSized p → place_of p ≤ length b
-    → text_at (place_of p) (width_of p) (placed b p) ≡ bytes_of p
+pub text_at-placed : (b : List ℕ) (p : Part) → IsSized p → start_of p ≤ length b
+    → text_at (start_of p) (width_of p) (placed b p) ≡ bytes_of p
 unfolding placed text_at
 text_at-placed b p s h =
-    read_over b (bytes_of p) (drop (width_of p) (drop (place_of p) b)) (place_of p) (width_of p)
+    read_over b (bytes_of p) (drop (width_of p) (drop (start_of p) b)) (start_of p) (width_of p)
     (length-bytes_of p s) h
 
 -- the first n of the first k elements are the first n elements, if n is at most k
@@ -102,11 +102,11 @@ read_before b rest end at n h k =
     ∙ take_fewer (end - at) n (drop at b) (omega arith)
 
 -- writing a field doesn't change the bytes before it
-pub text_at-placed_before : (b : List ℕ) (p : Part) (at n : ℕ) → at + n ≤ place_of p
-    → place_of p ≤ length b → text_at at n (placed b p) ≡ text_at at n b
+pub text_at-placed_before : (b : List ℕ) (p : Part) (at n : ℕ) → at + n ≤ start_of p
+    → start_of p ≤ length b → text_at at n (placed b p) ≡ text_at at n b
 unfolding placed text_at
 text_at-placed_before b p at n h k =
-    read_before b (bytes_of p ++ drop (width_of p) (drop (place_of p) b)) (place_of p) at n h k
+    read_before b (bytes_of p ++ drop (width_of p) (drop (start_of p) b)) (start_of p) at n h k
 
 -- setting one byte writes a field of one byte
 pub byte_placed : (b : List ℕ) (at x : ℕ) → at < length b → x < 256 → set b at x

@@ -10,7 +10,7 @@ use Rattle.byteorder.specs.Numbers.{length-bytes_low_first, little_from-take}
 use Rattle.byteorder.specs.Numbers.{little_number-reads_back}
 use Rattle.nv_layout.specs.inner.Parts.{Fits, Holds, is_table}
 use Rattle.nv_layout.specs.Parts.{Part, bytes_of, laid_out, number, number_at, numbers, numbers_at}
-use Rattle.nv_layout.specs.Parts.{place_of, placed, text, text_at, width_of, zeros}
+use Rattle.nv_layout.specs.Parts.{start_of, placed, text, text_at, width_of, zeros}
 use Rattle.nv_layout.proofs.PartLaws.{IsSized, length-placed, length_zeros, text_at-placed}
 use Rattle.nv_layout.proofs.PartLaws.{text_at-placed_before, times_suc}
 
@@ -24,8 +24,8 @@ both_true a b rest h = (grind (arith, h), grind (arith, h))
 table_end : (from size : ℕ) (ps : List Part) → is_table from size ps ≡ true → from ≤ size
 table_end from size [] t = grind (arith, t)
 table_end from size (p ∷ ps) t =
-    let split = both_true from (place_of p) _ t in
-    let later = table_end (place_of p + width_of p) size ps split.1 in
+    let split = both_true from (start_of p) _ t in
+    let later = table_end (start_of p + width_of p) size ps split.1 in
     omega (arith, split.0)
 
 -- bytes over which all fields of a table are written have as many bytes as before
@@ -33,9 +33,9 @@ length-fold_placed : (b : List ℕ) (from size : ℕ) (ps : List Part) → is_ta
     → AllByRecursion IsSized ps → length b ≡ size → length (fold placed b ps) ≡ size
 length-fold_placed b from size [] t s e = e
 length-fold_placed b from size (p ∷ ps) t s e =
-    let split = both_true from (place_of p) _ t in
-    let later = table_end (place_of p + width_of p) size ps split.1 in
-    length-fold_placed (placed b p) (place_of p + width_of p) size ps split.1 s.1
+    let split = both_true from (start_of p) _ t in
+    let later = table_end (start_of p + width_of p) size ps split.1 in
+    length-fold_placed (placed b p) (start_of p + width_of p) size ps split.1 s.1
     (length-placed b p s.0 (omega (arith, later)) ∙ e)
 
 -- a record has as many bytes as its size
@@ -50,29 +50,29 @@ before_table : (b : List ℕ) (from size : ℕ) (ps : List Part) → is_table fr
     → text_at at n (fold placed b ps) ≡ text_at at n b
 before_table b from size [] t s e at n h = refl
 before_table b from size (p ∷ ps) t s e at n h =
-    let split = both_true from (place_of p) _ t in
-    let later = table_end (place_of p + width_of p) size ps split.1 in
+    let split = both_true from (start_of p) _ t in
+    let later = table_end (start_of p + width_of p) size ps split.1 in
     let same = length-placed b p s.0 (omega (arith, later)) in
-    before_table (placed b p) (place_of p + width_of p) size ps split.1 s.1 (same ∙ e) at n
+    before_table (placed b p) (start_of p + width_of p) size ps split.1 s.1 (same ∙ e) at n
     (omega (arith, split.0))
     ∙ text_at-placed_before b p at n (omega (arith, split.0)) (omega (arith, later))
 
 -- the bytes have the field's bytes at its place
 abbrev Stands : List ℕ → Part → Type 0
-Stands b p = text_at (place_of p) (width_of p) b ≡ bytes_of p
+Stands b p = text_at (start_of p) (width_of p) b ≡ bytes_of p
 
 -- after all fields of a table are written, the bytes have each of them at its place
 all_stand : (b : List ℕ) (from size : ℕ) (ps : List Part) → is_table from size ps ≡ true
     → AllByRecursion IsSized ps → length b ≡ size → AllByRecursion (Stands (fold placed b ps)) ps
 all_stand b from size [] t s e = tt
 all_stand b from size (p ∷ ps) t s e =
-    let split = both_true from (place_of p) _ t in
-    let later = table_end (place_of p + width_of p) size ps split.1 in
+    let split = both_true from (start_of p) _ t in
+    let later = table_end (start_of p + width_of p) size ps split.1 in
     let same = length-placed b p s.0 (omega (arith, later)) in
-    let here = before_table (placed b p) (place_of p + width_of p) size ps split.1 s.1 (same
-    ∙ e) (place_of p) (width_of p) (omega arith)
+    let here = before_table (placed b p) (start_of p + width_of p) size ps split.1 s.1 (same
+    ∙ e) (start_of p) (width_of p) (omega arith)
     ∙ text_at-placed b p s.0 (omega (arith, later)) in
-    (here, all_stand (placed b p) (place_of p + width_of p) size ps split.1 s.1 (same ∙ e))
+    (here, all_stand (placed b p) (start_of p + width_of p) size ps split.1 s.1 (same ∙ e))
 
 -- ---- values
 

@@ -11,10 +11,10 @@ pub data Part : Type 0 where
   text : ℕ → ℕ → List ℕ → Part
 
 -- the offset of a field's first byte
-abbrev pub place_of : Part → ℕ
-place_of (number at width x) = at
-place_of (numbers at width count xs) = at
-place_of (text at width bytes) = at
+abbrev pub start_of : Part → ℕ
+start_of (number at width x) = at
+start_of (numbers at width count xs) = at
+start_of (text at width bytes) = at
 
 -- how many bytes a field has
 abbrev pub width_of : Part → ℕ
@@ -31,7 +31,7 @@ bytes_of (text at width bytes) = bytes
 -- the bytes with a field written over them
 unfoldable pub placed : List ℕ → Part → List ℕ
 placed bytes p =
-    take (place_of p) bytes ++ (bytes_of p ++ drop (width_of p) (drop (place_of p) bytes))
+    take (start_of p) bytes ++ (bytes_of p ++ drop (width_of p) (drop (start_of p) bytes))
 
 -- a list of n zeros
 unfoldable pub zeros : ℕ → List ℕ

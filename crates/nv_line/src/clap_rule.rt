@@ -91,13 +91,13 @@ impl<'a> MadeCommands<'a> {
 
     /// Returns the index of a command word's command, which is made if it doesn't exist yet.
     #[tactic(auto, using(crate::proofs::ClapRules::made_more))]
-    fn place_of(&mut self, verb: Verb) -> Result<usize, AllocError>
-        ensures place { IfOk result (λ n. n < length self.new) }
+    fn index_of(&mut self, verb: Verb) -> Result<usize, AllocError>
+        ensures index { IfOk result (λ n. n < length self.new) }
         ensures verb { IfOk result (λ n. (d : Verb) → get_or self.new n d ≡ verb) }
     {
-        for place in 0..self.made.len() {
-            if self.made[place].verb == verb {
-                return Ok(place);
+        for index in 0..self.made.len() {
+            if self.made[index].verb == verb {
+                return Ok(index);
             }
         }
         let command = clap_command(self.alloc, verb)?;
@@ -115,8 +115,8 @@ impl<'a> MadeCommands<'a> {
         ensures { IsUnlessMemory LineFault.Memory (λ m. rows_of (found_of m)) result
             (rows_of_words verb (map (λ w. w.now) words.entry.now)) }
     {
-        let place = self.place_of(verb)?;
-        match self.made[place].command.try_get_matches_from_mut(words) {
+        let index = self.index_of(verb)?;
+        match self.made[index].command.try_get_matches_from_mut(words) {
             Ok(matches) => Ok(matches),
             Err(error) => match error.kind() {
                 ErrorKind::OutOfMemory => Err(LineFault::Memory),

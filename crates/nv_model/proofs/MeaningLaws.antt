@@ -1,4 +1,4 @@
--- The meaning of each command is sound: the one table of what is known about refusals, replies and effects.
+-- The meaning of each command is sound: the one table of facts about refusals, replies and effects.
 use Rattle.std.proofs.Common.{◌≡◌, ℕ, ◌≤◌, ◌==◌, arith, refl, subst, List, [], Bool, true, false}
 use Rattle.std.proofs.Common.{Option, Some, None, is_some, length}
 use Rattle.std.specs.FinMap as map_of

@@ -36,7 +36,7 @@ is_extended flbas = not (bit_and flbas 0x10 == 0)
 abbrev pub bytes_needed : State → NewNamespace → ℕ
 bytes_needed s w = option_map_or (λ f. w.nsze * 2 ^ f.lbads) (format_at s (format_index w.flbas)) 0
 
--- too little capacity: the bytes that are needed are told, up to the greatest number of 64 bits
+-- too little capacity: the refusal reports the bytes needed, up to the greatest number of 64 bits
 abbrev pub capacity_refusal : ℕ → Refusal
 capacity_refusal bytes = record {
   status = status_of_code NamespaceInsufficientCapacity;

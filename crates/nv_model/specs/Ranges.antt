@@ -22,8 +22,8 @@ abbrev pub greatest_integer : ℕ
 greatest_integer = 9223372036854775807
 
 -- the number of command identifiers that a host uses in turn, 0 to FFFEh: FFFFh stands for no command
-abbrev pub serial_count : ℕ
-serial_count = 65535
+abbrev pub cid_count : ℕ
+cid_count = 65535
 
 -- a text of 1 to `most` bytes, each from 20h to 7Eh, of which the last is not a space
 abbrev pub is_text : ℕ → List ℕ → Bool

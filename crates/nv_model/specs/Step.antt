@@ -12,7 +12,7 @@ use Rattle.nv_command.specs.Form.{namespace_of}
 use Rattle.nv_command.specs.declared.command.Command.{Command}
 use Rattle.nv_command.specs.declared.reply.Reply.{Reply}
 use Rattle.nv_model.specs.Meaning.{effect_of, refusal_of, reply_of}
-use Rattle.nv_model.specs.Ranges.{greatest_count, serial_count}
+use Rattle.nv_model.specs.Ranges.{greatest_count, cid_count}
 
 -- the log entry of a refusal: it names no field of the command and no logical block, and here it
 -- has no phase tag
@@ -93,5 +93,5 @@ abbrev pub step : State → ℕ → Command → ℕ → Step
 step s c k cid = step_by (refusal_of s c k) s c k cid
 
 -- the next command identifier: FFFFh is never used
-abbrev pub next_serial : ℕ → ℕ
-next_serial serial = (serial + 1) % serial_count
+abbrev pub cid_after : ℕ → ℕ
+cid_after cid = (cid + 1) % cid_count

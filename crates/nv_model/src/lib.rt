@@ -5,7 +5,7 @@
 
 ghost use Rattle.std.specs.Prelude.{◌≡◌, ◌-◌, ◌^◌};
 ghost use Rattle.nv_model.specs.declared.integer.TheConstants.{GREATEST_INTEGER};
-ghost use Rattle.nv_model.specs.declared.origin.TheConstants.{SERIALS};
+ghost use Rattle.nv_model.specs.declared.origin.TheConstants.{CID_COUNT};
 
 mod defaults;
 mod feature_rule;
@@ -24,12 +24,12 @@ pub use format::Format;
 pub use identity::{Identity, IdentityNumbers};
 pub use integer::GREATEST_INTEGER;
 pub use namespace::Namespace;
-pub use origin::{Origin, SERIALS};
+pub use origin::{CID_COUNT, Origin};
 pub use smart_base::{Counters, SmartBase};
 
 /// States a law: FFFFh is no command identifier, and the integers of TOML have 64 bits with a sign.
 /// The call does nothing.
 pub fn constants()
-    ensures serials { SERIALS ≡ 0xffff }
+    ensures identifiers { CID_COUNT ≡ 0xffff }
     ensures greatest_integer { GREATEST_INTEGER ≡ 2 ^ 63 - 1 }
 {}

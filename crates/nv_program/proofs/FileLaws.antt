@@ -1,5 +1,6 @@
 -- The results for the bytes of a file.
-use Rattle.std.proofs.Common.{◌≡◌, ◌⊎◌, ◌∙◌, ℕ, ◌+◌, ◌<◌, ◌≤◌, List, [], ◌++◌, length, take, drop, ap, subst, sym, arith}
+use Rattle.std.proofs.Common.{◌≡◌, ◌⊎◌, ◌∙◌, ℕ, ◌+◌, ◌<◌, ◌≤◌, List, [], ◌++◌, length, take, drop}
+use Rattle.std.proofs.Common.{ap, subst, sym, arith}
 use Rattle.std.proofs.Common.{append-nil, inl, inr, length-append, length-take, refl, take-append-drop}
 use Rattle.std.proofs.Common.{Option, None, Some, IfSome, Result, Ok, Err}
 use Rattle.std.proofs.lemmas.List.{drop_all}

@@ -1,5 +1,5 @@
 -- The subsystem and the geometry that a program's arguments ask for.
-use Rattle.std.specs.Prelude.{◌≡◌, ◌≢◌, ◌<◌, ◌≤◌, ◌⊎◌, ℕ, List, length, Bool, true, false, Option, None, Some}
+use Rattle.std.specs.Prelude.{◌≡◌, ◌≢◌, ◌<◌, ◌≤◌, ◌⊎◌, ℕ, List, length, Option, None, Some}
 use Rattle.std.specs.Prelude.{Result, Ok, Err}
 use Rattle.std.specs.declared.io.ErrorKind.{ErrorKind}
 use Rattle.std.specs.declared.io.ErrorKind.TheVariants.{OutOfMemory}
@@ -8,16 +8,15 @@ use Rattle.nv_arguments.specs.declared.fault.ArgumentsFault.{ArgumentsFault}
 use Rattle.nv_driver.specs.declared.geometry.Geometry.{Geometry}
 use Rattle.nv_file.specs.Demo.{demo_text}
 use Rattle.nv_model.specs.State.{State}
-use Rattle.nv_program.specs.Stops.{of_arguments}
+use Rattle.nv_program.specs.Stops.{of_arguments, unless_memory}
 use Rattle.nv_program.specs.declared.stop.Stop.{Stop}
 use Rattle.nv_program.specs.declared.stop.Stop.TheVariants as stop
 use Rattle.nv_subsystem.specs.FromFile.{subsystem}
 
--- a stop because of the arguments themselves, or because there was no memory
-abbrev pub is_of_arguments : Stop → Bool
-is_of_arguments stop.Arguments = true
-is_of_arguments stop.Memory = true
-is_of_arguments _ = false
+-- the arguments can't be read: `refused` says that reading them failed with this kind of error, which is
+-- reported as lack of memory or as a refusal of the arguments
+abbrev pub IsRefusal : (ErrorKind → Type 0) → Stop → Type 0
+IsRefusal refused why = (kind : ErrorKind) × refused kind × (why ≡ unless_memory kind stop.Arguments)
 
 -- the greatest length of a subsystem file in bytes
 abbrev pub most_bytes : ℕ

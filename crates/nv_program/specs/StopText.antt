@@ -1,4 +1,4 @@
--- How it is told why a program stops.
+-- How a program says why it stops.
 use Rattle.std.specs.Prelude.{ℕ, List, ◌++◌, codes}
 use Rattle.nv_arguments.specs.FaultText as arguments
 use Rattle.nv_arguments.specs.declared.fault.ArgumentsFault.TheVariants.{Refused}

@@ -1,17 +1,18 @@
 //! Reads what the arguments of a program ask for.
 
-ghost use Rattle.std.specs.Prelude.{IfErr, IfOk, IsTrue, map, option_map};
+ghost use Rattle.std.specs.Prelude.{IfErr, IfOk, map, option_map};
+ghost use Rattle.std.specs.String.{string_bytes};
 ghost use Rattle.nv_arguments.specs.Arguments.{arguments_of};
 ghost use Rattle.nv_model.specs.WellFormed.{IsWellFormed};
-ghost use Rattle.nv_program.specs.Asked.{IsAsked, IsSubsystemAt, IsSubsystemOf, is_of_arguments};
+ghost use Rattle.nv_program.specs.Asked.{IsAsked, IsRefusal, IsSubsystemAt, IsSubsystemOf};
 
 use crate::files::NamedFiles;
 use crate::stop::Stop;
+use crate::words::GivenWords;
 use nv_arguments::Arguments;
 use nv_script::Geometry;
 use nv_subsystem::{DEMO, Subsystem};
 use std::alloc::Global;
-use std::env;
 
 /// The greatest length of a subsystem file, in bytes.
 const MOST_BYTES: u64 = 1_048_576;
@@ -49,12 +50,12 @@ fn subsystem_at<F: NamedFiles>(
 }
 
 /// Returns the arguments of the program, of which the first is its name.
-pub fn words_given(rt: &HostRuntime) -> Result<Vec<String>, Stop>
-    ensures { IfErr result (λ why. IsTrue (is_of_arguments why)) }
+pub fn words_given<R: GivenWords + AllocGlobal>(rt: &R) -> Result<Vec<String>, Stop>
+    ensures words { IfOk result (λ words. R.gave rt.now (map string_bytes words.items)) }
+    ensures failure { IfErr result (λ why. IsRefusal (R.refused rt.now) why) }
 {
-    let arguments = env::args(rt).map_err(|error| Stop::of_fault(error, Stop::Arguments))?;
-    let words = arguments.collect(rt.alloc())?;
-    Ok(words)
+    rt.words(rt.alloc())
+        .map_err(|error| Stop::of_fault(error, Stop::Arguments))
 }
 
 /// Returns the subsystem and the geometry that the arguments ask for, of which the first is the

@@ -5,8 +5,10 @@ mod asking;
 mod ending;
 mod files;
 mod stop;
+mod words;
 
 pub use asking::{asked, words_given};
 pub use ending::exit_code;
 pub use files::NamedFiles;
 pub use stop::{Stop, status_of};
+pub use words::GivenWords;

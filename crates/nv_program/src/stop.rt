@@ -39,7 +39,7 @@ pub enum Stop {
     Memory,
 }
 
-// What the arguments or a run come to is told in their own words.
+// The arguments and a run report in their own words what they come to.
 impl fmt::Display for Stop {
     ghost use Rattle.std.specs.Prelude.{Some};
     ghost use Rattle.nv_program.specs.StopText.{stop_text};

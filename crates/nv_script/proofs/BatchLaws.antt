@@ -16,10 +16,10 @@ use Rattle.nv_driver.specs.QueuePair.{QueuePair}
 use Rattle.nv_driver.specs.Answer.{Answer}
 use Rattle.nv_driver.specs.Settled.{DriverValue}
 use Rattle.nv_model.specs.State.{State}
-use Rattle.nv_model.specs.Step.{next_serial, step}
-use Rattle.nv_model.specs.Ranges.{serial_count}
+use Rattle.nv_model.specs.Step.{cid_after, step}
+use Rattle.nv_model.specs.Ranges.{cid_count}
 use Rattle.nv_script.specs.Outcomes.{order_of}
-use Rattle.nv_driver.specs.inner.Linked.{serials_of}
+use Rattle.nv_driver.specs.inner.Linked.{next_cids_of}
 use Rattle.nv_script.specs.inner.Listing.{IsHandedOn, IsListed, ListLeaves, Standing, answers_to}
 use Rattle.nv_script.specs.inner.Listing.{asked, asked_all}
 use Rattle.nv_script.specs.Orders.{namespace_orders}
@@ -76,18 +76,18 @@ module _ (c : ℕ) where
 
   -- the command identifier that is due at controller c
   abbrev due : Standing → ℕ
-  due w = get_or w.serials c 0
+  due w = get_or w.next_cids c 0
 
   -- after a command for a namespace, the next command identifier is due
-  next_due : (w : Standing) (n : ℕ) → c < length w.serials → due (next w n) ≡ next_serial (due w)
-  next_due w n h = get_or-set_same w.serials c (next_serial (due w)) 0 h
+  next_due : (w : Standing) (n : ℕ) → c < length w.next_cids → due (next w n) ≡ cid_after (due w)
+  next_due w n h = get_or-set_same w.next_cids c (cid_after (due w)) 0 h
 
   -- a command for a namespace doesn't change how many controllers there are
-  still : (w : Standing) (n : ℕ) → c < length w.serials → c < length (next w n).serials
-  still w n h = omega (arith, length-set w.serials c (next_serial (due w)))
+  still : (w : Standing) (n : ℕ) → c < length w.next_cids → c < length (next w n).next_cids
+  still w n h = omega (arith, length-set w.next_cids c (cid_after (due w)))
 
   -- the commands for several namespaces leave the same state as one command after another
-  states : (w : Standing) (ns : List ℕ) → c < length w.serials
+  states : (w : Standing) (ns : List ℕ) → c < length w.next_cids
       → (all_after w ns).state ≡ state_after c w.state (due w) (map IdentifyNamespace ns)
   states w [] h = refl
   states w (n ∷ ns) h =
@@ -95,7 +95,7 @@ module _ (c : ℕ) where
       ∙ ap (λ x. state_after c (next w n).state x (map IdentifyNamespace ns)) (next_due w n h)
 
   -- the commands for several namespaces get the same answers as one command after another
-  answers : (w : Standing) (ns : List ℕ) → c < length w.serials
+  answers : (w : Standing) (ns : List ℕ) → c < length w.next_cids
       → answers_to w (namespace_orders c ns) ≡ answers_of c w.state (due w) (map IdentifyNamespace ns)
   answers w [] h = refl
   answers w (n ∷ ns) h =
@@ -104,41 +104,42 @@ module _ (c : ℕ) where
       ∙ ap (λ x. answers_of c (next w n).state x (map IdentifyNamespace ns)) (next_due w n h))
 
   -- the commands for several namespaces use up as many command identifiers of controller c, and none of another one
-  serials : (w : Standing) (n : ℕ) (ns : List ℕ) → c < length w.serials
-      → (all_after w (n ∷ ns)).serials ≡ set w.serials c ((due w + length (n ∷ ns)) % serial_count)
-  serials w n [] h = refl
-  serials w n (m ∷ ns) h =
+  next_cids : (w : Standing) (n : ℕ) (ns : List ℕ) → c < length w.next_cids
+      → (all_after w (n ∷ ns)).next_cids ≡ set w.next_cids c ((due w + length (n ∷ ns)) % cid_count)
+  next_cids w n [] h = refl
+  next_cids w n (m ∷ ns) h =
       let sum : due w + 1 + length (m ∷ ns) ≡ due w + length (n ∷ m ∷ ns) = omega arith in
-      serials (next w n) m ns (still w n h)
-      ∙ set-set w.serials c (next_serial (due w)) ((due (next w n) + length (m ∷ ns)) % serial_count)
-      ∙ ap (λ x. set w.serials c ((x + length (m ∷ ns)) % serial_count)) (next_due w n h)
-      ∙ ap (set w.serials c) (mod-add-mod (due w + 1) serial_count (length (m ∷ ns)) ∙ ap (λ x. x % serial_count) sum)
+      next_cids (next w n) m ns (still w n h)
+      ∙ set-set w.next_cids c (cid_after (due w)) ((due (next w n) + length (m ∷ ns)) % cid_count)
+      ∙ ap (λ x. set w.next_cids c ((x + length (m ∷ ns)) % cid_count)) (next_due w n h)
+      ∙ ap (set w.next_cids c) (mod-add-mod (due w + 1) cid_count (length (m ∷ ns)) ∙ ap (λ x. x % cid_count) sum)
 
 -- ---- the driver's batch
 
 -- the command identifier that is due at a queue pair
-abbrev serial_at : QueuePair → ℕ
-serial_at l = l.serial
+abbrev cid_at : QueuePair → ℕ
+cid_at l = l.next_cid
 
 -- there are as many answers as commands
-length_answers : (c : ℕ) (s : State) (serial : ℕ) (ks : List Command) → length (answers_of c s serial ks) ≡ length ks
-length_answers c s serial [] = refl
-length_answers c s serial (k ∷ ks) = ap suc (length_answers c (step s c k serial).state (next_serial serial) ks)
+length_answers : (c : ℕ) (s : State) (next_cid : ℕ) (ks : List Command)
+    → length (answers_of c s next_cid ks) ≡ length ks
+length_answers c s next_cid [] = refl
+length_answers c s next_cid (k ∷ ks) = ap suc (length_answers c (step s c k next_cid).state (cid_after next_cid) ks)
 
 module _ (w : Standing) (c : ℕ) (s : State) (d : DriverValue) (listing : Listing)
-    (is : IsListed w s (serials_of d) listing) (below : c < length d.pairs)
+    (is : IsListed w s (next_cids_of d) listing) (below : c < length d.pairs)
     (ns : List ℕ) (ks : List Command) (are : ks ≡ map IdentifyNamespace ns) where
   -- the command identifier that is due at controller c's queue pair
   abbrev now_due : ℕ
-  now_due = (pair_at d.pairs c).serial
+  now_due = (pair_at d.pairs c).next_cid
 
   -- the queue pair and the standing agree on the command identifier that is due
   is_due : now_due ≡ due c w
-  is_due = sym (get_or-map serial_at d.pairs c no_pair 0 below) ∙ ap (λ xs. get_or xs c 0) is.next
+  is_due = sym (get_or-map cid_at d.pairs c no_pair 0 below) ∙ ap (λ xs. get_or xs c 0) is.next
 
   -- controller c is one of the subsystem
-  known : c < length w.serials
-  known = omega (arith, ap length is.next, length-map d.pairs serial_at)
+  known : c < length w.next_cids
+  known = omega (arith, ap length is.next, length-map d.pairs cid_at)
 
   -- there are as many commands as NSIDs
   many : length ks ≡ length ns
@@ -151,21 +152,21 @@ module _ (w : Standing) (c : ℕ) (s : State) (d : DriverValue) (listing : Listi
       ∙ ap (state_after c w.state (due c w)) are
       ∙ sym (states c w ns known)
 
-  -- the serials after a batch with at least one NSID are the serials after its commands
-  some_serials : (ns : List ℕ) → 0 < length ns
-      → set w.serials c ((due c w + length ns) % serial_count) ≡ (all_after c w ns).serials
-  some_serials [] h = absurd (omega arith)
-  some_serials (n ∷ ns) h = sym (serials c w n ns known)
+  -- the command identifiers after a batch with at least one NSID are those after its commands
+  some_cids : (ns : List ℕ) → 0 < length ns
+      → set w.next_cids c ((due c w + length ns) % cid_count) ≡ (all_after c w ns).next_cids
+  some_cids [] h = absurd (omega arith)
+  some_cids (n ∷ ns) h = sym (next_cids c w n ns known)
 
   -- a batch leaves the command identifiers that the commands for its namespaces leave
-  pub batch_serials : (after : DriverValue) → 0 < length ns → after ≡ after_commands d c (length ks)
-      → serials_of after ≡ (all_after c w ns).serials
-  batch_serials after some e =
-      ap serials_of e ∙ map-set serial_at d.pairs c (after_some (length ks) (pair_at d.pairs c))
-      ∙ ap (λ xs. set xs c ((now_due + length ks) % serial_count)) is.next
-      ∙ ap (λ x. set w.serials c ((x + length ks) % serial_count)) is_due
-      ∙ ap (λ x. set w.serials c ((due c w + x) % serial_count)) many
-      ∙ some_serials ns some
+  pub batch_cids : (after : DriverValue) → 0 < length ns → after ≡ after_commands d c (length ks)
+      → next_cids_of after ≡ (all_after c w ns).next_cids
+  batch_cids after some e =
+      ap next_cids_of e ∙ map-set cid_at d.pairs c (after_some (length ks) (pair_at d.pairs c))
+      ∙ ap (λ xs. set xs c ((now_due + length ks) % cid_count)) is.next
+      ∙ ap (λ x. set w.next_cids c ((x + length ks) % cid_count)) is_due
+      ∙ ap (λ x. set w.next_cids c ((due c w + x) % cid_count)) many
+      ∙ some_cids ns some
 
   -- the first answers, one for each NSID, are the answers to the commands for the namespaces
   pub batch_answers : (given rest : List Answer) → given ≡ answers_of c s now_due ks
@@ -186,10 +187,10 @@ module _ (w : Standing) (c : ℕ) (s : State) (d : DriverValue) (listing : Listi
       → 0 < length ns → now ≡ state_after c s now_due ks → after ≡ after_commands d c (length ks)
       → given ≡ answers_to w (namespace_orders c ns)
       → OnOk r (told ≡ listing_of listing (map (order_of c) ks) given) → IfErr r (λ stop. IsHandedOn stop given)
-      → ListLeaves r w (namespace_orders c ns) now (serials_of after) told
+      → ListLeaves r w (namespace_orders c ns) now (next_cids_of after) told
   batch_leaves (Ok x) now after told given some state driver a e refused = record {
     subsystem = batch_state now state;
-    next = batch_serials after some driver;
+    next = batch_cids after some driver;
     listed = e
         ∙ ap (λ l. listing_of l (map (order_of c) ks) given) is.listed
         ∙ ap (λ os. listing_of w.listing os given) (ap (map (order_of c)) are ∙ orders_are c ns)
@@ -199,6 +200,6 @@ module _ (w : Standing) (c : ℕ) (s : State) (d : DriverValue) (listing : Listi
   batch_leaves (Err (stop.Refused status)) now after told given some state driver a e refused =
       subst (λ xs. Contains xs (Err status)) a refused
   batch_leaves (Err stop.Memory) now after told given some state driver a e refused =
-      begun_all w (namespace_orders c ns) now (serials_of after) (batch_state now state)
-      (batch_serials after some driver)
+      begun_all w (namespace_orders c ns) now (next_cids_of after) (batch_state now state)
+      (batch_cids after some driver)
   batch_leaves (Err stop.NoReady) now after told given some state driver a e refused = absurd refused

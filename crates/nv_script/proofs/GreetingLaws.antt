@@ -18,7 +18,7 @@ use Rattle.nv_model.specs.State.{State}
 use Rattle.nv_model.specs.Step.{step}
 use Rattle.nv_script.specs.Outcomes.{Send}
 use Rattle.nv_script.specs.Outcomes.{Exchange, Order, exchange_of, exchange_with, order_of}
-use Rattle.nv_driver.specs.inner.Linked.{serials_of}
+use Rattle.nv_driver.specs.inner.Linked.{next_cids_of}
 use Rattle.nv_script.specs.inner.Listing.{IsHandedOn, IsListed, ListLeaves, Standing, answers_to}
 use Rattle.nv_script.specs.inner.Listing.{asked, nsids_told}
 use Rattle.nv_script.specs.Orders.{namespace_orders, orders_of_controller}
@@ -32,56 +32,56 @@ use Rattle.nv_script.proofs.LookupLaws.{asked_alike, sends}
 -- one command
 module _ (w : Standing) (b new : BusValue) (d after : DriverValue) (listing : Listing) (c : ℕ) (k : Command)
     (answer : Answer)
-    (is : IsListed w b.state (serials_of d) listing) (below : c < length d.pairs)
-    (a : answer ≡ answer_received k (step b.state c k (pair_at d.pairs c).serial).answer)
-    (s : new.state ≡ (step b.state c k (pair_at d.pairs c).serial).state) (e : after ≡ after_command d c) where
+    (is : IsListed w b.state (next_cids_of d) listing) (below : c < length d.pairs)
+    (a : answer ≡ answer_received k (step b.state c k (pair_at d.pairs c).next_cid).answer)
+    (s : new.state ≡ (step b.state c k (pair_at d.pairs c).next_cid).state) (e : after ≡ after_command d c) where
   -- the order that sends this command to controller c
   abbrev o : Order
   o = order_of c k
 
   -- what the driver did with the command is the exchange of the order
-  sent_there : exchange_with answer new.state (serials_of after) ≡ exchange_of w.state w.serials o
+  sent_there : exchange_with answer new.state (next_cids_of after) ≡ exchange_of w.state w.next_cids o
   sent_there =
-      sent b new d after c k answer below a s e ∙ ap (λ (x : State). exchange_of x (serials_of d) o) is.subsystem
+      sent b new d after c k answer below a s e ∙ ap (λ (x : State). exchange_of x (next_cids_of d) o) is.subsystem
       ∙ ap (λ (x : List ℕ). exchange_of w.state x o) is.next
 
   -- after the answer was listed, the standing is the one after the order
   told_there : (now : Listing) → now ≡ listing_told c listing (Send k) answer
-      → IsListed (asked w o) new.state (serials_of after) now
+      → IsListed (asked w o) new.state (next_cids_of after) now
   told_there now t = record {
     subsystem = ap (λ (x : Exchange). x.state) sent_there;
-    next = ap (λ (x : Exchange). x.serials) sent_there;
+    next = ap (λ (x : Exchange). x.next_cids) sent_there;
     listed = t ∙ ap (λ l. listing_told c l (Send k) answer) is.listed
         ∙ ap (λ (x : Exchange). listing_told c w.listing (Send k) x.answer) sent_there;
   }
 
   -- if the command was refused, or memory was, a stop is right for these orders
   pub stopped_there : (A : Type 0) (e : NoText) (later : List Order) (now : Listing) → IsHandedOn e (answer ∷ [])
-      → ListLeaves {A = A} (Err e) w (o ∷ later) new.state (serials_of after) now
+      → ListLeaves {A = A} (Err e) w (o ∷ later) new.state (next_cids_of after) now
   stopped_there A (stop.Refused status) later now h =
-      Contains-append_left ((exchange_of w.state w.serials o).answer ∷ []) (answers_to (asked w o) later) (Err status)
+      Contains-append_left ((exchange_of w.state w.next_cids o).answer ∷ []) (answers_to (asked w o) later) (Err status)
       (subst (λ x. Contains (x ∷ []) (Err status)) (ap (λ (x : Exchange). x.answer) sent_there) h)
   stopped_there A stop.Memory later now h = record {
     done = o ∷ [];
     later = later;
     split = refl;
     subsystem = ap (λ (x : Exchange). x.state) sent_there;
-    next = ap (λ (x : Exchange). x.serials) sent_there;
+    next = ap (λ (x : Exchange). x.next_cids) sent_there;
   }
   stopped_there A stop.NoReady later now h = absurd h
 
 -- both commands
 module _ (w : Standing) (c : ℕ) (b mid last : BusValue) (d second after : DriverValue) (listing told : Listing)
     (first then : Answer)
-    (is : IsListed w b.state (serials_of d) listing) (below : c < length d.pairs)
+    (is : IsListed w b.state (next_cids_of d) listing) (below : c < length d.pairs)
     (a1 : first
-    ≡ answer_received IdentifyController (step b.state c IdentifyController (pair_at d.pairs c).serial).answer)
-    (s1 : mid.state ≡ (step b.state c IdentifyController (pair_at d.pairs c).serial).state)
+    ≡ answer_received IdentifyController (step b.state c IdentifyController (pair_at d.pairs c).next_cid).answer)
+    (s1 : mid.state ≡ (step b.state c IdentifyController (pair_at d.pairs c).next_cid).state)
     (e1 : second ≡ after_command d c)
     (t : told ≡ listing_told c listing (Send IdentifyController) first)
     (a2 : then
-    ≡ answer_received (ActiveList 0) (step mid.state c (ActiveList 0) (pair_at second.pairs c).serial).answer)
-    (s2 : last.state ≡ (step mid.state c (ActiveList 0) (pair_at second.pairs c).serial).state)
+    ≡ answer_received (ActiveList 0) (step mid.state c (ActiveList 0) (pair_at second.pairs c).next_cid).answer)
+    (s2 : last.state ≡ (step mid.state c (ActiveList 0) (pair_at second.pairs c).next_cid).state)
     (e2 : after ≡ after_command second c) where
   -- the standing after the first command
   abbrev one : Standing
@@ -92,7 +92,7 @@ module _ (w : Standing) (c : ℕ) (b mid last : BusValue) (d second after : Driv
   greeted = asked one (order_of c (ActiveList 0))
 
   -- the standing after the first command has the state, the command identifiers and the listing that it leaves
-  is_one : IsListed one mid.state (serials_of second) told
+  is_one : IsListed one mid.state (next_cids_of second) told
   is_one = told_there w b mid d second listing c IdentifyController first is below a1 s1 e1 told t
 
   -- the controller still has a queue pair after the first command
@@ -100,7 +100,7 @@ module _ (w : Standing) (c : ℕ) (b mid last : BusValue) (d second after : Driv
   known = still_known d second c e1 below
 
   -- the standing after both commands has the state, the command identifiers and the listing that they leave
-  pub greeted_listed : IsListed greeted last.state (serials_of after) told
+  pub greeted_listed : IsListed greeted last.state (next_cids_of after) told
   greeted_listed = told_there one mid last second after told c (ActiveList 0) then is_one known a2 s2 e2 told refl
 
   -- the orders of a controller are these two commands and then the commands for the NSIDs in the second answer

@@ -11,7 +11,7 @@ use Rattle.nv_script.specs.Orders.{orders_of}
 use Rattle.nv_script.specs.Outcomes.{outcome_of}
 use Rattle.nv_line.specs.Line.{reading}
 use Rattle.nv_script.specs.Results.{LineResult, Progress, line_result, request_result, result_at, said_at}
-use Rattle.nv_driver.specs.inner.Linked.{serials_of}
+use Rattle.nv_driver.specs.inner.Linked.{next_cids_of}
 use Rattle.nv_script.specs.declared.ends.RunEnd.{RunEnd}
 use Rattle.nv_script.specs.declared.ends.RunEnd.TheVariants.{OutWrite}
 use Rattle.nv_script.specs.declared.session.Session.{Session}
@@ -33,9 +33,9 @@ took_same a b c x e h = subst (λ t. Appends a t x) (sym e) h
 module _ {A : Type 0} (p : Progress) (text : List ℕ) (lr : LineResult) (k : ℕ) (old : Left) (new : State)
     (session : Session)
     (same : result_at p text ≡ lr) (held : Holds old p.output p.messages p.state) (reached : new ≡ lr.state)
-    (next : serials_of session.driver ≡ lr.serials)
+    (next : next_cids_of session.driver ≡ lr.next_cids)
     (number : session.number ≡ p.number + 1) (status : session.status ≡ unwrap_or lr.status p.status)
-    (all : lr.state ≡ state_amid p.state p.serials (said_at p text) k) where
+    (all : lr.state ≡ state_amid p.state p.next_cids (said_at p text) k) where
   -- a line whose message was reported leaves what the result of the report says
   pub message_leaves : (r : Result A RunEnd) (messages : Option (List ℕ)) (failed : Bool) → lr.output ≡ []
       → ReportLeaves r lr.message old.messages messages failed
@@ -49,7 +49,7 @@ module _ {A : Type 0} (p : Progress) (text : List ℕ) (lr : LineResult) (k : �
           (Appends-at old.messages messages _ _ (sym (ap (λ (x : LineResult). x.message) same)) h.0);
       reached = reached ∙ sym (ap (λ (x : LineResult). x.state) same);
     };
-    next = next ∙ sym (ap (λ (x : LineResult). x.serials) same);
+    next = next ∙ sym (ap (λ (x : LineResult). x.next_cids) same);
     number = number;
     status = status ∙ ap (λ (x : LineResult). unwrap_or x.status p.status) (sym same);
   }
@@ -89,7 +89,7 @@ module _ {A : Type 0} (p : Progress) (text : List ℕ) (lr : LineResult) (k : �
           (ap (λ (x : LineResult). x.message) same ∙ none) held.took_messages;
       reached = reached ∙ sym (ap (λ (x : LineResult). x.state) same);
     };
-    next = next ∙ sym (ap (λ (x : LineResult). x.serials) same);
+    next = next ∙ sym (ap (λ (x : LineResult). x.next_cids) same);
     number = number;
     status = status ∙ ap (λ (x : LineResult). unwrap_or x.status p.status) (sym same);
   }
@@ -123,46 +123,46 @@ said_here p text s controllers said es ec e = ap (λ (x : State). reading text (
     ∙ ap (reading text) (sym ec) ∙ e
 
 -- the result of a line with a request is the result of the request for the outcome of its orders
-pub result_asked : (p : Progress) (text : List ℕ) (r : Request) (s : State) (serials : List ℕ) (n : ℕ)
-    → said_at p text ≡ Ok (line.Request r) → s ≡ p.state → serials ≡ p.serials → n ≡ p.number
-    → result_at p text ≡ request_result (n + 1) s r (outcome_of s serials (orders_of s r.query))
-result_asked p text r s serials n e es er en =
-    ap (λ (x : Said). line_result p.state p.serials (p.number + 1) x) e
-    ∙ ap (λ (x : State). request_result (p.number + 1) x r (outcome_of x p.serials (orders_of x r.query))) (sym es)
+pub result_asked : (p : Progress) (text : List ℕ) (r : Request) (s : State) (next_cids : List ℕ) (n : ℕ)
+    → said_at p text ≡ Ok (line.Request r) → s ≡ p.state → next_cids ≡ p.next_cids → n ≡ p.number
+    → result_at p text ≡ request_result (n + 1) s r (outcome_of s next_cids (orders_of s r.query))
+result_asked p text r s next_cids n e es er en =
+    ap (λ (x : Said). line_result p.state p.next_cids (p.number + 1) x) e
+    ∙ ap (λ (x : State). request_result (p.number + 1) x r (outcome_of x p.next_cids (orders_of x r.query))) (sym es)
     ∙ ap (λ (x : List ℕ). request_result (p.number + 1) s r (outcome_of s x (orders_of s r.query))) (sym er)
-    ∙ ap (λ (x : ℕ). request_result (x + 1) s r (outcome_of s serials (orders_of s r.query))) (sym en)
+    ∙ ap (λ (x : ℕ). request_result (x + 1) s r (outcome_of s next_cids (orders_of s r.query))) (sym en)
 
 -- the result of a line with a fault is the result of the fault
-pub result_fault : (p : Progress) (text : List ℕ) (f : LineFault) (s : State) (serials : List ℕ) (n : ℕ)
-    → said_at p text ≡ Err f → s ≡ p.state → serials ≡ p.serials → n ≡ p.number
-    → result_at p text ≡ line_result s serials (n + 1) (Err f)
-result_fault p text f s serials n e es er en =
-    ap (λ (x : Said). line_result p.state p.serials (p.number + 1) x) e
-    ∙ ap (λ (x : State). line_result x p.serials (p.number + 1) (Err f)) (sym es)
+pub result_fault : (p : Progress) (text : List ℕ) (f : LineFault) (s : State) (next_cids : List ℕ) (n : ℕ)
+    → said_at p text ≡ Err f → s ≡ p.state → next_cids ≡ p.next_cids → n ≡ p.number
+    → result_at p text ≡ line_result s next_cids (n + 1) (Err f)
+result_fault p text f s next_cids n e es er en =
+    ap (λ (x : Said). line_result p.state p.next_cids (p.number + 1) x) e
+    ∙ ap (λ (x : State). line_result x p.next_cids (p.number + 1) (Err f)) (sym es)
     ∙ ap (λ (x : List ℕ). line_result s x (p.number + 1) (Err f)) (sym er)
-    ∙ ap (λ (x : ℕ). line_result s serials (x + 1) (Err f)) (sym en)
+    ∙ ap (λ (x : ℕ). line_result s next_cids (x + 1) (Err f)) (sym en)
 
 -- after none of a line's orders, the state is the one before the line
-pub amid-zero : (s : State) (serials : List ℕ) (said : Said) → state_amid s serials said 0 ≡ s
-amid-zero s serials (Ok line.Skipped) = refl
-amid-zero s serials (Ok (line.Request r)) = refl
-amid-zero s serials (Err f) = refl
+pub amid-zero : (s : State) (next_cids : List ℕ) (said : Said) → state_amid s next_cids said 0 ≡ s
+amid-zero s next_cids (Ok line.Skipped) = refl
+amid-zero s next_cids (Ok (line.Request r)) = refl
+amid-zero s next_cids (Err f) = refl
 
 -- the state after the first k orders of a line's request is the one amid the line
-pub amid-some : (p : Progress) (text : List ℕ) (r : Request) (s : State) (serials : List ℕ) (k : ℕ)
-    → said_at p text ≡ Ok (line.Request r) → s ≡ p.state → serials ≡ p.serials
-    → (outcome_of s serials (take k (orders_of s r.query))).state ≡ state_amid p.state p.serials (said_at p text) k
-amid-some p text r s serials k e es er =
-    ap (λ (x : State). (outcome_of x serials (take k (orders_of x r.query))).state) es
+pub amid-some : (p : Progress) (text : List ℕ) (r : Request) (s : State) (next_cids : List ℕ) (k : ℕ)
+    → said_at p text ≡ Ok (line.Request r) → s ≡ p.state → next_cids ≡ p.next_cids
+    → (outcome_of s next_cids (take k (orders_of s r.query))).state ≡ state_amid p.state p.next_cids (said_at p text) k
+amid-some p text r s next_cids k e es er =
+    ap (λ (x : State). (outcome_of x next_cids (take k (orders_of x r.query))).state) es
     ∙ ap (λ (x : List ℕ). (outcome_of p.state x (take k (orders_of p.state r.query))).state) er
-    ∙ ap (λ (x : Said). state_amid p.state p.serials x k) (sym e)
+    ∙ ap (λ (x : Said). state_amid p.state p.next_cids x k) (sym e)
 
 -- the state after all orders of a line's request is the one amid the line after all of them
-pub amid-all : (p : Progress) (text : List ℕ) (r : Request) (s : State) (serials : List ℕ)
-    → said_at p text ≡ Ok (line.Request r) → s ≡ p.state → serials ≡ p.serials
-    → (outcome_of s serials (orders_of s r.query)).state
-    ≡ state_amid p.state p.serials (said_at p text) (length (orders_of s r.query))
-amid-all p text r s serials e es er =
-    ap (λ os. (outcome_of s serials os).state)
+pub amid-all : (p : Progress) (text : List ℕ) (r : Request) (s : State) (next_cids : List ℕ)
+    → said_at p text ≡ Ok (line.Request r) → s ≡ p.state → next_cids ≡ p.next_cids
+    → (outcome_of s next_cids (orders_of s r.query)).state
+    ≡ state_amid p.state p.next_cids (said_at p text) (length (orders_of s r.query))
+amid-all p text r s next_cids e es er =
+    ap (λ os. (outcome_of s next_cids os).state)
     (sym (take_all (length (orders_of s r.query)) (orders_of s r.query) (omega arith)))
-    ∙ amid-some p text r s serials (length (orders_of s r.query)) e es er
+    ∙ amid-some p text r s next_cids (length (orders_of s r.query)) e es er

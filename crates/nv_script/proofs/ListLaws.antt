@@ -19,13 +19,13 @@ use Rattle.nv_script.specs.declared.performing.NoText.TheVariants as stop
 
 -- before the first command
 abbrev pub first_standing : State → List ℕ → Standing
-first_standing s serials = record { state = s; serials = serials; listing = no_listing }
+first_standing s next_cids = record { state = s; next_cids = next_cids; listing = no_listing }
 
 -- if all orders were executed, they were begun
-pub begun_all : (w : Standing) (orders : List Order) (s : State) (serials : List ℕ) → s ≡ (asked_all w orders).state
-    → serials ≡ (asked_all w orders).serials
-    → AreBegun w orders s serials
-begun_all w orders s serials state next =
+pub begun_all : (w : Standing) (orders : List Order) (s : State) (next_cids : List ℕ) → s ≡ (asked_all w orders).state
+    → next_cids ≡ (asked_all w orders).next_cids
+    → AreBegun w orders s next_cids
+begun_all w orders s next_cids state next =
     record { done = orders; later = []; split = sym (append-nil orders); subsystem = state; next = next }
 
 -- the answers to some orders and to more are the answers to the first and then to the others after them
@@ -33,7 +33,7 @@ answers-append : (w : Standing) (orders more : List Order)
     → answers_to w (orders ++ more) ≡ answers_to w orders ++ answers_to (asked_all w orders) more
 answers-append w [] more = refl
 answers-append w (o ∷ os) more =
-    ap (λ xs. (exchange_of w.state w.serials o).answer ∷ xs) (answers-append (asked w o) os more)
+    ap (λ xs. (exchange_of w.state w.next_cids o).answer ∷ xs) (answers-append (asked w o) os more)
 
 -- the listing after several orders is the listing with the answers to them
 pub listing_asked : (w : Standing) (orders : List Order)
@@ -53,15 +53,15 @@ told_more c l ks xs i dk da some answered =
 
 module _ (w : Standing) (done all : List Order) where
   -- a state after some of the next orders is a state after some of all orders
-  begun_within : (orders rest : List Order) (s : State) (serials : List ℕ) → all ≡ done ++ (orders ++ rest)
-      → AreBegun (asked_all w done) orders s serials → AreBegun w all s serials
-  begun_within orders rest s serials is h = record {
+  begun_within : (orders rest : List Order) (s : State) (next_cids : List ℕ) → all ≡ done ++ (orders ++ rest)
+      → AreBegun (asked_all w done) orders s next_cids → AreBegun w all s next_cids
+  begun_within orders rest s next_cids is h = record {
     done = done ++ h.done;
     later = h.later ++ rest;
     split = is ∙ ap (λ x. done ++ (x ++ rest)) h.split ∙ ap (λ x. done ++ x) (append_assoc h.done h.later rest)
         ∙ sym (append_assoc done h.done (h.later ++ rest));
     subsystem = h.subsystem ∙ ap (λ (x : Standing). x.state) (sym (fold-append asked w done h.done));
-    next = h.next ∙ ap (λ (x : Standing). x.serials) (sym (fold-append asked w done h.done));
+    next = h.next ∙ ap (λ (x : Standing). x.next_cids) (sym (fold-append asked w done h.done));
   }
 
   -- an answer among those to some of the orders is among the answers to all
@@ -76,26 +76,26 @@ module _ (w : Standing) (done all : List Order) where
       (Contains-append_left (answers_to then orders) (answers_to (asked_all then orders) rest) a h))
 
   -- if a stop is right for some orders after those that were executed, it is right for all orders
-  pub stopped_within : (A B : Type 0) (e : NoText) (orders rest : List Order) (s : State) (serials : List ℕ)
+  pub stopped_within : (A B : Type 0) (e : NoText) (orders rest : List Order) (s : State) (next_cids : List ℕ)
       (listing now : Listing) → all ≡ done ++ (orders ++ rest)
-      → ListLeaves {A = A} (Err e) (asked_all w done) orders s serials listing
-      → ListLeaves {A = B} (Err e) w all s serials now
-  stopped_within A B (stop.Refused status) orders rest s serials listing now is h =
+      → ListLeaves {A = A} (Err e) (asked_all w done) orders s next_cids listing
+      → ListLeaves {A = B} (Err e) w all s next_cids now
+  stopped_within A B (stop.Refused status) orders rest s next_cids listing now is h =
       answered_within orders rest (Err status) is h
-  stopped_within A B stop.Memory orders rest s serials listing now is h = begun_within orders rest s serials is h
-  stopped_within A B stop.NoReady orders rest s serials listing now is h = absurd h
+  stopped_within A B stop.Memory orders rest s next_cids listing now is h = begun_within orders rest s next_cids is h
+  stopped_within A B stop.NoReady orders rest s next_cids listing now is h = absurd h
 
   -- if the standing after further orders is reached, so is the standing after all orders
-  pub listed_after : (orders : List Order) (s : State) (serials : List ℕ) (listing : Listing) → all ≡ done ++ orders
-      → IsListed (asked_all (asked_all w done) orders) s serials listing
-      → IsListed (asked_all w all) s serials listing
-  listed_after orders s serials listing is h =
-      subst (λ x. IsListed x s serials listing) (sym (ap (asked_all w) is ∙ fold-append asked w done orders)) h
+  pub listed_after : (orders : List Order) (s : State) (next_cids : List ℕ) (listing : Listing) → all ≡ done ++ orders
+      → IsListed (asked_all (asked_all w done) orders) s next_cids listing
+      → IsListed (asked_all w all) s next_cids listing
+  listed_after orders s next_cids listing is h =
+      subst (λ x. IsListed x s next_cids listing) (sym (ap (asked_all w) is ∙ fold-append asked w done orders)) h
 
   -- if a result is right for the further orders, it is right for all orders
-  pub leaves_after : {A : Type 0} (r : Result A NoText) (orders : List Order) (s : State) (serials : List ℕ)
+  pub leaves_after : {A : Type 0} (r : Result A NoText) (orders : List Order) (s : State) (next_cids : List ℕ)
       (listing : Listing) → all ≡ done ++ orders
-      → ListLeaves r (asked_all w done) orders s serials listing → ListLeaves r w all s serials listing
-  leaves_after (Ok x) orders s serials listing is h = listed_after orders s serials listing is h
-  leaves_after {A = A} (Err e) orders s serials listing is h =
-      stopped_within A A e orders [] s serials listing listing (is ∙ ap (λ x. done ++ x) (sym (append-nil orders))) h
+      → ListLeaves r (asked_all w done) orders s next_cids listing → ListLeaves r w all s next_cids listing
+  leaves_after (Ok x) orders s next_cids listing is h = listed_after orders s next_cids listing is h
+  leaves_after {A = A} (Err e) orders s next_cids listing is h =
+      stopped_within A A e orders [] s next_cids listing listing (is ∙ ap (λ x. done ++ x) (sym (append-nil orders))) h

@@ -32,13 +32,13 @@ lookups_at nn now orders e h = subst (λ n. AreLookups n orders) (sym e) h
 -- ---- what doesn't change
 
 -- an act of `list` leaves a state that is alike
-act_alike : (s : State) (serials : List ℕ) (c : ℕ) {a : Act} → IsLookupAct s.nn a
-    → IsAlike s (exchange_by a s serials c).state
-act_alike s serials c (sends h) = looked_alike s c (get_or serials c 0) h
+act_alike : (s : State) (next_cids : List ℕ) (c : ℕ) {a : Act} → IsLookupAct s.nn a
+    → IsAlike s (exchange_by a s next_cids c).state
+act_alike s next_cids c (sends h) = looked_alike s c (get_or next_cids c 0) h
 
 -- a lookup leaves a state that is alike
 pub asked_alike : (w : Standing) (o : Order) → IsLookupAct w.state.nn o.act → IsAlike w.state (asked w o).state
-asked_alike w o h = act_alike w.state w.serials o.controller h
+asked_alike w o h = act_alike w.state w.next_cids o.controller h
 
 -- lookups leave a state that is alike
 pub asked_all_alike : (w : Standing) (orders : List Order) → AreLookups w.state.nn orders
@@ -52,9 +52,9 @@ asked_all_alike w (o ∷ os) h =
 -- ---- all of them are accepted
 
 -- a lookup is accepted
-accepted : (s : State) (serials : List ℕ) (c : ℕ) {a : Act} → IsLookupAct s.nn a
-    → (r : Reply) × ((exchange_by a s serials c).answer ≡ Ok r)
-accepted s serials c (sends {k} h) = (reply_of s c k, looked_received s c (get_or serials c 0) h)
+accepted : (s : State) (next_cids : List ℕ) (c : ℕ) {a : Act} → IsLookupAct s.nn a
+    → (r : Reply) × ((exchange_by a s next_cids c).answer ≡ Ok r)
+accepted s next_cids c (sends {k} h) = (reply_of s c k, looked_received s c (get_or next_cids c 0) h)
 
 -- a reply as an answer
 abbrev ok : Reply → Answer
@@ -63,21 +63,21 @@ ok r = Ok r
 -- so their outcome is the state of `list`, and its replies are all their answers
 pub record AreAccepted (w : Standing) (orders : List Order) : Type 0 where
   pub replies : List Reply
-  pub outcome : outcome_of w.state w.serials orders
-      ≡ accepted_with replies (asked_all w orders).state (asked_all w orders).serials
+  pub outcome : outcome_of w.state w.next_cids orders
+      ≡ accepted_with replies (asked_all w orders).state (asked_all w orders).next_cids
   pub answers : answers_to w orders ≡ map ok replies
 
 -- all of these lookups are accepted
 pub all_accepted : (w : Standing) (orders : List Order) → AreLookups w.state.nn orders → AreAccepted w orders
 all_accepted w [] h = record { replies = []; outcome = refl; answers = refl }
 all_accepted w (o ∷ os) h =
-    let is = accepted w.state w.serials o.controller h.0 in
+    let is = accepted w.state w.next_cids o.controller h.0 in
     let next = asked w o in
     let rest = all_accepted next os (lookups_at w.state.nn next.state.nn os (asked_alike w o h.0).nn h.1) in
     record {
       replies = is.0 ∷ rest.replies;
-      outcome = ap (λ a. outcome_after a next.state next.serials (outcome_of next.state next.serials os)) is.1
-          ∙ ap (outcome_after (Ok is.0) next.state next.serials) rest.outcome;
+      outcome = ap (λ a. outcome_after a next.state next.next_cids (outcome_of next.state next.next_cids os)) is.1
+          ∙ ap (outcome_after (Ok is.0) next.state next.next_cids) rest.outcome;
       answers = ap (λ a. a ∷ answers_to next os) is.1 ∙ ap (λ xs. ok is.0 ∷ xs) rest.answers;
     }
 

@@ -47,10 +47,10 @@ unfolding id_ctrl_of_bytes number_at
 kept_told s None = refl
 kept_told s (Some x) = refl
 
-module _ (s : State) (serials : List ℕ) (c entries : ℕ) where
+module _ (s : State) (next_cids : List ℕ) (c entries : ℕ) where
   -- the log command by the reply to Identify Controller is the one for as many entries as the controller keeps
   log_next : (refusal : Option Refusal) (r : Reply)
-      → Ok r ≡ answer_received IdentifyController (step_by refusal s c IdentifyController (get_or serials c 0)).answer
+      → Ok r ≡ answer_received IdentifyController (step_by refusal s c IdentifyController (get_or next_cids c 0)).answer
       → log_command entries r ≡ errors_command entries (entry_count s c)
   unfolding reply_or_done
   log_next None r e =
@@ -59,68 +59,69 @@ module _ (s : State) (serials : List ℕ) (c entries : ℕ) where
   log_next (Some refusal) r e = absurd (cc)
 
   -- the same if the reply is the answer in the exchange of that order
-  log_is_next : (r : Reply) → Ok r ≡ (exchange_of s serials (order_of c IdentifyController)).answer
+  log_is_next : (r : Reply) → Ok r ≡ (exchange_of s next_cids (order_of c IdentifyController)).answer
       → log_command entries r ≡ errors_command entries (entry_count s c)
   log_is_next r e = log_next (refusal_of s c IdentifyController) r e
 
 -- ---- the state after an outcome
 
 -- an outcome has reached a state and command identifiers that are equal to its own
-reached : (o : Outcome) (s : State) (serials : List ℕ) → s ≡ o.state → serials ≡ o.serials → IsReached o s serials
-reached o s serials state next = record { subsystem = state; next = next }
+reached : (o : Outcome) (s : State) (next_cids : List ℕ) → s ≡ o.state → next_cids ≡ o.next_cids
+    → IsReached o s next_cids
+reached o s next_cids state next = record { subsystem = state; next = next }
 
-module _ (s now : State) (serials next : List ℕ) (q : Query) where
+module _ (s now : State) (next_cids next : List ℕ) (q : Query) where
   -- the outcome of all orders of the query
   abbrev whole : Outcome
-  whole = outcome_of s serials (orders_of s q)
+  whole = outcome_of s next_cids (orders_of s q)
 
   -- if the outcome is a refusal, a stop because of it is right
   pub left_refused : (replies : List Reply) (status : Status) → whole ≡ refused_with replies status now next
-      → NoTextLeaves (stop.Refused status) q s serials now next
+      → NoTextLeaves (stop.Refused status) q s next_cids now next
   left_refused replies status e = (
     ap (λ (x : Outcome). x.refusal) e,
-    reached whole now next (sym (ap (λ (x : Outcome). x.state) e)) (sym (ap (λ (x : Outcome). x.serials) e)),
+    reached whole now next (sym (ap (λ (x : Outcome). x.state) e)) (sym (ap (λ (x : Outcome). x.next_cids) e)),
   )
 
   -- if the outcome has only replies, what they show is right
   pub left_shown : (shown : Option Shown) (replies : List Reply) → whole ≡ accepted_with replies now next
-      → shown ≡ shown_of (orders_of s q) q replies → QueryLeaves (Ok shown) q s serials now next
+      → shown ≡ shown_of (orders_of s q) q replies → QueryLeaves (Ok shown) q s next_cids now next
   left_shown shown replies e is = (
     ap (λ (x : Outcome). x.refusal) e,
     is ∙ ap (λ (x : Outcome). shown_of (orders_of s q) q x.replies) (sym e),
-    reached whole now next (sym (ap (λ (x : Outcome). x.state) e)) (sym (ap (λ (x : Outcome). x.serials) e)),
+    reached whole now next (sym (ap (λ (x : Outcome). x.state) e)) (sym (ap (λ (x : Outcome). x.next_cids) e)),
   )
 
   -- if memory was refused after all orders, a stop for lack of memory is right
-  pub left_memory : IsReached whole now next → NoTextLeaves stop.Memory q s serials now next
+  pub left_memory : IsReached whole now next → NoTextLeaves stop.Memory q s next_cids now next
   left_memory is =
-      let all = ap (outcome_of s serials) (take_all (length (orders_of s q)) (orders_of s q) (omega arith)) in (
+      let all = ap (outcome_of s next_cids) (take_all (length (orders_of s q)) (orders_of s q) (omega arith)) in (
         length (orders_of s q),
         reached _ now next (is.subsystem ∙ sym (ap (λ (x : Outcome). x.state) all))
-            (is.next ∙ sym (ap (λ (x : Outcome). x.serials) all)),
+            (is.next ∙ sym (ap (λ (x : Outcome). x.next_cids) all)),
       )
 
 -- ---- the orders of an ask
 
 -- its only order
-module _ (s now : State) (serials next : List ℕ) (c : ℕ) (a : Ask) (o : Order)
+module _ (s now : State) (next_cids next : List ℕ) (c : ℕ) (a : Ask) (o : Order)
     (only : orders_of_one s c a ≡ o ∷ []) where
   -- if the only order of an ask is accepted, its reply is right
-  pub only_accepted : (reply : Reply) → exchange_with (Ok reply) now next ≡ exchange_of s serials o
-      → AskLeaves (Ok reply) c a s serials now next
+  pub only_accepted : (reply : Reply) → exchange_with (Ok reply) now next ≡ exchange_of s next_cids o
+      → AskLeaves (Ok reply) c a s next_cids now next
   only_accepted reply e =
-      left_shown s now serials next (One c a) (shown_by a reply) (reply ∷ [])
-      (ap (outcome_of s serials) only ∙ accepted_first s now serials next o [] reply e) refl
+      left_shown s now next_cids next (One c a) (shown_by a reply) (reply ∷ [])
+      (ap (outcome_of s next_cids) only ∙ accepted_first s now next_cids next o [] reply e) refl
 
   -- if the only order of an ask is refused, a stop because of it is right
-  pub only_refused : (status : Status) → exchange_with (Err status) now next ≡ exchange_of s serials o
-      → NoTextLeaves (stop.Refused status) (One c a) s serials now next
+  pub only_refused : (status : Status) → exchange_with (Err status) now next ≡ exchange_of s next_cids o
+      → NoTextLeaves (stop.Refused status) (One c a) s next_cids now next
   only_refused status e =
-      left_refused s now serials next (One c a) [] status
-      (ap (outcome_of s serials) only ∙ refused_at_once s now serials next o [] status e)
+      left_refused s now next_cids next (One c a) [] status
+      (ap (outcome_of s next_cids) only ∙ refused_at_once s now next_cids next o [] status e)
 
 -- a controller says how many errors it keeps, and its error log is read
-module _ (s now : State) (serials next : List ℕ) (c entries : ℕ) where
+module _ (s now : State) (next_cids next : List ℕ) (c entries : ℕ) where
   abbrev first : Order
   first = order_of c IdentifyController
 
@@ -133,36 +134,36 @@ module _ (s now : State) (serials next : List ℕ) (c entries : ℕ) where
   later = order_of c (errors_command entries (entry_count s c)) ∷ []
 
   module _ (last : State) (end : List ℕ) (told : Reply)
-      (e : exchange_with (Ok told) now next ≡ exchange_of s serials first) (k : Command)
+      (e : exchange_with (Ok told) now next ≡ exchange_of s next_cids first) (k : Command)
       (is : k ≡ log_command entries told) where
     -- the outcome of both orders is the first reply and then the outcome of the second order
-    begun : outcome_of s serials (orders_of_one s c log)
+    begun : outcome_of s next_cids (orders_of_one s c log)
         ≡ outcome_after (Ok told) now next (outcome_of now next (order_of c k ∷ []))
     begun =
-        accepted_first s now serials next first later told e
+        accepted_first s now next_cids next first later told e
         ∙ ap (λ x. outcome_after (Ok told) now next (outcome_of now next (order_of c x ∷ [])))
-        (sym (is ∙ log_is_next s serials c entries told (ap (λ (x : Exchange). x.answer) e)))
+        (sym (is ∙ log_is_next s next_cids c entries told (ap (λ (x : Exchange). x.answer) e)))
 
     -- if the second order is refused, a stop because of it is right
     pub second_refused : (status : Status)
         → exchange_with (Err status) last end ≡ exchange_of now next (order_of c k)
-        → NoTextLeaves (stop.Refused status) (One c log) s serials last end
+        → NoTextLeaves (stop.Refused status) (One c log) s next_cids last end
     second_refused status e2 =
-        left_refused s last serials end (One c log) (told ∷ []) status
+        left_refused s last next_cids end (One c log) (told ∷ []) status
         (begun ∙ ap (outcome_after (Ok told) now next) (refused_at_once now last next end (order_of c k) [] status e2))
 
     -- if both orders are accepted, the reply to the second one is right
     pub both_accepted : (reply : Reply) → exchange_with (Ok reply) last end ≡ exchange_of now next (order_of c k)
-        → AskLeaves (Ok reply) c log s serials last end
+        → AskLeaves (Ok reply) c log s next_cids last end
     both_accepted reply e2 =
-        left_shown s last serials end (One c log) (shown_by log reply) (told ∷ reply ∷ [])
+        left_shown s last next_cids end (One c log) (shown_by log reply) (told ∷ reply ∷ [])
         (begun ∙ ap (outcome_after (Ok told) now next) (accepted_first now last next end (order_of c k) [] reply e2))
         refl
 
 -- ---- a request
 
-module _ (s now : State) (serials next : List ℕ) (r : Request) (q : Query) (is : r.query ≡ q) where
+module _ (s now : State) (next_cids next : List ℕ) (r : Request) (q : Query) (is : r.query ≡ q) where
   -- if memory was refused for the text of a request, a stop for lack of memory is right
-  pub no_text : (shown : Option Shown) → QueryLeaves (Ok shown) q s serials now next
-      → NoTextLeaves stop.Memory r.query s serials now next
-  no_text shown h = rw is (left_memory s now serials next q h.2)
+  pub no_text : (shown : Option Shown) → QueryLeaves (Ok shown) q s next_cids now next
+      → NoTextLeaves stop.Memory r.query s next_cids now next
+  no_text shown h = rw is (left_memory s now next_cids next q h.2)

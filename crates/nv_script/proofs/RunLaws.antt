@@ -19,7 +19,7 @@ use Rattle.nv_script.specs.Ends.{RunsFrom, WasRead, begun, end_without, left_by}
 use Rattle.nv_script.specs.inner.Feeding.{LastLeaves, PieceLeaves, Stands}
 use Rattle.nv_script.specs.Results.{Progress, whole}
 use Rattle.nv_script.specs.ScriptLines.{IsReadToEnd, as_line, has_stopped, pieces, script_lines}
-use Rattle.nv_driver.specs.inner.Linked.{serials_of}
+use Rattle.nv_driver.specs.inner.Linked.{next_cids_of}
 use Rattle.nv_stream.specs.Streams.{IsFresh, SourceState}
 use Rattle.nv_script.specs.declared.ends.RunEnd.{RunEnd}
 use Rattle.nv_script.specs.declared.ends.RunEnd.TheVariants.{Status, Geometry, NoReady, Read}
@@ -67,7 +67,7 @@ read_first script e = record { first = Consumes-same script.to_come; count = sym
 -- before the first line, the state, the texts and the session are what a script without lines leaves
 pub stands_first : (s : State) (left : Left) (session : Session) → left.out ≡ left.out_before
     → left.messages ≡ left.messages_before → left.state ≡ s
-    → serials_of session.driver ≡ replicate (length s.controllers) 0 → session.number ≡ 0 → session.status ≡ 0
+    → next_cids_of session.driver ≡ replicate (length s.controllers) 0 → session.number ≡ 0 → session.status ≡ 0
     → Stands (whole s (pieces []).ended) left session
 stands_first s left session eo em es er en et = record {
   holds = record {

@@ -113,11 +113,11 @@ set_is_shown (Some g) f value save e = refl
 
 -- ---- one controller is asked
 
-module _ (s : State) (serials : List ℕ) (c : ℕ) (show : List Reply → Option Shown) (k : Command) where
+module _ (s : State) (next_cids : List ℕ) (c : ℕ) (show : List Reply → Option Shown) (k : Command) where
   -- what follows if the command is the last one
   abbrev left : Option Refusal → State → List ℕ → Outcome
   left refusal now next =
-      outcome_after (answer_received k (step_by refusal s c k (get_or serials c 0)).answer) now next
+      outcome_after (answer_received k (step_by refusal s c k (get_or next_cids c 0)).answer) now next
       (outcome_of now next [])
 
   -- a command that comes last and is accepted is shown if its reply is shown
@@ -129,17 +129,19 @@ module _ (s : State) (serials : List ℕ) (c : ℕ) (show : List Reply → Optio
 
   -- the last command is shown if its reply is shown, and if it is accepted
   last_is_shown : (refusal_of s c k ≡ None → IsSome (show (received k (reply_of s c k) ∷ [])))
-      → (outcome_of s serials (order_of c k ∷ [])).refusal ≡ None
-      → IsSome (show (outcome_of s serials (order_of c k ∷ [])).replies)
-  last_is_shown is e = let x = exchange_by (Send k) s serials c in by_refusal (refusal_of s c k) x.state x.serials is e
+      → (outcome_of s next_cids (order_of c k ∷ [])).refusal ≡ None
+      → IsSome (show (outcome_of s next_cids (order_of c k ∷ [])).replies)
+  last_is_shown is e =
+      let x = exchange_by (Send k) s next_cids c in
+      by_refusal (refusal_of s c k) x.state x.next_cids is e
 
-module _ (s : State) (serials : List ℕ) (c : ℕ) where
+module _ (s : State) (next_cids : List ℕ) (c : ℕ) where
   -- a command that comes alone and is accepted is shown if its reply is shown
   only_is_shown : (a : Ask) (k : Command)
       → (refusal_of s c k ≡ None → IsSome (shown_by a (received k (reply_of s c k))))
-      → (outcome_of s serials (order_of c k ∷ [])).refusal ≡ None
-      → IsSome (shown_of_one a (outcome_of s serials (order_of c k ∷ [])).replies)
-  only_is_shown a k is e = last_is_shown s serials c (shown_of_one a) k is e
+      → (outcome_of s next_cids (order_of c k ∷ [])).refusal ≡ None
+      → IsSome (shown_of_one a (outcome_of s next_cids (order_of c k ∷ [])).replies)
+  only_is_shown a k is e = last_is_shown s next_cids c (shown_of_one a) k is e
 
   -- the entries of an error log or the health log, as they are received, are shown for any ask
   log_is_shown : (a : Ask) (room : ℕ) (page : LogPage)
@@ -163,12 +165,12 @@ module _ (s : State) (serials : List ℕ) (c : ℕ) where
   command_is_shown k e = refl
 
   -- what one controller is asked is shown if none of its orders is refused
-  one_is_shown : (a : Ask) → IsShown s serials (query.One c a)
+  one_is_shown : (a : Ask) → IsShown s next_cids (query.One c a)
   one_is_shown (ask.Send k) e = only_is_shown (ask.Send k) k (command_is_shown k) e
   one_is_shown ask.Reset e = refl
   one_is_shown (ask.ErrorLog entries) e =
-      let first = exchange_by (Send command.IdentifyController) s serials c in
-      last_is_shown first.state first.serials c
+      let first = exchange_by (Send command.IdentifyController) s next_cids c in
+      last_is_shown first.state first.next_cids c
       (λ later. shown_of_one (ask.ErrorLog entries) (reply_of s c command.IdentifyController ∷ later))
       (errors_command entries (entry_count s c)) (λ _. refl) e
 
@@ -187,7 +189,7 @@ order_place o = asked_place o.controller o.act
 abbrev places_in : Listing → List (ℕ × ℕ)
 places_in l = map device_numbers l.devices
 
-module _ (s : State) (serials : List ℕ) (c : ℕ) (l : Listing) where
+module _ (s : State) (next_cids : List ℕ) (c : ℕ) (l : Listing) where
   -- an answer to this act lists the namespace that the act asks for, and no other
   abbrev Tells : Act → Reply → Type 0
   Tells a reply = places_in (listing_told c l a (Ok reply)) ≡ places_in l ++ asked_place c a
@@ -200,7 +202,7 @@ module _ (s : State) (serials : List ℕ) (c : ℕ) (l : Listing) where
   -- the answer to an accepted Identify Namespace lists that namespace
   namespace_told : (n : ℕ) (refusal : Option Refusal) (reply : Reply)
       → answer_received (command.IdentifyNamespace n)
-      (step_by refusal s c (command.IdentifyNamespace n) (get_or serials c 0)).answer ≡ Ok reply
+      (step_by refusal s c (command.IdentifyNamespace n) (get_or next_cids c 0)).answer ≡ Ok reply
       → Tells (Send (command.IdentifyNamespace n)) reply
   namespace_told n None reply e =
       let same : active_reply s c n ≡ reply = cc e in
@@ -209,7 +211,7 @@ module _ (s : State) (serials : List ℕ) (c : ℕ) (l : Listing) where
   namespace_told n (Some r) reply e = absurd (cc e)
 
   -- the answer to any accepted act lists the namespace that it asks for
-  told : (a : Act) (reply : Reply) → (exchange_by a s serials c).answer ≡ Ok reply → Tells a reply
+  told : (a : Act) (reply : Reply) → (exchange_by a s next_cids c).answer ≡ Ok reply → Tells a reply
   told (Send command.IdentifyController) reply e = identity_told reply
   told (Send (command.IdentifyNamespace n)) reply e =
       namespace_told n (refusal_of s c (command.IdentifyNamespace n)) reply e
@@ -217,35 +219,35 @@ module _ (s : State) (serials : List ℕ) (c : ℕ) (l : Listing) where
 
 -- if none of the orders is refused, the listing has the namespaces that they ask for, in order
 abbrev AreListed : List Order → State → List ℕ → Listing → Type 0
-AreListed orders s serials l = (outcome_of s serials orders).refusal ≡ None
-    → places_in (listing_of l orders (map Ok (outcome_of s serials orders).replies))
+AreListed orders s next_cids l = (outcome_of s next_cids orders).refusal ≡ None
+    → places_in (listing_of l orders (map Ok (outcome_of s next_cids orders).replies))
     ≡ places_in l ++ flat_map order_place orders
 
-module _ (s : State) (serials : List ℕ) (o : Order) (os : List Order) (l : Listing) where
+module _ (s : State) (next_cids : List ℕ) (o : Order) (os : List Order) (l : Listing) where
   -- the exchange of the first order
   abbrev x : Exchange
-  x = exchange_of s serials o
+  x = exchange_of s next_cids o
 
   -- the outcome of all orders, by the answer to the first one
   abbrev after : Result Reply Status → Outcome
-  after answer = outcome_after answer x.state x.serials (outcome_of x.state x.serials os)
+  after answer = outcome_after answer x.state x.next_cids (outcome_of x.state x.next_cids os)
 
   -- if the later orders are listed whatever was listed before, so are the first order and the later ones
-  one_more : ((l : Listing) → AreListed os x.state x.serials l) → (answer : Result Reply Status) → x.answer ≡ answer
+  one_more : ((l : Listing) → AreListed os x.state x.next_cids l) → (answer : Result Reply Status) → x.answer ≡ answer
       → (after answer).refusal ≡ None
       → places_in (listing_of l (o ∷ os) (map Ok (after answer).replies)) ≡ places_in l ++ flat_map order_place (o ∷ os)
   one_more later (Err status) is e = absurd (cc e)
   one_more later (Ok reply) is e =
       later (listing_told o.controller l o.act (Ok reply)) e
-      ∙ ap (λ ps. ps ++ flat_map order_place os) (told s serials o.controller l o.act reply is)
+      ∙ ap (λ ps. ps ++ flat_map order_place os) (told s next_cids o.controller l o.act reply is)
       ∙ append_assoc (places_in l) (order_place o) (flat_map order_place os)
 
 -- accepted orders are listed in order, whatever was listed before
-all_listed : (orders : List Order) (s : State) (serials : List ℕ) (l : Listing) → AreListed orders s serials l
-all_listed [] s serials l e = sym (append-nil (places_in l))
-all_listed (o ∷ os) s serials l e =
-    let x = exchange_of s serials o in
-    one_more s serials o os l (λ l. all_listed os x.state x.serials l) x.answer refl e
+all_listed : (orders : List Order) (s : State) (next_cids : List ℕ) (l : Listing) → AreListed orders s next_cids l
+all_listed [] s next_cids l e = sym (append-nil (places_in l))
+all_listed (o ∷ os) s next_cids l e =
+    let x = exchange_of s next_cids o in
+    one_more s next_cids o os l (λ l. all_listed os x.state x.next_cids l) x.answer refl e
 
 -- ---- the namespaces that `list` asks for
 
@@ -263,15 +265,15 @@ asked_of_controllers s (c ∷ cs) =
     ∙ (λ i. asked_of_controller c (above 0 (active_nsids s c)) i ++ asked_of_controllers s cs i)
 
 -- `list` shows each attached namespace once if none of its orders is refused
-list_is_shown : (s : State) (serials : List ℕ) → IsListed s serials
-list_is_shown s serials e =
-    all_listed (orders_of_list s) s serials no_listing e
+list_is_shown : (s : State) (next_cids : List ℕ) → IsListed s next_cids
+list_is_shown s next_cids e =
+    all_listed (orders_of_list s) s next_cids no_listing e
     ∙ asked_of_controllers s (range_with_len 0 (length s.controllers))
 
 -- each query shows something if none of its orders is refused
-is_shown : (s : State) (serials : List ℕ) (q : Query) → IsShown s serials q
-is_shown s serials (query.One c a) e = one_is_shown s serials c a e
-is_shown s serials query.List e = refl
+is_shown : (s : State) (next_cids : List ℕ) (q : Query) → IsShown s next_cids q
+is_shown s next_cids (query.One c a) e = one_is_shown s next_cids c a e
+is_shown s next_cids query.List e = refl
 
 -- whatever is accepted is shown
 pub each_is_shown : EachIsShown

@@ -48,10 +48,10 @@ HoldsWhole s lines left =
 
 -- the state after the first k orders of a line
 abbrev pub state_amid : State → List ℕ → Result Line LineFault → ℕ → State
-state_amid s serials (Ok line.Skipped) k = s
-state_amid s serials (Ok (line.Request r)) k =
-    (outcome_of s serials (take k (orders_of s r.query))).state
-state_amid s serials (Err fault) k = s
+state_amid s next_cids (Ok line.Skipped) k = s
+state_amid s next_cids (Ok (line.Request r)) k =
+    (outcome_of s next_cids (take k (orders_of s r.query))).state
+state_amid s next_cids (Err fault) k = s
 
 -- How a line after p is cut short. The output failed: the texts before the line are complete,
 -- followed by a beginning of its output; the subsystem is in the state after the line.
@@ -67,7 +67,7 @@ IsMessageBeginning p line left = (part : List ℕ) × IsBeginning part (result_a
 -- memory was refused: nothing of the line is written, and some of its orders were executed
 abbrev pub IsMemoryBeginning : Progress → List ℕ → Left → Type 0
 IsMemoryBeginning p line left = (k : ℕ)
-    × Holds left p.output p.messages (state_amid p.state p.serials (said_at p line) k)
+    × Holds left p.output p.messages (state_amid p.state p.next_cids (said_at p line) k)
 
 -- what an end in a line after p leaves; no other end than these three cuts a line short
 abbrev pub IsCutIn : RunEnd → Progress → List ℕ → Left → Type 0

@@ -12,8 +12,8 @@ use Rattle.nv_script.specs.Shown.{listing_of, no_listing, shown_of}
 
 -- a query shows something if none of its orders is refused
 abbrev pub IsShown : State → List ℕ → Query → Type 0
-IsShown s serials q =
-    let o = outcome_of s serials (orders_of s q) in
+IsShown s next_cids q =
+    let o = outcome_of s next_cids (orders_of s q) in
     o.refusal ≡ None → IsSome (shown_of (orders_of s q) q o.replies)
 
 -- the two numbers of a controller's namespace
@@ -26,13 +26,13 @@ attached_numbers s c = map (λ n. (c, n)) (above 0 (active_nsids s c))
 
 -- `list` shows the namespaces of each controller in order, if none of its orders is refused
 abbrev pub IsListed : State → List ℕ → Type 0
-IsListed s serials =
-    let o = outcome_of s serials (orders_of_list s) in
+IsListed s next_cids =
+    let o = outcome_of s next_cids (orders_of_list s) in
     o.refusal ≡ None
     → map device_numbers (listing_of no_listing (orders_of_list s) (map Ok o.replies)).devices
     ≡ flat_map (attached_numbers s) (range_with_len 0 (length s.controllers))
 
 -- in every state
 pub record EachIsShown : Type 0 where
-  pub queries : (s : State) (serials : List ℕ) (q : Query) → IsShown s serials q
-  pub namespaces : (s : State) (serials : List ℕ) → IsListed s serials
+  pub queries : (s : State) (next_cids : List ℕ) (q : Query) → IsShown s next_cids q
+  pub namespaces : (s : State) (next_cids : List ℕ) → IsListed s next_cids

@@ -1,4 +1,4 @@
--- How the end of a run is told.
+-- How a program reports the end of a run.
 use Rattle.std.specs.Prelude.{ℕ, List, ◌++◌, codes}
 use Rattle.std.specs.Fmt.{decimal}
 use Rattle.nv_driver.specs.Names.{error_text}

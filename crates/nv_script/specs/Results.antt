@@ -23,7 +23,7 @@ pub record LineResult : Type 0 where
   pub message : List ℕ
   pub status : Option ℕ
   pub state : State
-  pub serials : List ℕ
+  pub next_cids : List ℕ
 
 -- the message about what is wrong with the line of this number
 abbrev pub message_at : ℕ → FaultCause → List ℕ
@@ -40,14 +40,14 @@ answer_result None number s r o = record {
   message = [];
   status = Some 0;
   state = o.state;
-  serials = o.serials;
+  next_cids = o.next_cids;
 }
 answer_result (Some status) number s r o = record {
   output = [];
   message = message_at number (cause.Refused status);
   status = Some 2;
   state = o.state;
-  serials = o.serials;
+  next_cids = o.next_cids;
 }
 
 -- a request prints by whether its outcome is a refusal
@@ -56,30 +56,30 @@ request_result number s r o = answer_result o.refusal number s r o
 
 -- a line without orders
 abbrev pub quiet_result : State → List ℕ → List ℕ → Option ℕ → LineResult
-quiet_result s serials message status = record {
+quiet_result s next_cids message status = record {
   output = [];
   message = message;
   status = status;
   state = s;
-  serials = serials;
+  next_cids = next_cids;
 }
 
 -- the result of the line with this number
 abbrev pub line_result : State → List ℕ → ℕ → Result Line LineFault → LineResult
-line_result s serials number (Ok line.Skipped) = quiet_result s serials [] None
-line_result s serials number (Ok (line.Request r)) =
-    request_result number s r (outcome_of s serials (orders_of s r.query))
-line_result s serials number (Err fault) =
-    quiet_result s serials (message_at number (cause.Line fault)) (Some 1)
+line_result s next_cids number (Ok line.Skipped) = quiet_result s next_cids [] None
+line_result s next_cids number (Ok (line.Request r)) =
+    request_result number s r (outcome_of s next_cids (orders_of s r.query))
+line_result s next_cids number (Err fault) =
+    quiet_result s next_cids (message_at number (cause.Line fault)) (Some 1)
 
 -- the progress of a script between two lines: what was printed, the status of the last line that
--- has one, the subsystem, the next serial of each controller, and how many lines there were
+-- has one, the subsystem, the next command identifier of each controller, and how many lines there were
 pub record Progress : Type 0 where
   pub output : List ℕ
   pub messages : List ℕ
   pub status : ℕ
   pub state : State
-  pub serials : List ℕ
+  pub next_cids : List ℕ
   pub number : ℕ
 
 -- the meaning of the next line
@@ -88,7 +88,7 @@ said_at p line = reading line (length p.state.controllers)
 
 -- its result
 abbrev pub result_at : Progress → List ℕ → LineResult
-result_at p line = line_result p.state p.serials (p.number + 1) (said_at p line)
+result_at p line = line_result p.state p.next_cids (p.number + 1) (said_at p line)
 
 -- the progress after a line with this result
 abbrev pub progress_with : Progress → LineResult → Progress
@@ -97,7 +97,7 @@ progress_with p r = record {
   messages = p.messages ++ r.message;
   status = unwrap_or r.status p.status;
   state = r.state;
-  serials = r.serials;
+  next_cids = r.next_cids;
   number = p.number + 1;
 }
 
@@ -105,14 +105,14 @@ progress_with p r = record {
 abbrev pub after : Progress → List ℕ → Progress
 after p line = progress_with p (result_at p line)
 
--- before the first line: all serials are 0
+-- before the first line: all command identifiers begin at 0
 abbrev pub start : State → Progress
 start s = record {
   output = [];
   messages = [];
   status = 0;
   state = s;
-  serials = replicate (length s.controllers) 0;
+  next_cids = replicate (length s.controllers) 0;
   number = 0;
 }
 

@@ -7,7 +7,7 @@ ghost use Rattle.nv_command.specs.declared.command.Command.TheVariants.{Identify
 ghost use Rattle.nv_model.specs.IdentifyController.{no_controller};
 ghost use Rattle.nv_script.specs.Outcomes.{Send, order_of};
 ghost use Rattle.nv_driver.specs.Linked.{IsLinked};
-ghost use Rattle.nv_driver.specs.inner.Linked.{serials_of};
+ghost use Rattle.nv_driver.specs.inner.Linked.{next_cids_of};
 ghost use Rattle.nv_script.specs.inner.Listing.{IsHandedOn, IsListed, ListLeaves, Standing};
 ghost use Rattle.nv_script.specs.inner.Listing.{nsids_told};
 ghost use Rattle.nv_script.specs.Orders.{namespace_orders, orders_of_controller};
@@ -125,9 +125,9 @@ fn list_batch<B: Bus>(
     requires some { 0 < length nsids.now }
     requires most { length nsids.now ≤ BATCH }
     ensures left { (w : Standing)
-        → IsListed w (B.meaning bus.old).state (serials_of driver.old) listing.old
+        → IsListed w (B.meaning bus.old).state (next_cids_of driver.old) listing.old
         → ListLeaves result w (namespace_orders ctrl nsids.now)
-        (B.meaning bus.new).state (serials_of driver.new) listing.new }
+        (B.meaning bus.new).state (next_cids_of driver.new) listing.new }
     ensures linked { IsLinked (B.meaning bus.new) driver.new }
     ensures pairs { length driver.new.pairs ≡ length driver.old.pairs }
 {
@@ -149,9 +149,9 @@ fn list_namespaces<B: Bus>(
     requires linked { IsLinked (B.meaning bus.old) driver.old }
     requires controller { ctrl < length driver.old.pairs }
     ensures left { (w : Standing)
-        → IsListed w (B.meaning bus.old).state (serials_of driver.old) listing.old
+        → IsListed w (B.meaning bus.old).state (next_cids_of driver.old) listing.old
         → ListLeaves result w (namespace_orders ctrl nsids.now)
-        (B.meaning bus.new).state (serials_of driver.new) listing.new }
+        (B.meaning bus.new).state (next_cids_of driver.new) listing.new }
     ensures linked { IsLinked (B.meaning bus.new) driver.new }
     ensures pairs { length driver.new.pairs ≡ length driver.old.pairs }
 {
@@ -176,9 +176,9 @@ fn list_controller<B: Bus>(
     requires linked { IsLinked (B.meaning bus.old) driver.old }
     requires controller { ctrl < length driver.old.pairs }
     ensures left { (w : Standing)
-        → IsListed w (B.meaning bus.old).state (serials_of driver.old) listing.old
+        → IsListed w (B.meaning bus.old).state (next_cids_of driver.old) listing.old
         → ListLeaves result w (orders_of_controller w.state ctrl)
-        (B.meaning bus.new).state (serials_of driver.new) listing.new }
+        (B.meaning bus.new).state (next_cids_of driver.new) listing.new }
     ensures linked { IsLinked (B.meaning bus.new) driver.new }
     ensures pairs { length driver.new.pairs ≡ length driver.old.pairs }
 {
@@ -202,8 +202,8 @@ pub(crate) fn list<B: Bus>(
 ) -> Result<DeviceList, NoText>
     requires linked { IsLinked (B.meaning bus.old) driver.old }
     ensures left { ListedAll result
-        (B.meaning bus.old).state (serials_of driver.old)
-        (B.meaning bus.new).state (serials_of driver.new) }
+        (B.meaning bus.old).state (next_cids_of driver.old)
+        (B.meaning bus.new).state (next_cids_of driver.new) }
     ensures linked { IsLinked (B.meaning bus.new) driver.new }
     ensures pairs { length driver.new.pairs ≡ length driver.old.pairs }
 {

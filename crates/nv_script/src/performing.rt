@@ -6,7 +6,7 @@ ghost use Rattle.nv_layout.specs.Feature.{feature_of};
 ghost use Rattle.nv_line.specs.Request.{IsAskKnown, IsQueryKnown};
 ghost use Rattle.nv_print.specs.Message.{select_of};
 ghost use Rattle.nv_driver.specs.Linked.{IsLinked};
-ghost use Rattle.nv_driver.specs.inner.Linked.{serials_of};
+ghost use Rattle.nv_driver.specs.inner.Linked.{next_cids_of};
 ghost use Rattle.nv_script.specs.EachShown.{EachIsShown};
 ghost use Rattle.nv_script.specs.Shown.{feature_set, feature_value, output_of, shown_by, shown_done};
 ghost use Rattle.nv_script.specs.inner.Orders.{log_command};
@@ -90,8 +90,8 @@ fn last_reply<'a, B: Bus>(
     requires linked { IsLinked (B.meaning bus.old) driver.old }
     requires known { IsAskKnown (length driver.old.pairs) ctrl ask.now }
     ensures left { AskLeaves result ctrl ask.now
-        (B.meaning bus.old).state (serials_of driver.old)
-        (B.meaning bus.new).state (serials_of driver.new) }
+        (B.meaning bus.old).state (next_cids_of driver.old)
+        (B.meaning bus.new).state (next_cids_of driver.new) }
     ensures linked { IsLinked (B.meaning bus.new) driver.new }
 {
     let Answers { first, second, .. } = answers;
@@ -204,8 +204,8 @@ pub(crate) fn perform<B: Bus>(
     requires linked { IsLinked (B.meaning bus.old) driver.old }
     requires known { IsQueryKnown (length driver.old.pairs) request.now.query }
     ensures left { RequestLeaves result request.now
-        (B.meaning bus.old).state (serials_of driver.old)
-        (B.meaning bus.new).state (serials_of driver.new) }
+        (B.meaning bus.old).state (next_cids_of driver.old)
+        (B.meaning bus.new).state (next_cids_of driver.new) }
     ensures linked { IsLinked (B.meaning bus.new) driver.new }
 {
     match &request.query {

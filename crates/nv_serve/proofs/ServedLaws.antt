@@ -22,13 +22,13 @@ use Rattle.nv_model.specs.Step.{reset_where}
 use Rattle.nv_bus.specs.Bus.{BusValue, enabled_in}
 use Rattle.nv_driver.specs.Driver.{driver_with}
 use Rattle.nv_driver.specs.inner.Driver.{error_without}
-use Rattle.nv_driver.specs.inner.Linked.{serials_of}
+use Rattle.nv_driver.specs.inner.Linked.{next_cids_of}
 use Rattle.nv_driver.specs.Settled.{DriverValue}
 use Rattle.nv_driver.specs.declared.error.DriverError.{DriverError}
 use Rattle.nv_driver.specs.declared.error.DriverError.TheVariants as error
 use Rattle.nv_driver.specs.declared.geometry.Geometry.{Geometry}
 use Rattle.nv_driver.specs.declared.geometry_field.GeometryField.{GeometryField}
-use Rattle.nv_driver.proofs.LinkedLaws.{first_serials}
+use Rattle.nv_driver.proofs.LinkedLaws.{first_cids}
 use Rattle.nv_serve.specs.Serving.{AreAnswered, IsAnswer, Point, after_all, after_one, point}
 use Rattle.nv_serve.specs.inner.Serving.{point_of}
 use Rattle.nv_serve.specs.declared.ends.ServeEnd.{ServeEnd}
@@ -200,12 +200,12 @@ module _ (p : Point) {now : Point} {old mid : SourceState} {requests : List Requ
 
 -- ---- with or without a driver
 
--- the subsystem and the serials of a new driver are what the first request finds
+-- the subsystem and the next command identifiers of a new driver are what the first request finds
 pub begun_is : (b now : BusValue) {d : DriverValue} (g : Geometry) (more : ℕ)
     → now.state ≡ reset_where (enabled_in b.banks) b.state → d ≡ driver_with g (length b.banks) more
     → point_of now d ≡ begun b
 begun_is b now g more state value =
-    let serials = ap serials_of value ∙ first_serials g (length b.banks) in λ i. point (state i) (serials i)
+    let next_cids = ap next_cids_of value ∙ first_cids g (length b.banks) in λ i. point (state i) (next_cids i)
 
 -- an end without a driver is the one for the first field of the geometry outside its limits, or for lack of memory
 pub end_is : (fault : Option GeometryField) (e : DriverError) (end : ServeEnd) → e ≡ error_without fault

@@ -8,7 +8,7 @@ use Rattle.nv_bus.specs.declared.told.Told.{Told}
 use Rattle.nv_driver.specs.Alone.{IsReceived, asked_in, entry_step}
 use Rattle.nv_driver.specs.Driver.{after_command, after_reset as driver_reset, pair_at}
 use Rattle.nv_driver.specs.Settled.{DriverValue}
-use Rattle.nv_driver.proofs.LinkedLaws.{serial_at, serials_after, serials_reset}
+use Rattle.nv_driver.proofs.LinkedLaws.{cid_at, cids_after, cids_reset}
 use Rattle.nv_serve.specs.Answer.{Answer}
 use Rattle.nv_serve.specs.Serving.{IsAnswerByKind, IsAnswerIf, IsAnswerToHeader, IsReturned, Point, after_entry}
 use Rattle.nv_serve.specs.Serving.{after_header, after_if, after_kind, after_reset, has_controller, point}
@@ -18,38 +18,38 @@ use Rattle.nv_serve.specs.inner.Serving.{point_of}
 -- an entry that the driver sent leaves the point after that entry
 pub sent_on : (b b' : BusValue) (d : DriverValue) {d' : DriverValue} (c : ℕ) (e : Sqe) (bytes : List ℕ)
     → c < length d.pairs
-    → b'.state ≡ (entry_step b.state c e bytes (pair_at d.pairs c).serial).state → d' ≡ after_command d c
+    → b'.state ≡ (entry_step b.state c e bytes (pair_at d.pairs c).next_cid).state → d' ≡ after_command d c
     → point_of b' d' ≡ after_entry (point_of b d) c e bytes
 sent_on b b' d {d'} c e bytes below state driver =
-    let reached = state ∙ ap (λ n. (entry_step b.state c e bytes n).state) (serial_at d c below) in
-    let next = serials_after d d' c below driver in
+    let reached = state ∙ ap (λ n. (entry_step b.state c e bytes n).state) (cid_at d c below) in
+    let next = cids_after d d' c below driver in
     λ i. point (reached i) (next i)
 
 -- a reset by the driver leaves the point after that reset
 pub reset_on : (b b' : BusValue) (d : DriverValue) {d' : DriverValue} (c : ℕ) → b'.state ≡ reset b.state c
     → d' ≡ driver_reset d c → point_of b' d' ≡ after_reset (point_of b d) c
 reset_on b b' d {d'} c state driver =
-    let next = serials_reset d d' c driver in λ i. point (state i) (next i)
+    let next = cids_reset d d' c driver in λ i. point (state i) (next i)
 
 -- the point after a header whose controller exists is the one after a request of its kind
-pub left_by : (p : Point) (h : Header) (bytes : List ℕ) {after : Point} → h.controller < length p.serials
+pub left_by : (p : Point) (h : Header) (bytes : List ℕ) {after : Point} → h.controller < length p.next_cids
     → after ≡ after_kind h.kind p h bytes → after ≡ after_header p h bytes
 left_by p h bytes below is =
     let there : has_controller p h ≡ true = grind (arith) in is ∙ sym (ap (λ b. after_if b p h bytes) there)
 
 -- and has this answer
-pub answered_by : (p : Point) (h : Header) (bytes : List ℕ) (a : Answer) → h.controller < length p.serials
+pub answered_by : (p : Point) (h : Header) (bytes : List ℕ) (a : Answer) → h.controller < length p.next_cids
     → IsAnswerByKind h.kind p h bytes a → IsAnswerToHeader p h bytes a
 answered_by p h bytes a below is =
     let there : has_controller p h ≡ true = grind (arith) in subst (λ b. IsAnswerIf b p h bytes a) (sym there) is
 
 -- what the driver returned for an entry is the completion and the data of its step
 pub returned_by : (b : BusValue) (d : DriverValue) (c : ℕ) (e : Sqe) (bytes : List ℕ) {told : Told} (out : List ℕ)
-    → c < length d.pairs → told ≡ told_by (entry_step b.state c e bytes (pair_at d.pairs c).serial).answer
-    → IsReceived (asked_in b.state c e bytes) (entry_step b.state c e bytes (pair_at d.pairs c).serial).answer out
+    → c < length d.pairs → told ≡ told_by (entry_step b.state c e bytes (pair_at d.pairs c).next_cid).answer
+    → IsReceived (asked_in b.state c e bytes) (entry_step b.state c e bytes (pair_at d.pairs c).next_cid).answer out
     → IsReturned (point_of b d) c e bytes (length out) told out
 returned_by b d c e bytes out below answer received =
-    let at = serial_at d c below in
+    let at = cid_at d c below in
     record {
       told_is = answer ∙ ap (λ n. told_by (entry_step b.state c e bytes n).answer) at;
       received =

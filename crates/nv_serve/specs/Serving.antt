@@ -5,7 +5,7 @@ use Rattle.nv_layout.specs.declared.sqe.Sqe.{Sqe}
 use Rattle.nv_layout.specs.declared.cqe.Status.{Status}
 use Rattle.nv_command.specs.Entry.{entry_of}
 use Rattle.nv_command.specs.declared.command.Command.TheVariants.{ActiveList}
-use Rattle.nv_model.specs.Step.{reset, Step, next_serial}
+use Rattle.nv_model.specs.Step.{reset, Step, cid_after}
 use Rattle.nv_model.specs.State.{State}
 use Rattle.nv_bus.specs.Entry.{told_by}
 use Rattle.nv_bus.specs.declared.told.Told.{Told}
@@ -21,28 +21,28 @@ use Rattle.nv_serve.specs.declared.header.Kind.TheVariants.{Entry, Reset, List a
 -- the subsystem, and the next command identifier of each controller
 pub record Point : Type 0 where
   pub subsystem : State
-  pub serials : List ℕ
+  pub next_cids : List ℕ
 
 -- the point with this subsystem and these command identifiers
 abbrev pub point : State → List ℕ → Point
-point subsystem serials = record { subsystem = subsystem; serials = serials }
+point subsystem next_cids = record { subsystem = subsystem; next_cids = next_cids }
 
 -- the next command identifier of controller c
-abbrev pub serial_at : Point → ℕ → ℕ
-serial_at p c = slice_index_or p.serials c 0
+abbrev pub cid_at : Point → ℕ → ℕ
+cid_at p c = slice_index_or p.next_cids c 0
 
 -- an entry on controller c, with the host's bytes
 abbrev pub step_at : Point → ℕ → Sqe → List ℕ → Step
-step_at p c e bytes = entry_step p.subsystem c e bytes (serial_at p c)
+step_at p c e bytes = entry_step p.subsystem c e bytes (cid_at p c)
 
 -- the point after an entry on controller c: its step is done, and its command identifier is used up
 abbrev pub after_entry : Point → ℕ → Sqe → List ℕ → Point
 after_entry p c e bytes =
-    point (step_at p c e bytes).state (slice_set p.serials c (next_serial (serial_at p c)))
+    point (step_at p c e bytes).state (slice_set p.next_cids c (cid_after (cid_at p c)))
 
 -- a reset of a controller
 abbrev pub after_reset : Point → ℕ → Point
-after_reset p c = point (reset p.subsystem c) p.serials
+after_reset p c = point (reset p.subsystem c) p.next_cids
 
 -- the entry that asks for the list of a controller's active namespaces
 abbrev pub list_entry : Sqe
@@ -64,7 +64,7 @@ after_if false p h bytes = p
 
 -- whether the controller of a header exists
 abbrev pub has_controller : Point → Header → Bool
-has_controller p h = nat_lt h.controller (length p.serials)
+has_controller p h = nat_lt h.controller (length p.next_cids)
 
 -- the point after a request with this header
 abbrev pub after_header : Point → Header → List ℕ → Point
@@ -105,7 +105,7 @@ IsAnswerByKind Reset p h bytes a = IsBare a (bare Answered)
 -- a list says how many controllers there are
 IsAnswerByKind ListKind p h bytes a =
     (told : Told) × IsReturned p h.controller list_entry [] (wanted_length h) told a.payload
-    × (a.header ≡ returned (length p.serials) told.status (wanted_length h))
+    × (a.header ≡ returned (length p.next_cids) told.status (wanted_length h))
 IsAnswerByKind Unknown p h bytes a = IsBare a (bare NoKind)
 
 -- if the controller of a request doesn't exist, the answer says so and has no data

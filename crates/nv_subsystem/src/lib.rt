@@ -45,7 +45,7 @@ pub use nv_command::{
 pub use nv_file::{DEMO, Key, SubsystemError, TableName};
 pub use nv_layout::{ControllerIds, FourBits, NsList, ThreeBits};
 pub use nv_model::{
-    Counters, Defaults, FeatureRule, Format, Identity, IdentityNumbers, Namespace, Origin, SERIALS,
-    SmartBase,
+    CID_COUNT, Counters, Defaults, FeatureRule, Format, Identity, IdentityNumbers, Namespace,
+    Origin, SmartBase,
 };
 pub use subsystem::Subsystem;

@@ -1,4 +1,4 @@
--- How the registers that a trace keeps follow a controller's, through writes and turns.
+-- How the registers that are kept follow a controller's, through writes and turns.
 use Rattle.std.proofs.Common.{◌≡◌, ◌≢◌, ◌∙◌, ℕ, zero, suc, ◌+◌, ◌*◌, ◌/◌, ◌%◌, ◌^◌, ◌==◌, ◌&&◌, ◌<◌, ◌≤◌}
 use Rattle.std.proofs.Common.{Bool, true, false, List, ap, arith, inl, inr, length, nat_le, refl, subst, sym}
 use Rattle.std.proofs.lemmas.Bool.{cases_eq, cases_lt}
@@ -27,10 +27,9 @@ use Rattle.nv_bus.specs.Bus.{BusValue, bank_at}
 use Rattle.nv_bus.specs.Entry.{Scene, scene}
 use Rattle.nv_bus.specs.Turn.{Site, Taken, Takes, Turn, TurnBy, ready_bank, site}
 use Rattle.nv_bus.proofs.TurnLaws.{can_means, length_one}
-use Rattle.nv_trace.specs.Followed.{AreFollowed, Follows, is_running}
+use Rattle.nv_trace.specs.Followed.{AreFollowed, Begins, Follows, IsKept, is_running}
 use Rattle.nv_trace.specs.inner.Followed.{AreOthers, AreTaken, AreTakenBy, FollowsWritten, IsTaken, as_read}
 use Rattle.nv_trace.specs.inner.Followed.{rings_after, turned}
-use Rattle.nv_trace.specs.Said.{Begins, IsTraced}
 
 -- for the attributes of src/: an element of a list of which one was set
 pub ruleset elements = (get_or-set_same, get_or-set_other, get_or-eq_default)
@@ -293,11 +292,11 @@ mapped_is_some : (change : RegisterBank → RegisterBank) (o : Option RegisterBa
 mapped_is_some change None = refl
 mapped_is_some change (Some m) = refl
 
--- if only what is kept of one controller changed, each controller that was traced still is
-pub still_traced : (change : RegisterBank → RegisterBank) (kept kept' : List (Option RegisterBank)) (c : ℕ)
+-- if only what is kept of one controller changed, each controller of which something was kept still is
+pub still_kept : (change : RegisterBank → RegisterBank) (kept kept' : List (Option RegisterBank)) (c : ℕ)
     → slice_index_or kept' c None ≡ option_map change (slice_index_or kept c None) → AreOthers c kept kept'
-    → (d : ℕ) → IsTraced kept d → IsTraced kept' d
-still_traced change kept kept' c new others d there =
+    → (d : ℕ) → IsKept kept d → IsKept kept' d
+still_kept change kept kept' c new others d there =
     elim (cases_eq d c) [
       | inl e ↦
           ap (λ n. is_some (slice_index_or kept' n None)) e ∙ ap (λ o. is_some o) new
@@ -306,10 +305,10 @@ still_traced change kept kept' c new others d there =
       | inr apart ↦ ap (λ o. is_some o) (others d apart) ∙ there
     ]
 
--- each controller that was traced still is after the registers of one were kept
-read_traced : (kept read : List (Option RegisterBank)) (c : ℕ) (p : RegisterBank)
-    → read ≡ slice_set kept c (Some p) → (d : ℕ) → IsTraced kept d → IsTraced read d
-read_traced kept read c p as_is d there =
+-- each controller of which something was kept still is after the registers of one were kept
+read_kept : (kept read : List (Option RegisterBank)) (c : ℕ) (p : RegisterBank)
+    → read ≡ slice_set kept c (Some p) → (d : ℕ) → IsKept kept d → IsKept read d
+read_kept kept read c p as_is d there =
     elim (cases_eq d c) [
       | inl e ↦
           elim (cases_lt c (length kept)) [
@@ -331,13 +330,13 @@ module _ (kept read kept' : List (Option RegisterBank)) (banks : List RegisterBa
     (on : is_running (bank_at banks c).readiness ≡ true → read ≡ kept)
     (new : slice_index_or kept' c None ≡ option_map (λ p. with_register_at p offset x) (slice_index_or read c None))
     (others : AreOthers c read kept') where
-  -- each controller that was traced still is after the registers of one were read
-  read_still : (running : Bool) → is_running (bank_at banks c).readiness ≡ running → (d : ℕ) → IsTraced kept d
-      → IsTraced read d
+  -- each controller of which something was kept still is after the registers of one were read
+  read_still : (running : Bool) → is_running (bank_at banks c).readiness ≡ running → (d : ℕ) → IsKept kept d
+      → IsKept read d
   read_still true is d there = ap (λ y. is_some (slice_index_or y d None)) (on is) ∙ there
-  read_still false is d there = read_traced kept read c (as_read (bank_at banks c)) (off is) d there
+  read_still false is d there = read_kept kept read c (as_read (bank_at banks c)) (off is) d there
 
-  -- a write begins the trace of a controller that took no entries, and ends none
+  -- a write begins to follow a controller that took no entries, and all that were followed still are
   pub begun : Begins c banks kept kept'
   begun = record {
     begins = λ is few.
@@ -345,7 +344,7 @@ module _ (kept read kept' : List (Option RegisterBank)) (banks : List RegisterBa
         ∙ ap (λ y. is_some (slice_index_or y c None)) (off is)
         ∙ ap (λ o. is_some o) (get_or-set_same kept c (Some (as_read (bank_at banks c))) None few);
     stays = λ d there.
-        still_traced (λ p. with_register_at p offset x) read kept' c new others d
+        still_kept (λ p. with_register_at p offset x) read kept' c new others d
         (read_still (is_running (bank_at banks c).readiness) refl d there);
   }
 

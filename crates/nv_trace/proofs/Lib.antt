@@ -1,2 +1,4 @@
 pub mod FollowedLaws
+pub mod HexLaws
 pub mod LineLaws
+pub mod SaidLaws

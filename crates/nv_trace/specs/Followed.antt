@@ -1,5 +1,5 @@
--- What a trace keeps of controllers: their registers and rings.
-use Rattle.std.specs.Prelude.{◌≡◌, ℕ, Bool, true, false, not, List, Option, None, slice_index_or}
+-- What is kept of controllers that are followed: their registers and rings.
+use Rattle.std.specs.Prelude.{◌≡◌, ◌<◌, ℕ, Bool, true, false, not, List, length, Option, None, IsSome, slice_index_or}
 use Rattle.std.specs.Option.{ForSome}
 use Rattle.nv_queue.specs.Rings.{fetched_one, posted_one}
 use Rattle.nv_register.specs.declared.readiness.Readiness.{Readiness}
@@ -25,3 +25,12 @@ AreFollowed kept banks = (c : ℕ) → ForSome (slice_index_or kept c None) (λ 
 -- the rings after one entry
 abbrev pub rings_one : Rings → Rings
 rings_one r = record r { submission = fetched_one r.submission; completion = posted_one r.completion }
+
+-- this controller's registers are kept
+abbrev pub IsKept : List (Option RegisterBank) → ℕ → Type 0
+IsKept kept c = IsSome (slice_index_or kept c None)
+
+-- after a write to controller c, its registers are kept if it took no entries before, and still so are all that were
+pub record Begins (c : ℕ) (banks : List RegisterBank) (old new : List (Option RegisterBank)) : Type 0 where
+  pub begins : is_running (bank_at banks c).readiness ≡ false → c < length old → IsKept new c
+  pub stays : (d : ℕ) → IsKept old d → IsKept new d

@@ -4,6 +4,7 @@ use Rattle.std.specs.Fmt.{decimal, digits}
 use Rattle.std.specs.Option.{option_map_or}
 use Rattle.nv_layout.specs.Status.{status_text}
 use Rattle.nv_layout.specs.declared.cqe.Status.{Status}
+use Rattle.nv_layout.specs.declared.sqe.Sqe.{Sqe}
 use Rattle.nv_register.specs.Register.{register_at}
 use Rattle.nv_register.specs.declared.register.Register.{Register}
 use Rattle.nv_register.specs.declared.register.Register.TheVariants as register
@@ -60,6 +61,14 @@ abbrev pub field_text : List ℕ → ℕ → List ℕ
 field_text name value =
     if value == 0 then [] else codes " " ++ (name ++ (codes "=0x" ++ hex value))
 
+-- the fields of an entry that are left out if they are 0
+abbrev pub fields_text : Sqe → List ℕ
+fields_text e =
+    field_text (codes "fuse") e.fuse ++ (field_text (codes "psdt") e.psdt ++ (field_text (codes "mptr") e.mptr
+    ++ (field_text (codes "cdw10") e.cdw10 ++ (field_text (codes "cdw11") e.cdw11
+    ++ (field_text (codes "cdw12") e.cdw12 ++ (field_text (codes "cdw13") e.cdw13
+    ++ (field_text (codes "cdw14") e.cdw14 ++ field_text (codes "cdw15") e.cdw15)))))))
+
 -- "nvme0 taken Identify (0x06) cid=0x0 nsid=0x0 prp1=0x4000 prp2=0x0 cdw10=0x2"
 abbrev pub taken_text : TakenEntry → List ℕ
 taken_text t =
@@ -67,12 +76,7 @@ taken_text t =
     codes "nvme" ++ (decimal t.ctrl ++ (codes " taken "
     ++ (command_name e.opcode ++ (codes " (0x" ++ (hex (e.opcode / 16) ++ (hex (e.opcode % 16)
     ++ (codes ") cid=0x" ++ (hex e.cid ++ (codes " nsid=0x" ++ (hex e.nsid
-    ++ (codes " prp1=0x" ++ (hex e.prp1 ++ (codes " prp2=0x" ++ (hex e.prp2
-    ++ (field_text (codes "fuse") e.fuse ++ (field_text (codes "psdt") e.psdt
-    ++ (field_text (codes "mptr") e.mptr ++ (field_text (codes "cdw10") e.cdw10
-    ++ (field_text (codes "cdw11") e.cdw11 ++ (field_text (codes "cdw12") e.cdw12
-    ++ (field_text (codes "cdw13") e.cdw13 ++ (field_text (codes "cdw14") e.cdw14
-    ++ field_text (codes "cdw15") e.cdw15))))))))))))))))))))))
+    ++ (codes " prp1=0x" ++ (hex e.prp1 ++ (codes " prp2=0x" ++ (hex e.prp2 ++ fields_text e))))))))))))))
 
 -- ---- a completion
 

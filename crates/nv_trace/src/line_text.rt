@@ -1,9 +1,13 @@
 //! The text of one line.
 
-ghost use Rattle.std.specs.Prelude.{◌≡◌, ◌++◌, ◌∷◌, [], ◌≤◌};
+ghost use Rattle.std.specs.Prelude.{◌≡◌, ◌++◌, ◌∷◌, [], ◌≤◌, length, take};
+ghost use Rattle.std.specs.Fmt.{decimal};
+ghost use Rattle.nv_trace.specs.Lines.{hex};
 
+use crate::hexadecimal::digits_of;
+use itoa::Buffer;
+use std::cmp;
 use std::marker::Model;
-use std::{cmp, fmt};
 
 /// The greatest length of a line in bytes, without its newline.
 const LINE_ROOM: usize = 319;
@@ -36,6 +40,38 @@ impl LineText {
         }
     }
 
+    /// Adds the bytes of a text.
+    #[tactic(auto, using(crate::proofs::LineLaws::longer))]
+    fn add_bytes(&mut self, bytes: &[u8])
+        ensures { self.new ≡ take 319 (self.old ++ bytes.now) }
+    {
+        let count = cmp::min(bytes.len(), LINE_ROOM - self.len);
+        self.bytes[self.len..self.len + count].copy_from_slice(&bytes[..count]);
+        self.len += count;
+    }
+
+    pub(crate) fn add(&mut self, text: &str)
+        ensures { self.new ≡ take 319 (self.old ++ text.now) }
+    {
+        self.add_bytes(text.as_bytes());
+    }
+
+    /// Adds a number in decimal digits.
+    pub(crate) fn add_decimal(&mut self, number: u16)
+        ensures { self.new ≡ take 319 (self.old ++ decimal number) }
+    {
+        let mut room = Buffer::new();
+        self.add(room.format(number));
+    }
+
+    /// Adds a number in hexadecimal digits.
+    pub(crate) fn add_hex(&mut self, number: u64)
+        ensures { self.new ≡ take 319 (self.old ++ hex number) }
+    {
+        let mut room = [0; 16];
+        self.add_bytes(digits_of(&mut room, number));
+    }
+
     /// Returns the line with its newline.
     #[tactic(auto, using(crate::proofs::LineLaws::ends))]
     pub(crate) fn ended(&mut self) -> &[u8]
@@ -43,20 +79,5 @@ impl LineText {
     {
         self.bytes[self.len] = b'\n';
         &self.bytes[..self.len + 1]
-    }
-}
-
-impl fmt::Write for LineText {
-    ghost use Rattle.std.specs.Prelude.{◌≡◌, ◌++◌, take};
-
-    ghost write_str_gives = { λ line text longer. longer ≡ take 319 (line ++ text) };
-
-    #[tactic(auto, using(crate::proofs::LineLaws::longer))]
-    fn write_str(&mut self, text: &str) -> fmt::Result {
-        let bytes = text.as_bytes();
-        let count = cmp::min(bytes.len(), LINE_ROOM - self.len);
-        self.bytes[self.len..self.len + count].copy_from_slice(&bytes[..count]);
-        self.len += count;
-        Ok(())
     }
 }

@@ -3,8 +3,9 @@
 ghost use Rattle.std.specs.Prelude.{◌≡◌};
 ghost use Rattle.nv_trace.specs.Lines.{meaning};
 
+use crate::event::Event;
+use crate::line_text::LineText;
 use nv_layout::{Cqe, Status};
-use std::fmt;
 
 /// A completion of a controller's completion queue.
 #[derive(Clone, Copy)]
@@ -24,21 +25,25 @@ fn meaning_of(status: Status) -> &'static str
     }
 }
 
-/// Writes a line such as `nvme0 posted cid=0x0 status=0x0 success dword0=0x0 sqhd=0x1`.
-impl fmt::Display for Posted {
-    ghost use Rattle.std.specs.Prelude.{Some};
+/// Its line is such as `nvme0 posted cid=0x0 status=0x0 success dword0=0x0 sqhd=0x1`.
+impl Event for Posted {
     ghost use Rattle.nv_trace.specs.Lines.{posted_text};
 
-    ghost output = { λ posted. Some (posted_text posted) };
+    ghost text = { posted_text };
 
-    fn fmt<W: fmt::Write>(&self, f: &mut fmt::Formatter<W>) -> fmt::Result {
+    fn put(&self, line: &mut LineText) {
         let Posted { ctrl, completion } = *self;
-        let status = completion.status;
-        let meaning = meaning_of(status);
-        write!(
-            f,
-            "nvme{ctrl} posted cid=0x{:x} status={status} {meaning} dword0=0x{:x} sqhd=0x{:x}",
-            completion.cid, completion.command_specific, completion.sq_head
-        )
+        line.add("nvme");
+        line.add_decimal(ctrl);
+        line.add(" posted cid=0x");
+        line.add_hex(u64::from(completion.cid));
+        line.add(" status=0x");
+        line.add_hex(u64::from(completion.status.number()));
+        line.add(" ");
+        line.add(meaning_of(completion.status));
+        line.add(" dword0=0x");
+        line.add_hex(u64::from(completion.command_specific));
+        line.add(" sqhd=0x");
+        line.add_hex(u64::from(completion.sq_head));
     }
 }

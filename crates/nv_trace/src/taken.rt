@@ -1,10 +1,11 @@
 //! An entry that was taken, as a line.
 
-ghost use Rattle.std.specs.Prelude.{◌≡◌};
-ghost use Rattle.nv_trace.specs.Lines.{command_name};
+ghost use Rattle.std.specs.Prelude.{◌≡◌, ◌++◌, ◌≤◌, length, take};
+ghost use Rattle.nv_trace.specs.Lines.{command_name, field_text, fields_text};
 
+use crate::event::Event;
+use crate::line_text::LineText;
 use nv_layout::Sqe;
-use std::fmt;
 
 /// An entry of a controller's submission queue.
 #[derive(Clone, Copy)]
@@ -29,55 +30,61 @@ fn command_of(opcode: u8) -> &'static str
     }
 }
 
-/// A field with its name.
-#[derive(Clone, Copy)]
-struct EntryField(&'static str, u64);
-
-/// Writes a field such as ` cdw10=0x2`, or nothing if it is 0.
-impl fmt::Display for EntryField {
-    ghost use Rattle.std.specs.Prelude.{Some};
-    ghost use Rattle.nv_trace.specs.Lines.{field_text};
-
-    ghost output = { λ field. Some (field_text field.0.now field.1) };
-
-    fn fmt<W: fmt::Write>(&self, f: &mut fmt::Formatter<W>) -> fmt::Result {
-        let EntryField(name, value) = *self;
-        if value == 0 {
-            return Ok(());
-        }
-        write!(f, " {name}=0x{value:x}")
+/// Adds a field such as ` cdw10=0x2`, or nothing if it is 0.
+fn put_field(line: &mut LineText, name: &str, value: u64)
+    requires { length line.old ≤ 319 }
+    ensures field { line.new ≡ take 319 (line.old ++ field_text name.now value) }
+    ensures len { length line.new ≤ 319 }
+{
+    if value == 0 {
+        return;
     }
+    line.add(" ");
+    line.add(name);
+    line.add("=0x");
+    line.add_hex(value);
 }
 
-/// Writes a line such as `nvme0 taken Identify (0x06) cid=0x0 nsid=0x0 prp1=0x4000 prp2=0x0
+/// Adds the fields of an entry that are left out if they are 0.
+fn put_fields(line: &mut LineText, entry: &Sqe)
+    requires { length line.old ≤ 319 }
+    ensures { line.new ≡ take 319 (line.old ++ fields_text entry.now) }
+{
+    put_field(line, "fuse", u64::from(entry.fuse));
+    put_field(line, "psdt", u64::from(entry.psdt));
+    put_field(line, "mptr", entry.mptr);
+    put_field(line, "cdw10", u64::from(entry.cdw10));
+    put_field(line, "cdw11", u64::from(entry.cdw11));
+    put_field(line, "cdw12", u64::from(entry.cdw12));
+    put_field(line, "cdw13", u64::from(entry.cdw13));
+    put_field(line, "cdw14", u64::from(entry.cdw14));
+    put_field(line, "cdw15", u64::from(entry.cdw15));
+}
+
+/// Its line is such as `nvme0 taken Identify (0x06) cid=0x0 nsid=0x0 prp1=0x4000 prp2=0x0
 /// cdw10=0x2`. Other fields are left out if they are 0.
-impl fmt::Display for TakenEntry {
-    ghost use Rattle.std.specs.Prelude.{Some};
+impl Event for TakenEntry {
     ghost use Rattle.nv_trace.specs.Lines.{taken_text};
 
-    ghost output = { λ taken. Some (taken_text taken) };
+    ghost text = { taken_text };
 
-    fn fmt<W: fmt::Write>(&self, f: &mut fmt::Formatter<W>) -> fmt::Result {
+    fn put(&self, line: &mut LineText) {
         let TakenEntry { ctrl, entry } = *self;
-        let command = command_of(entry.opcode);
-        write!(
-            f,
-            "nvme{ctrl} taken {command} (0x{:x}{:x}) cid=0x{:x} nsid=0x{:x} prp1=0x{:x} prp2=0x{:x}{}{}{}{}{}{}{}{}{}",
-            entry.opcode / 16,
-            entry.opcode % 16,
-            entry.cid,
-            entry.nsid,
-            entry.prp1,
-            entry.prp2,
-            EntryField("fuse", u64::from(entry.fuse)),
-            EntryField("psdt", u64::from(entry.psdt)),
-            EntryField("mptr", entry.mptr),
-            EntryField("cdw10", u64::from(entry.cdw10)),
-            EntryField("cdw11", u64::from(entry.cdw11)),
-            EntryField("cdw12", u64::from(entry.cdw12)),
-            EntryField("cdw13", u64::from(entry.cdw13)),
-            EntryField("cdw14", u64::from(entry.cdw14)),
-            EntryField("cdw15", u64::from(entry.cdw15))
-        )
+        line.add("nvme");
+        line.add_decimal(ctrl);
+        line.add(" taken ");
+        line.add(command_of(entry.opcode));
+        line.add(" (0x");
+        line.add_hex(u64::from(entry.opcode / 16));
+        line.add_hex(u64::from(entry.opcode % 16));
+        line.add(") cid=0x");
+        line.add_hex(u64::from(entry.cid));
+        line.add(" nsid=0x");
+        line.add_hex(u64::from(entry.nsid));
+        line.add(" prp1=0x");
+        line.add_hex(entry.prp1);
+        line.add(" prp2=0x");
+        line.add_hex(entry.prp2);
+        put_fields(line, &entry);
     }
 }

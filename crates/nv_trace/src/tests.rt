@@ -2,6 +2,7 @@
 
 ghost use Rattle.std.specs.Prelude.{◌≡◌, ◌≤◌, None, false};
 
+use crate::event::Event;
 use crate::line_text::LineText;
 use crate::marked::Marked;
 use crate::posted::Posted;
@@ -11,7 +12,6 @@ use crate::written::Written;
 use nv_layout::{Cqe, Sqe};
 use nv_stream::{Sink, write_all};
 use std::cmp;
-use std::fmt::{Display, Write};
 
 /// Takes at most `most` bytes a write and 32 in all, and fails from then on.
 #[derive(Drop)]
@@ -55,13 +55,24 @@ impl Sink for Small {
     }
 }
 
-/// Returns whether this is the line of `said`.
-fn is_line<D: Display>(said: &D, text: &str) -> bool {
+/// Returns whether this is the line of an event.
+fn is_line<E: Event>(event: &E, text: &str) -> bool {
     let mut line = LineText::new();
-    let _ = write!(line, "{said}");
+    event.put(&mut line);
     let mut wanted = LineText::new();
-    let _ = wanted.write_str(text);
+    wanted.add(text);
     line.ended() == wanted.ended()
+}
+
+/// An event with any text.
+struct Told(&'static str);
+
+impl Event for Told {
+    ghost text = { λ told. told.0.now };
+
+    fn put(&self, line: &mut LineText) {
+        line.add(self.0);
+    }
 }
 
 #[test]
@@ -133,12 +144,12 @@ fn marks_each_line(rt: HostRuntime) {
 #[test]
 fn tries_no_failed_sink_again(rt: HostRuntime) {
     let mut voice = Voice::new(Small::new(20));
-    voice.say(&"a line of 22 bytes ..");
+    voice.say(&Told("a line of 22 bytes .."));
     assert!(rt; !voice.is_silent());
-    voice.say(&"is cut short");
+    voice.say(&Told("is cut short"));
     assert!(rt; voice.is_silent());
     let calls = voice.sink.calls;
-    voice.say(&"is not said");
+    voice.say(&Told("is not said"));
     assert!(rt; voice.sink.calls == calls);
     assert!(rt; voice.sink.has(b"a line of 22 bytes ..\nis cut sho"));
 }

@@ -1,23 +1,15 @@
 //! Writes lines to a sink, up to its first failure.
 
 ghost use Rattle.std.specs.Prelude.{◌≡◌, false, true};
-ghost use Rattle.nv_trace.specs.Said.{IsLineOf, IsSaid};
+ghost use Rattle.nv_trace.specs.Said.{IsSaid};
 
+use crate::event::Event;
+use crate::exchange::Exchange;
 use crate::line_text::LineText;
+use crate::observer::Observer;
+use crate::posted::Posted;
+use crate::taken::TakenEntry;
 use nv_stream::{Sink, write_all};
-use std::fmt::{Display, Write};
-
-/// Returns the line of a text, which is empty if the text can't be made.
-#[tactic(auto, using(crate::proofs::LineLaws::empty_line))]
-fn line_of<D: Display>(said: &D) -> LineText
-    ensures { IsLineOf (D.output said.now) result }
-{
-    let mut line = LineText::new();
-    match write!(line, "{said}") {
-        Ok(()) => line,
-        Err(_) => LineText::new(),
-    }
-}
 
 /// Writes lines to a sink. After the sink has failed, it writes nothing.
 #[derive(Drop)]
@@ -45,17 +37,32 @@ impl<S: Sink> Voice<S> {
         self.is_silent
     }
 
-    /// Writes a line.
-    pub(crate) fn say<D: Display>(&mut self, said: &D)
+    /// Writes the line of an event.
+    pub(crate) fn say<E: Event>(&mut self, event: &E)
         ensures line { (S.state self.old.sink).has_failed ≡ false
-            → IsSaid (D.output said.now) (S.state self.old.sink) (S.state self.new.sink) }
+            → IsSaid (E.text event.now) (S.state self.old.sink) (S.state self.new.sink) }
         ensures silent { (S.state self.old.sink).has_failed ≡ true
             → self.new.sink ≡ self.old.sink }
     {
         if self.is_silent {
             return;
         }
-        let mut line = line_of(said);
+        let mut line = LineText::new();
+        event.put(&mut line);
         self.is_silent = !write_all(&mut self.sink, line.ended());
+    }
+}
+
+impl<S: Sink> Observer for Voice<S> {
+    ghost use Rattle.std.specs.Prelude.{[], ◌∷◌};
+    ghost use Rattle.nv_trace.specs.Said.{SaysAll, exchange_texts};
+
+    ghost was_shown = { λ v ctrl exchange w. SaysAll S.state (exchange_texts ctrl (exchange ∷ [])) v.sink w.sink };
+
+    /// Writes a line of the entry and one of its completion.
+    fn show(&mut self, ctrl: u16, exchange: Exchange) {
+        let Exchange { entry, completion } = exchange;
+        self.say(&TakenEntry { ctrl, entry });
+        self.say(&Posted { ctrl, completion });
     }
 }

@@ -1,10 +1,11 @@
 //! A register write as a line.
 
-ghost use Rattle.std.specs.Prelude.{◌≡◌};
-ghost use Rattle.nv_trace.specs.Lines.{register_name};
+ghost use Rattle.std.specs.Prelude.{◌≡◌, ◌++◌, take};
+ghost use Rattle.nv_trace.specs.Lines.{place_text, register_name};
 
+use crate::event::Event;
+use crate::line_text::LineText;
 use nv_register::Register;
-use std::fmt;
 
 /// A dword that was written to an offset of a controller's registers.
 #[derive(Clone, Copy)]
@@ -35,25 +36,36 @@ fn name_of(register: Register) -> &'static str
     }
 }
 
-/// Writes a line such as `nvme0 write CC=0x460001`.
-impl fmt::Display for Written {
-    ghost use Rattle.std.specs.Prelude.{Some};
+/// Adds the name of the register at an offset, or the offset.
+fn put_place(line: &mut LineText, offset: u32)
+    ensures { line.new ≡ take 319 (line.old ++ place_text offset) }
+{
+    match Register::at(offset) {
+        Some(register) => line.add(name_of(register)),
+        None => {
+            line.add("0x");
+            line.add_hex(u64::from(offset));
+        }
+    }
+}
+
+/// Its line is such as `nvme0 write CC=0x460001`.
+impl Event for Written {
     ghost use Rattle.nv_trace.specs.Lines.{written_text};
 
-    ghost output = { λ written. Some (written_text written) };
+    ghost text = { written_text };
 
-    fn fmt<W: fmt::Write>(&self, f: &mut fmt::Formatter<W>) -> fmt::Result {
+    fn put(&self, line: &mut LineText) {
         let Written {
             ctrl,
             offset,
             dword,
         } = *self;
-        match Register::at(offset) {
-            Some(register) => {
-                let name = name_of(register);
-                write!(f, "nvme{ctrl} write {name}=0x{dword:x}")
-            }
-            None => write!(f, "nvme{ctrl} write 0x{offset:x}=0x{dword:x}"),
-        }
+        line.add("nvme");
+        line.add_decimal(ctrl);
+        line.add(" write ");
+        put_place(line, offset);
+        line.add("=0x");
+        line.add_hex(u64::from(dword));
     }
 }

@@ -36,7 +36,7 @@ impl Model for DrivenDevice {
 
     ghost view = { λ _. tt };
 
-    ghost invariant = { λ d. IsDevice d.bus.machine d.driver };
+    ghost invariant = { λ d. IsDevice d.bus.followed.bus d.driver };
 }
 
 /// Returns the entry that the arguments describe.
@@ -65,8 +65,8 @@ fn pass_through(
     given: &OperationArguments,
 ) -> Answered
     requires ctrl { ctrl < length driver.old.pairs }
-    requires device { IsDevice bus.old.machine (Some driver.old) }
-    ensures { IsDevice bus.new.machine (Some driver.new) }
+    requires device { IsDevice bus.old.followed.bus (Some driver.old) }
+    ensures { IsDevice bus.new.followed.bus (Some driver.new) }
 {
     let mut came = vec![in alloc; 0u8; given.qword("room") as usize]?;
     let data = given.bytes("data");
@@ -88,10 +88,10 @@ fn send_command(
     command: &Command,
 ) -> Answered
     requires ctrl { ctrl < length driver.old.pairs }
-    requires device { IsDevice bus.old.machine (Some driver.old) }
+    requires device { IsDevice bus.old.followed.bus (Some driver.old) }
     requires sends { IsSendable command.now }
     requires fits { CommandFits command.now }
-    ensures { IsDevice bus.new.machine (Some driver.new) }
+    ensures { IsDevice bus.new.followed.bus (Some driver.new) }
 {
     let mut slot = AnswerSlot::new();
     let told = driver.admin(bus, ctrl, command, &mut slot);
@@ -108,10 +108,10 @@ fn send_commands(
     commands: &[Command],
 ) -> Answered
     requires ctrl { ctrl < length driver.old.pairs }
-    requires device { IsDevice bus.old.machine (Some driver.old) }
+    requires device { IsDevice bus.old.followed.bus (Some driver.old) }
     requires sends { All IsSendable commands.now }
     requires fits { All CommandFits commands.now }
-    ensures { IsDevice bus.new.machine (Some driver.new) }
+    ensures { IsDevice bus.new.followed.bus (Some driver.new) }
 {
     let mut slots = Vec::new(alloc);
     slots.resize_with(commands.len(), AnswerSlot::new)?;
@@ -168,7 +168,8 @@ impl DrivenDevice {
             return Err(OperationError::NoController);
         }
         self.driver = None;
-        self.bus.machine.write32(ctrl, offset, value);
+        self.bus.forget();
+        self.bus.write32(ctrl, offset, value);
         Ok(())
     }
 
@@ -184,7 +185,8 @@ impl DrivenDevice {
             return Err(OperationError::NoController);
         }
         self.driver = None;
-        Ok(self.bus.machine.turn(ctrl, memory, most))
+        self.bus.forget();
+        Ok(self.bus.turn(ctrl, memory, most))
     }
 
     /// Returns how many commands a controller refused, and how many it took.
@@ -193,7 +195,7 @@ impl DrivenDevice {
         if ctrl >= self.bus.controllers() {
             return Err(OperationError::NoController);
         }
-        Ok(self.bus.machine.subsystem().counts(ctrl))
+        Ok(self.bus.machine().subsystem().counts(ctrl))
     }
 
     /// Returns an entry of a controller's error log, the newest one first.
@@ -203,7 +205,7 @@ impl DrivenDevice {
             return Err(OperationError::NoController);
         }
         self.bus
-            .machine
+            .machine()
             .subsystem()
             .log_entry(ctrl, usize::from(index))
             .ok_or(OperationError::NoEntry)
@@ -218,7 +220,7 @@ impl DrivenDevice {
     ) -> Result<u64, OperationError> {
         geometry.check()?;
         self.driver = None;
-        self.bus.begin(alloc)?;
+        self.bus.forget();
         let driver = Driver::bring_up_for_entries(alloc, &mut self.bus, geometry)?;
         let pages = driver.pages();
         self.driver = Some(driver);

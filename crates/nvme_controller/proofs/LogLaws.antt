@@ -19,13 +19,13 @@ pub entry_told : (s t : State) (c i : ℕ) (e : ErrorEntry) (old new : List ℕ)
 entry_told s t c i e old new same is put =
     subst (λ o. EntryTold o (pos 1) old new) (is ∙ ap (λ u. log_entry_of u c i) same) (refl, put)
 
--- if there is no such entry, nothing is told, and the call returns 0
+-- if there is no such entry, the call writes nothing and returns 0
 pub none_told : (s t : State) (c i : ℕ) (old : List ℕ) → s ≡ t → None ≡ log_entry_of s c i
     → EntryTold (log_entry_of t c i) (pos 0) old old
 none_told s t c i old same is =
     subst (λ o. EntryTold o (pos 0) old old) (is ∙ ap (λ u. log_entry_of u c i) same) (refl, refl)
 
--- if there is no such controller, nothing is told, and the call returns 0
+-- if there is no such controller, the call writes nothing and returns 0
 pub nowhere_told : (m : MachineValue) (c i : ℕ) (old : List ℕ) → IsBus (bus_of m) → length m.banks ≤ c
     → EntryTold (log_entry_of m.state c i) (pos 0) old old
 nowhere_told m c i old bus past =

@@ -1,6 +1,6 @@
 -- A text that is cut to the room for it.
-use Rattle.std.proofs.Common.{◌≡◌, ◌∙◌, ap, ℕ, ◌-◌, ◌≤◌, inl, inr, List, [], ◌++◌, append-nil, append_assoc, arith, length}
-use Rattle.std.proofs.Common.{length-append, length-take, min, replicate, sym, take}
+use Rattle.std.proofs.Common.{◌≡◌, ◌∙◌, ap, ℕ, ◌-◌, ◌≤◌, inl, inr, List, [], ◌++◌, append-nil, append_assoc}
+use Rattle.std.proofs.Common.{arith, length, length-append, length-take, min, replicate, sym, take}
 use Rattle.std.proofs.Math.Seq.{take-append-add}
 use Rattle.std.proofs.lemmas.Bool.{cases_lt}
 use Rattle.std.proofs.lemmas.List.{take-append-le, take_all}
@@ -29,7 +29,8 @@ after text more room count is =
           ∙ (λ i. shown i ++ replicate (left i) 0)
       | inr above ↦
           let whole : count ≡ length text = omega (arith, above, is) in
-          let front : take count text ≡ text = ap (λ n. take n text) whole ∙ take_all (length text) text (omega arith) in
+          let front : take count text ≡ text =
+          ap (λ n. take n text) whole ∙ take_all (length text) text (omega arith) in
           let shown : text ++ rest ≡ take (room - 1) (text ++ more) =
           sym (take-append-add text more (room - count - 1))
           ∙ ap (λ n. take n (text ++ more)) (omega (arith, whole, above)) in

@@ -4,5 +4,5 @@ use Rattle.nv_driver.specs.QueuePair.{QueuePair}
 use Rattle.nv_driver.specs.Settled.{DriverValue}
 
 -- the next command identifier of each controller
-abbrev pub serials_of : DriverValue → List ℕ
-serials_of d = map (λ (l : QueuePair). l.serial) d.pairs
+abbrev pub next_cids_of : DriverValue → List ℕ
+next_cids_of d = map (λ (l : QueuePair). l.next_cid) d.pairs

@@ -1,6 +1,5 @@
 -- A request that a driver submitted, and where its data lies: what no public contract reaches.
 use Rattle.std.specs.Prelude.{◌≡◌, ℕ, ◌+◌, ◌*◌, ◌<◌, ◌≤◌, List, ◌∷◌, length}
-use Rattle.std.specs.List.{range_with_len}
 use Rattle.nv_host.specs.Pages.{IsPageSize}
 use Rattle.nv_prp.specs.Buffer.{IsBuffer, IsListPlace}
 use Rattle.nv_prp.specs.Place.{AreDistinct}
@@ -8,13 +7,11 @@ use Rattle.nv_queue.specs.Numbers.{IsSlotBetween, next, slot_of}
 use Rattle.nv_queue.specs.Rings.{IsSubmitFull, submitted_one}
 use Rattle.nv_queue.specs.Slots.{IsAwaitedThere, awaited_completion, with_submission}
 use Rattle.nv_bus.specs.Call.{length_of}
-use Rattle.nv_model.specs.Ranges.{serial_count}
-use Rattle.nv_model.specs.Step.{next_serial}
-use Rattle.nv_driver.specs.Layout.{data_count}
+use Rattle.nv_model.specs.Ranges.{cid_count}
+use Rattle.nv_model.specs.Step.{cid_after}
 use Rattle.nv_driver.specs.Request.{Asked, Request}
 use Rattle.nv_driver.specs.Pointer.{IsListedAtPlace}
 use Rattle.nv_driver.specs.Schedule.{IsPrepared, entry}
-use Rattle.nv_driver.specs.declared.geometry.Geometry.{Geometry}
 use Rattle.nv_driver.specs.declared.submitting.DataPlace.{DataPlace}
 use Rattle.nv_driver.specs.declared.submitting.Outgoing.{Outgoing}
 use Rattle.nv_driver.specs.declared.queue_pair.QueuePair.{QueuePair as QueuePairFields}
@@ -29,16 +26,6 @@ request_place p = record {
   first = p.list.first;
   second = p.list.second;
   list_offset = p.list.offset;
-}
-
--- `len` bytes in consecutive pages from this one on: two for a list, and then those of the data
-abbrev pub place_from : Geometry → (first len : ℕ) → RequestPlace
-place_from g first len = record {
-  pages = range_with_len (first + 2) (data_count g len);
-  offset = g.offset;
-  first = first;
-  second = first + 1;
-  list_offset = g.list_offset;
 }
 
 -- a request that asks for this
@@ -59,7 +46,7 @@ pub record IsPlaceFor (mem : List ℕ) (page_size : ℕ) (at : RequestPlace) (le
 
 -- the submission ring of a queue pair lies in the memory, and has a free slot
 pub record HasFreeSlot (l : QueuePairFields) (mem : List ℕ) : Type 0 where
-  pub serial : l.serial < serial_count
+  pub next_cid : l.next_cid < cid_count
   pub ring : l.submission.base + 64 * l.submission.depth ≤ length mem
   pub free : ¬ IsSubmitFull l.submission
 
@@ -70,14 +57,14 @@ pub record IsSubmittedAt (page_size : ℕ) (at : RequestPlace) (q : Request)
   pub prp1 : ℕ
   pub prp2 : ℕ
   pub ready : List ℕ
-  pub prepared : IsPrepared page_size (sent_at at q old.serial prp1 prp2) before ready
-  pub list : IsListedAtPlace page_size (sent_at at q old.serial prp1 prp2) ready
+  pub prepared : IsPrepared page_size (sent_at at q old.next_cid prp1 prp2) before ready
+  pub list : IsListedAtPlace page_size (sent_at at q old.next_cid prp1 prp2) ready
   pub pointer : length_of q.transfer ≡ 0 → (prp1 ≡ 0) × (prp2 ≡ 0)
   pub mem : after
-      ≡ with_submission ready old.submission (entry (sent_at at q old.serial prp1 prp2))
+      ≡ with_submission ready old.submission (entry (sent_at at q old.next_cid prp1 prp2))
   pub pair : new ≡ record old {
     submission = submitted_one old.submission;
-    serial = next_serial old.serial;
+    next_cid = cid_after old.next_cid;
   }
   pub tail : end ≡ slot_of old.submission.depth (next old.submission.depth old.submission.submitted)
   pub len : length after ≡ length before

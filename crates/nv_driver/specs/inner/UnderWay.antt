@@ -10,7 +10,7 @@ use Rattle.nv_driver.specs.UnderWay.{Run}
 pub record HasAnswers (r : Run) (collected : ℕ) (answers : List Answer) : Type 0 where
   pub len : length answers ≡ length r.commands
   pub first : take collected answers
-      ≡ take collected (answers_of r.controller r.bus.state r.pair.serial r.commands)
+      ≡ take collected (answers_of r.controller r.bus.state r.pair.next_cid r.commands)
 
 -- what remains to be done for n commands
 abbrev pub left_of : ℕ → Batch → ℕ

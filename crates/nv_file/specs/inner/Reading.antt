@@ -2,7 +2,7 @@
 use Rattle.std.specs.Prelude.{◌≡◌, ◌⊎◌, List, None, Some, IfSome, Result, Ok, Err}
 use Rattle.nv_file.specs.declared.error.SubsystemError.{SubsystemError}
 use Rattle.nv_file.specs.declared.error.SubsystemError.TheVariants.{Memory}
-use Rattle.nv_file.specs.Check.{Check, first_fault}
+use Rattle.nv_file.specs.Check.{Check, first_error}
 
 -- the result is the answer, as `view` sees it
 abbrev pub IsAnswer : {X Y : Type 0} → (X → Y) → Result X SubsystemError
@@ -12,20 +12,20 @@ IsAnswer view (Err e) answer = answer ≡ Err e
 
 -- the value, as `view` sees it, or the fault of the first check that fails
 abbrev pub IsChecked : {X Y : Type 0} → (X → Y) → List Check → Y → Result X SubsystemError → Type 0
-IsChecked view checks value (Ok x) = (first_fault checks ≡ None) × (view x ≡ value)
-IsChecked view checks value (Err e) = first_fault checks ≡ Some e
+IsChecked view checks value (Ok x) = (first_error checks ≡ None) × (view x ≡ value)
+IsChecked view checks value (Err e) = first_error checks ≡ Some e
 
 -- nothing, or the fault of the first check that fails
 abbrev pub IsPassed : List Check → Result (Unit {0}) SubsystemError → Type 0
-IsPassed checks (Ok _) = first_fault checks ≡ None
-IsPassed checks (Err e) = first_fault checks ≡ Some e
+IsPassed checks (Ok _) = first_error checks ≡ None
+IsPassed checks (Err e) = first_error checks ≡ Some e
 
 -- the value or the fault of the first check that fails, unless memory ran out
 abbrev pub IsCheckedUnlessMemory : {X Y : Type 0} → (X → Y) → List Check → Y
     → Result X SubsystemError → Type 0
-IsCheckedUnlessMemory view checks value (Ok x) = (first_fault checks ≡ None) × (view x ≡ value)
-IsCheckedUnlessMemory view checks value (Err e) = (e ≡ Memory) ⊎ (first_fault checks ≡ Some e)
+IsCheckedUnlessMemory view checks value (Ok x) = (first_error checks ≡ None) × (view x ≡ value)
+IsCheckedUnlessMemory view checks value (Err e) = (e ≡ Memory) ⊎ (first_error checks ≡ Some e)
 
 -- if one of these checks fails, the first one's fault is returned, regardless of memory
 abbrev pub IsToldFirst : {X : Type 0} → List Check → Result X SubsystemError → Type 0
-IsToldFirst checks result = IfSome (first_fault checks) (λ e. result ≡ Err e)
+IsToldFirst checks result = IfSome (first_error checks) (λ e. result ≡ Err e)

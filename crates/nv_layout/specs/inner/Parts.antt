@@ -1,7 +1,7 @@
 -- A record as bytes, which is a table of its fields: what no public contract reaches.
 use Rattle.std.specs.Prelude.{◌≡◌, ℕ, Bool, ◌&&◌, nat_le, ◌+◌, ◌^◌, ◌<◌, List, [], ◌∷◌, length}
 use Rattle.std.specs.List.{AllByRecursion}
-use Rattle.nv_layout.specs.Parts.{Part, place_of, width_of, text_at, number_at, numbers_at, number}
+use Rattle.nv_layout.specs.Parts.{Part, start_of, width_of, text_at, number_at, numbers_at, number}
 use Rattle.nv_layout.specs.Parts.{numbers, text}
 
 -- ---- tables
@@ -9,7 +9,7 @@ use Rattle.nv_layout.specs.Parts.{numbers, text}
 -- the fields are in order and don't overlap, from `from` on and within the size
 abbrev pub is_table : ℕ → ℕ → List Part → Bool
 is_table from size [] = nat_le from size
-is_table from size (p ∷ ps) = nat_le from (place_of p) && is_table (place_of p + width_of p) size ps
+is_table from size (p ∷ ps) = nat_le from (start_of p) && is_table (start_of p + width_of p) size ps
 
 -- the value fits its bytes
 abbrev pub Fits : Part → Type 0

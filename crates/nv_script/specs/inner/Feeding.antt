@@ -8,7 +8,7 @@ use Rattle.nv_script.specs.Ends.{LeavesAll}
 use Rattle.nv_script.specs.Results.{Progress, after, whole}
 use Rattle.nv_script.specs.inner.ScriptLines.{buffer_of}
 use Rattle.nv_script.specs.ScriptLines.{pieces, script_lines}
-use Rattle.nv_driver.specs.inner.Linked.{serials_of}
+use Rattle.nv_driver.specs.inner.Linked.{next_cids_of}
 use Rattle.nv_stream.specs.Streams.{IsBeginning}
 use Rattle.nv_script.specs.declared.ends.RunEnd.{RunEnd}
 use Rattle.nv_script.specs.declared.ends.RunEnd.TheVariants.{Memory, MessageWrite}
@@ -17,7 +17,7 @@ use Rattle.nv_script.specs.declared.session.Session.{Session}
 -- a run is at p
 pub record Stands (p : Progress) (left : Left) (session : Session) : Type 0 where
   pub holds : Holds left p.output p.messages p.state
-  pub next : serials_of session.driver ≡ p.serials
+  pub next : next_cids_of session.driver ≡ p.next_cids
   pub number : session.number ≡ p.number
   pub status : session.status ≡ p.status
 

@@ -10,19 +10,19 @@ use Rattle.nv_script.specs.declared.listing.Listing.{Listing}
 use Rattle.nv_script.specs.declared.performing.NoText.{NoText}
 use Rattle.nv_script.specs.declared.performing.NoText.TheVariants as stop
 
--- the subsystem, the serials, and what was listed
+-- the subsystem, the next command identifiers, and what was listed
 pub record Standing : Type 0 where
   pub state : State
-  pub serials : List ℕ
+  pub next_cids : List ℕ
   pub listing : Listing
 
 -- the state after one more order, refused or not
 abbrev pub asked : Standing → Order → Standing
 asked w o =
-    let e = exchange_of w.state w.serials o in
+    let e = exchange_of w.state w.next_cids o in
     record {
       state = e.state;
-      serials = e.serials;
+      next_cids = e.next_cids;
       listing = listing_told o.controller w.listing o.act e.answer;
     }
 
@@ -33,28 +33,28 @@ asked_all w orders = fold asked w orders
 -- the answers to the orders, one after another
 abbrev pub answers_to : Standing → List Order → List Answer
 answers_to w [] = []
-answers_to w (o ∷ os) = (exchange_of w.state w.serials o).answer ∷ answers_to (asked w o) os
+answers_to w (o ∷ os) = (exchange_of w.state w.next_cids o).answer ∷ answers_to (asked w o) os
 
 -- the NSIDs in a reply
 abbrev pub nsids_told : Reply → List ℕ
 nsids_told (reply.List nsids) = nsids
 nsids_told _ = []
 
--- these are the subsystem, the serials and the listing of a standing
-pub record IsListed (w : Standing) (state : State) (serials : List ℕ)
+-- these are the subsystem, the next command identifiers and the listing of a standing
+pub record IsListed (w : Standing) (state : State) (next_cids : List ℕ)
     (listing : Listing) : Type 0 where
   pub subsystem : state ≡ w.state
-  pub next : serials ≡ w.serials
+  pub next : next_cids ≡ w.next_cids
   pub listed : listing ≡ w.listing
 
 -- some of the first orders were carried out
 pub record AreBegun (w : Standing) (orders : List Order) (state : State)
-    (serials : List ℕ) : Type 0 where
+    (next_cids : List ℕ) : Type 0 where
   pub done : List Order
   pub later : List Order
   pub split : orders ≡ done ++ later
   pub subsystem : state ≡ (asked_all w done).state
-  pub next : serials ≡ (asked_all w done).serials
+  pub next : next_cids ≡ (asked_all w done).next_cids
 
 -- a refusal that is returned is one of the answers
 abbrev pub IsHandedOn : NoText → List Answer → Type 0
@@ -66,9 +66,9 @@ IsHandedOn stop.NoReady answers = ⊥
 -- or memory was refused among them
 abbrev pub ListLeaves : {A : Type 0} → Result A NoText → Standing → List Order → State → List ℕ
     → Listing → Type 0
-ListLeaves (Ok done) w orders state serials listing =
-    IsListed (asked_all w orders) state serials listing
-ListLeaves (Err (stop.Refused status)) w orders state serials listing =
+ListLeaves (Ok done) w orders state next_cids listing =
+    IsListed (asked_all w orders) state next_cids listing
+ListLeaves (Err (stop.Refused status)) w orders state next_cids listing =
     IsHandedOn (stop.Refused status) (answers_to w orders)
-ListLeaves (Err stop.Memory) w orders state serials listing = AreBegun w orders state serials
-ListLeaves (Err stop.NoReady) w orders state serials listing = ⊥
+ListLeaves (Err stop.Memory) w orders state next_cids listing = AreBegun w orders state next_cids
+ListLeaves (Err stop.NoReady) w orders state next_cids listing = ⊥

@@ -16,44 +16,44 @@ use Rattle.nv_script.specs.Shown.{shown_by, shown_of}
 use Rattle.nv_script.specs.declared.performing.NoText.{NoText}
 use Rattle.nv_script.specs.declared.performing.NoText.TheVariants as stop
 
--- these are the subsystem and the serials after an outcome
-pub record IsReached (o : Outcome) (state : State) (serials : List ℕ) : Type 0 where
+-- these are the subsystem and the next command identifiers after an outcome
+pub record IsReached (o : Outcome) (state : State) (next_cids : List ℕ) : Type 0 where
   pub subsystem : state ≡ o.state
-  pub next : serials ≡ o.serials
+  pub next : next_cids ≡ o.next_cids
 
 -- a query was refused, or memory was refused, after some of its orders; each controller was ready
 abbrev pub NoTextLeaves : NoText → Query → State → List ℕ → State → List ℕ → Type 0
-NoTextLeaves (stop.Refused status) q s serials state next =
-    let o = outcome_of s serials (orders_of s q) in
+NoTextLeaves (stop.Refused status) q s next_cids state next =
+    let o = outcome_of s next_cids (orders_of s q) in
     (o.refusal ≡ Some status) × IsReached o state next
-NoTextLeaves stop.Memory q s serials state next = (k : ℕ)
-    × IsReached (outcome_of s serials (take k (orders_of s q))) state next
-NoTextLeaves stop.NoReady q s serials state next = ⊥
+NoTextLeaves stop.Memory q s next_cids state next = (k : ℕ)
+    × IsReached (outcome_of s next_cids (take k (orders_of s q))) state next
+NoTextLeaves stop.NoReady q s next_cids state next = ⊥
 
 -- what the replies to all orders show, or why there is nothing to show
 abbrev pub QueryLeaves : Result (Option Shown) NoText → Query → State → List ℕ → State
     → List ℕ → Type 0
-QueryLeaves (Ok shown) q s serials state next =
-    let o = outcome_of s serials (orders_of s q) in
+QueryLeaves (Ok shown) q s next_cids state next =
+    let o = outcome_of s next_cids (orders_of s q) in
     (o.refusal ≡ None) × (shown ≡ shown_of (orders_of s q) q o.replies) × IsReached o state next
-QueryLeaves (Err stop) q s serials state next = NoTextLeaves stop q s serials state next
+QueryLeaves (Err stop) q s next_cids state next = NoTextLeaves stop q s next_cids state next
 
 -- what the last reply to an ask shows, or why there is none
 abbrev pub AskLeaves : Result Reply NoText → ℕ → Ask → State → List ℕ → State → List ℕ → Type 0
-AskLeaves (Ok reply) c a s serials state next =
-    QueryLeaves (Ok (shown_by a reply)) (query.One c a) s serials state next
-AskLeaves (Err stop) c a s serials state next = NoTextLeaves stop (query.One c a) s serials state next
+AskLeaves (Ok reply) c a s next_cids state next =
+    QueryLeaves (Ok (shown_by a reply)) (query.One c a) s next_cids state next
+AskLeaves (Err stop) c a s next_cids state next = NoTextLeaves stop (query.One c a) s next_cids state next
 
 -- the devices that `list` shows, or why there are none
 abbrev pub ListedAll : Result (List ListedDevice) NoText → State → List ℕ → State → List ℕ → Type 0
-ListedAll (Ok devices) s serials state next =
-    QueryLeaves (Ok (Some (shown.Devices devices))) query.List s serials state next
-ListedAll (Err stop) s serials state next = NoTextLeaves stop query.List s serials state next
+ListedAll (Ok devices) s next_cids state next =
+    QueryLeaves (Ok (Some (shown.Devices devices))) query.List s next_cids state next
+ListedAll (Err stop) s next_cids state next = NoTextLeaves stop query.List s next_cids state next
 
 -- its text, or why there is none
 abbrev pub RequestLeaves : {Z : Type 0} → Result (Vec ℕ Z) NoText → Request
     → State → List ℕ → State → List ℕ → Type 0
-RequestLeaves (Ok text) r s serials state next =
-    let o = outcome_of s serials (orders_of s r.query) in
+RequestLeaves (Ok text) r s next_cids state next =
+    let o = outcome_of s next_cids (orders_of s r.query) in
     (o.refusal ≡ None) × (text.items ≡ output_for s r o.replies) × IsReached o state next
-RequestLeaves (Err stop) r s serials state next = NoTextLeaves stop r.query s serials state next
+RequestLeaves (Err stop) r s next_cids state next = NoTextLeaves stop r.query s next_cids state next

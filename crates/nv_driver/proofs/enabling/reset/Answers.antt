@@ -46,6 +46,6 @@ returns-clause-steps g c =
     let m = c.mps.ensures.value ∙ ap (λ (q : Geometry). mps_of q.page_size) is in
     let zeroed = zeroes_own g.B.Zeroing.was_zeroed c.args.geometry c.args.ctrl r.quiet
     (ap (λ (v : QueuePair). v.cq) c.requires.placed) r.depth c.renew.ensures.zeroed in
-    configured g.B.AnyBus.was_written g.B.AnyBus.was_read c.args.ctrl _ _ _ _ c.configure-2.result
+    configured g.B.AnyBus.was_written g.B.AnyBus.was_read c.args.ctrl _ _ _ _ c.configure-2.result _
     (omega (arith, m, c.mps.ensures.few)) (λ last. (_, c.in_ok-configure.ensures.steps, zeroed, last))
     (λ last. (_, _, _, _, last)) c.configure-2.ensures.steps

@@ -1,7 +1,7 @@
 use Rattle.std.proofs.Common.{◌≡◌, ◌++◌, None, Ok, arith, map, refl, rules}
 use Rattle.std.proofs.lemmas.Grind.{common_steps}
 use Rattle.toml.specs.View.{table_view}
-use Rattle.nv_file.specs.Check.{first_fault}
+use Rattle.nv_file.specs.Check.{first_error}
 use Rattle.nv_file.specs.TableChecks.{first_feature_checks}
 use Rattle.nv_file.specs.inner.FirstChecks.{first_defaults_checks}
 use Rattle.nv_file.proofs.CheckLaws.{faults, none_told, past, told_none}
@@ -21,6 +21,6 @@ returns-in_err-only-clause-told c =
     let defaults = first_defaults_checks c.args.version m in
     let told = none_told defaults (Ok c.in_ok-defaults.defaults) c.in_ok-defaults.defaults refl
     c.in_ok-defaults.ensures.told in
-    let first : first_fault (first_feature_checks c.args.version (map (λ r. r.fid) c.args.before.now) m) ≡ None =
+    let first : first_error (first_feature_checks c.args.version (map (λ r. r.fid) c.args.before.now) m) ≡ None =
     search (rules, faults) in
     told_none _ _ (past _ _ _ first told)

@@ -11,9 +11,10 @@ use Rattle.nv_subsystem.specs.FromFile.{subsystem}
 pub returns-then-len-gt-MOST_BYTES-clause-exact : goal.returns-then-len-gt-MOST_BYTES-clause-exact
 returns-then-len-gt-MOST_BYTES-clause-exact g c =
     let more : most_bytes < length c.in-Ok.bytes.items = grind (arith, common_steps, c.if-len-gt-MOST_BYTES.true) in
+    let had = g.F.NamedFiles.had c.args.files.now c.args.path.now in
+    let failed = g.F.NamedFiles.failed c.args.files.now c.args.path.now in
     let came = c.in-Ok.ensures.bytes in
-    long_of (g.F.NamedFiles.had c.args.files.now c.args.path.now) (g.F.NamedFiles.failed c.args.files.now c.args.path.now)
-    c.in-Ok.bytes.items came.0 came.1 more
+    long_of had failed c.in-Ok.bytes.items came.0 came.1 more
 
 pub returns-in_err-from_toml-clause-exact : goal.returns-in_err-from_toml-clause-exact
 returns-in_err-from_toml-clause-exact g c =
@@ -27,7 +28,8 @@ returns-in_err-from_toml-clause-exact g c =
     let first = subst (λ b. (e ≡ Memory) ⊎ (subsystem b ≡ Err e)) c.deref.ensures.value
     c.in_err-from_toml.ensures.exact in
     let came = c.in-Ok.ensures.bytes in
-    subst (IsSubsystemOf had failed) (sym is) (refused_of had failed c.in-Ok.bytes.items came.0 came.1 came.2 few e first)
+    subst (IsSubsystemOf had failed) (sym is)
+    (refused_of had failed c.in-Ok.bytes.items came.0 came.1 came.2 few e first)
 
 pub returns-clause-exact : goal.returns-clause-exact
 returns-clause-exact g c =

@@ -4,7 +4,7 @@ use Rattle.std.specs.List.{range_with_len}
 use Rattle.nv_model.proofs.LookupLaws.{IsAlike}
 use Rattle.nv_script.specs.Outcomes.{Order}
 use Rattle.nv_driver.specs.Linked.{IsLinked}
-use Rattle.nv_driver.specs.inner.Linked.{serials_of}
+use Rattle.nv_driver.specs.inner.Linked.{next_cids_of}
 use Rattle.nv_script.specs.inner.Listing.{IsListed, asked_all}
 use Rattle.nv_script.specs.Orders.{orders_of_controller, orders_of_list}
 use Rattle.nv_script.proofs.ListLaws.{first_standing}
@@ -20,6 +20,6 @@ invariant-loop-ctrl g l =
       alike : IsAlike s (g.B.Bus.meaning l.bus).state;
       left : (done : List Order)
           × (orders_of_list s ≡ done ++ flat_map (orders_of_controller s) (range_with_len l.ctrl (l.ctrl-end - l.ctrl)))
-          × IsListed (asked_all (first_standing s (serials_of l.initial.driver)) done) (g.B.Bus.meaning l.bus).state
-          (serials_of l.driver) l.listing;
+          × IsListed (asked_all (first_standing s (next_cids_of l.initial.driver)) done) (g.B.Bus.meaning l.bus).state
+          (next_cids_of l.driver) l.listing;
     }

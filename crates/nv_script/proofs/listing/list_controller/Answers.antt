@@ -4,7 +4,7 @@ use Rattle.nv_bits.specs.Above.{above}
 use Rattle.nv_command.specs.declared.command.Command.TheVariants.{ActiveList, IdentifyController}
 use Rattle.nv_model.specs.Conditions.{active_nsids}
 use Rattle.nv_script.specs.Outcomes.{order_of}
-use Rattle.nv_driver.specs.inner.Linked.{serials_of}
+use Rattle.nv_driver.specs.inner.Linked.{next_cids_of}
 use Rattle.nv_script.specs.Orders.{namespace_orders, orders_of_controller}
 use Rattle.nv_script.proofs.GreetingLaws.{greeted_listed, greeted_orders, stopped_there}
 use Rattle.nv_script.proofs.ListLaws.{leaves_after}
@@ -44,7 +44,7 @@ returns-clause-left g c w is =
     leaves_after w (order_of ctrl IdentifyController ∷ order_of ctrl (ActiveList 0) ∷ [])
     (orders_of_controller w.state ctrl) c.list_namespaces.result (namespace_orders ctrl ns)
     (g.B.Bus.meaning c.list_namespaces.new.bus).state
-    (serials_of c.list_namespaces.new.driver) c.list_namespaces.new.listing
+    (next_cids_of c.list_namespaces.new.driver) c.list_namespaces.new.listing
     (greeted_orders w ctrl b mid last d second after listing told reply _ is there first.answer first.state
     first.driver shown then.answer then.state then.driver _ ns refl c.nsids_in.ensures)
     (c.list_namespaces.ensures.left _

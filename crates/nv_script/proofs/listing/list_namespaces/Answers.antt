@@ -1,6 +1,6 @@
 use Rattle.std.proofs.Common.{◌∙◌, ◌++◌, take, drop}
 use Rattle.std.proofs.lemmas.Result.{err_from_is_err_and}
-use Rattle.nv_driver.specs.inner.Linked.{serials_of}
+use Rattle.nv_driver.specs.inner.Linked.{next_cids_of}
 use Rattle.nv_script.specs.inner.Listing.{asked_all}
 use Rattle.nv_script.specs.Orders.{namespace_orders}
 use Rattle.nv_script.proofs.BatchLaws.{namespaces_join, namespaces_split}
@@ -20,7 +20,7 @@ returns-in_err-list_batch-clause-left g c w is =
     (stopped_within w (namespace_orders ctrl h.0) (namespace_orders ctrl c.args.nsids.now) (Unit {0})
     (Unit {0}) c.in_err-list_batch.field-0.0
     (namespace_orders ctrl (take count rest)) (namespace_orders ctrl (drop count rest))
-    (g.B.Bus.meaning c.list_batch.new.bus).state (serials_of c.list_batch.new.driver)
+    (g.B.Bus.meaning c.list_batch.new.bus).state (next_cids_of c.list_batch.new.driver)
     c.list_batch.new.listing c.list_batch.new.listing (namespaces_split ctrl c.args.nsids.now h.0 rest count h.1) batch)
 
 pub loop-rest-preserved : goal.loop-rest-preserved
@@ -38,6 +38,6 @@ loop-rest-preserved g c =
             let batch = c.in_ok-list_batch.ensures.left (asked_all w (namespace_orders ctrl h.0)) (h.2 w is) in
             listed_after w (namespace_orders ctrl h.0) (namespace_orders ctrl (h.0 ++ now)) (namespace_orders ctrl now)
             (g.B.Bus.meaning c.list_batch.new.bus).state
-            (serials_of c.list_batch.new.driver) c.list_batch.new.listing (namespaces_join ctrl h.0 now) batch),
+            (next_cids_of c.list_batch.new.driver) c.list_batch.new.listing (namespaces_join ctrl h.0 now) batch),
       );
     }

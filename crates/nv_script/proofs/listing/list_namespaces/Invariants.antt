@@ -1,6 +1,6 @@
 use Rattle.std.proofs.Common.{◌≡◌, ◌++◌, length, List, ℕ}
 use Rattle.nv_driver.specs.Linked.{IsLinked}
-use Rattle.nv_driver.specs.inner.Linked.{serials_of}
+use Rattle.nv_driver.specs.inner.Linked.{next_cids_of}
 use Rattle.nv_script.specs.inner.Listing.{IsListed, Standing, asked_all}
 use Rattle.nv_script.specs.Orders.{namespace_orders}
 use Rattle.nv_script.proofs.listing.list_namespaces.Given as goal
@@ -11,9 +11,9 @@ invariant-loop-rest g l = record {
   linked : IsLinked (g.B.Bus.meaning l.bus) l.driver;
   pairs : length l.driver.pairs ≡ length l.initial.driver.pairs;
   left : (done : List ℕ) × (l.nsids ≡ done ++ l.rest) × ((w : Standing)
-      → IsListed w (g.B.Bus.meaning l.initial.bus).state (serials_of l.initial.driver) l.initial.listing
+      → IsListed w (g.B.Bus.meaning l.initial.bus).state (next_cids_of l.initial.driver) l.initial.listing
       → IsListed (asked_all w (namespace_orders l.ctrl done)) (g.B.Bus.meaning l.bus).state
-      (serials_of l.driver) l.listing);
+      (next_cids_of l.driver) l.listing);
 }
 
 abbrev pub decreases-loop-rest : goal.decreases-loop-rest

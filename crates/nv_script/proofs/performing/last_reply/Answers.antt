@@ -2,7 +2,7 @@ use Rattle.std.proofs.Common.{ap, Ok, Err}
 use Rattle.std.proofs.lemmas.Result.{err_from_is_err_and}
 use Rattle.nv_command.specs.declared.command.Command.TheVariants.{IdentifyController}
 use Rattle.nv_command.specs.declared.reply.Reply.TheVariants.{Done}
-use Rattle.nv_driver.specs.inner.Linked.{serials_of}
+use Rattle.nv_driver.specs.inner.Linked.{next_cids_of}
 use Rattle.nv_script.specs.Orders.{orders_of_one}
 use Rattle.nv_script.specs.Outcomes.{Reset, order_of}
 use Rattle.nv_script.proofs.LinkLaws.{sent, still_known, was_reset}
@@ -21,7 +21,7 @@ returns-in_err-admin-in-Send-clause-left g c =
     let status = c.in_err-admin-in-Send.field-0.0 in
     let e = err_from_is_err_and c.from_residual.result c.from_residual.ensures.1 in
     rw (e.1, e.2)
-    (only_refused b.state new.state (serials_of d) (serials_of after) ctrl c.args.ask.now (order_of ctrl k)
+    (only_refused b.state new.state (next_cids_of d) (next_cids_of after) ctrl c.args.ask.now (order_of ctrl k)
     (ap (orders_of_one b.state ctrl) c.in-Send.is) status
     (sent b new d after ctrl k (Err status) c.requires.known.controller done.answer done.state done.driver))
 
@@ -35,7 +35,7 @@ returns-in_ok-admin-in-Send-clause-left g c =
     let k = c.in-Send.command in
     let done = c.in_ok-admin-in-Send.ensures in
     let reply = c.in_ok-admin-in-Send.field-0 in
-    only_accepted b.state new.state (serials_of d) (serials_of after) ctrl c.args.ask.now (order_of ctrl k)
+    only_accepted b.state new.state (next_cids_of d) (next_cids_of after) ctrl c.args.ask.now (order_of ctrl k)
     (ap (orders_of_one b.state ctrl) c.in-Send.is) reply
     (sent b new d after ctrl k (Ok reply) c.requires.known.controller done.answer done.state done.driver)
 
@@ -57,8 +57,8 @@ returns-in_err-admin-in-ErrorLog-clause-left g c =
     let r = c.from_residual-in_err-admin-in-ErrorLog in
     let e = err_from_is_err_and r.result r.ensures.1 in
     rw (e.1, e.2, c.in-ErrorLog.is)
-    (second_refused b.state mid.state (serials_of d) (serials_of second) ctrl c.in-ErrorLog.entries last.state
-    (serials_of after) told
+    (second_refused b.state mid.state (next_cids_of d) (next_cids_of second) ctrl c.in-ErrorLog.entries last.state
+    (next_cids_of after) told
     (sent b mid d second ctrl IdentifyController (Ok told) known first.answer first.state first.driver) k
     c.log_command-command.ensures.command status
     (sent mid last second after ctrl k (Err status) (still_known d second ctrl first.driver known) done.answer
@@ -80,8 +80,8 @@ returns-in_ok-admin-in-ErrorLog-clause-left g c =
     let done = c.in_ok-admin-in-ErrorLog.ensures in
     let reply = c.in_ok-admin-in-ErrorLog.field-0 in
     rw c.in-ErrorLog.is
-    (both_accepted b.state mid.state (serials_of d) (serials_of second) ctrl c.in-ErrorLog.entries last.state
-    (serials_of after) told
+    (both_accepted b.state mid.state (next_cids_of d) (next_cids_of second) ctrl c.in-ErrorLog.entries last.state
+    (next_cids_of after) told
     (sent b mid d second ctrl IdentifyController (Ok told) known first.answer first.state first.driver) k
     c.log_command-command.ensures.command reply
     (sent mid last second after ctrl k (Ok reply) (still_known d second ctrl first.driver known) done.answer
@@ -94,7 +94,7 @@ returns-in-Ok-clause-left g c =
     let d = c.args.driver.now in
     let after = c.reset.new.self in
     let ctrl = c.args.ctrl in
-    only_accepted b.state new.state (serials_of d) (serials_of after) ctrl c.args.ask.now
+    only_accepted b.state new.state (next_cids_of d) (next_cids_of after) ctrl c.args.ask.now
     (record { controller = ctrl; act = Reset })
     (ap (orders_of_one b.state ctrl) c.in-Reset.is) Done
     (was_reset b new d after ctrl c.reset.ensures.state c.reset.ensures.driver)

@@ -70,7 +70,7 @@ submit-next-requires g c =
       place = subst (λ p. IsPlaceFor (g.M.PagedMemory.bytes c.loop-number.host.mem)
           (g.M.PagedMemory.page_len c.loop-number.host.mem) p len)
           (sym (c.place-place.ensures.place ∙ ap (λ (q : Geometry). place_in q (all_pages o)) same)) place;
-      slot = record { serial = slot.serial; ring = slot.ring; free = slot.free };
+      slot = record { next_cid = slot.next_cid; ring = slot.ring; free = slot.free };
     }
 
 pub loop-number-preserved : goal.loop-number-preserved

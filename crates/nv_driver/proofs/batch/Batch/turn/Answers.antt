@@ -1,5 +1,5 @@
 use Rattle.std.proofs.Common.{[], ◌≡◌, ◌∙◌, ℕ, ◌+◌, ◌-◌, ◌*◌, ◌%◌, ◌<◌, ◌≤◌, List, ap, arith, get_or, inl, inr, length}
-use Rattle.std.proofs.Common.{length-take, refl, sym}
+use Rattle.std.proofs.Common.{length-take, min, refl, sym}
 use Rattle.std.proofs.lemmas.List.{get_or_default}
 use Rattle.nv_host.specs.PageSets.{Pages}
 use Rattle.nv_driver.proofs.Words.{Batch, Geometry, QueuePairFields, Sent, mod_below}
@@ -10,10 +10,20 @@ use Rattle.nv_driver.specs.declared.command_pages.CommandPages.{CommandPages}
 use Rattle.nv_driver.specs.inner.Pace.{IsToldByPace}
 use Rattle.nv_driver.proofs.OnWayLaws.{can_collect}
 use Rattle.nv_driver.proofs.RoundLaws.{answer_buffer, answer_sends, answers_more, awaits, can_give, collects}
-use Rattle.nv_driver.proofs.RoundLaws.{held_one, none_free, number_inside, tells_on, turns_on}
+use Rattle.nv_driver.proofs.RoundLaws.{held_one, number_inside, tells_on, turns_on}
 use Rattle.nv_driver.proofs.UnderWayLaws.{geometry_is, world}
 use Rattle.nv_driver.proofs.batch.Batch.turn.Goals.{then-self-pace, else-self-pace}
 use Rattle.nv_driver.proofs.batch.Batch.turn.Goals as goal
+
+-- a turn that takes none while a command is waiting finds no free slot
+none_free : (most waiting depth done told count : ℕ) → count ≡ min most (min waiting (depth - 1 - (done - told)))
+    → count ≡ 0 → 1 ≤ most → 1 ≤ waiting → 2 ≤ depth → (told < done) × (told + depth ≤ done + 1)
+none_free most waiting depth done told count is none some waits deep =
+    let full : depth - 1 - (done - told) ≡ 0 = no_slot (depth - 1 - (done - told)) (sym none ∙ is) in
+    (omega (arith, full, deep), omega (arith, full, deep))
+  where
+    no_slot : (free : ℕ) → 0 ≡ min most (min waiting free) → free ≡ 0
+    no_slot free e = omega arith
 
 -- pages that stand for those of a slot outside the window
 abbrev no_pages : CommandPages

@@ -2,7 +2,7 @@ use Rattle.std.proofs.Common.{◌∙◌, refl, subst, sym}
 use Rattle.nv_driver.proofs.Words.{HasEntryPages, after_some}
 use Rattle.nv_driver.specs.Alone.{IsReceived, asked_in, entry_step}
 use Rattle.nv_driver.specs.Passing.{Passes}
-use Rattle.nv_driver.proofs.AdminLaws.{after_first, driver_after, left_at, linked_after, pair_is, ready_by, serial_is}
+use Rattle.nv_driver.proofs.AdminLaws.{after_first, driver_after, left_at, linked_after, pair_is, ready_by, cid_is}
 use Rattle.nv_driver.proofs.AdminLaws.{value_after}
 use Rattle.nv_driver.proofs.PassthroughLaws.{behind_last, ends_before, has_room, room_stays}
 use Rattle.nv_driver.proofs.driver.Driver.passthrough.Goals as goal
@@ -39,7 +39,7 @@ returns-clause-out g c =
     let s = (g.B.Bus.meaning c.args.bus.now).state in
     subst (λ n. IsReceived (asked_in s c.args.ctrl c.args.entry.now c.args.bytes.now)
     (entry_step s c.args.ctrl c.args.entry.now c.args.bytes.now n).answer c.exchange_entry.new.out)
-    (sym (serial_is c.self.invariant c.self.view_is c.requires.ctrl c.index_mut-pair.ensures.value))
+    (sym (cid_is c.self.invariant c.self.view_is c.requires.ctrl c.index_mut-pair.ensures.value))
     c.exchange_entry.ensures.exchanged.received
 
 pub returns-clause-driver : goal.returns-clause-driver

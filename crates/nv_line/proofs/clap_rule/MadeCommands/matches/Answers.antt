@@ -10,7 +10,7 @@ use Rattle.nv_line.specs.declared.clap_rule.MadeCommand.{MadeCommand}
 use Rattle.nv_line.proofs.ClapRules.{matches_as, refused, simple_as, stays_made, taken}
 use Rattle.nv_line.proofs.clap_rule.MadeCommands.matches.Goals as goal
 
--- the place of a command word is one of the commands
+-- the index of a command word is that of one of the commands
 inside : (items : List MadeCommand) (verbs : List Verb) (n : ℕ) → map (λ (x : MadeCommand). x.verb) items ≡ verbs
     → n < length verbs → n < length items
 inside items verbs n e h = omega (arith, h, ap (λ vs. length vs) e, length-map {B = Verb} items)
@@ -44,20 +44,20 @@ all_made items verbs n x new e h is stays after all =
 pub invariant_of-self : goal.invariant_of-self
 invariant_of-self c =
     let s = c.try_get_matches_from_mut.ensures in
-    all_made c.self.inside.made.items _ c.in_ok-place.place c.index_mut.result.now c.try_get_matches_from_mut.new.self
-    c.self.view_is c.in_ok-place.ensures.place c.index_mut.ensures.value s.stays s.after c.self.invariant
+    all_made c.self.inside.made.items _ c.in_ok-index.index c.index_mut.result.now c.try_get_matches_from_mut.new.self
+    c.self.view_is c.in_ok-index.ensures.index c.index_mut.ensures.value s.stays s.after c.self.invariant
 
 pub returns-in-Ok : goal.returns-in-Ok
 returns-in-Ok c =
     let items = c.self.inside.made.items in
     let x = c.index_mut.result.now in
-    let within = inside items _ c.in_ok-place.place c.self.view_is c.in_ok-place.ensures.place in
-    let verb = verb_there items _ c.in_ok-place.place x c.args.verb c.self.view_is within c.index_mut.ensures.value
-    (c.in_ok-place.ensures.verb c.args.verb) in
+    let within = inside items _ c.in_ok-index.index c.self.view_is c.in_ok-index.ensures.index in
+    let verb = verb_there items _ c.in_ok-index.index x c.args.verb c.self.view_is within c.index_mut.ensures.value
+    (c.in_ok-index.ensures.verb c.args.verb) in
     let s = c.in-Ok.ensures in
     let ws = map (λ (w : Bor (List ℕ)). w.now) c.args.words.now in
     ap (λ (v : Verb). rows_of_words v ws) (sym verb)
-    ∙ elim (made_there items c.in_ok-place.place x within c.index_mut.ensures.value c.self.invariant) [
+    ∙ elim (made_there items c.in_ok-index.index x within c.index_mut.ensures.value c.self.invariant) [
       | inl broken ↦ absurd (s.fails (s.stays broken))
       | inr made ↦ taken x.verb _ _ _ made (s.kinds (simple_as _ _ made)) (s.ok.2 (matches_as _ _ made)).0
     ]
@@ -65,26 +65,26 @@ returns-in-Ok c =
 pub invariant_of-self-in-OutOfMemory : goal.invariant_of-self-in-OutOfMemory
 invariant_of-self-in-OutOfMemory c =
     let s = c.try_get_matches_from_mut.ensures in
-    all_made c.self.inside.made.items _ c.in_ok-place.place c.index_mut.result.now c.try_get_matches_from_mut.new.self
-    c.self.view_is c.in_ok-place.ensures.place c.index_mut.ensures.value s.stays s.after c.self.invariant
+    all_made c.self.inside.made.items _ c.in_ok-index.index c.index_mut.result.now c.try_get_matches_from_mut.new.self
+    c.self.view_is c.in_ok-index.ensures.index c.index_mut.ensures.value s.stays s.after c.self.invariant
 
 pub invariant_of-self-2 : goal.invariant_of-self-2
 invariant_of-self-2 c =
     let s = c.try_get_matches_from_mut.ensures in
-    all_made c.self.inside.made.items _ c.in_ok-place.place c.index_mut.result.now c.try_get_matches_from_mut.new.self
-    c.self.view_is c.in_ok-place.ensures.place c.index_mut.ensures.value s.stays s.after c.self.invariant
+    all_made c.self.inside.made.items _ c.in_ok-index.index c.index_mut.result.now c.try_get_matches_from_mut.new.self
+    c.self.view_is c.in_ok-index.ensures.index c.index_mut.ensures.value s.stays s.after c.self.invariant
 
 pub returns : goal.returns
 returns c =
     let items = c.self.inside.made.items in
     let x = c.index_mut.result.now in
-    let within = inside items _ c.in_ok-place.place c.self.view_is c.in_ok-place.ensures.place in
-    let verb = verb_there items _ c.in_ok-place.place x c.args.verb c.self.view_is within c.index_mut.ensures.value
-    (c.in_ok-place.ensures.verb c.args.verb) in
+    let within = inside items _ c.in_ok-index.index c.self.view_is c.in_ok-index.ensures.index in
+    let verb = verb_there items _ c.in_ok-index.index x c.args.verb c.self.view_is within c.index_mut.ensures.value
+    (c.in_ok-index.ensures.verb c.args.verb) in
     let s = c.in-Err.ensures in
     let k = c.kind.ensures in
     let ws = map (λ (w : Bor (List ℕ)). w.now) c.args.words.now in
-    elim (made_there items c.in_ok-place.place x within c.index_mut.ensures.value c.self.invariant) [
+    elim (made_there items c.in_ok-index.index x within c.index_mut.ensures.value c.self.invariant) [
       | inl broken ↦ absurd (c.in_default.not-OutOfMemory (k ∙ s.fails (s.stays broken)))
       | inr made ↦ inr (ap (λ (v : Verb). rows_of_words v ws) (sym verb)
           ∙ refused x.verb _ _ _ made (s.kinds (simple_as _ _ made)) (λ o. c.in_default.not-OutOfMemory (k ∙ o)))
