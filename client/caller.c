@@ -1,24 +1,13 @@
 /* The process that made a call, as a helper sees it: its memory, its identity, its process group, and what its paths
    lead to. All of this may take as long as that process lets it. None of this is proved. */
-#define _GNU_SOURCE
 #include "launcher.h"
 #include <dirent.h>
-#include <errno.h>
-#include <fcntl.h>
 #include <grp.h>
-#include <limits.h>
 #include <linux/magic.h>
 #include <linux/openat2.h>
-#include <linux/seccomp.h>
-#include <signal.h>
-#include <stdio.h>
-#include <stdlib.h>
-#include <string.h>
-#include <sys/stat.h>
 #include <sys/statfs.h>
 #include <sys/syscall.h>
 #include <sys/uio.h>
-#include <unistd.h>
 
 /* ---- its identity */
 
@@ -33,11 +22,16 @@ struct identity {
 
 static struct identity taken = {.user = NO_USER}; /* the identity that this helper has taken */
 
-/* Reads the beginning of a file about a process. */
-static const char *read_about(pid_t process, const char *name, char *text, size_t room) {
+/* Opens what the kernel tells about a process, or what it has open. */
+static int open_about(pid_t process, const char *name, int flags) {
     char path[64];
     snprintf(path, sizeof path, "/proc/%d/%s", process, name);
-    int file = open(path, O_RDONLY | O_CLOEXEC);
+    return open(path, flags | O_CLOEXEC);
+}
+
+/* Reads the beginning of a file about a process. */
+static const char *read_about(pid_t process, const char *name, char *text, size_t room) {
+    int file = open_about(process, name, O_RDONLY);
     ssize_t length = file < 0 ? -1 : read(file, text, room - 1);
     if (file >= 0)
         close(file);
@@ -112,13 +106,9 @@ int open_own_data(const struct call *call) {
 /* (a process that is gone may have left its number to another one) */
 static int copy(const struct call *call, uint64_t there, void *here, size_t size, __typeof__(process_vm_readv) *move) {
     struct iovec ours = {here, size}, theirs = {(void *)(uintptr_t)there, size};
-    uint64_t id = call->id;
-    if (size == 0)
-        return 0;
-    return ioctl(calls, SECCOMP_IOCTL_NOTIF_ID_VALID, &id) == 0 &&
-                   move(call->process, &ours, 1, &theirs, 1, 0) == (ssize_t)size
-               ? 0
-               : -EFAULT;
+    if (size > 0 && (!is_alive(call->id) || move(call->process, &ours, 1, &theirs, 1, 0) != (ssize_t)size))
+        return -EFAULT;
+    return 0;
 }
 
 int copy_in(const struct call *call, uint64_t from, void *into, size_t size) {
@@ -169,12 +159,6 @@ int signal_group(const struct call *call, int number) {
 
 enum { MOST_LINKS = 40, TOP_OF_PROC = 1, ROOM = 2 * PATH_MAX };
 
-static int open_about(const struct call *call, const char *name) {
-    char path[64];
-    snprintf(path, sizeof path, "/proc/%d/%s", call->process, name);
-    return open(path, O_PATH | O_CLOEXEC);
-}
-
 /* Follows a link of the folder `at`, and returns what it leads to, or puts its text before what is left of the path
    and returns the folder where this begins. Links of /proc other than those at its top can't be read as texts, and of
    these `self` is the caller. */
@@ -186,14 +170,14 @@ static int follow(const struct call *call, int at, const char *name, int link, c
         return -1;
     int is_proc = system.f_type == PROC_SUPER_MAGIC, is_top = is_proc && about.st_ino == TOP_OF_PROC;
     if (is_top && (strcmp(name, "self") == 0 || strcmp(name, "thread-self") == 0))
-        return open_about(call, "");
+        return open_about(call->process, "", O_PATH);
     if (is_proc && !is_top)
         return openat(at, name, O_PATH | O_CLOEXEC);
     ssize_t length = readlinkat(link, "", text, PATH_MAX - 1);
     if (length < 0 || snprintf(text + length, ROOM - (size_t)length, "%s", left) >= ROOM - length)
         return -1;
     strcpy(left, text);
-    return *left == '/' ? open_about(call, "root") : fcntl(at, F_DUPFD_CLOEXEC, 0);
+    return *left == '/' ? open_about(call->process, "root", O_PATH) : fcntl(at, F_DUPFD_CLOEXEC, 0);
 }
 
 /* Follows a path, part by part, as the caller would: another process can't have the kernel do so, because it would find
@@ -230,7 +214,7 @@ int look_up(const struct call *call, int directory, const char *path, const stru
     char place[32];
     int is_below = given->resolve & (RESOLVE_BENEATH | RESOLVE_IN_ROOT) && *path == '/';
     snprintf(place, sizeof place, directory == AT_FDCWD ? "cwd" : "fd/%d", directory);
-    int from = open_about(call, *path == '/' && !is_below ? "root" : place);
+    int from = open_about(call->process, *path == '/' && !is_below ? "root" : place, O_PATH);
     const char *rest = is_below ? path : path + strspn(path, "/");
     int file = from < 0 || !*path ? -1 : (int)syscall(SYS_openat2, from, *rest ? rest : ".", &how, sizeof how);
     if (file < 0 && from >= 0 && errno == ELOOP && given->resolve == 0)

@@ -3,22 +3,13 @@
    (helpers.c) answer those on nodes and on files of /sys from the memory of the process, as Linux does, and let the
    kernel carry out all others. So static programs, and those that make system calls themselves, are answered too. A
    result is that of the call, or an error's number as a negative one. None of this is proved. */
-#define _GNU_SOURCE
 #include "launcher.h"
-#include <errno.h>
-#include <fcntl.h>
-#include <limits.h>
 #include <linux/audit.h>
 #include <linux/fs.h>
 #include <linux/hdreg.h>
 #include <linux/nvme_ioctl.h>
 #include <linux/openat2.h>
-#include <linux/seccomp.h>
-#include <stdio.h>
-#include <string.h>
-#include <sys/stat.h>
 #include <sys/syscall.h>
-#include <unistd.h>
 
 /* The two lowest bits of an opcode give the direction of its data. */
 enum { TO_DEVICE = 1, FROM_DEVICE = 2 };
@@ -228,19 +219,11 @@ static int control(const char *name) {
     return is_reset || is_scan;
 }
 
-/* Opens a file that this process has found, as the caller could. (It is there already and isn't truncated, and direct
-   access has no meaning for data in memory.) */
-static int open_again(int file, uint64_t flags) {
-    char place[64];
-    int left_out = O_CREAT | O_EXCL | O_TRUNC | O_DIRECT | O_NOFOLLOW;
-    snprintf(place, sizeof place, "/proc/self/fd/%d", file);
-    int again = open(place, (int)(flags & ~(uint64_t)left_out) | O_CLOEXEC);
-    return again < 0 ? -errno : again;
-}
-
 /* Answers a call that opens a file that was found, or that changes its length: a file of /sys that isn't there for
-   writing can't be opened for it, even by root, and a node isn't truncated, or opened for direct access. */
+   writing can't be opened for it, even by root, and a node isn't truncated, or opened for direct access, which has no
+   meaning for data in memory. Others are opened as the caller could. */
 static int open_found(int file, uint64_t flags, int is_length) {
+    const int left_out = O_CREAT | O_EXCL | O_TRUNC | O_DIRECT | O_NOFOLLOW;
     char place[64], name[PATH_MAX];
     struct node node;
     struct stat about;
@@ -256,8 +239,10 @@ static int open_found(int file, uint64_t flags, int is_length) {
         return -EINVAL;
     if (is_length || (is_node ? !(flags & (O_TRUNC | O_DIRECT)) : strncmp(name, "/sys/", 5) != 0))
         return NOT_OURS;
-    int again = open_again(file, flags);
-    if (is_node || again < 0 || control(name))
+    int again = open(place, ((int)flags & ~left_out) | O_CLOEXEC);
+    if (again < 0)
+        return -errno;
+    if (is_node || control(name))
         return again;
     close(again);
     return NOT_OURS;
@@ -301,10 +286,7 @@ int receive_call(union notice *notice) {
     return ioctl(calls, SECCOMP_IOCTL_NOTIF_RECV, &notice->got) == 0;
 }
 
-int is_alive(const union notice *notice) {
-    uint64_t id = notice->got.id;
-    return ioctl(calls, SECCOMP_IOCTL_NOTIF_ID_VALID, &id) == 0;
-}
+int is_alive(uint64_t id) { return ioctl(calls, SECCOMP_IOCTL_NOTIF_ID_VALID, &id) == 0; }
 
 void finish_call(const union notice *notice, int result) {
     struct seccomp_notif_resp answer = {.id = notice->got.id};
@@ -353,7 +335,7 @@ void answer_call(const union notice *notice) {
     int flags = 0, result = NOT_OURS;
     int is_ours = act_as_caller(&call);
     begin_call();
-    if (is_ours && is_alive(notice))
+    if (is_ours && is_alive(call.id))
         result = row ? answer_row(&call, row, data->args, &flags) : answer_ioctl(&call);
     int is_file = row && row->path >= 0 && result >= 0;
     if (is_file)

@@ -1,19 +1,12 @@
 /* Starts the devices. A device has its streams and its subsystem file, and can make only the calls that its program
    needs (filter.c), as could any other program that it became. Nobody can trace it, because nobody can read its
    program. None of this is proved. */
-#define _GNU_SOURCE
 #include "launcher.h"
-#include <errno.h>
-#include <fcntl.h>
 #include <linux/capability.h>
 #include <linux/close_range.h>
-#include <string.h>
 #include <sys/prctl.h>
 #include <sys/socket.h>
 #include <sys/syscall.h>
-#include <unistd.h>
-
-enum { SUBSYSTEM_FILE = STDERR_FILENO + 1, MOST_WORDS = 24 };
 
 /* Becomes a program, without the rights by which root can read every file: Linux lets nobody trace a process whose
    program it can't read. (The rights stay permitted, so they come back with the program.) */
@@ -42,17 +35,9 @@ static void run_device(char *const *words, int file, int in_and_out, int said) {
     _exit(FAILED);
 }
 
-void start_device(char *const *given, int file, const char *name, const sigset_t *blocked) {
-    char *words[MOST_WORDS + 3];
-    int channel[2], said[2], count = 0;
+void start_device(char *const *words, int file, const char *name, const sigset_t *blocked) {
+    int channel[2], said[2];
     struct device *device = devices + device_count++;
-    for (; given[count] && count < MOST_WORDS; count++)
-        words[count] = given[count];
-    if (file >= 0) {
-        words[count++] = "--subsystem";
-        words[count++] = "/proc/self/fd/3";
-    }
-    words[count] = NULL;
     if (socketpair(AF_UNIX, SOCK_STREAM | SOCK_CLOEXEC, 0, channel) < 0 || pipe2(said, O_CLOEXEC) < 0)
         fail_by_errno("a device can't be started");
     *device = (struct device){.to_and_from = channel[0], .said = said[0]};

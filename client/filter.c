@@ -1,26 +1,23 @@
 /* Filters of calls (seccomp). The one that the command's processes inherit hands the ioctls of NVMe and of block
    devices to the launcher and, in a sandbox, the calls of calls.c's table. Those of the launcher and of the devices
    allow the calls that they make, so that nobody who leads one of them astray reaches more. None of this is proved. */
-#define _GNU_SOURCE
 #include "launcher.h"
-#include <errno.h>
-#include <fcntl.h>
 #include <linux/audit.h>
 #include <linux/filter.h>
-#include <linux/seccomp.h>
 #include <sched.h>
-#include <string.h>
 #include <sys/prctl.h>
 #include <sys/syscall.h>
-#include <unistd.h>
 
 /* (of Linux 5.19: a call that the launcher has received is interrupted only by what kills the process) */
 #ifndef SECCOMP_FILTER_FLAG_WAIT_KILLABLE_RECV
 #define SECCOMP_FILTER_FLAG_WAIT_KILLABLE_RECV (1UL << 5)
 #endif
 
-enum { CHANGES = O_WRONLY | O_RDWR | O_TRUNC | O_DIRECT };
+enum { CHANGES = O_WRONLY | O_RDWR | O_TRUNC | O_DIRECT, MISSING = SECCOMP_RET_ERRNO | ENOSYS };
 enum { OLD_IOCTL = 54, SIGNAL_BY_DESCRIPTOR = 424, TO_GROUP = 4, TAKE_FILE = 438, X32_BIT = 0x40000000 };
+enum { GROUP_PRIORITY = 1, GROUP_IO_PRIORITY = 2 };
+
+#define COUNT(array) (sizeof(array) / sizeof *(array))
 
 int calls = -1;
 
@@ -55,20 +52,28 @@ static void decide_when(unsigned test, uint32_t value, uint32_t action) {
     otherwise(begun);
 }
 
+/* Decides about a call by a test of an argument. It is allowed otherwise. */
+static void decide_by(int number, int argument, unsigned test, uint32_t value, uint32_t action) {
+    unsigned short begun = when(BPF_JEQ, (uint32_t)number);
+    load(offsetof(struct seccomp_data, args) + 8 * (size_t)argument);
+    decide_when(test, value, action);
+    decide(SECCOMP_RET_ALLOW);
+    otherwise(begun);
+}
+
+static void decide_each(const int *numbers, size_t count, uint32_t action) {
+    for (size_t at = 0; at < count; at++)
+        decide_when(BPF_JEQ, (uint32_t)numbers[at], action);
+}
+
 /* Adds a call that is handed over. */
 static void add_handed(const struct handed_call *call, int number) {
-    unsigned short begun = when(BPF_JEQ, (uint32_t)number);
-    if (call->flags >= 0) {
-        load(offsetof(struct seccomp_data, args) + 8 * (size_t)call->flags);
-        decide_when(BPF_JSET, CHANGES, SECCOMP_RET_USER_NOTIF);
-        decide(SECCOMP_RET_ALLOW);
-    } else if (call->file < 0 && call->path < 0) {
-        load(offsetof(struct seccomp_data, args));
-        decide_when(BPF_JEQ, 0, SECCOMP_RET_USER_NOTIF);
-        decide(SECCOMP_RET_ALLOW);
-    } else
-        decide(SECCOMP_RET_USER_NOTIF);
-    otherwise(begun);
+    if (call->flags >= 0)
+        decide_by(number, call->flags, BPF_JSET, CHANGES, SECCOMP_RET_USER_NOTIF);
+    else if (call->file < 0 && call->path < 0)
+        decide_by(number, 0, BPF_JEQ, 0, SECCOMP_RET_USER_NOTIF);
+    else
+        decide_when(BPF_JEQ, (uint32_t)number, SECCOMP_RET_USER_NOTIF);
 }
 
 /* Adds the calls that don't exist in the sandbox: io_uring, which opens files without calls; those of keys, which would
@@ -77,38 +82,31 @@ static void add_handed(const struct handed_call *call, int number) {
    change outside.) */
 static void add_missing(int is_old) {
     const int first_key = is_old ? 286 : SYS_add_key;
-    const int makers[] = {is_old ? 120 : SYS_clone, is_old ? 310 : SYS_unshare};
-    for (int number = SYS_io_uring_setup; number <= SYS_io_uring_register; number++)
-        decide_when(BPF_JEQ, (uint32_t)number, SECCOMP_RET_ERRNO | ENOSYS);
-    for (int number = first_key; number < first_key + 3; number++)
-        decide_when(BPF_JEQ, (uint32_t)number, SECCOMP_RET_ERRNO | ENOSYS);
-    decide_when(BPF_JEQ, SYS_clone3, SECCOMP_RET_ERRNO | ENOSYS);
-    for (unsigned at = 0; geteuid() == 0 && at < 2; at++) {
-        unsigned short begun = when(BPF_JEQ, (uint32_t)makers[at]);
-        load(offsetof(struct seccomp_data, args));
-        decide_when(BPF_JSET, CLONE_NEWCGROUP, SECCOMP_RET_ERRNO | EPERM);
-        decide(SECCOMP_RET_ALLOW);
-        otherwise(begun);
+    const int missing[] = {SYS_io_uring_setup, SYS_io_uring_enter, SYS_io_uring_register, SYS_clone3,
+                           first_key,          first_key + 1,      first_key + 2};
+    decide_each(missing, COUNT(missing), MISSING);
+    if (geteuid() == 0) {
+        decide_by(is_old ? 120 : SYS_clone, 0, BPF_JSET, CLONE_NEWCGROUP, SECCOMP_RET_ERRNO | EPERM);
+        decide_by(is_old ? 310 : SYS_unshare, 0, BPF_JSET, CLONE_NEWCGROUP, SECCOMP_RET_ERRNO | EPERM);
     }
 }
 
 /* Adds the calls of programs of 64 or of 32 bits. No process can type into the caller's terminal (TIOCSTI, and the
-   selection of TIOCLINUX), or take an open file from a process outside, which the peer of a socket can name, or signal
-   a process group, which has processes outside, by a descriptor. (Of a request the kernel looks at 32 bits.) */
+   selection of TIOCLINUX), or take an open file from a process outside, which the peer of a socket can name. A process
+   group has processes outside, so none gets a signal by a descriptor, or another priority. (Of a request the kernel
+   looks at 32 bits.) */
 static void add_calls(int is_old) {
     load(offsetof(struct seccomp_data, nr));
-    decide_when(BPF_JGE, X32_BIT, SECCOMP_RET_ERRNO | ENOSYS);
+    decide_when(BPF_JGE, X32_BIT, MISSING);
     decide_when(BPF_JEQ, TAKE_FILE, SECCOMP_RET_ERRNO | EPERM);
     if (has_sandbox)
         add_missing(is_old);
     for (unsigned at = 0; has_sandbox && at < HANDED_CALLS; at++)
         add_handed(handed_calls + at, is_old ? handed_calls[at].old_number : handed_calls[at].number);
-    unsigned short begun = when(BPF_JEQ, SIGNAL_BY_DESCRIPTOR);
-    load(offsetof(struct seccomp_data, args[3]));
-    decide_when(BPF_JSET, TO_GROUP, SECCOMP_RET_ERRNO | EINVAL);
-    decide(SECCOMP_RET_ALLOW);
-    otherwise(begun);
-    begun = when(BPF_JEQ, is_old ? OLD_IOCTL : SYS_ioctl);
+    decide_by(SIGNAL_BY_DESCRIPTOR, 3, BPF_JSET, TO_GROUP, SECCOMP_RET_ERRNO | EINVAL);
+    decide_by(is_old ? 97 : SYS_setpriority, 0, BPF_JEQ, GROUP_PRIORITY, SECCOMP_RET_ERRNO | EPERM);
+    decide_by(is_old ? 289 : SYS_ioprio_set, 0, BPF_JEQ, GROUP_IO_PRIORITY, SECCOMP_RET_ERRNO | EPERM);
+    unsigned short begun = when(BPF_JEQ, is_old ? OLD_IOCTL : SYS_ioctl);
     load(offsetof(struct seccomp_data, args[1]));
     decide_when(BPF_JEQ, TIOCSTI, SECCOMP_RET_ERRNO | EPERM);
     decide_when(BPF_JEQ, TIOCLINUX, SECCOMP_RET_ERRNO | EPERM);
@@ -142,8 +140,6 @@ void filter_calls(void) {
 }
 
 /* ---- the launcher and the devices */
-
-#define COUNT(array) (sizeof(array) / sizeof *(array))
 
 /* What glibc (2.34 to 2.43) and the address sanitizer call in every program. This list and the next one have what the
    functions call that the programs use, in each of these versions. (With SECCOMP_RET_KILL_PROCESS in place of ENOSYS,
@@ -179,27 +175,13 @@ enum {
         CLONE_NEWNS | CLONE_NEWCGROUP | CLONE_NEWUTS | CLONE_NEWIPC | CLONE_NEWUSER | CLONE_NEWPID | CLONE_NEWNET
 };
 
-static void allow(const int *numbers, size_t count) {
-    for (size_t at = 0; at < count; at++)
-        decide_when(BPF_JEQ, (uint32_t)numbers[at], SECCOMP_RET_ALLOW);
-}
-
 /* Allows a call with one of these values as an argument. */
 static void allow_with(int number, unsigned argument, const uint32_t *values, size_t count) {
     unsigned short begun = when(BPF_JEQ, (uint32_t)number);
     load(offsetof(struct seccomp_data, args) + 8 * argument);
     for (size_t at = 0; at < count; at++)
         decide_when(BPF_JEQ, values[at], SECCOMP_RET_ALLOW);
-    decide(SECCOMP_RET_ERRNO | ENOSYS);
-    otherwise(begun);
-}
-
-/* Allows a call without any of these flags in an argument. */
-static void allow_without(int number, unsigned argument, uint32_t flags) {
-    unsigned short begun = when(BPF_JEQ, (uint32_t)number);
-    load(offsetof(struct seccomp_data, args) + 8 * argument);
-    decide_when(BPF_JSET, flags, SECCOMP_RET_ERRNO | ENOSYS);
-    decide(SECCOMP_RET_ALLOW);
+    decide(MISSING);
     otherwise(begun);
 }
 
@@ -209,22 +191,22 @@ static void begin_list(void) {
     load(offsetof(struct seccomp_data, arch));
     emit(BPF_JMP | BPF_JEQ | BPF_K, AUDIT_ARCH_X86_64);
     filter[filter_length - 1].jt = 1;
-    decide(SECCOMP_RET_ERRNO | ENOSYS);
+    decide(MISSING);
     load(offsetof(struct seccomp_data, nr));
-    allow(common_calls, COUNT(common_calls));
+    decide_each(common_calls, COUNT(common_calls), SECCOMP_RET_ALLOW);
 }
 
 static int end_list(void) {
-    decide(SECCOMP_RET_ERRNO | ENOSYS);
+    decide(MISSING);
     return install(0);
 }
 
 void confine_launcher(void) {
     begin_list();
-    allow(launcher_calls, COUNT(launcher_calls));
+    decide_each(launcher_calls, COUNT(launcher_calls), SECCOMP_RET_ALLOW);
     allow_with(SYS_ioctl, 1, launcher_requests, COUNT(launcher_requests));
     allow_with(SYS_prctl, 0, launcher_options, COUNT(launcher_options));
-    allow_without(SYS_clone, 0, NAMESPACES);
+    decide_by(SYS_clone, 0, BPF_JSET, NAMESPACES, MISSING);
     if (end_list() < 0)
         fail_by_errno("the launcher's calls can't be limited");
 }
@@ -232,11 +214,11 @@ void confine_launcher(void) {
 /* (A device opens files to read them, when it starts, and changes limits of its own alone. It becomes its program under
    this filter, which can't see whether it becomes another one.) */
 int confine_device(void) {
-    static const uint32_t self[] = {0};
+    const uint32_t changes = O_WRONLY | O_RDWR | O_CREAT | O_TRUNC;
     begin_list();
     decide_when(BPF_JEQ, SYS_execve, SECCOMP_RET_ALLOW);
-    allow_without(SYS_open, 1, O_WRONLY | O_RDWR | O_CREAT | O_TRUNC);
-    allow_without(SYS_openat, 2, O_WRONLY | O_RDWR | O_CREAT | O_TRUNC);
-    allow_with(SYS_prlimit64, 0, self, COUNT(self));
+    decide_by(SYS_open, 1, BPF_JSET, changes, MISSING);
+    decide_by(SYS_openat, 2, BPF_JSET, changes, MISSING);
+    decide_by(SYS_prlimit64, 0, BPF_JGT, 0, MISSING);
     return end_list();
 }

@@ -10,8 +10,8 @@
 /* Registers of the configuration space, and their bits. */
 enum { COMMAND = 4, STATUS = 6, CAPABILITY = 0x34, MESSAGES = 0x42 };
 enum { IS_MASTER = 1 << 2, HAS_NO_PIN = 1 << 2, IS_WAITING = 1 << 3, SENDS_MESSAGES = 1 };
-enum { PIN_WAIT = 10 };    /* after how many milliseconds the pin is raised again if no completion was taken */
-enum { MOST_EVENTS = 64 }; /* of the kernel's queue that adds to event counters */
+/* After how many milliseconds the pin is raised again if no completion was taken, and the kernel's queue of events. */
+enum { PIN_WAIT = 10, MOST_EVENTS = 64 };
 
 /* The configuration after a reset: QEMU's own numbers, class 010802h, INTA, and a capability of one message (MSI). */
 static const unsigned char config_at_reset[CONFIG_SIZE] = {
@@ -31,35 +31,35 @@ int is_counter(int file) {
 }
 
 static aio_context_t events;
-static int sink;
+static struct iocb nothing = {.aio_lio_opcode = IOCB_CMD_PWRITE, .aio_flags = IOCB_FLAG_RESFD}, *all = &nothing;
 
 /* Prepares what `add_one` needs, and leaves no descriptor of a standard stream free for something else. */
 void prepare_counters(void) {
+    int sink;
     while ((sink = open("/dev/null", O_RDWR | O_CLOEXEC)) >= 0 && sink <= STDERR_FILENO)
         ;
     if (sink < 0 || syscall(SYS_io_setup, MOST_EVENTS, &events) < 0)
         err(FAILED, "/dev/null, with asynchronous writes");
+    nothing.aio_fildes = (uint32_t)sink;
 }
 
 /* Adds 1 to an event counter, as the kernel does at the end of an asynchronous write, here of nothing. Unlike a write
    to the counter, this never waits, whatever the other process made of it. */
 static void add_one(int counter) {
-    struct iocb nothing = {
-        .aio_lio_opcode = IOCB_CMD_PWRITE, .aio_fildes = (uint32_t)sink, .aio_buf = (uintptr_t)&sink};
-    struct iocb *all = &nothing;
     struct io_event ended[MOST_EVENTS];
-    nothing.aio_flags = IOCB_FLAG_RESFD;
     nothing.aio_resfd = (uint32_t)counter;
     while (syscall(SYS_io_submit, events, 1L, &all) < 0 && errno == EAGAIN)
         syscall(SYS_io_getevents, events, 0L, (long)MOST_EVENTS, ended, NULL);
 }
 
-/* Puts an event counter, or none (-1), in the place of the former one. */
+/* Puts an event counter, or none (-1), in the place of the former one. A message that found none is sent now. */
 void set_counter(struct function *function, int *counter, int file) {
     if (*counter >= 0)
         close(*counter);
     *counter = file;
     function->is_masked &= counter != &function->pin;
+    if (counter == &function->bell && file >= 0 && function->posted != function->head)
+        add_one(file);
 }
 
 /* Raises the pin if completions wait. Each access of the guest to a register lowers and unmasks it, even before its
@@ -81,30 +81,23 @@ int raise_pin(struct function *function) {
     return -1;
 }
 
-/* Raises the interrupt if completions wait: by a message, or by the pin. What can't be raised yet is later. */
-void raise_interrupt(struct function *function) {
-    if (function->bell < 0)
-        raise_pin(function);
-    else if (function->posted != function->head)
-        add_one(function->bell);
-}
-
 /* The other process has seen the pin's interrupt. */
 void see_interrupt(struct function *function) {
     uint64_t count;
-    struct iovec into = {&count, sizeof count};
-    if (preadv2(function->unmask, &into, 1, -1, RWF_NOWAIT) < 0 && errno != EAGAIN)
+    if (preadv2(function->unmask, &(struct iovec){&count, sizeof count}, 1, -1, RWF_NOWAIT) < 0 && errno != EAGAIN)
         set_counter(function, &function->unmask, -1);
     function->is_masked = 0;
-    raise_interrupt(function);
 }
 
-/* Takes one waiting entry of the guest's ring, if the function may access the guest's memory. */
+static uint32_t read_register(const struct function *function, uint32_t offset) {
+    return nvme_machine_read32(function->machine, function->number, offset);
+}
+
+/* Takes one waiting entry of the guest's ring, if the function may access the guest's memory, and sends a message. */
 void take_turn(struct function *function) {
     uint64_t entry = nvme_machine_read64(function->machine, function->number, NVME_ASQ) + 64 * function->fetched;
     uint64_t slot = nvme_machine_read64(function->machine, function->number, NVME_ACQ) + 16 * function->posted;
-    uint32_t less_one = nvme_machine_read32(function->machine, function->number, NVME_AQA);
-    uint32_t power = nvme_machine_read32(function->machine, function->number, NVME_CC) >> 7 & 15;
+    uint32_t less_one = read_register(function, NVME_AQA), power = read_register(function, NVME_CC) >> 7 & 15;
     function->has_more = function->fetched != function->tail && function->config[COMMAND] & IS_MASTER &&
                          turn(function, entry, slot, SMALL_PAGE << power);
     if (!function->has_more)
@@ -112,60 +105,42 @@ void take_turn(struct function *function) {
     function->fetched = (function->fetched + 1) % ((less_one & 0xfff) + 1);
     function->posted = (function->posted + 1) % ((less_one >> 16 & 0xfff) + 1);
     function->has_more = function->fetched != function->tail;
-    raise_interrupt(function);
+    if (function->bell >= 0)
+        add_one(function->bell);
 }
 
-/* Keeps a doorbell's value, unless the controller ignores it: a tail that names no slot, or a head that names none of
-   the completions that wait. */
-static void ring_doorbell(struct function *function, uint32_t offset, uint32_t value) {
-    uint32_t less_one = nvme_machine_read32(function->machine, function->number, NVME_AQA);
-    uint32_t slots = (less_one >> 16 & 0xfff) + 1, waiting = (function->posted + slots - function->head) % slots;
-    if (!(nvme_machine_read32(function->machine, function->number, NVME_CSTS) & 1))
-        return;
-    if (offset == NVME_TAIL_DOORBELL && value <= (less_one & 0xfff))
-        function->tail = value;
-    else if (offset == NVME_HEAD_DOORBELL && value < slots && (value + slots - function->head) % slots <= waiting) {
-        function->head = value;
-        function->has_taken = 1;
-    }
-    take_turn(function);
-    raise_pin(function);
-}
-
+/* Writes a register. A doorbell's value is kept unless the controller ignores it: a tail that names no slot, or a head
+   that names none of the completions that wait. */
 static void write_register(struct function *function, uint32_t offset, uint32_t value) {
     nvme_machine_write32(function->machine, function->number, offset, value);
-    if (offset == NVME_CC && !(value & 1)) {
+    uint32_t less_one = read_register(function, NVME_AQA), is_ready = read_register(function, NVME_CSTS) & 1;
+    uint32_t slots = (less_one >> 16 & 0xfff) + 1, head = function->head;
+    if (offset == NVME_CC && !(value & 1))
         function->fetched = function->tail = function->posted = function->head = 0;
-        function->has_taken = 1;
-    } else if (offset == NVME_TAIL_DOORBELL || offset == NVME_HEAD_DOORBELL)
-        ring_doorbell(function, offset, value);
+    else if (offset == NVME_TAIL_DOORBELL && is_ready && value <= (less_one & 0xfff))
+        function->tail = value;
+    else if (offset == NVME_HEAD_DOORBELL && is_ready && value < slots &&
+             (value + slots - head) % slots <= (function->posted + slots - head) % slots)
+        function->head = value;
+    function->has_taken |= offset == NVME_CC || offset == NVME_HEAD_DOORBELL;
 }
 
-static unsigned char byte_at(const struct function *function, int is_config, uint32_t offset) {
-    if (!is_config)
-        return nvme_machine_read32(function->machine, function->number, offset - offset % 4) >> offset % 4 * 8;
-    return function->config[offset] | (offset == STATUS && function->posted != function->head ? IS_WAITING : 0);
-}
-
-/* Writes the configuration, by which the function may reach the memory, or raise its interrupt, from now on. */
-static void write_config(struct function *function, uint32_t offset, uint32_t count, const unsigned char *bytes) {
-    for (uint32_t at = offset; at < offset + count; at++)
-        function->config[at] ^= (function->config[at] ^ bytes[at - offset]) & config_mask[at];
-    take_turn(function);
-    raise_interrupt(function);
-}
-
-/* Reads or writes the configuration or registers, of those only whole dwords. Returns whether they exist. */
+/* Reads or writes the configuration or registers, of those only whole dwords. Returns whether they exist. (After a
+   write, the function may have an entry to take, or memory to take it from.) */
 int use(struct function *function, int is_config, uint64_t offset, uint64_t count, unsigned char *bytes, int is_write) {
     uint64_t size = is_config ? CONFIG_SIZE : BAR_SIZE;
     if (count == 0 || count > size || offset > size - count)
         return 0;
-    if (is_write && is_config)
-        write_config(function, offset, count, bytes);
-    for (uint32_t at = 0; is_write && !is_config && (offset | count) % 4 == 0 && at < count; at += 4)
-        write_register(function, offset + at, number_at(bytes + at, 4));
-    for (uint32_t at = 0; !is_write && at < count; at++)
-        bytes[at] = byte_at(function, is_config, offset + at);
+    for (uint32_t at = offset; at < offset + count; at++, bytes++)
+        if (is_config && is_write)
+            function->config[at] ^= (function->config[at] ^ *bytes) & config_mask[at];
+        else if (is_config)
+            *bytes = function->config[at] | (at == STATUS && function->posted != function->head ? IS_WAITING : 0);
+        else if (!is_write)
+            *bytes = read_register(function, at - at % 4) >> at % 4 * 8;
+        else if ((offset | count | at) % 4 == 0)
+            write_register(function, at, number_at(bytes, 4));
+    take_turn(function);
     return 1;
 }
 
@@ -176,5 +151,5 @@ void reset(struct function *function) {
         function->config[STATUS] = function->config[CAPABILITY] = 0;
     write_register(function, NVME_CC, 0);
     write_register(function, NVME_CC, 0);
-    function->is_masked = function->has_more = 0;
+    function->is_masked = 0;
 }

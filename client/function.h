@@ -64,7 +64,6 @@ void take_turn(struct function *function);
 int is_counter(int file);
 void prepare_counters(void);
 void set_counter(struct function *function, int *counter, int file);
-void raise_interrupt(struct function *function);
 int raise_pin(struct function *function);
 void see_interrupt(struct function *function);
 void reserve_memory(void);

@@ -3,18 +3,14 @@
    could (calls.c), and waits where it would. Each device has a keeper, which alone exchanges requests with it and
    makes its nodes (relay.c, nodes.c), and which helpers ask. They share memory, by which they tell each other what is
    to be done. What was killed is replaced, and what was stopped goes on. None of this is proved. */
-#define _GNU_SOURCE
 #include "launcher.h"
-#include <errno.h>
 #include <linux/futex.h>
-#include <signal.h>
 #include <sys/eventfd.h>
 #include <sys/mman.h>
 #include <sys/prctl.h>
 #include <sys/select.h>
 #include <sys/syscall.h>
 #include <sys/wait.h>
-#include <unistd.h>
 
 /* The helpers that are started as soon as all others are at work, and the most if these are so for long. (They are
    fewer if there are no addresses for the data of so many.) */
@@ -68,15 +64,12 @@ static void await_change(const unsigned *number, unsigned value) {
 static unsigned await_files(const int *files, unsigned count, int milliseconds) {
     struct timeval limit = {milliseconds / 1000, milliseconds % 1000 * 1000};
     unsigned ready = 0;
-    int most = -1;
     fd_set set;
     FD_ZERO(&set);
     for (unsigned at = 0; at < count; at++)
-        if (files[at] >= 0) {
+        if (files[at] >= 0)
             FD_SET(files[at], &set);
-            most = files[at] > most ? files[at] : most;
-        }
-    int found = select(most + 1, &set, NULL, NULL, milliseconds < 0 ? NULL : &limit);
+    int found = select(FD_SETSIZE, &set, NULL, NULL, milliseconds < 0 ? NULL : &limit);
     if (found < 0 && errno != EINTR)
         usleep(1000);
     for (unsigned at = 0; at < count && found > 0; at++)
@@ -206,7 +199,7 @@ static int start_helper(struct helper *helper) {
 /* Kills the helpers whose callers no longer wait. */
 static void drop_helpers(void) {
     for (struct helper *helper = helpers; helper < end(); helper++)
-        if (helper->process > 0 && load(&helper->done) != helper->given && !is_alive(&helper->notice))
+        if (helper->process > 0 && load(&helper->done) != helper->given && !is_alive(helper->notice.got.id))
             kill(helper->process, SIGKILL);
 }
 
@@ -297,22 +290,12 @@ void begin_helpers(void) {
         fail_by_errno("memory can't be shared");
     shared = share(sizeof *shared);
     at_end = eventfd(0, EFD_CLOEXEC | EFD_NONBLOCK);
-    for (unsigned at = 0; at < device_count; at++)
-        asks[at] = eventfd(0, EFD_CLOEXEC | EFD_NONBLOCK);
     for (unsigned at = 0; at < device_count; at++) {
+        asks[at] = eventfd(0, EFD_CLOEXEC | EFD_NONBLOCK);
         start_keeper(devices + at, 0);
         if (devices[at].keeper < 0)
             fail_by_errno("fork");
     }
     if (!find_helper(1))
         fail_by_errno("fork");
-}
-
-void end_helpers(void) {
-    for (struct helper *helper = helpers; helper && helper < end(); helper++)
-        if (helper->process > 0)
-            kill(helper->process, SIGKILL);
-    for (struct device *device = devices; device < devices + device_count; device++)
-        if (device->keeper > 0)
-            kill(device->keeper, SIGKILL);
 }

@@ -1,17 +1,10 @@
 /* What comes into the sandbox from outside: the standard streams, other open files, and devices. Each is on a list of
    what may come, and all else is refused or closed. None of this is proved. */
-#define _GNU_SOURCE
 #include "launcher.h"
-#include <errno.h>
-#include <fcntl.h>
 #include <ftw.h>
 #include <linux/magic.h>
-#include <stdlib.h>
-#include <string.h>
-#include <sys/stat.h>
 #include <sys/statfs.h>
 #include <sys/sysmacros.h>
-#include <unistd.h>
 
 enum { MEMORY_MAJOR = 1, TERMINAL_MAJOR = 5, MISC_MAJOR = 10 };
 
@@ -117,25 +110,15 @@ static const char *why_not(int file) {
         return "was opened as a path alone (O_PATH)";
     if (fstat(file, &about) < 0)
         return strerror(errno);
-    switch (about.st_mode & S_IFMT) {
-    case S_IFIFO:
-    case S_IFSOCK:
+    mode_t kind = about.st_mode & S_IFMT;
+    if (kind == S_IFIFO || kind == S_IFSOCK || (kind == S_IFREG && holds_files(file)) ||
+        (kind == S_IFCHR && (is_machine_node(about.st_rdev) || (is_terminal(about.st_rdev) && isatty(file)))))
         return NULL;
-    case S_IFREG:
-        return holds_files(file) ? NULL
-                                 : "leads to the kernel or to a process of this machine, or is in a file system that "
-                                   "isn't known to hold files";
-    case S_IFCHR:
-        return is_machine_node(about.st_rdev) || (is_terminal(about.st_rdev) && isatty(file))
-                   ? NULL
-                   : "is a device of this machine";
-    case S_IFBLK:
+    if (kind == S_IFCHR || kind == S_IFBLK)
         return "is a device of this machine";
-    case S_IFDIR:
+    if (kind == S_IFDIR)
         return "is a folder";
-    default:
-        return "leads to the kernel or to a process of this machine";
-    }
+    return "leads to the kernel or to a process of this machine, or is in a file system that isn't known to hold files";
 }
 
 void check_file(int file, const char *name) {
@@ -154,23 +137,15 @@ void check_streams(void) {
             check_file(file, names[file]);
 }
 
-/* Has a stream be /dev/null as a path alone, which nobody can use. */
-static void hold(int file) {
-    int null = open("/dev/null", O_PATH | O_NOFOLLOW);
-    if (null < 0 || (null != file && dup2(null, file) < 0))
-        fail_by_errno("/dev/null");
-    if (null != file)
-        close(null);
-}
-
+/* (a closed stream has no flags, which is -1, and one that was closed outside is /dev/null as a path alone) */
 void hold_streams(void) {
-    for (int file = 0; file <= STDERR_FILENO; file++)
-        if (fcntl(file, F_GETFD) < 0)
-            hold(file);
-}
-
-void hold_streams_again(void) {
-    for (int file = 0; file <= STDERR_FILENO; file++)
-        if (fcntl(file, F_GETFL) & O_PATH)
-            hold(file);
+    for (int file = 0; file <= STDERR_FILENO; file++) {
+        if (!(fcntl(file, F_GETFL) & O_PATH))
+            continue;
+        int null = open("/dev/null", O_PATH | O_NOFOLLOW);
+        if (null < 0 || (null != file && dup2(null, file) < 0))
+            fail_by_errno("/dev/null");
+        if (null != file)
+            close(null);
+    }
 }

@@ -1,13 +1,7 @@
 /* I/O commands by ioctl, over the data of a namespace, with the statuses of a drive. No controller is asked, and no
    proof speaks about them. */
-#define _GNU_SOURCE
 #include "launcher.h"
-#include <errno.h>
-#include <fcntl.h>
 #include <linux/nvme_ioctl.h>
-#include <stdlib.h>
-#include <string.h>
-#include <unistd.h>
 
 enum { FLUSH = 0x00, WRITE = 0x01, READ = 0x02, COMPARE = 0x05, WRITE_ZEROES = 0x08, DATASET = 0x09, VERIFY = 0x0c };
 
@@ -66,21 +60,18 @@ static int deallocate(const struct call *call, const struct data *data, const st
 /* Reads, writes or compares blocks. */
 static int transfer(const struct call *call, const struct data *data, const struct nvme_passthru_cmd *given,
                     uint64_t first, size_t size) {
-    unsigned char *bytes = malloc(2 * size), *stored = bytes + size;
+    static unsigned char stored[MOST_DATA];
+    unsigned char *bytes = own_data();
     off_t at = (off_t)(first << data->volume.power);
-    int status = bytes ? DONE : -ENOMEM;
-    if (status == DONE && given->opcode != READ && copy_in(call, given->addr, bytes, size) < 0)
-        status = -EFAULT;
-    if (status == DONE && given->opcode == WRITE && pwrite(data->file, bytes, size, at) != (ssize_t)size)
-        status = NO_CAPACITY;
-    if (status == DONE && given->opcode != WRITE && pread(data->file, stored, size, at) != (ssize_t)size)
-        status = INVALID_NAMESPACE;
-    if (status == DONE && given->opcode == COMPARE && memcmp(bytes, stored, size) != 0)
-        status = DIFFERS;
-    if (status == DONE && given->opcode == READ && copy_out(call, given->addr, stored, size) < 0)
-        status = -EFAULT;
-    free(bytes);
-    return status;
+    if (given->opcode != READ && copy_in(call, given->addr, bytes, size) < 0)
+        return -EFAULT;
+    if (given->opcode == WRITE)
+        return pwrite(data->file, bytes, size, at) == (ssize_t)size ? DONE : NO_CAPACITY;
+    if (pread(data->file, stored, size, at) != (ssize_t)size)
+        return INVALID_NAMESPACE;
+    if (given->opcode == COMPARE)
+        return memcmp(bytes, stored, size) == 0 ? DONE : DIFFERS;
+    return copy_out(call, given->addr, stored, size);
 }
 
 static int carry_out_io(const struct call *call, const struct data *data, const struct nvme_passthru_cmd *given) {

@@ -1,32 +1,21 @@
 /* Runs a command whose NVMe commands are answered by device programs, one for each subsystem file. The launcher first
    becomes bubblewrap, which makes a sandbox and starts the launcher again inside (sandbox.c), as process 1. There it
    starts the devices behind sockets (relay.c), makes the nodes and the files of /sys (nodes.c, sysfs.c), runs the
-   command with the library preloaded, and answers its calls (calls.c), one after another. It ends when the command
-   ends, with its status, and everything in the sandbox ends with it. Where no sandbox can be made and the machine has
-   no NVMe device, all this happens outside, and nodes are only names. None of this is proved. */
-#define _GNU_SOURCE
+   command with the library preloaded, and has its calls answered (helpers.c, calls.c). It ends when the command ends,
+   with its status, and everything in the sandbox ends with it. Where no sandbox can be made and the machine has no NVMe
+   device, all this happens outside, and nodes are only names. None of this is proved. */
 #include "launcher.h"
 #include "usage.h"
-#include <errno.h>
-#include <fcntl.h>
 #include <getopt.h>
-#include <limits.h>
 #include <linux/close_range.h>
 #include <sched.h>
-#include <signal.h>
 #include <stdarg.h>
-#include <stdio.h>
-#include <stdlib.h>
-#include <string.h>
 #include <sys/prctl.h>
 #include <sys/resource.h>
 #include <sys/signalfd.h>
-#include <sys/socket.h>
-#include <sys/stat.h>
 #include <sys/syscall.h>
 #include <sys/sysinfo.h>
 #include <sys/wait.h>
-#include <unistd.h>
 
 enum { MOST_ADDED = 64, MOST_OPTIONS = 16 };
 
@@ -49,21 +38,24 @@ static char parts[PATH_MAX], library[PATH_MAX + 32], program[PATH_MAX + 32];
 
 /* The values of the options. */
 static const char *names[MOST_DEVICES], *added[MOST_ADDED + 1];
-static char *device_words[MOST_OPTIONS + 3] = {program}; /* a device's program and options */
+static char *device_words[MOST_OPTIONS + 4] = {program}; /* a device's program and options */
 static unsigned file_count, device_word_count = 1, added_count;
 static int has_trace;
 static const char *trace_file;
 static uint64_t limit;
 static mode_t creation_mask; /* of the command's files */
 
-/* Kills the devices and the processes that work for the launcher, which have nothing to clean up, and in a sandbox all
-   others, whose calls nobody answers any more. */
+/* Kills the keepers, which would report the end of a device, then in a sandbox all processes, whose calls nobody
+   answers any more, and the devices. None of these has anything to clean up, and helpers end with the launcher. */
 static void end_devices(void) {
-    if (has_sandbox && getpid() == 1)
-        kill(-1, SIGKILL);
-    end_helpers();
     for (struct device *device = devices; device < devices + device_count; device++) {
         device->is_lost = 1;
+        if (device->keeper > 0)
+            kill(device->keeper, SIGKILL);
+    }
+    if (has_sandbox && getpid() == 1)
+        kill(-1, SIGKILL);
+    for (struct device *device = devices; device < devices + device_count; device++) {
         if (device->process > 0 && kill(device->process, SIGKILL) == 0)
             waitpid(device->process, NULL, 0);
         device->process = 0;
@@ -92,6 +84,17 @@ void cannot(const char *path) {
     fprintf(stderr, "nvme-model: %s: %s\n", path, strerror(errno));
 }
 
+const char *last_line(int file, const char *program) {
+    static char line[1024];
+    FILE *said = fdopen(file, "r");
+    while (said && fgets(line, sizeof line, said))
+        continue;
+    if (said)
+        fclose(said);
+    line[strcspn(line, "\n")] = '\0';
+    return line + (strncmp(line, program, strlen(program)) == 0 ? strlen(program) : 0);
+}
+
 /* Finds out which processes have ended or were stopped. */
 static void reap(void) {
     int how;
@@ -108,28 +111,22 @@ static void reap(void) {
     }
 }
 
-/* Reads what the kernel says of bwrap outside, and fails if that has ended. (It may still have a number.) */
-static void read_monitor(char text[4096]) {
-    ssize_t length = pread(MONITOR, text, 4095, 0);
-    text[length < 0 ? 0 : length] = '\0';
-    const char *state = strstr(text, "\nState:\t");
-    if (!state || strchr("ZX", state[strlen("\nState:\t")]))
-        fail("bwrap has ended");
-}
-
-/* Returns the signals that were sent to bwrap, which blocks them and so can't pass them on. (Signal 1 is bit 0.) */
+/* Returns the signals that were sent to bwrap, which blocks them and so can't pass them on, or fails if it has ended.
+   (It may still have a number. Signal 1 is bit 0, and the text has all groups.) */
 static unsigned long signals_at_monitor(void) {
-    char text[4096] = "", *line;
-    if (has_sandbox)
-        read_monitor(text);
-    line = strstr(text, "\nShdPnd:");
-    return line ? strtoul(line + strlen("\nShdPnd:"), NULL, 16) : 0;
+    static char text[1 << 20];
+    ssize_t length = pread(MONITOR, text, sizeof text - 1, 0);
+    text[length < 0 ? 0 : length] = '\0';
+    const char *state = strstr(text, "\nState:\t"), *line = strstr(text, "\nShdPnd:");
+    if (!state || !line || strchr("ZX", state[strlen("\nState:\t")]))
+        fail("bwrap has ended");
+    return strtoul(line + strlen("\nShdPnd:"), NULL, 16);
 }
 
 /* Passes each signal that was sent to bwrap on to the command, once. A signal from the terminal's keys, which reached
    the command anyway, is received here as well, if not before then a little later. */
 static void pass_on(unsigned long *passed, unsigned long *seen) {
-    unsigned long waiting = signals_at_monitor() & ~*passed;
+    unsigned long waiting = has_sandbox ? signals_at_monitor() & ~*passed : 0;
     for (int number = 1; number < NSIG; number++)
         if ((waiting & *seen) >> (number - 1) & 1 && sigismember(&watched, number) > 0 && command > 0)
             kill(command, number);
@@ -165,24 +162,24 @@ static void await_end(void) {
     }
 }
 
-/* Blocks the signals that are received one by one. */
+/* Blocks the signals that are received one by one, and the one that a socket of a lost device causes. */
 static void block_signals(void) {
     static const int numbers[] = {SIGCHLD, SIGINT, SIGTERM, SIGHUP, SIGQUIT, SIGUSR1, SIGUSR2};
+    sigset_t blocked;
     sigemptyset(&watched);
     for (unsigned at = 0; at < sizeof numbers / sizeof *numbers; at++)
         sigaddset(&watched, numbers[at]);
-    sigprocmask(SIG_BLOCK, &watched, NULL);
+    blocked = watched;
+    sigaddset(&blocked, SIGPIPE);
+    sigprocmask(SIG_BLOCK, &blocked, NULL);
 }
 
 /* Puts a value before that of a variable of the environment. */
 static void prepend(const char *name, const char *value) {
     const char *before = getenv(name);
     char *whole;
-    if (asprintf(&whole, "%s%s%s", value, before ? ":" : "", before ? before : "") < 0 || setenv(name, whole, 1) < 0) {
-        fputs("nvme-model: out of memory\n", stderr);
-        _exit(FAILED);
-    }
-    free(whole);
+    if (asprintf(&whole, "%s%s%s", value, before ? ":" : "", before ? before : "") < 0 || setenv(name, whole, 1) < 0)
+        fail("out of memory");
 }
 
 /* Starts a process that stops before it becomes the command, and waits for that. (It shares the table of open files
@@ -236,7 +233,7 @@ static const char usage[] =
     "  --qemu, --vfio-user  as the first option, give the controllers to virtual machines; see --qemu --help\n"
     "  --help               show this help and the version\n"
     "  --version            show the version\n\n"
-    "The exit status is that of COMMAND, or 72 if nvme-model itself can't go on. See nvme-model(1).\n"
+    "The exit status is that of COMMAND, or 72 if nvme-model itself can't continue. See nvme-model(1).\n"
     "This is version " MODEL_VERSION ".\n";
 
 static void refuse_options(void) {
@@ -250,15 +247,15 @@ static void show(const char *text) {
 }
 
 static uint64_t read_size(const char *text) {
+    static const char units[] = "KMG";
     char *end;
     errno = 0;
-    uint64_t size = strtoull(text, &end, 10), unit = 1;
-    const char *at = *end ? strchr("KMG", *end) : NULL;
-    if (at)
-        unit = (uint64_t)1 << 10 * (at - "KMG" + 1);
-    if (*text < '0' || *text > '9' || errno || (*end && (!at || end[1])) || size > INT64_MAX / unit)
+    uint64_t size = strtoull(text, &end, 10);
+    const char *unit = *end ? strchr(units, *end) : NULL;
+    int power = unit ? 10 * (int)(unit - units + 1) : 0;
+    if (*text < '0' || *text > '9' || errno || (*end && (!unit || end[1])) || size > (uint64_t)INT64_MAX >> power)
         refuse_options();
-    return size * unit;
+    return size << power;
 }
 
 static int read_options(int count, char **arguments) {
@@ -354,23 +351,20 @@ static void open_files(void) {
 /* Runs the command, with the devices, in the sandbox or without one. */
 static int run(char **arguments) {
     struct rlimit files_limit;
-    sigset_t first;
-    sigemptyset(&first);
-    sigaddset(&first, SIGCHLD);
-    sigaddset(&first, SIGPIPE);
-    sigprocmask(SIG_BLOCK, &first, NULL);
+    block_signals();
     creation_mask = umask(0);
     trace = trace_file ? TRACE_TO : STDERR_FILENO;
     devices = share(MOST_DEVICES * sizeof *devices);
     for (int file = HERE; file < FILES + MOST_DEVICES; file++)
         fcntl(file, F_SETFD, FD_CLOEXEC);
+    if (file_count > 0)
+        device_words[device_word_count++] = "--subsystem=/proc/self/fd/3";
     if (has_trace)
-        device_words[device_word_count] = "--trace";
+        device_words[device_word_count++] = "--trace";
     for (unsigned at = 0; at == 0 || at < file_count; at++)
         start_device(device_words, file_count > 0 ? FILES + (int)at : -1, names[at], &mask);
     for (unsigned at = 0; at < file_count; at++)
         close(FILES + (int)at);
-    block_signals();
     make_nodes();
     start_command(arguments);
     /* (a namespace without nodes has its data in an open file) */
@@ -390,27 +384,14 @@ static int run(char **arguments) {
 
 /* Becomes bwrap, which doesn't end by the signals that the launcher inside passes on to the command. */
 static void go_inside(const struct sandbox *sandbox, char **arguments) {
-    size_t count = 1;
-    while (arguments[count - 1])
-        count++;
-    char here[PATH_MAX], blocked[32], *words[count + 3];
+    char here[PATH_MAX], blocked[32];
     unsigned long bits;
     if (!getcwd(here, sizeof here) || here[0] != '/')
         fail("the current folder can't be told: run the command from another one");
     memcpy(&bits, &mask, sizeof bits);
     snprintf(blocked, sizeof blocked, "%lx", bits);
-    memcpy(words, (char *[]){INSIDE, blocked, here}, 3 * sizeof *words);
-    memcpy(words + 3, arguments, count * sizeof *words);
     block_signals();
-    enter_sandbox(sandbox, words);
-}
-
-/* Asks to be killed when bwrap ends, or fails if it has. */
-static void follow_monitor(void) {
-    char text[4096];
-    if (prctl(PR_SET_PDEATHSIG, SIGKILL) < 0)
-        fail_by_errno("the end of bwrap can't be followed");
-    read_monitor(text);
+    enter_sandbox(sandbox, (const char *const[]){INSIDE, blocked, here, NULL}, arguments);
 }
 
 /* Takes what the launcher outside handed on. This process is the first one of its kind, so all others end with it. */
@@ -423,7 +404,7 @@ static void begin_inside(const char *blocked, const char *here) {
     strcpy(program, MODEL_FOLDER "/device");
     if (prctl(PR_SET_DUMPABLE, 0) < 0)
         fail_by_errno("other processes can't be kept from tracing this one");
-    hold_streams_again();
+    hold_streams();
     check_mounts();
     check_nodes();
     /* (the folder is another one if a mount covers it, and /dev, /sys and /proc always are) */
@@ -435,7 +416,9 @@ static void begin_inside(const char *blocked, const char *here) {
         fail_by_errno("close_range");
     if (!trace_file)
         close(TRACE_TO);
-    follow_monitor();
+    if (prctl(PR_SET_PDEATHSIG, SIGKILL) < 0)
+        fail_by_errno("the end of bwrap can't be followed");
+    signals_at_monitor(); /* (bwrap may have ended before) */
 }
 
 /* Makes the sandbox and runs the command there, or else without one, if the machine has no NVMe device. */

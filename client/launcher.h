@@ -1,12 +1,17 @@
-/* Declarations that the launcher's parts share. None of this is proved. */
+/* Declarations that the launcher's parts share, and the headers that most of them need. Each part includes this file
+   first. None of this is proved. */
 #ifndef LAUNCHER_H
 #define LAUNCHER_H
+#define _GNU_SOURCE
 #include "wire.h"
+#include <errno.h>
+#include <fcntl.h>
 #include <limits.h>
 #include <linux/seccomp.h>
 #include <signal.h>
 #include <stddef.h>
-#include <sys/types.h>
+#include <sys/stat.h>
+#include <unistd.h>
 
 /* The greatest numbers of subsystems, and of controllers altogether. */
 enum { MOST_DEVICES = 16, MOST_CONTROLLERS = 256 };
@@ -30,15 +35,18 @@ extern int waits;           /* whether nodes wait for a scan or a reset, because
 extern uint64_t geometry[]; /* of the devices' drivers */
 
 /* launcher.c: `fail` reports why the launcher can't continue, and ends everything that was started; `fail_by_errno`
-   adds why the last call failed; and `cannot` reports by errno that a path can't be made, which ends the launcher only
-   before the command runs. */
+   adds why the last call failed; `cannot` reports by errno that a path can't be made, which ends the launcher only
+   before the command runs; and `last_line` reads all that a program writes to a pipe, closes it, and returns the last
+   line, without the program's name at its beginning. */
 enum { FAILED = 72, NOT_EXECUTABLE = 126, NOT_FOUND = 127 };
 __attribute__((noreturn, format(printf, 1, 2))) void fail(const char *format, ...);
 __attribute__((noreturn)) void fail_by_errno(const char *what);
 void cannot(const char *path);
+const char *last_line(int file, const char *program);
 
-/* device.c: starts a device by these words, with a subsystem file (or -1) and its name, and with these signals blocked.
- */
+/* device.c: starts a device by these words, with a subsystem file (or -1) that it has as descriptor 3 and that has this
+   name, and with these signals blocked. */
+enum { SUBSYSTEM_FILE = STDERR_FILENO + 1 };
 void start_device(char *const *words, int file, const char *name, const sigset_t *blocked);
 
 /* relay.c: starts the exchange with a device; sends it a request, and returns -1 if it is gone, or one for a controller
@@ -75,13 +83,12 @@ int open_data(const struct node *node);
 int read_volume(const struct node *node, struct volume *volume);
 
 /* sysfs.c: puts the files of /sys that are there at first, and those that describe a subsystem, a controller with its
-   place in it, and a namespace, whose data is in an open file, with the nodes of these; and removes those of a
-   namespace. Those of a namespace can be put in one place after the other. */
-enum { IN_DEV = 1, IN_SYS = 2 };
+   place in it, and a namespace, whose data is in an open file (or -1, if it has its node), with the nodes of these; and
+   removes those of a namespace. */
 void begin_sys(void);
 void put_subsystem(unsigned number, const unsigned char *identity);
 void put_controller(unsigned number, unsigned place, const unsigned char *identity);
-void put_namespace(unsigned controller, uint32_t nsid, const struct volume *volume, int file, int places);
+void put_namespace(unsigned controller, uint32_t nsid, const struct volume *volume, int file);
 void remove_namespace(unsigned controller, uint32_t nsid);
 
 /* A call that is handed to the launcher by programs in a sandbox. */
@@ -108,18 +115,17 @@ union notice {
 enum { NOT_OURS = -10000 };
 
 /* calls.c: receives a call that waits, and returns whether there was one; answers one, in a helper; tells whether the
-   process still waits; gives it a result; and does so if there is no helper. */
+   process of a call still waits; gives it a result; and does so if there is no helper. */
 int receive_call(union notice *notice);
 void answer_call(const union notice *notice);
-int is_alive(const union notice *notice);
+int is_alive(uint64_t id);
 void finish_call(const union notice *notice, int result);
 void refuse_call(const union notice *notice);
 
-/* helpers.c: begins with helpers and keepers, and ends them; waits some milliseconds at most for a call, which is given
+/* helpers.c: begins with helpers and keepers; waits some milliseconds at most for a call, which is given
    to a helper, or for a signal, and returns 0 if none came; and replaces a helper or keeper that was killed, and lets
    one go on that was stopped. */
 void begin_helpers(void);
-void end_helpers(void);
 unsigned await_call(int signals);
 void replace(pid_t process, int how);
 
@@ -180,11 +186,13 @@ struct sandbox {
 #define INSIDE "--inside"
 
 /* sandbox.c: returns an NVMe device of the machine, or NULL if it has none; returns why no sandbox can be made, or NULL
-   if one can; starts the launcher in it with these arguments, in place of this process; and, in it, fails if a mount
-   isn't kept from the command, and returns whether a path is one that bwrap makes anew, such as /dev, or below one. */
+   if one can; starts the launcher in it with these words and arguments, in place of this process; and, in it, fails if
+   a mount isn't kept from the command, and returns whether a path is one that bwrap makes anew, such as /dev, or below
+   one. */
 const char *a_real_node(void);
 const char *why_no_sandbox(const struct sandbox *sandbox);
-__attribute__((noreturn)) void enter_sandbox(const struct sandbox *sandbox, char *const *arguments);
+__attribute__((noreturn)) void enter_sandbox(const struct sandbox *sandbox, const char *const *first,
+                                             char *const *arguments);
 void check_mounts(void);
 int is_replaced(const char *path);
 
@@ -198,13 +206,12 @@ extern const struct machine_node machine_nodes[MACHINE_NODES]; /* inherited.c */
 
 /* inherited.c: returns whether a device number is that of such a node; returns where a device is that --device adds,
    and fails if it may not be added; fails, in the sandbox, if /dev has any other device; fails if an open file, or a
-   standard stream, isn't one that may come into the sandbox; occupies the numbers of the streams that are closed, so
-   that no other file gets them, by what can't be used; and does so again in the sandbox, by what is there. */
+   standard stream, isn't one that may come into the sandbox; and occupies the numbers of closed streams, so that no
+   other file gets them, by a path that nobody can use, outside and again in the sandbox. */
 int is_machine_node(dev_t number);
 char *find_device(const char *path);
 void check_nodes(void);
 void check_file(int file, const char *name);
 void check_streams(void);
 void hold_streams(void);
-void hold_streams_again(void);
 #endif

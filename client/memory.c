@@ -10,8 +10,7 @@
 #include <sys/mman.h>
 #include <sys/stat.h>
 
-/* More pages than an entry touches, whose data has at most 1 MiB; how many are kept for the next turn; and how the lent
-   addresses are mapped. */
+/* More pages than an entry touches, how many are kept for the next turn, and how the lent addresses are mapped. */
 enum { MOST_PAGES = 512, MOST_KEPT = 4, LENT = MAP_PRIVATE | MAP_ANONYMOUS | MAP_NORESERVE };
 #define MOST_MEMORY ((uint64_t)128 << 30) /* the addresses that a controller reaches */
 
@@ -34,22 +33,12 @@ static const struct section *section_at(const struct function *function, uint64_
 static int copy(unsigned char *to, const unsigned char *from, size_t length) {
     is_copying = 1;
     if (sigsetjmp(copying, 0) != 0)
-        return is_copying;
+        return is_copying = 0;
     atomic_signal_fence(memory_order_seq_cst);
     memcpy(to, from, length);
     atomic_signal_fence(memory_order_seq_cst);
     is_copying = 0;
     return 1;
-}
-
-/* Ends a copy from or to a page that the file doesn't have. Any other such fault ends this process. */
-static void miss(int number) {
-    if (!is_copying) {
-        signal(number, SIG_DFL);
-        return;
-    }
-    is_copying = 0;
-    siglongjmp(copying, 1);
 }
 
 /* Writes bytes of one page of the guest, after all that was written before. */
@@ -69,11 +58,13 @@ static void load(unsigned number) {
     memcpy(before[number], page, SMALL_PAGE);
 }
 
-/* Brings the page that was touched. Any other fault ends this process. */
+/* Brings the page that was touched, or ends a copy with a page that the file lacks. Any other fault is fatal. */
 static void bring(int number, siginfo_t *about, void *context) {
     uint64_t place = (uintptr_t)about->si_addr - (uintptr_t)lent, page = place - place % SMALL_PAGE;
     (void)context;
-    if (user && place < MOST_MEMORY && page_count < MOST_PAGES &&
+    if (number == SIGBUS && is_copying)
+        siglongjmp(copying, 1);
+    if (place < MOST_MEMORY && page_count < MOST_PAGES &&
         mprotect(lent + page, SMALL_PAGE, PROT_READ | PROT_WRITE) == 0) {
         pages[page_count] = page;
         load(page_count++);
@@ -82,47 +73,37 @@ static void bring(int number, siginfo_t *about, void *context) {
 }
 
 void reserve_memory(void) {
+    struct sigaction faults = {.sa_sigaction = bring, .sa_flags = SA_SIGINFO | SA_NODEFER};
     lent = mmap(NULL, MOST_MEMORY, PROT_NONE, LENT, -1, 0);
     if (lent == MAP_FAILED || sysconf(_SC_PAGESIZE) != SMALL_PAGE)
         err(FAILED, "128 GiB of addresses, in pages of 4,096 bytes");
-    sigaction(SIGSEGV, &(struct sigaction){.sa_sigaction = bring, .sa_flags = SA_SIGINFO}, NULL);
-    sigaction(SIGBUS, &(struct sigaction){.sa_handler = miss, .sa_flags = SA_NODEFER}, NULL);
+    sigaction(SIGSEGV, &faults, NULL);
+    sigaction(SIGBUS, &faults, NULL);
 }
 
-/* Maps a section's file, which a receiver has passed on, if a controller can reach it. (Receivers don't inherit it.)
-   Returns 0 or the number of an error. */
-static int map_file(struct section *section) {
-    struct stat about;
-    int mode = fcntl(section->file, F_GETFL) & O_ACCMODE, access = PROT_READ | (section->is_writable ? PROT_WRITE : 0);
-    if (fstat(section->file, &about) < 0 || !S_ISREG(about.st_mode) || (uint64_t)about.st_size < section->size ||
-        (uint64_t)about.st_size - section->size < section->offset)
-        return EINVAL;
-    if (mode != O_RDWR && (mode != O_RDONLY || section->is_writable))
-        return EACCES;
-    if (section->address + section->size - 1 >= MOST_MEMORY)
-        return 0;
-    void *bytes = mmap(NULL, section->size, access, MAP_SHARED, section->file, (off_t)section->offset);
-    if (bytes == MAP_FAILED || madvise(bytes, section->size, MADV_DONTFORK) < 0)
-        return errno;
-    section->bytes = bytes;
-    return 0;
-}
-
-/* Adds a section, which takes the descriptor if it needs it. Returns 0 or the number of an error. */
+/* Adds a section, and takes the descriptor of its file if a controller can reach it: then the file is mapped, but not
+   for receivers. Returns 0 or the number of an error. (A file that a receiver has passed on has a size.) */
 int add_section(struct function *function, struct section section, int *file) {
-    uint64_t last = section.address + section.size - 1;
-    uint64_t bits = section.address | section.size | section.offset;
+    uint64_t last = section.address + section.size - 1, bits = section.address | section.size | section.offset;
+    struct stat about;
     if (bits % SMALL_PAGE != 0 || section.size == 0 || last < section.address)
         return EINVAL;
     for (const struct section *at = function->sections; at < function->sections + function->section_count; at++)
         if (section.address <= at->address + at->size - 1 && at->address <= last)
             return EEXIST;
-    section.file = *file;
-    int fault = function->section_count == MOST_SECTIONS ? ENOSPC : section.file < 0 ? 0 : map_file(&section);
-    if (fault)
-        return fault;
-    if (section.bytes)
-        *file = -1; /* (which it keeps) */
+    if (function->section_count == MOST_SECTIONS)
+        return ENOSPC;
+    if (*file >= 0 && (fstat(*file, &about) < 0 || (uint64_t)about.st_size < section.size ||
+                       (uint64_t)about.st_size - section.size < section.offset))
+        return EINVAL;
+    if (*file >= 0 && last < MOST_MEMORY) {
+        int access = section.is_writable ? PROT_READ | PROT_WRITE : PROT_READ;
+        section.bytes = mmap(NULL, section.size, access, MAP_SHARED, *file, (off_t)section.offset);
+        if (section.bytes == MAP_FAILED || madvise(section.bytes, section.size, MADV_DONTFORK) < 0)
+            return errno;
+        section.file = *file;
+        *file = -1;
+    }
     function->sections[function->section_count++] = section;
     return 0;
 }
@@ -141,26 +122,21 @@ int drop_sections(struct function *function, uint64_t address, uint64_t size) {
     return size > 0 && to == end ? ENOENT : 0;
 }
 
-/* Writes what changed in a page to the guest's memory, from the first byte to the last one. */
-static void store_changes(const unsigned char *now, const unsigned char *was, uint64_t page) {
-    size_t first = 0, end = SMALL_PAGE;
-    if (memcmp(now, was, SMALL_PAGE) == 0)
-        return;
-    while (now[first] == was[first])
-        first++;
-    while (now[end - 1] == was[end - 1])
-        end--;
-    store(page + first, now + first, end - first);
-}
-
-/* Writes what the turn changed. The completion comes after all data, and its phase tag at the end. */
+/* Writes what the turn changed, of each page from the first byte to the last one. The completion comes after all data,
+   and its phase tag at the end. */
 static void store_all(uint64_t slot) {
     unsigned char completion[16];
     memcpy(completion, lent + slot, sizeof completion);
     for (unsigned at = 0; at < page_count; at++) {
+        const unsigned char *now = lent + pages[at], *was = before[at];
         if (pages[at] == slot - slot % SMALL_PAGE)
-            memcpy(lent + slot, before[at] + slot % SMALL_PAGE, sizeof completion);
-        store_changes(lent + pages[at], before[at], pages[at]);
+            memcpy(lent + slot, was + slot % SMALL_PAGE, sizeof completion);
+        size_t first = 0, end = memcmp(now, was, SMALL_PAGE) == 0 ? 0 : SMALL_PAGE;
+        while (first < end && now[first] == was[first])
+            first++;
+        while (first < end && now[end - 1] == was[end - 1])
+            end--;
+        store(pages[at] + first, now + first, end - first);
     }
     store(slot, completion, 12);
     store(slot + 12, completion + 12, 4);

@@ -1,7 +1,6 @@
 /* The messages of a function's client, with which it may send any descriptors. Who closes the last one of a file or
-   socket can have to wait, so this process takes none itself. It looks whether any come, and has the function's
-   receiver take these bytes: a process that passes on event counters and files in memory. Only its own client waits for
-   it. None of this is proved. */
+   socket can have to wait, so this process takes none itself. If any come, it has the client's receiver take the bytes:
+   a process that passes on event counters and files in memory, and for which only this client waits. */
 #define _GNU_SOURCE
 #include "function.h"
 #include <linux/magic.h>
@@ -13,12 +12,10 @@ enum { CLIENT, SERVER, OTHERS }; /* the descriptors of a receiver */
 /* Takes bytes, and adds the descriptors that come with them, as far as there is room. */
 static ssize_t take(int from, void *bytes, size_t most, int flags, struct files *files) {
     _Alignas(struct cmsghdr) char control[CMSG_SPACE(sizeof files->at)] = {0};
-    struct iovec into = {bytes, most};
-    struct msghdr piece = {.msg_iov = &into, .msg_iovlen = 1, .msg_control = control};
+    struct msghdr piece = {.msg_iov = &(struct iovec){bytes, most}, .msg_iovlen = 1, .msg_control = control};
     piece.msg_controllen = CMSG_LEN((MOST_FILES - files->count) * sizeof(int));
     ssize_t count = recvmsg(from, &piece, flags | MSG_CMSG_CLOEXEC);
-    const struct cmsghdr *part = count > 0 ? CMSG_FIRSTHDR(&piece) : NULL;
-    size_t length = part ? part->cmsg_len - CMSG_LEN(0) : 0;
+    size_t length = count > 0 && piece.msg_controllen > 0 ? CMSG_FIRSTHDR(&piece)->cmsg_len - CMSG_LEN(0) : 0;
     memcpy(files->at + files->count, control + CMSG_LEN(0), length);
     files->count += length / sizeof(int);
     files->has_lost |= piece.msg_flags & MSG_CTRUNC && files->count < MOST_FILES;
@@ -28,12 +25,10 @@ static ssize_t take(int from, void *bytes, size_t most, int flags, struct files 
 /* Sends a packet with descriptors. Returns whether there was room for it. */
 static int give(int to, void *bytes, size_t length, const int *files, unsigned count) {
     _Alignas(struct cmsghdr) char control[CMSG_SPACE(MOST_FILES * sizeof *files)] = {0};
-    struct iovec from = {bytes, length};
-    struct msghdr packet = {.msg_iov = &from, .msg_iovlen = 1, .msg_control = count > 0 ? control : NULL};
+    struct msghdr packet = {.msg_iov = &(struct iovec){bytes, length}, .msg_iovlen = 1, .msg_control = control};
     packet.msg_controllen = count > 0 ? CMSG_LEN(count * sizeof *files) : 0;
-    *(struct cmsghdr *)control = (struct cmsghdr){CMSG_LEN(count * sizeof *files), SOL_SOCKET, SCM_RIGHTS};
-    for (unsigned at = 0; at < count; at++)
-        ((int *)(control + CMSG_LEN(0)))[at] = files[at];
+    *(struct cmsghdr *)control = (struct cmsghdr){packet.msg_controllen, SOL_SOCKET, SCM_RIGHTS};
+    memcpy(control + CMSG_LEN(0), files, count * sizeof *files);
     return sendmsg(to, &packet, MSG_DONTWAIT | MSG_NOSIGNAL) == (ssize_t)length;
 }
 
@@ -71,8 +66,7 @@ int begin(struct function *function) {
     int ends[2], on = 1;
     if (socketpair(AF_UNIX, SOCK_SEQPACKET | SOCK_CLOEXEC, 0, ends) < 0)
         return 0;
-    if (function->listener >= 0)
-        function->socket = accept4(function->listener, NULL, NULL, SOCK_CLOEXEC);
+    function->socket = accept4(function->listener, NULL, NULL, SOCK_CLOEXEC);
     function->to_receiver = ends[0];
     function->receiver = setsockopt(function->socket, SOL_SOCKET, SO_OOBINLINE, &on, sizeof on) == 0 ? fork() : -1;
     if (function->receiver == 0)
@@ -93,7 +87,7 @@ void let_go(struct function *function, int file) {
 
 /* Takes one of the message's descriptors out of it, or -1 if it has none. */
 int take_file(struct function *function, unsigned number) {
-    int file = number < function->files.count ? function->files.at[number] : -1;
+    int file = function->files.at[number];
     function->files.at[number] = -1;
     return file;
 }
@@ -104,9 +98,9 @@ static void end_message(struct function *function) {
     function->files.count = function->files.has_lost = 0;
 }
 
-/* At a stream's end, or at a message that isn't valid, another client can come. (There is no other QEMU.) */
+/* At a stream's end, or at a message that isn't valid, another client can come. */
 void lose(struct function *function) {
-    if (function->listener < 0 && function->come > 0)
+    if (function->protocol == &proxy && function->come > 0)
         errx(FAILED, "QEMU sent a message that isn't known here");
     end_message(function);
     close(function->socket);
@@ -118,7 +112,7 @@ void lose(struct function *function) {
     if (function->receiver > 0)
         kill(function->receiver, SIGKILL);
     function->socket = function->to_receiver = -1;
-    function->come = function->to_send = function->is_asked = 0;
+    function->come = function->to_send = function->sent = function->is_asked = 0;
     reset(function);
 }
 
@@ -132,40 +126,43 @@ void send_rest(struct function *function) {
     uint32_t rest = function->to_send - function->sent;
     ssize_t count = send(function->socket, function->message + function->sent, rest, MSG_NOSIGNAL | MSG_DONTWAIT);
     function->sent += count < 0 ? 0 : (uint32_t)count;
-    if (count == rest || (count < 0 && errno != EAGAIN && errno != EINTR))
-        function->to_send = 0;
+    if (count == rest || (count < 0 && errno != EAGAIN))
+        function->to_send = function->sent = 0;
 }
 
 /* Serves the messages that are whole, as long as the client takes the answers. */
 void serve_messages(struct function *function) {
-    while (function->socket >= 0 && function->to_send == 0 && function->come >= HEADER) {
-        uint32_t length = whole(function);
-        if (length == 0)
-            lose(function);
-        if (length == 0 || function->come < length)
-            return;
+    uint32_t length = HEADER;
+    while (function->to_send == 0 && (length = whole(function)) > 0 && length <= function->come) {
         memcpy(function->message, function->input, length);
         function->come -= length;
         memmove(function->input, function->input + length, function->come);
-        function->sent = 0;
         function->to_send = function->protocol->serve(function);
+        raise_pin(function);
         end_message(function);
         if (function->to_send > 0)
             send_rest(function);
     }
+    if (length == 0)
+        lose(function);
 }
 
-/* Takes what waits. If descriptors are among it, the receiver is asked to take the rest of the message that comes
-   first, and no more, so that it is known to which one they belong. */
+/* Serves what waits, and then takes it from the socket, so that the guest waits for less. If descriptors are among it,
+   the receiver is asked to take the rest of the message that comes first, and no more, so that it is known to which one
+   they belong. */
 void receive(struct function *function) {
+    static unsigned char taken[MOST_MESSAGE];
     uint32_t rest = whole(function) - function->come;
     struct iovec into = {function->input + function->come, rest > BATCH ? rest : BATCH};
     struct msghdr seen = {.msg_iov = &into, .msg_iovlen = 1};
     ssize_t count = recvmsg(function->socket, &seen, MSG_PEEK | MSG_DONTWAIT);
     if (count > 0 && seen.msg_flags & MSG_CTRUNC)
-        count = function->is_asked = give(function->to_receiver, &rest, sizeof rest, NULL, 0);
-    else if (count > 0 && (count = recv(function->socket, into.iov_base, (size_t)count, MSG_DONTWAIT)) > 0)
+        count = function->is_asked = give(function->to_receiver, &rest, sizeof rest, function->files.at, 0);
+    else if (count > 0) {
         function->come += (uint32_t)count;
+        serve_messages(function);
+        recv(function->socket, taken, (size_t)count, MSG_DONTWAIT);
+    }
     if (count == 0 || (count < 0 && errno != EAGAIN))
         lose(function);
 }

@@ -2,25 +2,15 @@
    and the data of namespaces, which no device stores. The file with a namespace's data is its node, under the name of
    each controller to which it is attached. At first it is a hole as long as the namespace, in the memory of /dev. None
    of this is proved. */
-#define _GNU_SOURCE
 #include "launcher.h"
-#include <errno.h>
-#include <fcntl.h>
 #include <grp.h>
-#include <limits.h>
-#include <stdio.h>
-#include <stdlib.h>
-#include <string.h>
 #include <sys/inotify.h>
-#include <sys/stat.h>
-#include <unistd.h>
 
 enum { CNS_NAMESPACE = 0, CNS_CONTROLLER = 1, MOST_NAME = 40 };
 
 /* What each controller's nodes show now: the generation of the namespace plus 1, or 0 if there is no node. */
 static unsigned (*shown)[MOST_NSID + 1];
 static struct volume (*volumes)[MOST_NSID + 1];
-static int places = IN_DEV; /* where a namespace's files are put */
 
 static struct volume *volume_at(const struct device *device, uint32_t nsid) { return &volumes[device - devices][nsid]; }
 
@@ -131,7 +121,7 @@ static void put(const struct device *device, unsigned controller, uint32_t nsid)
     if (file < 0 && has_sandbox)
         file = make_data(volume);
     shown[controller][nsid] = volume->generation + 1;
-    put_namespace(controller, nsid, volume, file, places);
+    put_namespace(controller, nsid, volume, file);
     if (file >= 0)
         close(file);
 }
@@ -153,9 +143,8 @@ void lose_nodes(const struct device *device) {
     char path[MOST_NAME];
     for (unsigned controller = device->first; has_sandbox && controller < device->first + device->count; controller++)
         for (uint32_t nsid = 0; nsid <= MOST_NSID; nsid++)
-            for (int kind = nsid == 0 ? 'c' : 'g'; kind && (nsid == 0 || shown[controller][nsid]);
-                 kind = kind == 'g' ? 'b' : 0) {
-                print_path(path, (char)kind, controller, nsid);
+            for (const char *kind = nsid == 0 ? "c" : shown[controller][nsid] ? "gb" : ""; *kind; kind++) {
+                print_path(path, *kind, controller, nsid);
                 unlink(path);
                 if (mknod(path, LOST_NODE, 0) < 0)
                     cannot(path);
@@ -198,24 +187,30 @@ static int list_active(struct device *device, unsigned controller, unsigned char
     return length;
 }
 
-/* Updates controllers' nodes from their lists of namespaces. */
-void scan(struct device *device, unsigned first, unsigned count) {
-    unsigned char is_active[MOST_NSID + 1];
-    for (unsigned controller = first; controller < first + count; controller++)
-        for (uint32_t nsid = list_active(device, controller, is_active) < 0 ? MOST_NSID + 1 : 1; nsid <= MOST_NSID;
-             nsid++) {
-            int is_shown = shown[controller][nsid] == volume_at(device, nsid)->generation + 1;
-            if (shown[controller][nsid] && (!is_active[nsid] || !is_shown))
-                hide_namespace(device, controller, nsid);
-            if (is_active[nsid] && !shown[controller][nsid] && measure(device, controller, nsid) == 0)
-                put(device, controller, nsid);
-        }
+/* Shows a namespace at a controller to which it is attached, and hides any other one that had its NSID. */
+static void update(struct device *device, unsigned controller, uint32_t nsid, int is_active) {
+    unsigned now = shown[controller][nsid];
+    int is_shown = now == volume_at(device, nsid)->generation + 1;
+    if (now != 0 && (!is_active || !is_shown))
+        hide_namespace(device, controller, nsid);
+    if (is_active && !is_shown && measure(device, controller, nsid) == 0)
+        put(device, controller, nsid);
 }
 
-/* Gives a namespace's data a length, and clears it before. */
-static void resize(const struct device *device, uint32_t nsid, off_t length) {
+/* (namespaces with one NSID come together, because their files of /sys have texts in common) */
+void scan(struct device *device, unsigned first, unsigned count) {
+    static unsigned char is_active[MOST_CONTROLLERS][MOST_NSID + 1];
+    for (unsigned controller = first; controller < first + count; controller++)
+        if (list_active(device, controller, is_active[controller]) < 0)
+            return;
+    for (uint32_t nsid = 1; nsid <= MOST_NSID; nsid++)
+        for (unsigned controller = first; controller < first + count; controller++)
+            update(device, controller, nsid, is_active[controller][nsid]);
+}
+
+static void set_length(const struct device *device, uint32_t nsid, off_t length) {
     int file = open_volume(device, nsid);
-    if (file >= 0 && (ftruncate(file, 0) < 0 || ftruncate(file, length) < 0))
+    if (file >= 0 && ftruncate(file, length) < 0)
         cannot("/dev");
     if (file >= 0)
         close(file);
@@ -224,7 +219,7 @@ static void resize(const struct device *device, uint32_t nsid, off_t length) {
 /* Removes the data of a namespace that no longer exists, even for processes that have it open. */
 static void forget_namespace(struct device *device, uint32_t nsid) {
     struct volume *volume = volume_at(device, nsid);
-    resize(device, nsid, 0);
+    set_length(device, nsid, 0);
     if (volume->left > 0)
         close(volume->left);
     *volume = (struct volume){.generation = volume->generation + 1};
@@ -236,13 +231,13 @@ static void clear_namespace(struct device *device, unsigned controller, uint32_t
     if (volume->power == 0)
         return;
     __atomic_store_n(&volume->power, 0, __ATOMIC_SEQ_CST);
-    resize(device, nsid, 0);
+    set_length(device, nsid, 0);
     if (measure(device, controller, nsid) < 0)
         return;
-    resize(device, nsid, length_of(volume));
+    set_length(device, nsid, length_of(volume));
     for (unsigned at = device->first; at < device->first + device->count; at++)
         if (shown[at][nsid] == volume->generation + 1)
-            put_namespace(at, nsid, volume, -1, places);
+            put_namespace(at, nsid, volume, -1);
 }
 
 /* (a command for all namespaces formats those that are active on the controller) */
@@ -279,15 +274,6 @@ static void make_controllers(struct device *device) {
     scan(device, device->first, device->count);
 }
 
-/* Puts the files of /sys for all namespaces. (Those with one NSID come together, because they have texts in common.) */
-static void describe_all(void) {
-    const struct device *last = devices + device_count - 1;
-    for (uint32_t nsid = 1; nsid <= MOST_NSID; nsid++)
-        for (unsigned controller = 0; controller < last->first + last->count; controller++)
-            if (shown[controller][nsid])
-                put_namespace(controller, nsid, volume_at(device_of(controller), nsid), -1, IN_SYS);
-}
-
 void make_nodes(void) {
     disk = geteuid() == 0 ? getgrnam("disk") : NULL;
     shown = share(MOST_CONTROLLERS * sizeof *shown);
@@ -295,8 +281,6 @@ void make_nodes(void) {
     begin_sys();
     for (unsigned at = 0; at < device_count; at++)
         make_controllers(devices + at);
-    describe_all();
-    places = IN_DEV | IN_SYS;
 }
 
 /* Restores the length of a namespace's data if it is another one. (A process that doesn't load the library can make the
@@ -305,14 +289,9 @@ static void repair(const struct device *device, uint32_t nsid) {
     const struct volume *volume = volume_at(device, nsid);
     char path[MOST_NAME];
     struct stat about;
-    if (volume->power == 0 || !find_volume(device, nsid, path) || lstat(path, &about) < 0 ||
-        about.st_size == length_of(volume))
-        return;
-    int file = open_volume(device, nsid);
-    if (file >= 0 && ftruncate(file, length_of(volume)) < 0)
-        cannot(path);
-    if (file >= 0)
-        close(file);
+    if (volume->power != 0 && find_volume(device, nsid, path) && lstat(path, &about) == 0 &&
+        about.st_size != length_of(volume))
+        set_length(device, nsid, length_of(volume));
 }
 
 static void repair_all(const struct device *device) {

@@ -28,7 +28,6 @@ static void set_interrupt(struct function *function) {
     int are_valid = files->count == 2 && is_counter(files->at[0]) && is_counter(files->at[1]);
     set_counter(function, &function->pin, are_valid ? take_file(function, 0) : -1);
     set_counter(function, &function->unmask, are_valid ? take_file(function, 1) : -1);
-    raise_interrupt(function);
 }
 
 /* Reads or writes by an address and a value, of 32 bits for the configuration and of 64 for registers, and a length. */

@@ -13,22 +13,21 @@
 #include <sys/un.h>
 #include <sys/wait.h>
 
-/* Statuses; the most bytes of a subsystem's file, memory of a machine, and clients that wait at a socket; and how many
-   milliseconds a client waits that couldn't be taken. */
+/* Statuses, what there may be at most, and how many milliseconds a client waits that couldn't be taken. */
 enum { NOT_EXECUTABLE = 126, NOT_FOUND = 127, MOST_FILE = 1 << 20, MOST_GIBIBYTES = 64, MOST_WAITING = 4, PAUSE = 100 };
 
 static int is_server, has_summary; /* the values of the options */
 static const char *paths[MOST_FUNCTIONS], *memory = "128M";
 static unsigned path_count, function_count;
 static struct function functions[MOST_FUNCTIONS];
-static int far_ends[MOST_FUNCTIONS];                       /* QEMU's: ends of socket pairs, or its ways to sockets */
-static char folder[] = "/tmp/nvme-model.XXXXXX", *sockets; /* for QEMU's sockets, and how the paths of all begin */
+static int ways[MOST_FUNCTIONS];                             /* QEMU's ways to the sockets */
+static char folder[24] = "/tmp/nvme-model.XXXXXX", *sockets; /* for QEMU's sockets, and how the paths of all begin */
 static pid_t qemu;
 
-static struct sockaddr_un address_of(unsigned number) {
+static struct sockaddr_un address_of(const char *path, unsigned number) {
     struct sockaddr_un made = {.sun_family = AF_UNIX};
-    if (snprintf(made.sun_path, sizeof made.sun_path, "%s%u", sockets, number) >= (int)sizeof made.sun_path)
-        errx(FAILED, "%s: the path is too long for a socket", sockets);
+    if (snprintf(made.sun_path, sizeof made.sun_path, "%s%u", path, number) >= (int)sizeof made.sun_path)
+        errx(FAILED, "%s: the path is too long for a socket", path);
     return made;
 }
 
@@ -36,7 +35,7 @@ static struct sockaddr_un address_of(unsigned number) {
 static void remove_sockets(void) {
     for (unsigned at = 0; sockets && at < function_count; at++)
         if (functions[at].listener >= 0)
-            unlink(address_of(at).sun_path);
+            unlink(address_of(sockets, at).sun_path);
     if (sockets && !is_server)
         rmdir(folder);
     sockets = NULL;
@@ -49,25 +48,24 @@ static void serve(struct function *function, const struct pollfd awaited[2]) {
         (function->is_asked ? take_answer : see_interrupt)(function);
     if (function->has_more)
         take_turn(function);
-    if (awaited[0].revents && awaited[0].fd == function->listener)
-        function->is_paused = !begin(function);
-    else if (awaited[0].revents && awaited[0].fd == function->socket)
+    function->is_paused = awaited[0].revents && awaited[0].fd == function->listener && !begin(function);
+    if (awaited[0].revents && awaited[0].fd == function->socket)
         (function->is_asked ? lose : function->to_send > 0 ? send_rest : receive)(function);
     serve_messages(function);
 }
 
-/* Sets what a function waits for, and returns for how many milliseconds it may, or -1 if there is no limit. The next
-   client waits until the receiver of the former one has ended. */
-static int await(struct function *function, struct pollfd awaited[2]) {
-    int counter = function->is_masked ? function->unmask : -1, wait = raise_pin(function);
-    int event = function->is_asked ? 0 : function->to_send > 0 ? POLLOUT : POLLIN, is_paused = function->is_paused;
+/* Sets what a function waits for, and returns for how many milliseconds it may, if that is less than another one may.
+   The next client waits until the receiver of the former one has ended. */
+static unsigned await(struct function *function, struct pollfd awaited[2], unsigned other) {
+    unsigned rest = (unsigned)raise_pin(function), wait = function->has_more ? 0 : function->is_paused ? PAUSE : rest;
+    int counter = function->is_masked ? function->unmask : -1;
+    int event = function->is_asked ? 0 : function->to_send > 0 ? POLLOUT : POLLIN;
     if (function->socket < 0 && function->receiver > 0 && waitpid(function->receiver, NULL, WNOHANG) != 0)
         function->receiver = 0;
-    int listener = is_paused || function->receiver > 0 ? -1 : function->listener;
+    int listener = function->is_paused || function->receiver > 0 ? -1 : function->listener;
     awaited[0] = (struct pollfd){function->socket >= 0 ? function->socket : listener, event, 0};
     awaited[1] = (struct pollfd){function->is_asked ? function->to_receiver : counter, POLLIN, 0};
-    function->is_paused = 0;
-    return function->has_more ? 0 : is_paused ? PAUSE : wait;
+    return wait < other ? wait : other;
 }
 
 /* Serves until QEMU has ended and nothing that it sent is left, and returns its status as a shell does, or until a
@@ -77,12 +75,10 @@ static int serve_all(int signals) {
     struct signalfd_siginfo about = {.ssi_signo = SIGCHLD};
     int how = 0, has_ended = 0;
     while (about.ssi_signo == SIGCHLD || (!is_server && (about.ssi_signo == SIGINT || about.ssi_signo == SIGQUIT))) {
-        int wait = -1;
-        for (unsigned at = 0; at < function_count; at++) {
-            int its = await(functions + at, awaited + 1 + 2 * at);
-            wait = its >= 0 && (wait < 0 || its < wait) ? its : wait;
-        }
-        int ready = poll(awaited, 1 + 2 * function_count, has_ended ? 0 : wait);
+        unsigned wait = has_ended ? 0 : -1u;
+        for (unsigned at = 0; at < function_count; at++)
+            wait = await(functions + at, awaited + 1 + 2 * at, wait);
+        int ready = poll(awaited, 1 + 2 * function_count, (int)wait);
         if (ready <= 0 && has_ended)
             return WIFEXITED(how) ? WEXITSTATUS(how) : 128 + WTERMSIG(how);
         for (unsigned at = 0; ready >= 0 && at < function_count; at++)
@@ -122,12 +118,16 @@ static void run_qemu(char **options, unsigned count, const sigset_t *mask, pid_t
     char *arguments[sizeof first / sizeof *first + 2 * MOST_FUNCTIONS + count + 1];
     char **next = mempcpy(arguments, first, sizeof first);
     const char *device = "{\"driver\":\"vfio-user-pci\",\"id\":\"nvme-model-%u\",\"socket\":{\"type\":\"unix\","
-                         "\"path\":\"/proc/self/fd/%d\"}}";
+                         "\"path\":\"%s\"}}";
     int length = asprintf(next - 1, "memory-backend-memfd,id=nvme-model-ram,share=on,size=%s", memory);
     for (unsigned at = 0; length >= 0 && at < function_count; at++) {
+        struct sockaddr_un way = address_of("/proc/self/fd/", (unsigned)ways[at]);
+        int end = functions[at].protocol == &proxy ? socket(AF_UNIX, SOCK_STREAM, 0) : -1;
         *next++ = "-device";
-        length = functions[at].protocol == &vfio_user ? asprintf(next++, device, at, far_ends[at])
-                                                      : asprintf(next++, "x-pci-proxy-dev,fd=%d", far_ends[at]);
+        if (end < 0)
+            length = asprintf(next++, device, at, way.sun_path);
+        else if ((length = connect(end, (const struct sockaddr *)&way, sizeof way)) == 0)
+            length = asprintf(next++, "x-pci-proxy-dev,fd=%d", end);
     }
     memcpy(next, options, (count + 1) * sizeof *options);
     sigprocmask(SIG_SETMASK, mask, NULL);
@@ -150,24 +150,6 @@ static int watch_signals(sigset_t *mask) {
     return signalfd(-1, &watched, SFD_CLOEXEC | SFD_NONBLOCK);
 }
 
-/* Listens at a function's socket. A socket at which nobody listens is replaced, and no other file. (A connection to one
-   that isn't a socket is refused in the same way.) */
-static int listen_at(unsigned number) {
-    struct sockaddr_un at = address_of(number);
-    int made = socket(AF_UNIX, SOCK_STREAM | SOCK_CLOEXEC | SOCK_NONBLOCK, 0);
-    int probe = socket(AF_UNIX, SOCK_STREAM | SOCK_CLOEXEC | SOCK_NONBLOCK, 0);
-    struct stat about;
-    if (connect(probe, (const struct sockaddr *)&at, sizeof at) < 0 && errno == ECONNREFUSED &&
-        lstat(at.sun_path, &about) == 0 && S_ISSOCK(about.st_mode))
-        unlink(at.sun_path);
-    close(probe);
-    if (bind(made, (const struct sockaddr *)&at, sizeof at) < 0 || listen(made, MOST_WAITING) < 0)
-        err(FAILED, "%s", at.sun_path);
-    if (is_server)
-        dprintf(STDOUT_FILENO, "%s\n", at.sun_path);
-    return made;
-}
-
 /* Makes a function for each controller of a subsystem: that of a file, or the demonstration subsystem. */
 static void make_functions(const char *path, const struct protocol *protocol) {
     static unsigned char bytes[MOST_FILE + 1];
@@ -175,10 +157,9 @@ static void make_functions(const char *path, const struct protocol *protocol) {
     nvme_machine *machine;
     FILE *file = path ? fopen(path, "re") : NULL;
     size_t length = file ? fread(bytes, 1, sizeof bytes, file) : 0;
-    if (path && (!file || ferror(file)))
+    errno = length > MOST_FILE ? EFBIG : errno;
+    if (path && (!file || ferror(file) || length > MOST_FILE || fclose(file) != 0))
         err(FAILED, "%s", path);
-    if (file)
-        fclose(file);
     if (path ? nvme_machine_open(bytes, length, &machine, fault, sizeof fault) : nvme_machine_demo(&machine))
         errx(FAILED, "%s", *fault ? fault : "out of memory");
     for (uint16_t number = 0; number < nvme_machine_controllers(machine); number++, function_count++) {
@@ -192,22 +173,30 @@ static void make_functions(const char *path, const struct protocol *protocol) {
     }
 }
 
-/* Makes the sockets: for QEMU's older device, pairs. For the other one, they have names only until there are other ways
-   to them, so that none are left if this process is killed. */
+/* Makes the sockets. A socket at which nobody listens is replaced, and no other file. (A connection to one that isn't a
+   socket is refused in the same way.) QEMU's sockets have names only until there are other ways to them, so that none
+   are left if this process is killed. */
 static void make_sockets(void) {
-    int has_folder = !is_server && functions->protocol == &vfio_user, ends[2];
-    if (has_folder && (!mkdtemp(folder) || asprintf(&sockets, "%s/", folder) < 0))
+    if (!is_server && !mkdtemp(folder))
         err(FAILED, "%s", folder);
-    for (unsigned at = 0; at < function_count; at++) {
-        struct function *function = functions + at;
-        if (function->protocol == &vfio_user)
-            function->listener = listen_at(at);
-        else if (socketpair(AF_UNIX, SOCK_STREAM, 0, ends) < 0 || fcntl(*ends, F_SETFD, FD_CLOEXEC) < 0 ||
-                 (function->socket = *ends, !begin(function)))
-            err(FAILED, "socketpair");
-        far_ends[at] = has_folder ? open(address_of(at).sun_path, O_PATH) : is_server ? -1 : ends[1];
+    sockets = is_server ? sockets : strcat(folder, "/");
+    for (unsigned number = 0; number < function_count; number++) {
+        struct sockaddr_un at = address_of(sockets, number);
+        const struct sockaddr *address = (const struct sockaddr *)&at;
+        int made = socket(AF_UNIX, SOCK_STREAM | SOCK_CLOEXEC | SOCK_NONBLOCK, 0);
+        struct stat about;
+        if (connect(made, address, sizeof at) < 0 && errno == ECONNREFUSED && lstat(at.sun_path, &about) == 0 &&
+            S_ISSOCK(about.st_mode))
+            unlink(at.sun_path);
+        if (bind(made, address, sizeof at) < 0 || listen(made, MOST_WAITING) < 0)
+            err(FAILED, "%s", at.sun_path);
+        functions[number].listener = made;
+        if (is_server)
+            dprintf(STDOUT_FILENO, "%s\n", at.sun_path);
+        else
+            ways[number] = open(at.sun_path, O_PATH);
     }
-    if (has_folder)
+    if (!is_server)
         remove_sockets();
 }
 
@@ -277,8 +266,6 @@ int main(int count, char **arguments) {
         run_qemu(arguments + at, (unsigned)count - at, &mask, self);
     if (qemu < 0)
         err(FAILED, "fork");
-    for (unsigned number = 0; number < function_count; number++)
-        close(far_ends[number]);
     int status = serve_all(signals);
     if (has_summary)
         tell_summary();

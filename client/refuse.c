@@ -1,11 +1,6 @@
 /* Refuses commands that processes send by ioctl, as --refuse says, in place of a controller or of the I/O commands. No
    log entry is made, and no proof speaks about any of this. */
-#define _GNU_SOURCE
 #include "launcher.h"
-#include <errno.h>
-#include <stdio.h>
-#include <stdlib.h>
-#include <string.h>
 
 enum { MOST_RULES = 64, GREATEST_STATUS = 0x7fff };
 

@@ -1,10 +1,5 @@
 /* The launcher's exchange with the devices, one request after another. None of this is proved. */
-#define _GNU_SOURCE
 #include "launcher.h"
-#include <errno.h>
-#include <fcntl.h>
-#include <signal.h>
-#include <unistd.h>
 
 int trace = -1;
 
@@ -60,18 +55,12 @@ int carry_out(struct request_header *header, void *data, struct answer_header *a
 
 /* Ends the launcher because a device can't start, with the reason that the device told, and the file that has it. */
 __attribute__((noreturn)) static void fail_by_device(struct device *device, const char *name) {
-    static const char program[] = "nvme-device: ", subject[] = "subsystem: ";
-    char text[2048], *line = text;
-    size_t length = 0;
-    ssize_t count;
+    static const char subject[] = "subsystem: ";
     if (device->process > 0)
         kill(device->process, SIGKILL);
     fcntl(device->said, F_SETFL, 0);
-    while ((count = read(device->said, text + length, sizeof text - 1 - length)) > 0)
-        length += (size_t)count;
-    text[length > 0 ? length - 1 : 0] = '\0';
-    line = strrchr(text, '\n') ? strrchr(text, '\n') + 1 : text;
-    line += strncmp(line, program, strlen(program)) == 0 ? strlen(program) : 0;
+    const char *line = last_line(device->said, "nvme-device: ");
+    device->said = -1;
     if (name && strncmp(line, subject, strlen(subject)) == 0)
         fail("%s: %s", name, line + strlen(subject));
     fail("%s", *line ? line : "the device ended before it answered");

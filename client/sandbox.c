@@ -1,23 +1,14 @@
 /* The part of the launcher that runs outside of the sandbox. It composes the arguments of bubblewrap (bwrap), which
    makes the sandbox, and becomes it. bwrap starts the launcher again inside, with the rights of the command and no
    others. None of this is proved. */
-#define _GNU_SOURCE
 #include "launcher.h"
 #include <dirent.h>
-#include <errno.h>
-#include <fcntl.h>
 #include <glob.h>
-#include <limits.h>
 #include <sched.h>
 #include <stdarg.h>
-#include <stdio.h>
-#include <stdlib.h>
-#include <string.h>
 #include <sys/mount.h>
-#include <sys/stat.h>
 #include <sys/sysmacros.h>
 #include <sys/wait.h>
-#include <unistd.h>
 
 /* The file systems that hold files, and can be written as outside. All others, such as a second sysfs, are read-only.
  */
@@ -46,7 +37,7 @@ const char *a_real_node(void) {
     return result == 0 ? found.gl_pathv[0] : NULL;
 }
 
-/* ---- the arguments of bwrap */
+/* ---- the arguments of bwrap, which this process becomes, so that nothing here needs to be closed or freed */
 
 static char **words;
 static unsigned word_count;
@@ -83,15 +74,14 @@ static void add_below(const char *option, const char *path) {
         add("--dir");
         add(folder_of);
     }
-    free(folder_of);
     bind_to(option, path, path);
 }
 
-/* A line of the kernel's list of mounts. */
+/* A line of the kernel's list of mounts. (A blank in its path has four characters there.) */
 struct mount {
     dev_t number;
     uint64_t identifier;
-    char path[PATH_MAX], options[1024], kind[64]; /* the kind of file system, between blanks */
+    char path[4 * PATH_MAX], options[1024], kind[64]; /* the kind of file system, between blanks */
 };
 
 /* Reads the next mount, and replaces the octal numbers in its path. */
@@ -104,7 +94,7 @@ static int read_mount(FILE *mounts, struct mount *mount) {
         return 0;
     const char *behind = strstr(line, " - ");
     if (!behind ||
-        sscanf(line, "%llu %*d %u:%u %*s %4095s %1023s", &identifier, numbers, numbers + 1, mount->path,
+        sscanf(line, "%llu %*d %u:%u %*s %16383s %1023s", &identifier, numbers, numbers + 1, mount->path,
                mount->options) != 5 ||
         sscanf(behind, " - %61s", mount->kind + 1) != 1)
         fail("/proc/self/mountinfo can't be read");
@@ -123,6 +113,10 @@ static int read_mount(FILE *mounts, struct mount *mount) {
     return 1;
 }
 
+static int holds_files(const struct mount *mount) {
+    return strstr(file_systems, mount->kind) || begins(mount->kind, " fuse.");
+}
+
 static FILE *open_mounts(void) {
     FILE *mounts = fopen("/proc/self/mountinfo", "re");
     if (!mounts)
@@ -136,19 +130,18 @@ static void add_proc(const char *path) {
     DIR *entries = opendir("/proc");
     struct dirent *entry;
     struct stat about;
-    char from[PATH_MAX], to[PATH_MAX];
+    char from[PATH_MAX], to[5 * PATH_MAX];
     add("--proc");
     add(path);
     if (!entries)
         fail_by_errno("/proc");
     while ((entry = readdir(entries))) {
         snprintf(from, sizeof from, "/proc/%s", entry->d_name);
-        snprintf(to, sizeof to, "%.3800s/%s", path, entry->d_name);
+        snprintf(to, sizeof to, "%s/%s", path, entry->d_name);
         if (!strchr(".0123456789", entry->d_name[0]) && lstat(from, &about) == 0 && !S_ISLNK(about.st_mode) &&
             (S_ISDIR(about.st_mode) || about.st_mode & 0222))
             bind_to("--ro-bind-try", from, to);
     }
-    closedir(entries);
 }
 
 int is_replaced(const char *path) {
@@ -170,8 +163,7 @@ static void add_mounts(void) {
     bind_to("--bind", "/", "/");
     while (read_mount(mounts, &mount)) {
         int is_view = is_apart && dev.st_dev == mount.number;
-        int holds_files = strstr(file_systems, mount.kind) || begins(mount.kind, " fuse.");
-        if (strcmp(mount.path, "/") == 0 || is_replaced(mount.path) || (holds_files && !is_view) ||
+        if (strcmp(mount.path, "/") == 0 || is_replaced(mount.path) || (holds_files(&mount) && !is_view) ||
             stat(mount.path, &about) < 0 || about.st_dev != mount.number)
             continue;
         if (strcmp(mount.kind, " proc ") == 0 && S_ISDIR(about.st_mode))
@@ -179,7 +171,6 @@ static void add_mounts(void) {
         else
             bind_to("--ro-bind", mount.path, mount.path);
     }
-    fclose(mounts);
 }
 
 /* Adds a /dev with the nodes that each command has, terminals of its own, and the caller's. (bwrap makes terminals only
@@ -217,9 +208,7 @@ static void add_sys(uint64_t limit) {
         char *path = realpath(interfaces.gl_pathv[at], NULL);
         if (path && begins(path, "/sys/devices/") && !begins(path, "/sys/devices/virtual/"))
             add_below("--ro-bind-try", path);
-        free(path);
     }
-    globfree(&interfaces);
     add_proc("/proc");
 }
 
@@ -231,7 +220,7 @@ static void add_part(const char *path, unsigned permissions, const char *name) {
     add_words("--perms %04o --ro-bind-data %d %s", permissions, file, name);
 }
 
-static void compose(const struct sandbox *sandbox, char *const *arguments) {
+static void compose(const struct sandbox *sandbox, const char *const *first, char *const *arguments) {
     add("bwrap");
     add_mounts();
     add_dev(sandbox->limit, sandbox->devices);
@@ -241,39 +230,24 @@ static void compose(const struct sandbox *sandbox, char *const *arguments) {
     add_part(sandbox->device, 0111, MODEL_FOLDER "/device"); /* (device.c says why) */
     add_words("--unshare-pid --as-pid-1 --unshare-ipc --chdir / %s -- " MODEL_FOLDER "/launcher",
               geteuid() == 0 ? rights : "");
+    for (; *first; first++)
+        add(*first);
     for (; *arguments; arguments++)
         add(*arguments);
 }
 
 /* ---- the sandbox */
 
-/* Reads all that a process writes, and returns its last line. */
-static const char *last_line(int from) {
-    static char *line;
-    char *next = NULL;
-    size_t room = 0;
-    FILE *said = fdopen(from, "r");
-    while (said && getline(&next, &room, said) > 0) {
-        free(line);
-        line = strndup(next, strcspn(next, "\n"));
-    }
-    free(next);
-    if (said)
-        fclose(said);
-    return line ? line : "";
-}
-
 /* Writes what the user namespace needs: "deny", or that a user or group, and no other, is the same one there. */
 static void write_map(const char *path, const char *format, unsigned number) {
     int file = open(path, O_WRONLY | O_CLOEXEC);
     if (file < 0 || dprintf(file, format, number, number) < 0)
         fail_by_errno(path);
-    close(file);
 }
 
 /* Becomes bwrap, which starts the launcher with these arguments, in a place where the machine's later mounts aren't
    seen. (The mounts that bwrap makes follow those that it finds, and a mount that came later wouldn't be nodev.) */
-void enter_sandbox(const struct sandbox *sandbox, char *const *arguments) {
+void enter_sandbox(const struct sandbox *sandbox, const char *const *first, char *const *arguments) {
     unsigned user = geteuid(), group = getegid();
     if (unshare(CLONE_NEWNS) < 0) {
         if (unshare(CLONE_NEWUSER | CLONE_NEWNS) < 0)
@@ -284,7 +258,7 @@ void enter_sandbox(const struct sandbox *sandbox, char *const *arguments) {
     }
     if (mount(NULL, "/", NULL, MS_REC | MS_PRIVATE, NULL) < 0)
         fail_by_errno("mounts can't be private");
-    compose(sandbox, arguments);
+    compose(sandbox, first, arguments);
     execvp(words[0], words);
     if (errno == ENOENT)
         _exit(NOT_FOUND);
@@ -294,11 +268,13 @@ void enter_sandbox(const struct sandbox *sandbox, char *const *arguments) {
 /* (another process makes a sandbox for --help first, because the status of a bwrap that fails would be taken for the
    command's. It ends by itself: a bwrap that is killed as it starts would leave a process that waits for it.) */
 const char *why_no_sandbox(const struct sandbox *sandbox) {
-    char *const arguments[] = {"--help", NULL};
+    char *const none[] = {NULL};
     int ends[2], how, null = open("/dev/null", O_RDWR | O_CLOEXEC);
     if (null < 0 || pipe2(ends, O_CLOEXEC) < 0)
         fail_by_errno("pipe");
-    if (access(sandbox->library, R_OK) < 0 || access(sandbox->device, X_OK) < 0)
+    if (access(sandbox->library, R_OK) < 0)
+        fail_by_errno(sandbox->library);
+    if (access(sandbox->device, X_OK) < 0)
         fail_by_errno(sandbox->device);
     for (const char *const *device = sandbox->devices; *device; device++)
         free(find_device(*device));
@@ -309,18 +285,17 @@ const char *why_no_sandbox(const struct sandbox *sandbox) {
         dup2(null, STDIN_FILENO);
         dup2(null, STDOUT_FILENO);
         dup2(ends[1], STDERR_FILENO);
-        enter_sandbox(sandbox, arguments);
+        enter_sandbox(sandbox, (const char *const[]){"--help", NULL}, none);
     }
     close(null);
     close(ends[1]);
-    const char *line = last_line(ends[0]);
+    const char *line = last_line(ends[0], "nvme-model: ");
     if (waitpid(child, &how, 0) != child)
         fail_by_errno("waitpid");
     if (WIFEXITED(how) && WEXITSTATUS(how) == NOT_FOUND)
         return "the program bwrap is missing: install the package bubblewrap";
     if (strstr(line, "Unknown option"))
         return "bwrap is older than 0.8: install a newer bubblewrap";
-    line += begins(line, "nvme-model: ") ? strlen("nvme-model: ") : 0;
     return how == 0 ? NULL : *line ? line : "bwrap ended without a reason";
 }
 
@@ -332,22 +307,30 @@ static int look_at(const char *path, struct statx *about) {
                  STATX_MNT_ID | STATX_UID, about);
 }
 
-/* Whether a mount can be reached, or its user can make it so. (Another mount may hide it.) */
-static int is_reachable(struct mount *mount) {
+/* Whether a mount can be reached: no, because another one hides it or others close a folder above it; yes; or as soon
+   as its user, who closed a folder, opens it. */
+enum reach { HIDDEN, REACHED, CLOSED };
+
+static enum reach reach_of(struct mount *mount) {
     struct statx about;
     char *path = mount->path;
     if (look_at(path, &about) == 0)
-        return !(about.stx_mask & STATX_MNT_ID) || about.stx_mnt_id == mount->identifier;
+        return about.stx_mask & STATX_MNT_ID && about.stx_mnt_id != mount->identifier ? HIDDEN : REACHED;
     for (char *end; errno == EACCES && (end = strrchr(path, '/')) && end != path && look_at(path, &about) < 0;)
         *end = '\0';
-    return errno == EACCES && look_at(path, &about) == 0 && (about.stx_uid == geteuid() || geteuid() == 0);
+    int is_own = errno == EACCES && look_at(path, &about) == 0 && (about.stx_uid == geteuid() || geteuid() == 0);
+    return is_own ? CLOSED : HIDDEN;
 }
 
+/* (bwrap makes no mount nodev, read-only or another /proc that it can't reach) */
 void check_mounts(void) {
     static struct mount mount;
     FILE *mounts = open_mounts();
-    while (read_mount(mounts, &mount))
-        if (!strstr(mount.options, ",nodev") && !is_replaced(mount.path) && is_reachable(&mount))
+    while (read_mount(mounts, &mount)) {
+        enum reach reach = is_replaced(mount.path) ? HIDDEN : reach_of(&mount);
+        int is_left = reach == CLOSED && !holds_files(&mount) && !begins(mount.options, "ro");
+        if (reach != HIDDEN && (is_left || !strstr(mount.options, ",nodev")))
             fail("%s is a mount of this machine that can't be kept from the command", mount.path);
+    }
     fclose(mounts);
 }

@@ -1,19 +1,10 @@
 /* The launcher's part of /sys: the files and links that Linux has for NVMe subsystems, controllers and namespaces
    without native multipath, and the links of /dev/disk that udev makes. Each controller has a PCI bus of its own, in a
    domain that the machine doesn't have. None of this is proved. */
-#define _GNU_SOURCE
 #include "launcher.h"
 #include <ctype.h>
-#include <errno.h>
-#include <fcntl.h>
 #include <ftw.h>
-#include <limits.h>
 #include <stdarg.h>
-#include <stdio.h>
-#include <stdlib.h>
-#include <string.h>
-#include <sys/stat.h>
-#include <unistd.h>
 
 /* The folders below /sys, and the nodes and links of /dev, as sys.txt describes them. */
 extern const char folders[];
@@ -133,12 +124,10 @@ static void expand(char *into, size_t room, const char *text, size_t length) {
     *into = '\0';
 }
 
-static int is_in_dev(const struct line *line) { return strncmp(line->name, "//", 2) == 0; }
-
 /* Makes the name of an entry, which is a path if the entry isn't in the folder itself. */
 static void expand_name(char into[PATH_MAX], const struct line *line) {
-    size_t is_path = *line->name == '/', skipped = (size_t)is_in_dev(line);
-    strcpy(into, is_path && !skipped ? "/sys" : "");
+    size_t skipped = strncmp(line->name, "//", 2) == 0;
+    strcpy(into, *line->name == '/' && !skipped ? "/sys" : "");
     expand(into + strlen(into), PATH_MAX - strlen(into), line->name + skipped, line->name_length - skipped);
 }
 
@@ -222,19 +211,17 @@ static int open_folder(char *path) {
     return folder;
 }
 
-/* Makes what a folder has in these places. An entry that is the same as in the last folder of this kind becomes another
-   name of that one. */
-static void put_folder(struct folder *folder, int places) {
+/* Makes a folder and its entries. One that is the same as in the last folder of this kind becomes another name of that
+   one. */
+static void put_folder(struct folder *folder) {
     char path[PATH_MAX], name[PATH_MAX], *before = folder->texts[folder->turn];
     struct line line;
     if (!has_sandbox)
         return;
     const char *next = expand_path(path, folder);
     char *text = folder->texts[folder->turn = !folder->turn], *end = text + sizeof folder->texts[0];
-    int at = places & IN_SYS ? open_folder(path) : AT_FDCWD;
-    while ((next = read_line(next, &line)) && at != -1) {
-        if (!(places & (is_in_dev(&line) ? IN_DEV : IN_SYS)))
-            continue;
+    int at = open_folder(path);
+    while ((next = read_line(next, &line)) && at >= 0) {
         expand_name(name, &line);
         expand(text, (size_t)(end - text), line.text, line.text_length);
         int is_own = *name != '/', is_same = folder->last > 0 && is_own && strcmp(text, before) == 0;
@@ -245,7 +232,7 @@ static void put_folder(struct folder *folder, int places) {
     }
     if (folder->last > 0)
         close(folder->last);
-    folder->last = at > 0 ? at : 0;
+    folder->last = at;
 }
 
 /* Removes what a folder has elsewhere, but no links that another folder has made, and then the folder. */
@@ -272,8 +259,8 @@ static void put_bytes(const char *name, const void *bytes, size_t size, mode_t m
     char path[PATH_MAX];
     expand_path(path, &function);
     strcat(path, name);
-    int file = has_sandbox ? open(path, O_WRONLY | O_CREAT | O_EXCL | O_CLOEXEC, mode) : -1;
-    if (has_sandbox && (file < 0 || write(file, bytes, size) != (ssize_t)size))
+    int file = open(path, O_WRONLY | O_CREAT | O_EXCL | O_CLOEXEC, mode);
+    if (file < 0 || write(file, bytes, size) != (ssize_t)size)
         cannot(path);
     close(file);
 }
@@ -303,29 +290,31 @@ static void put_configuration(const unsigned char *identity, uint32_t address) {
 }
 
 void begin_sys(void) {
-    static struct folder *const first[] = {&top, &module, &core};
-    for (unsigned at = 0; at < sizeof first / sizeof *first; at++)
-        put_folder(first[at], IN_SYS);
+    put_folder(&top);
+    put_folder(&module);
+    put_folder(&core);
 }
 
 void put_subsystem(unsigned number, const unsigned char *identity) {
     memcpy(identities[0], identity, IDENTITY_BYTES);
     set("k", "%u", number);
     set_controller(0);
-    put_folder(&subsystem, IN_SYS);
+    put_folder(&subsystem);
 }
 
 void put_controller(unsigned number, unsigned place, const unsigned char *identity) {
     memcpy(identities[number], identity, IDENTITY_BYTES);
     set_controller(number);
     set_numbers(CONTROLLER_MAJOR, number, 0);
-    put_folder(&function, IN_SYS);
-    put_folder(&controller, IN_DEV | IN_SYS);
-    put_registers(place);
-    put_configuration(identity, address_of(number));
+    put_folder(&function);
+    put_folder(&controller);
+    if (has_sandbox) {
+        put_registers(place);
+        put_configuration(identity, address_of(number));
+    }
 }
 
-void put_namespace(unsigned number, uint32_t nsid, const struct volume *volume, int file, int places) {
+void put_namespace(unsigned number, uint32_t nsid, const struct volume *volume, int file) {
     static uint32_t queues; /* a bit for each power of a block's size whose folder is there */
     uint64_t size = volume->power < 9 ? volume->blocks >> (9 - volume->power) : volume->blocks << (volume->power - 9);
     set_controller(number);
@@ -333,12 +322,12 @@ void put_namespace(unsigned number, uint32_t nsid, const struct volume *volume, 
     set("block", "%llu", 1ULL << volume->power);
     set("file", "%d", file);
     set_numbers(BLOCK_MAJOR, number, nsid);
-    put_folder(&block, places);
+    put_folder(&block);
     if (!(queues >> volume->power & 1))
-        put_folder(&queue, IN_SYS);
+        put_folder(&queue);
     queues |= 1u << volume->power;
     set_numbers(GENERIC_MAJOR, number, nsid);
-    put_folder(&generic, places);
+    put_folder(&generic);
 }
 
 void remove_namespace(unsigned number, uint32_t nsid) {

@@ -11,6 +11,6 @@ static const char qemu_usage[] =
     "  --memory SIZE     give the machine of --qemu this memory, such as 256M (default: 128M; at most 64G)\n"
     "  --summary         at the end, write each controller's counts and error log to standard error\n"
     "  --help            show this help\n\n"
-    "The exit status is that of QEMU, or 72 if nvme-model itself can't go on. See QEMU.md.\n";
+    "The exit status is that of QEMU, or 72 if nvme-model itself can't continue. See QEMU.md.\n";
 
 #endif

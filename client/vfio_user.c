@@ -79,7 +79,6 @@ static int set_interrupts(struct function *function, const unsigned char *payloa
         function->is_masked = flags == (MASK | WITH_NONE);
     else
         return -EINVAL;
-    raise_interrupt(function);
     return 0;
 }
 
@@ -94,10 +93,9 @@ static int use_region(struct function *function, unsigned char *payload, uint32_
 static int serve_command(struct function *function, uint32_t command, unsigned char *payload, uint32_t size) {
     static const uint32_t device[] = {16, CAN_RESET | IS_PCI, REGIONS, INTERRUPTS};
     uint32_t wanted = command < COMMANDS ? payload_sizes[command] : 0;
-    int can_be_longer = command == VERSION || command == REGION_WRITE;
     if (wanted == 0 && command != RESET)
         return -ENOTSUP;
-    if (size < wanted || (size > wanted && !can_be_longer))
+    if (size < wanted || (size > wanted && command != VERSION && command != REGION_WRITE))
         return -EINVAL;
     return command == VERSION       ? tell_version(payload, size)
            : command == DMA_MAP     ? map(function, payload)

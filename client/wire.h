@@ -4,7 +4,6 @@
 #ifndef WIRE_H
 #define WIRE_H
 #include <assert.h>
-#include <endian.h>
 #include <stdint.h>
 #include <stdio.h>
 #include <stdlib.h>
