@@ -42,6 +42,9 @@ elif [ "$kind" = files ]; then
 fi
 [ "$kind" = none ] || ln -s ../../nvme0n1 dev/disk/by-id/nvme-machine
 [ "$kind" = none ] || ln -s ../nvme0n1 dev/block/7:0
+if [ "$kind" = none ] && ls -d /sys/class/nvme/* > /dev/null 2>&1; then
+    for folder in /sys/class/nvme* /sys/class/block; do mount -t tmpfs machine "$folder"; done
+fi
 mount -n --move dev /dev
 mount -n --move tmp /tmp
 mount --rbind /sys "$place/sysfs"

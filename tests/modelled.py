@@ -10,7 +10,7 @@ import shutil
 import subprocess
 import sys
 
-from tests.support import DEMO, TOP, Case, process_folder, program, run, until
+from tests.support import DEMO, TOP, Case, process_folder, processes, program, run, until
 
 CLIENT = TOP / 'client'
 PROGRAMS = TOP / 'tests/programs'
@@ -88,15 +88,14 @@ def mounts(process='self'):
     return pathlib.Path(f'/proc/{process}/mountinfo').read_text().splitlines()
 
 
+def nodes():
+    """Returns the names in /dev that a model could have left there, and those of this machine's own controllers."""
+    return sorted(name for name in os.listdir('/dev') if name.startswith(('.model', 'nvme', 'ng')))
+
+
 def processes_of(word):
     """Returns the processes with this word in their arguments."""
-    found = []
-    for entry in pathlib.Path('/proc').glob('[0-9]*/cmdline'):
-        try:
-            found += [int(entry.parent.name)] if os.fsencode(word) in entry.read_bytes() else []
-        except OSError:
-            pass
-    return found
+    return processes('cmdline', lambda text: os.fsencode(word) in text)
 
 
 class ModelCase(Case):
@@ -109,7 +108,7 @@ class ModelCase(Case):
         installed()
         self.folder.chmod(0o755)
         self.subsystem = self.file('demo.toml', DEMO.read_bytes())
-        self.mounts = mounts()
+        self.mounts, self.nodes = mounts(), nodes()
         self.addCleanup(self.leaves_nothing)
 
     def needs(self, *texts):
@@ -141,7 +140,7 @@ class ModelCase(Case):
         self.assertTrue(until(lambda: not processes_of(self.subsystem)), 'a device was left running')
         new = [line for line in mounts() if line not in self.mounts and ('.model' in line or 'newroot' in line)]
         self.assertEqual(new, [], 'mounts are seen outside')
-        self.assertFalse(os.path.exists('/dev/.model') or os.path.exists('/dev/nvme1n1'), 'nodes are seen outside')
+        self.assertEqual(nodes(), self.nodes, 'nodes are seen outside')
 
     def says(self, ended, status, text):
         """Checks that a run ended with this status, and with a last message that begins with this text."""

@@ -96,15 +96,20 @@ def until(condition, limit=300):
     return True
 
 
-def left_running():
-    """Returns the running processes that the tests of this process started, directly or through others."""
+def processes(name, wanted):
+    """Returns the processes whose file of this name in /proc fulfils a condition."""
     found = []
-    for entry in pathlib.Path('/proc').glob('[0-9]*/environ'):
+    for entry in os.listdir('/proc'):
         # (a process may end meanwhile, or belong to another user)
         with contextlib.suppress(OSError):
-            if f'{MARK}=1'.encode() in entry.read_bytes().split(b'\0'):
-                found.append(int(entry.parent.name))
+            if entry.isdigit() and wanted(pathlib.Path('/proc', entry, name).read_bytes()):
+                found.append(int(entry))
     return found
+
+
+def left_running():
+    """Returns the running processes that the tests of this process started, directly or through others."""
+    return processes('environ', lambda text: f'{MARK}=1'.encode() in text.split(b'\0'))
 
 
 @atexit.register

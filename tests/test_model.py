@@ -99,6 +99,8 @@ class Arguments(ModelCase):
             (parts / 'nvme_device').symlink_to(device)
             self.says(run(launcher, 'true'), 72, 'nvme-model: the device ended before it answered' if
                       device == '/bin/false' else f'nvme-model: {parts}/nvme_device: No such file')
+        (parts / 'library.so').unlink()
+        self.says(run(launcher, 'true'), 72, f'nvme-model: {parts}/library.so: No such file')
 
     def test_help(self):
         for words in (['--help'], ['--he'], ['--no-notice', '--help', 'false'], ['--help', '--bogus']):

@@ -51,6 +51,14 @@ for number, flags in (56, 0x02000011), (272, 0x02000000), (56, 0x12000011), (272
 '''
 
 
+# Changes the priorities of a process group. Each prints its error.
+PRIORITIES = '''import ctypes
+call = ctypes.CDLL(None, use_errno=True).syscall
+for number, which, value in (141, 1, 19), (251, 2, 2 << 13 | 6):
+    print(call(number, which, 0, value), ctypes.get_errno())
+'''
+
+
 class Confined(ModelCase):
     def test_calls(self):
         # (what is tried is in tests/programs/confined.c)
@@ -112,11 +120,21 @@ class Outside(ModelCase):
             with self.subTest(user=user):
                 is_root = IS_ROOT and not user
                 keys = '288 0 -3', '286 user name data 4 -3', '287 user name name -3'
-                others = '425 1 0', '435 0 0', '438 -1 0 0', '310 0x02000000', '310 0x12000000', '120 0x12000011'
-                answers = self.old(user, *keys, *others)
-                self.assertEqual(answers[:7], ['-38'] * 5 + ['-1', '-1'])
+                others = '425 1 0', '435 0 0', '438 -1 0 0', '97 1 0 7', '289 2 0 16390'
+                groups = '310 0x02000000', '310 0x12000000', '120 0x12000011'
+                answers = self.old(user, *keys, *others, *groups)
+                self.assertEqual(answers[:9], ['-38'] * 5 + ['-1'] * 4)
                 # (a process that was made may print its 0 as well)
-                self.assertEqual(answers[7:] == ['-1', '-1'] if is_root else '-1' not in answers[7:], True, answers)
+                self.assertEqual(answers[9:] == ['-1', '-1'] if is_root else '-1' not in answers[9:], True, answers)
+
+    def test_priorities(self):
+        # the caller's process group has processes outside, whose priorities stay
+        outside = 'sleep 100 & "$@"; cut -d " " -f 19 /proc/$!/stat; kill $!'
+        for user in USERS:
+            with self.subTest(user=user):
+                command = self.command('python3', '-c', PRIORITIES)
+                ended = run('setsid', '-w', *user, 'sh', '-c', outside, 'sh', *command)
+                self.ends(ended, 0, f'-1 1\n-1 1\n{os.nice(0)}\n'.encode(), b'')
 
     def test_keys(self):
         for user in USERS:

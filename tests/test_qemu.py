@@ -188,6 +188,8 @@ class Messages(Case):
         self.ends(run(program(), env={'PATH': '/none'}), 127, b'',
                   b'nvme-model: qemu-system-x86_64: No such file or directory\n')
         self.ends(run(program(), '--subsystem', '/none'), 72, b'', b'nvme-model: /none: No such file or directory\n')
+        large = self.file('large.toml', DEMO.read_bytes().ljust((1 << 20) + 1, b'\n'))
+        self.ends(run(program(), '--subsystem', large), 72, b'', f'nvme-model: {large}: File too large\n'.encode())
         bad = run(program(), '--subsystem', self.file('bad.toml', b'version = 9\n'))
         self.ends(bad, 72, b'')
         self.assertTrue(bad.err.startswith(b'nvme-model: out of range'), bad)

@@ -118,7 +118,11 @@ class StreamCase(ModelCase):
         return inside
 
     def check_kept(self, process, streams):
-        """Checks what a process has open: of a closed stream, /dev/null of the sandbox, which can't be used."""
+        """Checks what a process has open: of a closed stream, /dev/null of the sandbox, which can't be used. (Only root
+        can look; others, whose process it is, can't.)"""
+        if not IS_ROOT:
+            self.assertRaises(PermissionError, os.listdir, process / 'fd')
+            return
         mounts = {line.split()[0] for line in (process / 'mountinfo').read_text().splitlines()}
         for entry in (process / 'fd').iterdir():
             number, name = int(entry.name), os.readlink(entry)

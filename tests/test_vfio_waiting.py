@@ -61,6 +61,16 @@ class Waiting(Served):
         other.close()
         self.assertLess(time.monotonic() - begun_at, 3)
 
+    @contextlib.contextmanager
+    def stopped(self):
+        """Stops the server meanwhile, so that its copy of a descriptor that is sent and closed here is the last one."""
+        os.kill(self.server.process.pid, signal.SIGSTOP)
+        os.waitpid(self.server.process.pid, os.WUNTRACED)
+        try:
+            yield
+        finally:
+            os.kill(self.server.process.pid, signal.SIGCONT)
+
     def test_file_system(self):
         # a file of a file system that doesn't answer is refused, and only its own client waits until it is closed
         if not os.access('/dev/fuse', os.R_OK | os.W_OK):
@@ -104,8 +114,9 @@ class Waiting(Served):
             rights = [(socket.SOL_SOCKET, socket.SCM_RIGHTS, struct.pack('=i', ends[0]))]
             client.number += 1
             message = struct.pack('<HHIIIIIQQQ', client.number, DMA_MAP, 48, 0, 0, 32, 3, 0, 0, PAGE)
-            client.socket.sendmsg([message[:1]], rights, flags)
-            os.close(ends[0])
+            with self.stopped():
+                client.socket.sendmsg([message[:1]], rights, flags)
+                os.close(ends[0])
             client.socket.sendall(message[1:])
             self.assertEqual(client.heard()[3], EINVAL)
             self.goes_on()
@@ -133,8 +144,9 @@ class Waiting(Served):
         client = self.greeted()
         file = os.dup(lingering.fileno())
         lingering.close()
-        client.say(DMA_MAP, struct.pack('<IIQQQ', 32, 3, 0, 0, PAGE), [file])
-        os.close(file)
+        with self.stopped():
+            client.say(DMA_MAP, struct.pack('<IIQQQ', 32, 3, 0, 0, PAGE), [file])
+            os.close(file)
         self.assertEqual(client.heard()[3], EINVAL)
         self.goes_on()
         accepted.close()

@@ -193,6 +193,14 @@ class Processes(WaitingCase):
             with self.subTest(user=user):
                 self.ends(run(*user, *self.command('python3', '-c', script)), 0, b'True 4608\n', b'')
 
+    @unittest.skipUnless(IS_ROOT, 'root alone can take groups')
+    def test_many_groups(self):
+        # a signal is passed on, however much the kernel tells about bwrap before it
+        groups = '--groups=' + ','.join(map(str, range(1_000_000_000, 1_000_001_000)))
+        for user in ('setpriv', groups), ('setpriv', '--reuid=65534', '--regid=65534', groups):
+            with self.subTest(user=user[1:-1]):
+                self.assertEqual(self.ends_by_signal(self.begun(user, 'echo go; exec sleep 100')), b'go\n')
+
     def test_limits(self):
         # process 1 takes no turn in vain, and ends with the command
         spent = 'cut -d " " -f 14,15 /proc/1/stat | tr " " +'
