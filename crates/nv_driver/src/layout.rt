@@ -61,7 +61,7 @@ impl CheckedGeometry {
     }
 
     /// Returns how many pages `len` bytes of data lie in.
-    pub(crate) fn pages_with(self, len: u32) -> u32
+    pub(crate) fn data_count(self, len: u32) -> u32
         requires { len ≤ greatest_limit }
         ensures pages { result ≡ data_count self len }
         ensures entry { result + 2 ≤ pages_of_entry self.page_size }
@@ -70,16 +70,6 @@ impl CheckedGeometry {
             → (result + 2 ≤ pages_of_command self.page_size) × (result + 2 ≤ 7) }
     {
         (self.offset + len).div_ceil(self.page_size)
-    }
-
-    /// Returns how many pages `len` bytes of a command's data lie in.
-    pub(crate) fn data_count(self, len: u32) -> u32
-        requires { len ≤ most_bytes }
-        ensures pages { result ≡ data_count self len }
-        ensures few { result + 2 ≤ pages_of_command self.page_size }
-        ensures seven { result + 2 ≤ 7 }
-    {
-        self.pages_with(len)
     }
 
     /// Returns how many pages one controller takes.

@@ -76,7 +76,7 @@ pub(crate) fn exchange_entry<B: Bus + Ringing, M: HostMemory>(
     } = host;
     let request = Outgoing::of_entry(passed.entry, passed.bytes);
     let len = request.transfer.bytes() as u32;
-    let count = geometry.pages_with(len) as usize + 2;
+    let count = geometry.data_count(len) as usize + 2;
     let place = DataPlace::within(geometry, consecutive(pages, passed.first_page, count));
     let tail = submit(mem, pair, &place, &request, spans);
     bus.ring(ctrl, mem, tail);

@@ -1,5 +1,5 @@
 -- How opening a file follows from reading it.
-use Rattle.std.proofs.Common.{◌≡◌, ◌∙◌, ◌⊎◌, ap, inl, inr, refl, sym, subst, ℕ, List, [], length}
+use Rattle.std.proofs.Common.{◌≡◌, ◌∙◌, ap, inl, inr, refl, sym, subst, ℕ, List, [], length}
 use Rattle.std.specs.Prelude.{pos, Option, Some, Result, Ok}
 use Rattle.nv_controller.specs.Machine.{MachineValue}
 use Rattle.nv_file.specs.FaultText.{fault_text}
@@ -49,10 +49,4 @@ fault_told file e old new (inl is) same text =
 fault_told file e old new (inr is) same text =
     subst (λ f. Tells f (number_of e) new) (sym is) (inr (refl, same_length e old new same text))
 
--- if e is a fault of a file, so is what is reported for it: e, or lack of memory
-pub still_a_fault : (file : Result State SubsystemError) (e f : SubsystemError) → IsFaultOf file e
-    → (f ≡ e) ⊎ (f ≡ fault.Memory) → IsFaultOf file f
-still_a_fault file e f is (inl same) = subst (λ x. IsFaultOf file x) (sym same) is
-still_a_fault file e f is (inr memory) = inl memory
-
-pub ruleset faults = (fault_opens, fault_told, still_a_fault)
+pub ruleset faults = (fault_opens, fault_told)

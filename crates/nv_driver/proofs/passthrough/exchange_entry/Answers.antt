@@ -15,13 +15,13 @@ use Rattle.nv_driver.proofs.passthrough.exchange_entry.Goals.{After-turn}
 
 pub consecutive-requires-clause-numbered : goal.consecutive-requires-clause-numbered
 consecutive-requires-clause-numbered g c =
-    let entry = subst (λ (q : Geometry). c.pages_with.result + 2 ≤ pages_of_entry q.page_size)
-    c.geometry-geometry.ensures c.pages_with.ensures.entry in omega (arith, entry, c.requires.numbered)
+    let entry = subst (λ (q : Geometry). c.data_count.result + 2 ≤ pages_of_entry q.page_size)
+    c.geometry-geometry.ensures c.data_count.ensures.entry in omega (arith, entry, c.requires.numbered)
 
 pub within-place-requires : goal.within-place-requires
 within-place-requires g c =
     let many = ap (λ (xs : List ℕ). length xs) c.consecutive.ensures
-    ∙ length-range_with_len c.args.passed.now.first_page (c.pages_with.result + 2) in omega (arith, many)
+    ∙ length-range_with_len c.args.passed.now.first_page (c.data_count.result + 2) in omega (arith, many)
 
 pub submit-tail-requires-clause-sent : goal.submit-tail-requires-clause-sent
 submit-tail-requires-clause-sent g c =
@@ -34,7 +34,7 @@ pub submit-tail-requires-clause-place : goal.submit-tail-requires-clause-place
 submit-tail-requires-clause-place g c =
     let q = c.of_entry-request.ensures in
     its_place c.of_entry-request.result c.requires.ready c.requires.fits c.requires.inside c.requires.behind q.entry
-    q.transfer q.few c.bytes-len.ensures c.geometry-geometry.ensures (ap (λ n. n + 2) c.pages_with.ensures.pages)
+    q.transfer q.few c.bytes-len.ensures c.geometry-geometry.ensures (ap (λ n. n + 2) c.data_count.ensures.pages)
     c.consecutive.ensures c.within-place.ensures
 
 pub submit-tail-requires-clause-slot : goal.submit-tail-requires-clause-slot
@@ -52,7 +52,7 @@ taken g c =
     let q = c.of_entry-request.ensures in
     let w = c.ring.ensures in
     let t = c.turn.ensures in
-    let many = ap (λ n. n + 2) c.pages_with.ensures.pages in
+    let many = ap (λ n. n + 2) c.data_count.ensures.pages in
     let begun = begun_by c.of_entry-request.result c.requires.ready c.requires.fits c.requires.inside c.requires.behind
     q.entry q.transfer q.few c.bytes-len.ensures c.geometry-geometry.ensures many
     c.consecutive.ensures c.within-place.ensures q.sends c.submit-tail.ensures in

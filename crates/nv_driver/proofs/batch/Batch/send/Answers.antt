@@ -10,7 +10,9 @@ use Rattle.nv_driver.proofs.RoundLaws.{rings}
 use Rattle.nv_driver.proofs.SubmittingLaws.{requests_same, submitted_as}
 use Rattle.nv_driver.proofs.UnderWayLaws.{IsSentIn, few_at, free_slot, geometry_is, set_has, still_inside, submits_at}
 use Rattle.nv_driver.proofs.UnderWayLaws.{tail_after}
+use Rattle.nv_driver.proofs.batch.Batch.send.Given as given
 use Rattle.nv_driver.proofs.batch.Batch.send.Goals as goal
+use Rattle.nv_driver.proofs.batch.Batch.send.Goals.{After-data_count}
 
 pub overflow_cast-len : goal.overflow_cast-len
 overflow_cast-len g c =
@@ -24,6 +26,17 @@ data_count-requires g c =
     let few = few_at _ first.can c.requires.1.1.0 c.index-commands-number.is (omega arith)
     c.transfer.ensures in omega (arith, few, c.bytes-len.ensures)
 
+-- the data of a command lies in few pages
+few_pages : (g : given.Over) (c : After-data_count g)
+    → (c.data_count.result + 2 ≤ pages_of_command g.begun.run.geometry.page_size) × (c.data_count.result + 2 ≤ 7)
+few_pages g c =
+    let first = c.requires.1.1.1.0 in
+    let few = few_at _ first.can c.requires.1.1.0 c.index-commands-number.is (omega arith)
+    c.transfer.ensures in
+    subst (λ n. (c.data_count.result + 2 ≤ pages_of_command n) × (c.data_count.result + 2 ≤ 7))
+    (ap (λ (q : Geometry). q.page_size) (c.geometry-geometry.ensures ∙ geometry_is first))
+    (c.data_count.ensures.command (omega (arith, few, c.bytes-len.ensures)))
+
 pub take-pages-requires : goal.take-pages-requires
 take-pages-requires g c =
     let i = c.loop-number.invariant in
@@ -32,14 +45,14 @@ take-pages-requires g c =
     let window = ap (λ (q : Geometry). q.window) (c.geometry.view_is ∙ same) in
     let sent = ap (λ (b : Batch). b.sent) i.batch in
     let collected = ap (λ (b : Batch). b.collected) i.batch in
-    let few = subst (λ n. c.data_count.result + 2 ≤ pages_of_command n) (ap (λ (q : Geometry). q.page_size) same)
-    c.data_count.ensures.few in
-    record { few = c.data_count.ensures.seven; enough = omega (arith, few, set_has i.under_way (omega arith)) }
+    let few = few_pages g (goal.at.take-pages-requires g c).After-data_count in
+    record { few = few.1; enough = omega (arith, few.0, set_has i.under_way (omega arith)) }
 
 pub place-place-requires : goal.place-place-requires
 place-place-requires g c =
     let e = c.take-pages.ensures in
-    record { few = omega (arith, e.count, c.data_count.ensures.seven); list = omega (arith, e.count) }
+    let few = few_pages g (goal.at.place-place-requires g c).After-data_count in
+    record { few = omega (arith, e.count, few.1); list = omega (arith, e.count) }
 
 pub submit-next-requires : goal.submit-next-requires
 submit-next-requires g c =
@@ -55,7 +68,8 @@ submit-next-requires g c =
     let e = c.take-pages.ensures in
     let o = c.take-pages.result in
     let len = length_of c.transfer.result in
-    let long = all_count o e.seven (omega (arith, e.count, c.data_count.ensures.seven)) in
+    let pages = few_pages g (goal.at.submit-next-requires g c).After-data_count in
+    let long = all_count o e.seven (omega (arith, e.count, pages.1)) in
     let many : length (all_pages o) ≡ data_count g.begun.run.geometry len + 2 =
     long ∙ e.count ∙ ap (λ n. n + 2) (c.data_count.ensures.pages
     ∙ ap (λ (q : Geometry). data_count q c.bytes-len.result) same
@@ -84,12 +98,10 @@ loop-number-preserved g c =
     let collected = ap (λ (b : Batch). b.collected) i.batch in
     let told = ap (λ (b : Batch). b.told) i.batch in
     let e = c.take-pages.ensures in
-    let n = c.data_count.ensures in
     let o = c.take-pages.result in
     let l = c.loop-number.pair in
     let k = c.index-commands-number.result in
-    let few = subst (λ m. c.data_count.result + 2 ≤ pages_of_command m) (ap (λ (q : Geometry). q.page_size) same)
-    n.few in
+    let few = few_pages g (goal.at.loop-number-preserved g c).After-data_count in
     let at = c.place-place.ensures.place ∙ ap (λ (q : Geometry). place_in q (all_pages o)) same in
     let next = submitted_as u.page_size at (requests_same c.entry.ensures.entry c.transfer.ensures refl)
     (c.submit-next.ensures (Ok k)) in
@@ -105,11 +117,12 @@ loop-number-preserved g c =
     let sub : IsSentIn g.begun.run.geometry k o l c.submit-next.new.pair
     (g.M.PagedMemory.bytes c.loop-number.host.mem) (g.M.PagedMemory.bytes c.submit-next.new.mem)
     (g.M.PagedMemory.page_len c.submit-next.new.mem) c.submit-next.result = record {
-      many = e.count ∙ ap (λ m. m + 2) (n.pages ∙ ap (λ (q : Geometry). data_count q c.bytes-len.result) same
+      many = e.count ∙ ap (λ m. m + 2) (c.data_count.ensures.pages
+          ∙ ap (λ (q : Geometry). data_count q c.bytes-len.result) same
           ∙ ap (data_count g.begun.run.geometry) (c.bytes-len.ensures ∙ ap length_of c.transfer.ensures));
       seven = e.seven;
-      few = omega (arith, e.count, n.seven);
-      fits = omega (arith, e.count, few);
+      few = omega (arith, e.count, few.1);
+      fits = omega (arith, e.count, few.0);
       taken = e.taken;
       lowest = e.lowest;
       one = one;

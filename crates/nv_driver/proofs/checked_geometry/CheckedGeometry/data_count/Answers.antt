@@ -5,7 +5,7 @@ use Rattle.nv_driver.specs.Layout.{most_bytes, pages_of_command}
 use Rattle.nv_driver.proofs.Words.{Geometry, pages_of_entry}
 use Rattle.nv_driver.proofs.PointerLaws.{command_pages_few}
 use Rattle.nv_driver.proofs.ShareLaws.{data_fits, few_of_entry}
-use Rattle.nv_driver.proofs.checked_geometry.CheckedGeometry.pages_with.Goals as goal
+use Rattle.nv_driver.proofs.checked_geometry.CheckedGeometry.data_count.Goals as goal
 
 pub overflow_add-self-inside : goal.overflow_add-self-inside
 overflow_add-self-inside c =
