@@ -13,8 +13,8 @@ import socket
 import subprocess
 import unittest
 
-from tests.modelled import ModelCase, installed, processes_of
-from tests.support import environment, until
+from tests.modelled import ModelCase, installed
+from tests.support import environment, processes, until
 
 IS_ROOT = os.geteuid() == 0
 NOBODY = 'setpriv', '--reuid=65534', '--regid=65534', '--clear-groups'
@@ -111,11 +111,11 @@ class StreamCase(ModelCase):
 
     def launchers(self):
         """Returns the folders in /proc of the launcher's processes in the sandbox: process 1, keepers and helpers."""
-        found = [pathlib.Path(f'/proc/{number}') for number in processes_of(self.subsystem)]
-        inside = [path for path in found if (path / 'cmdline').read_bytes().startswith(b'/sys/fs/nvme-model/launcher')]
-        first = [path for path in inside if re.search(r'(?m)^NSpid:.*\t1$', (path / 'status').read_text())]
-        self.assertTrue(len(first) == 1 and len(inside) > 2, found)
-        return inside
+        begin, subsystem = b'/sys/fs/nvme-model/launcher', os.fsencode(self.subsystem)
+        inside = processes('cmdline', lambda text: text.startswith(begin) and subsystem in text)
+        first = processes('status', lambda text: re.search(rb'(?m)^NSpid:.*\t1$', text))
+        self.assertTrue(len({*first} & {*inside}) == 1 and len(inside) > 2, inside)
+        return [pathlib.Path(f'/proc/{number}') for number in inside]
 
     def check_kept(self, process, streams):
         """Checks what a process has open: of a closed stream, /dev/null of the sandbox, which can't be used. (Only root
@@ -125,8 +125,11 @@ class StreamCase(ModelCase):
             return
         mounts = {line.split()[0] for line in (process / 'mountinfo').read_text().splitlines()}
         for entry in (process / 'fd').iterdir():
-            number, name = int(entry.name), os.readlink(entry)
-            about = (process / 'fdinfo' / entry.name).read_text()
+            try:
+                number, name = int(entry.name), os.readlink(entry)
+                about = (process / 'fdinfo' / entry.name).read_text()
+            except (FileNotFoundError, ProcessLookupError):
+                continue  # (it was closed meanwhile)
             flags, mount = (re.search(rf'(?m)^{word}:\s*(\d+)$', about).group(1) for word in ('flags', 'mnt_id'))
             if number > 2:
                 known = [is_own for pattern, is_own in KEPT.items() if re.fullmatch(pattern, name)]
