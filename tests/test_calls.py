@@ -182,10 +182,12 @@ class Groups(CallCase):
         for number, trap in ('USR1', 'USR1'), ('0', 'USR1'), ('HUP', 'HUP'):
             inside = (f'trap "echo inside" {trap}; sh -c \'trap "echo child" {trap}; sleep 2; :\' & sleep 1; '
                       f'kill -{number} 0; wait; sleep 1; echo end')
+            # (which traps what nohup had ignored)
+            begin = 'env', '--default-signal=HUP', 'setsid', '-w', 'sh', '-c'
             outside = f'trap "echo outside" USR1 HUP TERM; "$@"; sleep 0.2'
             for user in USERS:
                 with self.subTest(number, user=user):
-                    ended = run('setsid', '-w', 'sh', '-c', outside, 'sh', *user, *self.command('sh', '-c', inside))
+                    ended = run(*begin, outside, 'sh', *user, *self.command('sh', '-c', inside))
                     wanted = b'end\n' if number == '0' else b'child\nend\ninside\n'
                     self.assertEqual((ended.status, sorted(ended.out.split())), (0, sorted(wanted.split())), ended)
 
