@@ -146,11 +146,15 @@ static void take_signal(int from, unsigned long *passed) {
         kill(command, number);
 }
 
-/* Has calls answered and passes signals on until the command ends. */
-static void await_end(void) {
+/* Lets the command go on, which may then limit what this process opens, and has calls answered and passes signals on
+   until it ends. */
+static void run_command(void) {
     enum { MOST_TURNS = 256 };
     const int from = signalfd(-1, &watched, SFD_CLOEXEC | SFD_NONBLOCK);
     unsigned long passed = 0, seen = 0;
+    if (from < 0)
+        fail_by_errno("signalfd");
+    kill(command, SIGCONT);
     for (unsigned turn = 1; status < 0; turn++) {
         unsigned ready = await_call(from);
         if (ready == 0 || turn % MOST_TURNS == 0)
@@ -375,8 +379,7 @@ static int run(char **arguments) {
     if (has_sandbox)
         confine_launcher();
     begin_helpers();
-    kill(command, SIGCONT);
-    await_end();
+    run_command();
     end_devices();
     report_rules();
     return status;

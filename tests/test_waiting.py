@@ -212,6 +212,17 @@ class Processes(WaitingCase):
                     self.assertEqual(self.ends_by_signal(self.begun(user, script, 'x')), b'go\n')
                     self.ends(self.begun(user, script, '').end(20), 5, b'go\n')
 
+    def test_limited_at_once(self):
+        # process 1 has all that it needs before the command can limit what it opens
+        late = self.folder / 'late.so'
+        subprocess.run(['cc', *WARNINGS, '-shared', '-fPIC', '-o', late, PROGRAMS / 'late.c'], check=True)
+        for user in USERS:
+            with self.subTest(user=user):
+                command = self.command('prlimit', '--pid', '1', '--nofile=0:0')
+                running = Running(*user, 'env', f'LD_PRELOAD={late}', *command)
+                self.addCleanup(running.process.kill)
+                self.ends(running.end(20), 0, b'')
+
     @unittest.skipUnless(IS_ROOT, 'root alone can take the number of a user without processes')
     def test_too_few_processes(self):
         # a launcher that can't start what it needs says so

@@ -1,0 +1,11 @@
+/* A library with which a process waits a moment before it makes a descriptor for its signals. */
+#define _GNU_SOURCE
+#include <signal.h>
+#include <sys/signalfd.h>
+#include <sys/syscall.h>
+#include <unistd.h>
+
+int signalfd(int file, const sigset_t *signals, int flags) {
+    usleep(300000);
+    return (int)syscall(SYS_signalfd4, file, signals, 8L, flags);
+}
