@@ -211,8 +211,8 @@ class Subsystems(ModelCase):
 
 class Signals(ModelCase):
     def begun(self, script, *words):
-        """Starts a script, and waits until it says `ready`."""
-        running = Running(*self.command('sh', '-c', script, 'sh', *words))
+        """Starts a script, which SIGHUP ends even if nohup started this test, and waits until it says `ready`."""
+        running = Running('env', '--default-signal=HUP', *self.command('sh', '-c', script, 'sh', *words))
         self.addCleanup(running.process.kill)
         running.comes(b'ready\n')
         return running
