@@ -83,7 +83,6 @@ class Mounts(MachineCase):
                     self.ends(machine.model(script, by=by), 0, b'end\n', b'')
                     machine.is_unchanged()
 
-
     def test_folders_that_are_removed(self):
         # a mount that comes later outside goes when its folder is removed inside
         for user in (), NOBODY:

@@ -33,7 +33,6 @@ class Scripts(Case):
                 self.assertEqual(trace.count(b' taken '), trace.count(b' posted '), ended)
                 self.assertIn(b' taken ', trace, ended)
 
-
     def test_whole_traces(self):
         files = sorted(TOP.glob('tests/traces/*.txt'))
         self.assertGreaterEqual(len(files), 3)

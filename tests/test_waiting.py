@@ -103,7 +103,6 @@ class Hung(WaitingCase):
                 out = self.ends_by_signal(self.mounted(script, rest, way, [copy]))
                 self.assertEqual(out, b'ready\n10\n1\ngo\n')
 
-
     def test_folders(self):
         # changes of /dev wait then, and so does their device, but opening and the end don't
         script = 'python3 "$4" "$1/memory" 2 "$2/started" list'
