@@ -2,7 +2,6 @@
 and checks that it leaves nothing behind."""
 
 import functools
-import glob
 import os
 import pathlib
 import re

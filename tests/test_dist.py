@@ -15,7 +15,7 @@ import unittest
 
 from tests.modelled import VERSION, installed, why_no_sandbox
 from tests.pages import Page
-from tests.support import DEMO, TOP, Case, library, process_folder, program, run
+from tests.support import DEMO, TOP, Case, library, process_folder, run
 from tests.test_installed import LOOK
 
 DIST = TOP / 'tools/dist'

@@ -2,7 +2,6 @@
 which a command could change something outside that isn't a file: keys, control groups, and memory."""
 
 import os
-import shutil
 import subprocess
 import unittest
 
