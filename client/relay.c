@@ -16,13 +16,14 @@ static int move_all(int file, void *at, size_t size, int outwards) {
     return 0;
 }
 
-/* Marks a device as lost, and reports this. A device that doesn't even start reports the reason itself. */
+/* Reports that a device is lost, and then marks it, so that a keeper which was killed before it had done all this is
+   replaced by one that does it. A device that doesn't even start reports the reason itself. */
 void lose_device(struct device *device) {
     if (device->is_lost || device->count == 0)
         return;
-    device->is_lost = 1;
     fputs("nvme-model: the device ended, or answered what was not asked\n", stderr);
     lose_nodes(device);
+    device->is_lost = 1;
 }
 
 /* (the answer has at most as many bytes of data as were asked for, and none if data was sent) */

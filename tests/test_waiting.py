@@ -211,16 +211,30 @@ class Processes(WaitingCase):
                     self.assertEqual(self.ends_by_signal(self.begun(user, script, 'x')), b'go\n')
                     self.ends(self.begun(user, script, '').end(20), 5, b'go\n')
 
+    def late(self):
+        """Makes the library by which the launcher is late, and returns the words before a command for it."""
+        made = self.folder / 'late.so'
+        subprocess.run(['cc', *WARNINGS, '-shared', '-fPIC', '-o', made, PROGRAMS / 'late.c'], check=True)
+        return 'env', f'LD_PRELOAD={made}'
+
     def test_limited_at_once(self):
         # process 1 has all that it needs before the command can limit what it opens
-        late = self.folder / 'late.so'
-        subprocess.run(['cc', *WARNINGS, '-shared', '-fPIC', '-o', late, PROGRAMS / 'late.c'], check=True)
+        late = self.late()
         for user in USERS:
             with self.subTest(user=user):
-                command = self.command('prlimit', '--pid', '1', '--nofile=0:0')
-                running = Running(*user, 'env', f'LD_PRELOAD={late}', *command)
+                running = Running(*user, *late, *self.command('prlimit', '--pid', '1', '--nofile=0:0'))
                 self.addCleanup(running.process.kill)
                 self.ends(running.end(20), 0, b'')
+
+    def test_lost_at_once(self):
+        # that a device was lost is reported before the command can see it
+        late = self.late()
+        script = ('kill -9 $(cat /proc/1/task/1/children | tr " " "\\n" | grep -vx $$); '
+                  'while test -c /dev/nvme0; do :; done; echo gone')
+        for user in USERS:
+            with self.subTest(user=user):
+                ended = run(*user, *late, *self.command('sh', '-c', script))
+                self.ends(ended, 0, b'gone\n', b'nvme-model: the device ended, or answered what was not asked\n')
 
     @unittest.skipUnless(IS_ROOT, 'root alone can take the number of a user without processes')
     def test_too_few_processes(self):
