@@ -182,7 +182,7 @@ class Groups(CallCase):
         for number, trap in ('USR1', 'USR1'), ('0', 'USR1'), ('HUP', 'HUP'):
             inside = (f'trap "echo inside" {trap}; sh -c \'trap "echo child" {trap}; sleep 2; :\' & sleep 1; '
                       f'kill -{number} 0; wait; sleep 1; echo end')
-            # (which traps what nohup had ignored)
+            # (a shell can't trap a signal that nohup lets it ignore)
             begin = 'env', '--default-signal=HUP', 'setsid', '-w', 'sh', '-c'
             outside = f'trap "echo outside" USR1 HUP TERM; "$@"; sleep 0.2'
             for user in USERS:

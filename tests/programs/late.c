@@ -11,6 +11,12 @@ int signalfd(int file, const sigset_t *signals, int flags) {
     return (int)syscall(SYS_signalfd4, file, signals, 8L, flags);
 }
 
+/* (a compiler may write one of these for the other) */
+int fputs(const char *text, FILE *file) {
+    usleep(300000);
+    return fputs_unlocked(text, file);
+}
+
 size_t fwrite(const void *text, size_t size, size_t count, FILE *file) {
     usleep(300000);
     return fwrite_unlocked(text, size, count, file);
