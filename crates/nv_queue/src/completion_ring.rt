@@ -19,7 +19,7 @@ use thiserror::Error;
 /// The completion ring has no free slot. Section "Full Queue".
 #[derive(Clone, Copy, Debug, PartialEq, Eq, Error)]
 #[error("the completion ring is full")]
-pub struct CompletionRingFull;
+pub struct CqFull;
 
 /// The host's side of a completion ring, of 2 to 4,096 slots of 16 bytes. Section "Submission Queue
 /// & Completion Queue Definition".
@@ -178,7 +178,7 @@ impl Post {
     /// Performs a write to the head doorbell. A head is ignored unless freeing posted slots leads
     /// to it. Section "Completion Queue y Head Doorbell".
     #[tactic(auto, using(crate::proofs::PlaceLaws::rings, crate::proofs::NumberLaws::ahead_slot))]
-    pub fn write_head(&mut self, value: u32)
+    pub fn head(&mut self, value: u32)
         ensures told { IsSlotBetween self.old.depth self.old.told self.old.posted value
             → self.new ≡ told_to self.old value }
         ensures ignored { ¬ IsSlotBetween self.old.depth self.old.told self.old.posted value
@@ -223,11 +223,7 @@ impl Post {
     /// its slot change, which must lie in the memory, as `fits` checks. If the ring is full,
     /// nothing changes.
     #[tactic(auto, using(crate::proofs::SlotLaws::holds_one_more, crate::proofs::PlaceLaws::rings))]
-    pub fn put<M: PagedMemory>(
-        &mut self,
-        mem: &mut M,
-        completion: Cqe,
-    ) -> Result<(), CompletionRingFull>
+    pub fn put<M: PagedMemory>(&mut self, mem: &mut M, completion: Cqe) -> Result<(), CqFull>
         requires { completion_place self.old.base self.old.depth self.old.posted + 16
             ≤ length (M.bytes mem.old) }
         ensures full { IsErr result ↔ IsPostFull self.old }
@@ -245,7 +241,7 @@ impl Post {
     {
         let next = self.ring.own.step(self.ring.depth);
         if next.slot == self.ring.told.slot {
-            return Err(CompletionRingFull);
+            return Err(CqFull);
         }
         let posted = Cqe {
             phase: !self.ring.own.second,

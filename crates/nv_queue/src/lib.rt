@@ -22,7 +22,7 @@
 //!
 //! // The host submits, and writes the new tail to the tail doorbell.
 //! let tail = submissions.push(&mut mem, &command)?;
-//! fetch.write_tail(u32::from(tail));
+//! fetch.tail(u32::from(tail));
 //!
 //! // The device takes the command, and posts its completion.
 //! if fetch.fits(&mem)
@@ -39,7 +39,7 @@
 //!     }
 //! }
 //! if let Some(head) = completions.head_to_tell() {
-//!     post.write_head(u32::from(head));
+//!     post.head(u32::from(head));
 //! }
 //! ```
 //!
@@ -52,8 +52,8 @@ mod completion_ring;
 mod ring;
 mod submission_ring;
 
-pub use completion_ring::{CompletionRing, CompletionRingFull, Post};
-pub use submission_ring::{Fetch, SubmissionRingFull, SubmitRing};
+pub use completion_ring::{CompletionRing, CqFull, Post};
+pub use submission_ring::{Fetch, RingFull, SubmitRing};
 
 /// States the law of this crate: for any sequence of posts, polls and heads written to the doorbell
 /// on one completion ring, what was polled is the beginning of what was posted, each once and in

@@ -16,7 +16,7 @@ use thiserror::Error;
 /// The submission ring has no free slot. Section "Full Queue".
 #[derive(Clone, Copy, Debug, PartialEq, Eq, Error)]
 #[error("the submission ring is full")]
-pub struct SubmissionRingFull;
+pub struct RingFull;
 
 /// The host's side of a submission ring, of 2 to 4,096 slots of 64 bytes. Section "Submission Queue
 /// & Completion Queue Definition".
@@ -64,11 +64,7 @@ impl SubmitRing {
     /// slots but one hold commands that are not known to be taken. Then nothing changes. All slots
     /// must lie in the memory.
     #[tactic(auto, using(crate::proofs::PlaceLaws::rings))]
-    pub fn push<M: PagedMemory>(
-        &mut self,
-        mem: &mut M,
-        command: &Sqe,
-    ) -> Result<u16, SubmissionRingFull>
+    pub fn push<M: PagedMemory>(&mut self, mem: &mut M, command: &Sqe) -> Result<u16, RingFull>
         requires { self.old.base + 64 * self.old.depth ≤ length (M.bytes mem.old) }
         ensures full { IsErr result ↔ IsSubmitFull self.old }
         ensures submitted { OnOk result (self.new ≡ submitted_one self.old) }
@@ -83,7 +79,7 @@ impl SubmitRing {
     {
         let next = self.ring.own.step(self.ring.depth);
         if next.slot == self.ring.told.slot {
-            return Err(SubmissionRingFull);
+            return Err(RingFull);
         }
         let mut bytes = [0; 64];
         command.put(&mut bytes);
@@ -160,7 +156,7 @@ impl Fetch {
     /// Performs a write to the tail doorbell. A tail that names no slot is ignored. Section
     /// "Submission Queue y Tail Doorbell".
     #[tactic(auto, using(crate::proofs::PlaceLaws::rings))]
-    pub fn write_tail(&mut self, value: u32)
+    pub fn tail(&mut self, value: u32)
         ensures rung { value < self.old.depth → self.new ≡ rung_to self.old value }
         ensures ignored { self.old.depth ≤ value → self.new ≡ self.old }
     {

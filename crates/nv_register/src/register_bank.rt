@@ -176,12 +176,12 @@ impl RegisterBank {
             Register::AcqHigh => self.acq = high_dword_set(self.acq, dword),
             Register::TailDoorbell => {
                 if let Readiness::Ready { rings, .. } = &mut self.readiness {
-                    rings.submission.write_tail(dword);
+                    rings.submission.tail(dword);
                 }
             }
             Register::HeadDoorbell => {
                 if let Readiness::Ready { rings, .. } = &mut self.readiness {
-                    rings.completion.write_head(dword);
+                    rings.completion.head(dword);
                 }
             }
         }

@@ -5,7 +5,7 @@ use nv_driver::{DriverError, GeometryField};
 use nv_host::{Memory, OutOfMemoryRange};
 use nv_layout::LayoutError;
 use nv_prp::PrpError;
-use nv_queue::{CompletionRingFull, SubmissionRingFull};
+use nv_queue::{CqFull, RingFull};
 use nv_subsystem::SubsystemError;
 use std::alloc::{AllocError, AllocFailed};
 use thiserror::Error;
@@ -145,14 +145,14 @@ impl From<PrpError> for OperationError {
     }
 }
 
-impl From<SubmissionRingFull> for OperationError {
-    fn from(_error: SubmissionRingFull) -> OperationError {
+impl From<RingFull> for OperationError {
+    fn from(_error: RingFull) -> OperationError {
         OperationError::SubmissionsFull
     }
 }
 
-impl From<CompletionRingFull> for OperationError {
-    fn from(_error: CompletionRingFull) -> OperationError {
+impl From<CqFull> for OperationError {
+    fn from(_error: CqFull) -> OperationError {
         OperationError::CompletionsFull
     }
 }

@@ -171,7 +171,7 @@ impl Bench {
 
     pub(crate) fn tail(&mut self, alloc: Global, words: &[&str]) -> Answered {
         let given = OperationArguments::read(alloc, words, &[Row::dword("tail")])?;
-        self.rings.fetch.write_tail(given.dword("tail"));
+        self.rings.fetch.tail(given.dword("tail"));
         Ok(Answer::new(alloc))
     }
 
@@ -212,7 +212,7 @@ impl Bench {
 
     pub(crate) fn head(&mut self, alloc: Global, words: &[&str]) -> Answered {
         let given = OperationArguments::read(alloc, words, &[Row::dword("head")])?;
-        self.rings.post.write_head(given.dword("head"));
+        self.rings.post.head(given.dword("head"));
         Ok(Answer::new(alloc))
     }
 
