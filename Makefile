@@ -6,8 +6,8 @@ PREFIX = /usr/local
 STAGE = out/stage
 CLIENT = out/client
 # The pages of docs/ that are installed, and those that aren't.
-manuals = GUIDE ALTERNATIVES COMMANDS DIFFERENCES SUBSYSTEM-FILE PASSTHROUGH QEMU TRACE EMBEDDING BENCHES PACKAGES SUPPORT
-left_out = ARCHITECTURE|DECISIONS|GLOSSARY|PROOFS|SPEED
+manuals = GUIDE COMMANDS SUBSYSTEM-FILE NVME-MODEL BUS DIFFERENCES QEMU EMBEDDING SUPPORT dev/BENCHES
+left_out = (dev/)?(ARCHITECTURE|PROOFS)|SPEED
 pages = $(STAGE)/share/doc/nvme-script
 # Puts the version into a text, and whether a program or library is the proved one of these sources.
 with_version = sed "s|@VERSION@|$$(cat VERSION)|"
@@ -94,12 +94,12 @@ note = Here, `./nvme-script` is `nvme-script`, and so on, all built. Files of `c
     `library`, `tests` and `tools` are in the repository.
 .PHONY: stage-pages
 stage-pages:
-	install -d $(pages)/examples
+	install -d $(pages)/examples $(pages)/dev
 	install -m 644 examples/*.* $(pages)/examples
 	install -m 644 packages/copyright docs/command.svg $(pages)
 	for page in $(manuals:%=docs/%.md) CHANGELOG.md; do \
 	    sed -E -e 's#\]\(\.\./(examples/|CHANGELOG)#](\1#g; s#\]\(docs/#](#g' \
-	        -e 's#\[([^]]*)\]\((\.\./|($(left_out))\.md)[^)]*\)#\1#g' -e '1s#$$#\n\n$(note)#' $$page > $(pages)/$${page#docs/} || exit; \
+	        -e 's#\[([^]]*)\]\(((\.\./)+([a-z]|README|CONTRIBUTING)|($(left_out))\.md)[^)]*\)#\1#g' -e '1s#$$#\n\n$(note)#' $$page > $(pages)/$${page#docs/} || exit; \
 	done
 
 .PHONY: stage-library

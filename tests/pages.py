@@ -5,7 +5,7 @@ from collections import Counter
 
 from tests.support import TOP
 
-PAGES = 'README.md', 'CONTRIBUTING.md', 'CHANGELOG.md', 'docs/*.md', 'examples/README.md', 'crates/*/README.md'
+PAGES = 'README.md', 'CONTRIBUTING.md', 'CHANGELOG.md', 'docs/**/*.md', 'examples/README.md', 'crates/*/README.md'
 FILES = re.compile(r'(crates|docs|examples|tests|tools|client|\.ci|nv(?:me)?_[a-z0-9_]*|src|specs|proofs|must-fail)/')
 ITEM = re.compile(r' *([-*+]|[0-9]+\.) ')
 

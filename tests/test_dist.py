@@ -277,7 +277,7 @@ class Debian(Packages):
                 versions = [tuple(map(int, found)) for found in re.findall(r'GLIBC_(\d+)\.(\d+)', '\n'.join(needed))]
                 found = re.search(r'libc6 \(>= (\d+)\.(\d+)\)', fields[name])
                 self.assertEqual(found and tuple(map(int, found.groups())), max(versions, default=None))
-                self.assertLessEqual(max(versions, default=(0, 0)), (2, 34), 'docs/PACKAGES.md says 2.34')
+                self.assertLessEqual(max(versions, default=(0, 0)), (2, 34), 'docs/SUPPORT.md says 2.34')
 
     def test_links_of_pages(self):
         whole = self.folder / 'root'

@@ -68,16 +68,17 @@ class Pages(Case):
     def test_links_of_installed_pages(self):
         self.ends(run('make', '-s', 'stage-pages', f'STAGE={self.folder}'), 0)
         pages = self.folder / 'share/doc/nvme-script'
-        links = [(page, link) for page in pages.glob('*.md')
+        installed = [*pages.glob('*.md'), *pages.glob('dev/*.md')]
+        links = [(page, link) for page in installed
                  for link in re.findall(r'\]\(([^ )]+)', page.read_text()) if '://' not in link]
         self.assertGreater(len(links), 50)
-        for page in pages.glob('*.md'):
+        for page in installed:
             # what isn't installed, and is named all the same, is said to be in the repository
             self.assertIn('are in the repository', page.read_text().splitlines()[2], page.name)
         for page, link in links:
             with self.subTest(page.name):
                 name, _, heading = link.partition('#')
-                target = pages / name if name else page
+                target = page.parent / name if name else page
                 self.assertTrue(target.exists(), f'{page.name}: the link {link} leads to nothing')
                 if heading:
                     self.assertIn(heading, list(Page(str(target)).anchors()), page.name)
@@ -126,7 +127,7 @@ class Examples(Case):
             self.skipTest('the examples of the pages are run by the proved program')
 
     def test_session_of_benches(self):
-        session = re.search(r'(?m)(?:^    .*\n)+', text_of('docs/BENCHES.md')).group()
+        session = re.search(r'(?m)(?:^    .*\n)+', text_of('docs/dev/BENCHES.md')).group()
         lines = textwrap.dedent(session).splitlines(keepends=True)
         ended = run(program('nvme_bench'), source=''.join(line[2:] for line in lines if line[:2] == '> ').encode())
         self.ends(ended, 0, ''.join(line for line in lines if line[:2] != '> ').encode(), b'')
@@ -187,8 +188,8 @@ class Copies(Case):
         """The pictures show what is in the sources, and are what the program makes, which sees what isn't."""
         said = run(TOP / 'tools/pictures', '--check')
         self.ends(said, 0, b'', b'')
-        for name in 'parts', 'command':
-            ElementTree.parse(TOP / f'docs/{name}.svg')
+        for path in TOP.glob('docs/**/*.svg'):
+            ElementTree.parse(path)
         pictures = runpy.run_path(str(TOP / 'tools/pictures'))
         for name in 'nv_queued', 'client/launched.c', 'nv_queue:SubmitRing::pushed', 'nv_queue:SubmitRings::push', 'nv_bus:Buses':
             self.assertFalse(pictures['is_there'](name), name)
@@ -197,8 +198,8 @@ class Copies(Case):
 
     def test_tables_of_architecture(self):
         """The table of crates has each one after those that it uses, and that of folders names the files in C."""
-        page = text_of('docs/ARCHITECTURE.md')
-        order = re.findall(r'\[(nvm?e?_\w+)\]\(\.\./crates/', page.partition('\n**Two sides')[0])
+        page = text_of('docs/dev/ARCHITECTURE.md')
+        order = re.findall(r'\[(nvm?e?_\w+)\]\(\.\./\.\./crates/', page.partition('\n**Two sides')[0])
         uses = dict(re.match(r'(\w+)[^:]*:(.*)', line).groups() for line in text_of('crates.txt').splitlines())
         self.assertEqual(sorted(order), sorted(uses))
         for place, name in enumerate(order):
@@ -224,7 +225,7 @@ class Copies(Case):
             self.skipTest('there is no toolchain')
         toolchain = run('rt', 'version').out.decode().split()[0]
         self.assertIn(f'`{toolchain}`', readme)
-        self.assertIn(f'`{toolchain}`', text_of('docs/PROOFS.md'))
+        self.assertIn(f'`{toolchain}`', text_of('docs/dev/PROOFS.md'))
 
     def test_each_example_has_a_sentence(self):
         gallery = text_of('examples/README.md')
@@ -248,8 +249,8 @@ class Copies(Case):
     def test_lists_of_definitions(self):
         said = subprocess.run([TOP / 'tools/believed', '--page'], capture_output=True, check=True, text=True).stdout
         for table in said.rstrip('\n').split('\n\n'):
-            is_there = f'\n{table}\n' in text_of('docs/PROOFS.md')
-            self.assertTrue(is_there, f'docs/PROOFS.md: tools/believed --page prints\n{table}')
+            is_there = f'\n{table}\n' in text_of('docs/dev/PROOFS.md')
+            self.assertTrue(is_there, f'docs/dev/PROOFS.md: tools/believed --page prints\n{table}')
 
     def test_no_public_contract_reaches_inner_definitions(self):
         said = subprocess.run([TOP / 'tools/believed', '--inner'], capture_output=True, check=True, text=True).stdout

@@ -392,12 +392,12 @@ class Tools(ModelCase):
                   b'1\nNVME Identify Namespace 3:\nng0n3: namespace-id:3\n', b'')
 
     def test_commands_of_the_page(self):
-        # each command that a table of PASSTHROUGH says is refused, with its status
+        # each command that a table of NVME-MODEL says is refused, with its status
         more = {'device-self-test': '-s 1', 'sanitize': '-a 2', 'fw-commit': '-s 1 -a 1', 'security-recv': '-p 0 -x 64 -t 64',
                 'dir-receive': '-D 0 -O 1', 'virt-mgmt': '-c 1 -a 1', 'get-lba-status': '-s 0 -m 1 -a 16',
                 'write-uncor': '-s 0 -c 0', 'telemetry-log': f'-o {self.folder}/log', 'persistent-event-log': '-a 0',
                 'fw-download': f'-f {self.file("firmware", bytes(4096))}'}
-        table = (TOP / 'docs/PASSTHROUGH.md').read_text().partition('## Commands of nvme-cli\n')[2].partition('\n## ')[0]
+        table = (TOP / 'docs/NVME-MODEL.md').read_text().partition('## Commands of nvme-cli\n')[2].partition('\n## ')[0]
         rows = re.findall(r'(?m)^\| (`.*`) \| .*\((0x\w+)\)', table)
         self.assertEqual(len(rows), 4)
         for commands, status in rows:

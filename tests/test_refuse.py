@@ -108,8 +108,8 @@ class Refuse(ModelCase):
         self.assertEqual(len(ended.out.split()), 100)
 
     def test_names(self):
-        """PASSTHROUGH names the commands that the source has, in its order."""
-        page = (TOP / 'docs/PASSTHROUGH.md').read_text()
+        """NVME-MODEL names the commands that the source has, in its order."""
+        page = (TOP / 'docs/NVME-MODEL.md').read_text()
         listed = re.search(r'COMMAND is (`id-ctrl`.*?), the opcode', page, re.S)[1]
         source = (TOP / 'client/refuse.c').read_text()
         self.assertEqual(re.findall('`([a-z-]+)`', listed), re.findall(r'\{"([a-z-]+)", [01], ', source))

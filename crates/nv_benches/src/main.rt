@@ -1,4 +1,4 @@
-//! The benches of docs/BENCHES.md. Each prints what it finds.
+//! The benches of docs/dev/BENCHES.md. Each prints what it finds.
 //!
 //! These are examples of benches in Rattle. `nvme_bench` is the program that executes operations from its input.
 #![tactic(auto)]
