@@ -49,6 +49,7 @@ def program(name):
     return str(path)
 
 
+@functools.lru_cache(maxsize=None)
 def library():
     """Returns the folder of the library nvme_controller, if the gate or `make library` made it from the current
     sources."""

@@ -65,6 +65,7 @@ class Pages(Case):
                 if heading:
                     self.assertIn(heading, list(Page(str(target.relative_to(TOP))).anchors()), place)
 
+    @unittest.skipUnless(shutil.which('make'), 'make is not installed')
     def test_links_of_installed_pages(self):
         self.ends(run('make', '-s', 'stage-pages', f'STAGE={self.folder}'), 0)
         pages = self.folder / 'share/doc/nvme-script'
@@ -226,6 +227,13 @@ class Copies(Case):
         toolchain = run('rt', 'version').out.decode().split()[0]
         self.assertIn(f'`{toolchain}`', readme)
         self.assertIn(f'`{toolchain}`', text_of('docs/dev/PROOFS.md'))
+
+    def test_packages(self):
+        """README's line of packages begins with those of `.ci/run --quick`, and the gate needs all of them."""
+        needed = re.findall(r'(?m)^[^#\s]+ (\S+)$', text_of('.ci/needed'))
+        named, = re.findall(r'(?m)^    sudo apt install (.*)$', text_of('README.md'))
+        self.assertEqual(named.split()[:2], needed[:2])
+        self.assertLess(set(named.split()), set(needed))
 
     def test_each_example_has_a_sentence(self):
         gallery = text_of('examples/README.md')

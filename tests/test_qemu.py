@@ -1,7 +1,7 @@
 """Tests ./nvme-model --qemu: valid and invalid messages of x-pci-proxy-dev, which tests/as_qemu.py sends in QEMU's
 place, and SeaBIOS and Linux with nvme-cli over the controllers, if QEMU, a kernel and a static busybox are installed:
 by vfio-user-pci where QEMU has it. tests/test_vfio_*.py test the messages of that. NVME_TEST_KERNEL names a kernel
-instead of the newest one in /boot, and NVME_TEST_MODULES the folder with its modules."""
+instead of the newest one in /boot or that of tools/kernel, and NVME_TEST_MODULES the folder with its modules."""
 
 import functools
 import glob
@@ -23,6 +23,8 @@ from tests.support import DEMO, TOP, Case, Running, difference, library, process
 SCENARIOS = ('configuration', 'registers', 'commands', 'page_sizes', 'bus_master', 'interrupts', 'holes',
              'sections', 'gone')
 SEEDS = range(8)
+# The kernel of tools/kernel.
+UNPACKED = TOP / 'out/kernel'
 # Seconds for a guest: its emulated processor needs some 20 of a real one, for which it waits on a busy machine.
 LIMIT = 1200
 COUNTS = r'nvme-model: controller (\d+): commands (\d+), refused (\d+)\n'
@@ -231,11 +233,12 @@ class Messages(Case):
 
 
 def kernel():
-    """Returns the kernel and the folder of its modules: the newest installed ones if none are named."""
-    kernels = sorted(glob.glob('/boot/vmlinuz-*'), key=os.path.getmtime)
+    """Returns the kernel and the folder of its modules: the newest ones that are installed, or that of tools/kernel, if
+    none are named."""
+    kernels = sorted(glob.glob('/boot/vmlinuz-*'), key=os.path.getmtime) or glob.glob(f'{UNPACKED}/boot/vmlinuz-*')
     found = os.environ.get('NVME_TEST_KERNEL') or (kernels[-1] if kernels else '')
-    release = os.path.basename(found).partition('-')[2]
-    return found, os.environ.get('NVME_TEST_MODULES') or f'/lib/modules/{release}'
+    place, _, release = found.partition('/boot/vmlinuz-')
+    return found, os.environ.get('NVME_TEST_MODULES') or f'{place}/lib/modules/{release}'
 
 
 @functools.lru_cache(maxsize=None)
@@ -403,11 +406,17 @@ class Drivers(ModelCase):
 
     def test_recipe(self):
         # the page's commands, word for word, pack a guest, boot it, and leave nothing in the folder where they run
-        release = sorted(path.name for path in pathlib.Path('/lib/modules').glob('*'))[-1:]
-        if not release or not os.path.exists(f'/boot/vmlinuz-{release[0]}') or not shutil.which('cpio'):
-            self.skipTest('there is no cpio, or no kernel whose modules are the last ones in /lib/modules')
+        if not shutil.which('cpio'):
+            self.skipTest('cpio is not installed')
         page = (TOP / 'docs/QEMU.md').read_text()
         commands = textwrap.dedent(re.search(r'(?m)^    guest=.*\n(?:    .*\n)*', page).group())
+        release = sorted(path.name for path in pathlib.Path('/lib/modules').glob('*'))[-1:]
+        if not release or not os.path.exists(f'/boot/vmlinuz-{release[0]}'):
+            # (apart from where they find a kernel that isn't installed)
+            place, *_ = kernel()[0].rpartition('/boot/')
+            for old, new in ((' /lib/', f' {place}/lib/'), ('/boot/', f'{place}/boot/'), (' -S ', f' -d {place} -S ')):
+                self.assertIn(old, commands)
+                commands = commands.replace(old, new)
         added = '' if b'vfio-user-pci' in devices() else ' irqpoll nolapic_timer'
         commands = commands.replace('-append console=ttyS0', f'-append "console=ttyS0 no_timer_check{added}"')
         (self.folder / 'here').mkdir()

@@ -1,6 +1,6 @@
 """Tests ./nvme-script in copies of the repository: which program it runs after edits, interrupted builds and the like,
-and how an unproved run ends. A stand-in for `rt` gives the answers that the tests set. Two real unproved runs must
-write the same bytes as the built program."""
+and how an unproved run ends. A stand-in for `rt` gives the answers that the tests set. A real unproved run must write
+the same bytes as the built program."""
 
 import os
 import re
@@ -333,24 +333,18 @@ class Streams(Copy):
 
 
 class Real(Case):
-    """Real unproved runs, of a copy with no built program, through a link and in a folder of their own."""
+    """A real unproved run, of a copy with no built program, through a link and in a folder of its own."""
 
     script = (b'list-ns /dev/nvme0\nbogus\nid-ns /dev/nvme1 -n 0\n  # nothing\nid-ctrl /dev/nvme1 -o json\n'
               b'id-ns /dev/nvme0 -n 0')
 
-    def compare(self, folder, *arguments):
+    def test_file_of_the_folder(self):
         copy_repository(self.folder / '-real copy')
         own = self.folder / '-real folder'
-        (own / 'inner').mkdir(parents=True)
-        (own / 'short').symlink_to('inner')
+        own.mkdir()
         (own / 'link').symlink_to(self.folder / '-real copy/nvme-script')
         shutil.copy(TOP / 'examples/two_controllers.toml', own / '-two controllers.toml')
-        wanted = run(SCRIPT, *arguments, source=self.script, cwd=own / folder)
-        ended = run(own / 'link', *arguments, source=self.script, cwd=own / folder, limit=1800)
+        arguments = '--subsystem=-two controllers.toml', '--depth', '2'
+        wanted = run(SCRIPT, *arguments, source=self.script, cwd=own)
+        ended = run(own / 'link', *arguments, source=self.script, cwd=own, limit=1800)
         self.ends(ended, wanted.status, wanted.out, LINE + b'\n' + wanted.err)
-
-    def test_file_of_the_folder(self):
-        self.compare('.', '--subsystem=-two controllers.toml', '--depth', '2')
-
-    def test_file_that_is_missing(self):
-        self.compare('short', '--subsystem', 'missing one.toml')
