@@ -2,8 +2,8 @@
    becomes bubblewrap, which makes a sandbox and starts the launcher again inside (sandbox.c), as process 1. There it
    starts the devices behind sockets (relay.c), makes the nodes and the files of /sys (nodes.c, sysfs.c), runs the
    command with the library preloaded, and has its calls answered (helpers.c, calls.c). It ends when the command ends,
-   with its status, and everything in the sandbox ends with it. Where no sandbox can be made and the machine has no NVMe
-   device, all this happens outside, and nodes are only names. None of this is proved. */
+   with its status, and everything in the sandbox ends with it. With --no-sandbox, where none can be made and the
+   machine has no NVMe device, all this happens outside, and nodes are only names. None of this is proved. */
 #include "launcher.h"
 #include "usage.h"
 #include <getopt.h>
@@ -40,7 +40,7 @@ static char parts[PATH_MAX], library[PATH_MAX + 32], program[PATH_MAX + 32];
 static const char *names[MOST_DEVICES], *added[MOST_ADDED + 1];
 static char *device_words[MOST_OPTIONS + 4] = {program}; /* a device's program and options */
 static unsigned file_count, device_word_count = 1, added_count;
-static int has_trace;
+static int has_trace, may_lack_sandbox;
 static const char *trace_file;
 static uint64_t limit;
 static mode_t creation_mask; /* of the command's files */
@@ -234,7 +234,9 @@ static const char usage[] =
     "  --device PATH        add a character device of this machine, such as /dev/fuse, to the /dev of COMMAND\n"
     "  --depth N, --page-size N, --offset N, --list-offset N, --window N, --pace N\n"
     "                       choose the layout of queues and memory, as for nvme-script\n"
+    "  --no-sandbox         without bubblewrap, if this machine has no NVMe device: make nodes that are only names\n"
     "  --qemu, --vfio-user  as the first option, give the controllers to virtual machines; see --qemu --help\n"
+    "  --build              as the only argument, in a clone of the repository: prove and build the device\n"
     "  --help               show this help and the version\n"
     "  --version            show the version\n\n"
     "The exit status is that of COMMAND, or 72 if nvme-model itself can't continue. See nvme-model(1).\n"
@@ -268,6 +270,7 @@ static int read_options(int count, char **arguments) {
                                             {"trace", optional_argument, NULL, TRACE},
                                             {"data-limit", required_argument, NULL, LIMIT},
                                             {"no-notice", no_argument, &waits, 1},
+                                            {"no-sandbox", no_argument, &may_lack_sandbox, 1},
                                             {"help", no_argument, NULL, HELP},
                                             {"version", no_argument, NULL, VERSION},
                                             {"device", required_argument, NULL, DEVICE},
@@ -424,7 +427,8 @@ static void begin_inside(const char *blocked, const char *here) {
     signals_at_monitor(); /* (bwrap may have ended before) */
 }
 
-/* Makes the sandbox and runs the command there, or else without one, if the machine has no NVMe device. */
+/* Makes the sandbox and runs the command there, or else, with --no-sandbox, without one if the machine has no NVMe
+   device. */
 static int begin_outside(char **arguments, char **command_arguments) {
     const struct sandbox sandbox = {limit, added, library, program};
     const char *reason = why_no_sandbox(&sandbox), *node = a_real_node();
@@ -436,6 +440,8 @@ static int begin_outside(char **arguments, char **command_arguments) {
     if (access("/sys/class/block", F_OK) < 0)
         fail("without /sys, nothing tells whether this machine has NVMe devices, and no sandbox can be made: %s",
              reason);
+    if (!may_lack_sandbox)
+        fail("no sandbox can be made: %s; --no-sandbox runs the command without one", reason);
     fprintf(stderr,
             "nvme-model: the command runs without a sandbox (%s): nodes can be opened by their names in /dev but hold "
             "no data, listings of /dev and /sys don't show them, and only programs that load the preloaded library "

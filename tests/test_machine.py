@@ -381,7 +381,7 @@ class NoSandbox(MachineCase):
         for kind in ('devices', 'files') if IS_ROOT else ('files',):
             for way, reason in self.ways().items():
                 with self.subTest(kind, way=way), contextlib.closing(Machine(self, kind)) as machine:
-                    ended = machine.model('touch "$place/touched"', by=way)
+                    ended = machine.model('touch "$place/touched"', by=way, options=['--no-sandbox'])
                     self.ends(ended, 72, b'')
                     self.assertRegex(ended.err, b'^nvme-model: /dev/n\\w+ is a device of this machine, and .*' + reason +
                                      b'.*\n$')
@@ -397,7 +397,12 @@ class NoSandbox(MachineCase):
                           'smartctl -i /dev/nvme0 | grep -c S0; '
                           'env -i PATH="$PATH" nvme id-ctrl //dev/nvme0 | grep -c S0; '
                           'cd /dev; nvme id-ctrl nvme1 | grep -c S1')
-                ended = machine.model(script, by=way)
+                refused = machine.model('touch "$place/touched"', by=way)
+                self.ends(refused, 72, b'')
+                self.assertRegex(refused.err, b'^nvme-model: no sandbox can be made: .*' + reason +
+                                 b'.*; --no-sandbox runs the command without one\n$')
+                self.assertFalse((self.folder / 'touched').exists())
+                ended = machine.model(script, by=way, options=['--no-sandbox'])
                 self.ends(ended, 0, b'[   0]:0x1\n[   1]:0x3\ncreate-ns: Success, created nsid:2\n'
                           b'attach-ns: Success, nsid:2\n1\n1\n1\n')
                 self.assertRegex(ended.err, b'^' + re.escape(MISSING) + b'.*' + reason + b'.*\n$')
@@ -406,7 +411,7 @@ class NoSandbox(MachineCase):
     def test_refused_where_nothing_tells(self):
         covered = 'unshare', '-m', 'sh', '-c', 'mount -t tmpfs x /sys && exec "$@"', 'sh'
         with contextlib.closing(Machine(self, 'none')) as machine:
-            ended = machine.model('echo no', by=(*covered, *list(self.ways())[1]))
+            ended = machine.model('echo no', by=(*covered, *list(self.ways())[1]), options=['--no-sandbox'])
             self.ends(ended, 72, b'')
             self.assertRegex(ended.err, b'^nvme-model: without /sys, nothing tells .*: .*bubblewrap\\n$')
 
@@ -415,7 +420,8 @@ class NoSandbox(MachineCase):
         shutil.copytree(installed().parents[1], place)
         with contextlib.closing(Machine(self, 'none')) as machine:
             for way in (), next(iter(self.ways())):
-                ended = run(*machine.enter, *way, place / 'bin/nvme-model', 'nvme', 'list-ns', '/dev/nvme0')
+                command = place / 'bin/nvme-model', '--no-sandbox', 'nvme', 'list-ns', '/dev/nvme0'
+                ended = run(*machine.enter, *way, *command)
                 self.ends(ended, 0, b'[   0]:0x1\n[   1]:0x3\n')
             machine.is_unchanged()
 
@@ -423,7 +429,8 @@ class NoSandbox(MachineCase):
         # its folder goes, and processes that the command left running reach nothing
         with contextlib.closing(Machine(self, 'none')) as machine:
             ended = machine.model('kill -9 $PPID; sleep 0.5; nvme id-ctrl /dev/nvme0 2> "$place/late"; '
-                                  'test -c /dev/nvme0 || echo end >> "$place/late"', by=WITHOUT)
+                                  'test -c /dev/nvme0 || echo end >> "$place/late"', by=WITHOUT,
+                                  options=['--no-sandbox'])
             self.assertEqual(ended.status, 137, ended)
             self.assertTrue(until(lambda: (self.folder / 'late').exists() and
                                   b'end\n' in (self.folder / 'late').read_bytes()))
