@@ -130,7 +130,7 @@ int copy_text(const struct call *call, uint64_t from, char into[PATH_MAX]) {
 
 /* ---- its process group */
 
-/* Returns the group of a process, which is 0 if the group began outside of the sandbox, or -1. */
+/* Returns the group of a process, which is 0 if the group began outside of the sandbox, or -1 if this can't be told. */
 static int group_of(pid_t process) {
     char text[512];
     int group = -1;
@@ -139,11 +139,11 @@ static int group_of(pid_t process) {
 }
 
 int signal_group(const struct call *call, int number) {
-    DIR *entries = group_of(call->process) == 0 ? opendir("/proc") : NULL;
+    int group = group_of(call->process), result = -ESRCH;
+    DIR *entries = group == 0 ? opendir("/proc") : NULL;
     struct dirent *entry;
-    int result = -ESRCH;
     if (!entries)
-        return NOT_OURS;
+        return group > 0 ? NOT_OURS : -EPERM;
     while ((entry = readdir(entries))) {
         pid_t process = atoi(entry->d_name);
         if (process <= 1 || group_of(process) != 0)
@@ -161,18 +161,21 @@ enum { MOST_LINKS = 40, TOP_OF_PROC = 1, ROOM = 2 * PATH_MAX };
 
 /* Follows a link of the folder `at`, and returns what it leads to, or puts its text before what is left of the path
    and returns the folder where this begins. Links of /proc other than those at its top can't be read as texts, and of
-   these `self` is the caller. */
-static int follow(const struct call *call, int at, const char *name, int link, char left[ROOM]) {
+   these `self` is the caller, by its number in the command's namespace. */
+static int follow(const struct call *call, int at, const char *name, int link, uint64_t resolve, char left[ROOM]) {
     char text[ROOM];
     struct statfs system;
     struct stat about;
     if (fstatfs(at, &system) < 0 || fstat(at, &about) < 0)
         return -1;
     int is_proc = system.f_type == PROC_SUPER_MAGIC, is_top = is_proc && about.st_ino == TOP_OF_PROC;
-    if (is_top && (strcmp(name, "self") == 0 || strcmp(name, "thread-self") == 0))
-        return open_about(call->process, "", O_PATH);
+    if (is_top && (strcmp(name, "self") == 0 || strcmp(name, "thread-self") == 0)) {
+        const char *numbers = strstr(read_about(call->process, "status", text, sizeof text), "\nNSpid:");
+        char own[16];
+        return numbers && sscanf(numbers, " NSpid: %*u %15s", own) == 1 ? openat(at, own, O_PATH | O_CLOEXEC) : -1;
+    }
     if (is_proc && !is_top)
-        return openat(at, name, O_PATH | O_CLOEXEC);
+        return resolve & ~(uint64_t)RESOLVE_CACHED ? -1 : openat(at, name, O_PATH | O_CLOEXEC);
     ssize_t length = readlinkat(link, "", text, PATH_MAX - 1);
     if (length < 0 || snprintf(text + length, ROOM - (size_t)length, "%s", left) >= ROOM - length)
         return -1;
@@ -180,11 +183,16 @@ static int follow(const struct call *call, int at, const char *name, int link, c
     return *left == '/' ? open_about(call->process, "root", O_PATH) : fcntl(at, F_DUPFD_CLOEXEC, 0);
 }
 
-/* Follows a path, part by part, as the caller would: another process can't have the kernel do so, because it would find
-   itself at /proc/self. */
-static int walk(const struct call *call, int at, const char *path, int flags) {
+/* Returns the type of a file. (A server isn't asked again, because what it tells may change what the caller may do.) */
+static mode_t type_of(int file) {
+    struct statx about;
+    return statx(file, "", AT_EMPTY_PATH | AT_STATX_DONT_SYNC, STATX_TYPE, &about) == 0 ? about.stx_mode & S_IFMT : 0;
+}
+
+/* Follows a path, part by part, as the caller would: another process can't have the kernel do so, because nothing is at
+   /proc/self for it. */
+static int walk(const struct call *call, int at, const char *path, const struct open_how *how) {
     char left[ROOM], name[NAME_MAX + 1];
-    struct stat about;
     unsigned links = 0;
     strcpy(left, path);
     while (at >= 0 && left[strspn(left, "/")]) {
@@ -195,14 +203,14 @@ static int walk(const struct call *call, int at, const char *path, int flags) {
         snprintf(name, sizeof name, "%.*s", (int)length, left + skipped);
         memmove(left, left + skipped + length, strlen(left + skipped + length) + 1);
         at = openat(before, name, O_PATH | O_NOFOLLOW | O_CLOEXEC);
-        if (at >= 0 && !(is_last && flags & O_NOFOLLOW) && fstat(at, &about) == 0 && S_ISLNK(about.st_mode)) {
+        if (at >= 0 && !(is_last && how->flags & O_NOFOLLOW) && type_of(at) == S_IFLNK) {
             int link = at;
-            at = links++ < MOST_LINKS ? follow(call, before, name, link, left) : -1;
+            at = links++ < MOST_LINKS ? follow(call, before, name, link, how->resolve, left) : -1;
             close(link);
         }
         close(before);
     }
-    if (at < 0 || !*left || (fstat(at, &about) == 0 && S_ISDIR(about.st_mode)))
+    if (at < 0 || !*left || type_of(at) == S_IFDIR)
         return at;
     close(at);
     return -1;
@@ -217,8 +225,8 @@ int look_up(const struct call *call, int directory, const char *path, const stru
     int from = open_about(call->process, *path == '/' && !is_below ? "root" : place, O_PATH);
     const char *rest = is_below ? path : path + strspn(path, "/");
     int file = from < 0 || !*path ? -1 : (int)syscall(SYS_openat2, from, *rest ? rest : ".", &how, sizeof how);
-    if (file < 0 && from >= 0 && errno == ELOOP && given->resolve == 0)
-        return walk(call, from, rest, (int)given->flags);
+    if (file < 0 && from >= 0 && (errno == ENOENT || (errno == ELOOP && given->resolve == 0)))
+        return walk(call, from, rest, given);
     if (from >= 0)
         close(from);
     return file;

@@ -319,8 +319,13 @@ static const struct handed_call *row_of(const struct seccomp_data *data) {
     return NULL;
 }
 
-/* (the kernel would take a node for a file) */
-void refuse_call(const union notice *notice) { finish_call(notice, row_of(&notice->got.data) ? NOT_OURS : -EAGAIN); }
+/* What a call gets that can't be looked at: the kernel carries it out, unless it would take a node for a file or send
+   signals outside. */
+static int answer_unseen(const struct handed_call *row) {
+    return row && (row->file >= 0 || row->path >= 0) ? NOT_OURS : -EAGAIN;
+}
+
+void refuse_call(const union notice *notice) { finish_call(notice, answer_unseen(row_of(&notice->got.data))); }
 
 /* (a process that is gone by now may have left its number to another one) */
 void answer_call(const union notice *notice) {
@@ -332,9 +337,8 @@ void answer_call(const union notice *notice) {
                         .request = (uint32_t)data->args[1],
                         .argument = data->args[2]};
     const struct handed_call *row = row_of(data);
-    int flags = 0, result = NOT_OURS;
+    int flags = 0, result = row ? answer_unseen(row) : NOT_OURS;
     int is_ours = act_as_caller(&call);
-    begin_call();
     if (is_ours && is_alive(call.id))
         result = row ? answer_row(&call, row, data->args, &flags) : answer_ioctl(&call);
     int is_file = row && row->path >= 0 && result >= 0;

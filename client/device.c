@@ -1,24 +1,9 @@
 /* Starts the devices. A device has its streams and its subsystem file, and can make only the calls that its program
-   needs (filter.c), as could any other program that it became. Nobody can trace it, because nobody can read its
-   program. None of this is proved. */
+   needs (filter.c), as could any other program that it became. None of this is proved. */
 #include "launcher.h"
-#include <linux/capability.h>
 #include <linux/close_range.h>
 #include <sys/prctl.h>
 #include <sys/socket.h>
-#include <sys/syscall.h>
-
-/* Becomes a program, without the rights by which root can read every file: Linux lets nobody trace a process whose
-   program it can't read. (The rights stay permitted, so they come back with the program.) */
-static void become(char *const *words) {
-    struct __user_cap_header_struct version = {_LINUX_CAPABILITY_VERSION_3, 0};
-    struct __user_cap_data_struct rights[2];
-    if (syscall(SYS_capget, &version, rights) < 0)
-        return;
-    rights[0].effective = rights[1].effective = 0;
-    if (syscall(SYS_capset, &version, rights) == 0 && confine_device() == 0)
-        execv(words[0], words);
-}
 
 /* Runs a device's program in a session of its own, so that signals from the terminal's keys don't end it. It is killed
    when the launcher ends. */
@@ -29,8 +14,8 @@ static void run_device(char *const *words, int file, int in_and_out, int said) {
     prctl(PR_SET_PDEATHSIG, SIGKILL);
     for (int number = 0; number <= last; number++)
         is_ready &= dup2(files[number], number) >= 0;
-    if (is_ready && close_range((unsigned)last + 1, ~0U, CLOSE_RANGE_CLOEXEC) == 0)
-        become(words);
+    if (is_ready && close_range((unsigned)last + 1, ~0U, CLOSE_RANGE_CLOEXEC) == 0 && confine_device() == 0)
+        execv(words[0], words);
     dprintf(STDERR_FILENO, "nvme-model: %s: %s\n", words[0], strerror(errno));
     _exit(FAILED);
 }
@@ -44,14 +29,14 @@ void start_device(char *const *words, int file, const char *name, const sigset_t
     if (device_count > 1)
         device->first = device[-1].first + device[-1].count;
     const pid_t process = fork();
-    if (process < 0)
-        fail_by_errno("fork");
     if (process == 0) {
         sigprocmask(SIG_SETMASK, blocked, NULL);
         run_device(words, file, channel[1], said[1]);
     }
-    device->process = process;
     close(channel[1]);
     close(said[1]);
+    if (process < 0)
+        fail_by_errno("fork");
+    device->process = process;
     greet_device(device, name);
 }

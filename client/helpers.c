@@ -2,13 +2,13 @@
    each call to a helper, which looks at the memory and at the files of the process that made the call, as that process
    could (calls.c), and waits where it would. Each device has a keeper, which alone exchanges requests with it and
    makes its nodes (relay.c, nodes.c), and which helpers ask. They share memory, by which they tell each other what is
-   to be done. What was killed is replaced, and what was stopped goes on. None of this is proved. */
+   to be done. None of this is proved. */
 #include "launcher.h"
 #include <linux/futex.h>
+#include <poll.h>
 #include <sys/eventfd.h>
 #include <sys/mman.h>
 #include <sys/prctl.h>
-#include <sys/select.h>
 #include <sys/syscall.h>
 #include <sys/wait.h>
 
@@ -17,10 +17,10 @@
 enum { USUAL_HELPERS = 8, MOST_HELPERS = 512 };
 
 struct helper {
-    pid_t process;               /* 0 if there is none */
-    unsigned given, begun, done; /* calls that it was given, that it has begun, and that it has answered */
-    unsigned asked, answered;    /* the numbers of its last request to a keeper, and of the last one with an answer */
-    int result;                  /* of the last request: 0, or -1 if the device is gone */
+    pid_t process;            /* 0 if there is none */
+    unsigned given, done;     /* calls that it was given, and that it has answered */
+    unsigned asked, answered; /* the numbers of its last request to a keeper, and of the last one with an answer */
+    int result;               /* of the last request: 0, or -1 if the device is gone */
     struct request_header request;
     struct answer_header answer;
     union notice notice;
@@ -59,21 +59,15 @@ static void await_change(const unsigned *number, unsigned value) {
 }
 
 /* Waits until one of these files, apart from those of -1, can be read, or for some milliseconds, unless they are -1.
-   Returns a bit for each that can. (Unlike `poll`, `select` works whatever limit of open files others give this
-   process.) */
+   Returns a bit for each that can. */
 static unsigned await_files(const int *files, unsigned count, int milliseconds) {
-    struct timeval limit = {milliseconds / 1000, milliseconds % 1000 * 1000};
+    struct pollfd waits[3];
     unsigned ready = 0;
-    fd_set set;
-    FD_ZERO(&set);
     for (unsigned at = 0; at < count; at++)
-        if (files[at] >= 0)
-            FD_SET(files[at], &set);
-    int found = select(FD_SETSIZE, &set, NULL, NULL, milliseconds < 0 ? NULL : &limit);
-    if (found < 0 && errno != EINTR)
-        usleep(1000);
-    for (unsigned at = 0; at < count && found > 0; at++)
-        ready |= (unsigned)(files[at] >= 0 && FD_ISSET(files[at], &set)) << at;
+        waits[at] = (struct pollfd){.fd = files[at], .events = POLLIN};
+    if (poll(waits, count, milliseconds) > 0)
+        for (unsigned at = 0; at < count; at++)
+            ready |= (unsigned)(waits[at].revents != 0) << at;
     return ready;
 }
 
@@ -129,19 +123,15 @@ static void begin_process(void) {
         _exit(0);
 }
 
-/* (a keeper that is killed may leave half an exchange, so its device is lost with it) */
-static void start_keeper(struct device *device, int is_lost) {
+static void start_keeper(struct device *device) {
     pid_t process = fork();
-    if (process != 0) {
+    if (process < 0)
+        fail_by_errno("fork");
+    if (process > 0) {
         device->keeper = process;
-        device->is_lost |= process < 0;
-        if (process < 0)
-            serve(device);
         return;
     }
     begin_process();
-    if (is_lost)
-        lose_device(device);
     for (int watcher = watch_nodes(device);;) {
         const int files[] = {asks[device - devices], device->is_lost ? -1 : device->to_and_from, watcher};
         serve(device);
@@ -172,8 +162,6 @@ void *own_data(void) { return data_of(self); }
 
 /* ---- helpers */
 
-void begin_call(void) { self->begun = self->given; }
-
 /* Answers calls, one after another. */
 __attribute__((noreturn)) static void help(struct helper *helper) {
     self = helper;
@@ -187,7 +175,7 @@ __attribute__((noreturn)) static void help(struct helper *helper) {
     }
 }
 
-/* Returns whether a helper could be started. It takes the call that was given to the one before. */
+/* Returns whether a helper could be started. */
 static int start_helper(struct helper *helper) {
     pid_t process = fork();
     if (process == 0)
@@ -254,31 +242,18 @@ unsigned await_call(int signals) {
     return ready;
 }
 
-/* Starts a helper in place of one that was killed. What that one had begun may have been done. */
-static void replace_helper(struct helper *helper) {
-    int has_call = helper->done != helper->given, has_begun = helper->begun == helper->given;
-    helper->process = 0;
-    if (!has_call || (!has_begun && start_helper(helper)))
-        return;
-    finish_call(&helper->notice, -EIO);
-    helper->done = helper->given;
-}
-
-void replace(pid_t process, int how) {
-    int is_stopped = WIFSTOPPED(how);
+/* (the call of a helper that was killed may have been done) */
+void note_end(pid_t process) {
     for (struct helper *helper = helpers; helper < end(); helper++)
-        if (helper->process == process && is_stopped)
-            kill(process, SIGCONT);
-        else if (helper->process == process)
-            replace_helper(helper);
-    for (struct device *device = devices; device < devices + device_count; device++)
-        if (device->keeper == process && is_stopped)
-            kill(process, SIGCONT);
-        else if (device->keeper == process) {
-            if (device->process > 0)
-                kill(device->process, SIGKILL);
-            start_keeper(device, 1);
+        if (helper->process == process) {
+            helper->process = 0;
+            if (helper->done != helper->given)
+                finish_call(&helper->notice, -EIO);
+            helper->done = helper->given;
         }
+    for (struct device *device = devices; device < devices + device_count; device++)
+        if (device->keeper == process)
+            fail("the process that talks with a device was killed");
 }
 
 void begin_helpers(void) {
@@ -292,9 +267,7 @@ void begin_helpers(void) {
     at_end = eventfd(0, EFD_CLOEXEC | EFD_NONBLOCK);
     for (unsigned at = 0; at < device_count; at++) {
         asks[at] = eventfd(0, EFD_CLOEXEC | EFD_NONBLOCK);
-        start_keeper(devices + at, 0);
-        if (devices[at].keeper < 0)
-            fail_by_errno("fork");
+        start_keeper(devices + at);
     }
     if (!find_helper(1))
         fail_by_errno("fork");

@@ -31,7 +31,7 @@ uint64_t geometry[] = {[DEPTH] = 32, [PAGE_SIZE] = 4096, [WINDOW] = 1};
    signals and calls come from. */
 enum { HERE = 200, MONITOR, TRACE_TO, FILES };
 
-static pid_t command;
+static pid_t first, command;   /* process 1 of the command's namespace, which ends with its status, and the command */
 static int status = -1;        /* of the command, once it has ended */
 static sigset_t mask, watched; /* the signals that were blocked at the start, and the signals to wait for */
 static char parts[PATH_MAX], library[PATH_MAX + 32], program[PATH_MAX + 32];
@@ -43,7 +43,6 @@ static unsigned file_count, device_word_count = 1, added_count;
 static int has_trace, may_lack_sandbox;
 static const char *trace_file;
 static uint64_t limit;
-static mode_t creation_mask; /* of the command's files */
 
 /* Kills the keepers, which would report the end of a device, then in a sandbox all processes, whose calls nobody
    answers any more, and the devices. None of these has anything to clean up, and helpers end with the launcher. */
@@ -95,19 +94,17 @@ const char *last_line(int file, const char *program) {
     return line + (strncmp(line, program, strlen(program)) == 0 ? strlen(program) : 0);
 }
 
-/* Finds out which processes have ended or were stopped. */
+/* Finds out which processes of the launcher have ended. */
 static void reap(void) {
     int how;
     pid_t ended;
-    while ((ended = waitpid(-1, &how, WNOHANG | WUNTRACED)) > 0) {
+    while ((ended = waitpid(-1, &how, WNOHANG)) > 0) {
         for (struct device *device = devices; device < devices + device_count; device++)
-            if (ended == device->process && !WIFSTOPPED(how))
+            if (ended == device->process)
                 device->process = 0;
-        replace(ended, how);
-        if (ended != command || WIFSTOPPED(how))
-            continue;
-        command = 0;
-        status = WIFEXITED(how) ? WEXITSTATUS(how) : 128 + WTERMSIG(how);
+        note_end(ended);
+        if (ended == first)
+            status = WIFEXITED(how) ? WEXITSTATUS(how) : 128 + WTERMSIG(how);
     }
 }
 
@@ -154,7 +151,7 @@ static void run_command(void) {
     unsigned long passed = 0, seen = 0;
     if (from < 0)
         fail_by_errno("signalfd");
-    kill(command, SIGCONT);
+    release_command();
     for (unsigned turn = 1; status < 0; turn++) {
         unsigned ready = await_call(from);
         if (ready == 0 || turn % MOST_TURNS == 0)
@@ -176,48 +173,6 @@ static void block_signals(void) {
     blocked = watched;
     sigaddset(&blocked, SIGPIPE);
     sigprocmask(SIG_BLOCK, &blocked, NULL);
-}
-
-/* Puts a value before that of a variable of the environment. */
-static void prepend(const char *name, const char *value) {
-    const char *before = getenv(name);
-    char *whole;
-    if (asprintf(&whole, "%s%s%s", value, before ? ":" : "", before ? before : "") < 0 || setenv(name, whole, 1) < 0)
-        fail("out of memory");
-}
-
-/* Starts a process that stops before it becomes the command, and waits for that. (It shares the table of open files
-   until then, so the launcher has what the filter opens as `calls`; and a stream that is closed for the command is one
-   that can't be used.) */
-static void start_command(char **arguments) {
-    int how;
-    calls = open("/dev/null", O_RDONLY | O_CLOEXEC);
-    command = calls < 0 ? -1 : (pid_t)syscall(SYS_clone, CLONE_FILES | SIGCHLD, NULL, NULL, NULL, 0L);
-    if (command < 0)
-        fail_by_errno("fork");
-    if (command > 0 && waitpid(command, &how, WUNTRACED) == command && WIFSTOPPED(how))
-        return;
-    if (command > 0) {
-        end_devices();
-        exit(FAILED); /* (it said why) */
-    }
-    prepend("LD_PRELOAD", library);
-    /* (the address sanitizer wants to be the first library, and udev that /sys is a file system of the kernel) */
-    prepend("ASAN_OPTIONS", "verify_asan_link_order=0");
-    setenv("SYSTEMD_DEVICE_VERIFY_SYSFS", "0", 1);
-    for (int file = 0; file <= STDERR_FILENO; file++)
-        if (fcntl(file, F_GETFL) & O_PATH)
-            fcntl(file, F_SETFD, FD_CLOEXEC);
-    umask(creation_mask);
-    sigprocmask(SIG_SETMASK, &mask, NULL);
-    filter_calls();
-    prctl(PR_SET_PDEATHSIG, SIGKILL); /* (while it is stopped) */
-    kill(getpid(), SIGSTOP);
-    prctl(PR_SET_PDEATHSIG, 0);
-    execvp(arguments[0], arguments);
-    int is_found = errno != ENOENT && errno != ENOTDIR;
-    fprintf(stderr, "nvme-model: %s: %s\n", arguments[0], strerror(errno));
-    _exit(is_found ? NOT_EXECUTABLE : NOT_FOUND);
 }
 
 static const char usage[] =
@@ -359,8 +314,9 @@ static void open_files(void) {
 static int run(char **arguments) {
     struct rlimit files_limit;
     block_signals();
-    creation_mask = umask(0);
     trace = trace_file ? TRACE_TO : STDERR_FILENO;
+    pid_t started = start_command(arguments, library, &mask, &first);
+    umask(0);
     devices = share(MOST_DEVICES * sizeof *devices);
     for (int file = HERE; file < FILES + MOST_DEVICES; file++)
         fcntl(file, F_SETFD, FD_CLOEXEC);
@@ -373,7 +329,7 @@ static int run(char **arguments) {
     for (unsigned at = 0; at < file_count; at++)
         close(FILES + (int)at);
     make_nodes();
-    start_command(arguments);
+    command = started; /* (from now on, what can't be made doesn't end it) */
     /* (a namespace without nodes has its data in an open file) */
     if (getrlimit(RLIMIT_NOFILE, &files_limit) == 0) {
         files_limit.rlim_cur = files_limit.rlim_max;
@@ -408,8 +364,6 @@ static void begin_inside(const char *blocked, const char *here) {
     has_sandbox = 1;
     strcpy(library, MODEL_FOLDER "/library.so");
     strcpy(program, MODEL_FOLDER "/device");
-    if (prctl(PR_SET_DUMPABLE, 0) < 0)
-        fail_by_errno("other processes can't be kept from tracing this one");
     hold_streams();
     check_mounts();
     check_nodes();
@@ -457,6 +411,8 @@ int main(int count, char **arguments) {
     struct sysinfo machine;
     int is_inside = getpid() == 1 && count > 4 && strcmp(arguments[1], INSIDE) == 0;
     char *blocked = is_inside ? arguments[2] : NULL, *here = is_inside ? arguments[3] : NULL;
+    if (getpid() == 1 && count == 2 && strcmp(arguments[1], TRIAL) == 0)
+        try_namespace();
     if (is_inside) {
         arguments += 3;
         count -= 3;

@@ -44,6 +44,13 @@ __attribute__((noreturn)) void fail_by_errno(const char *what);
 void cannot(const char *path);
 const char *last_line(int file, const char *program);
 
+/* command.c: starts process 1 of the command's own namespace, which is stored, and gives up the rights that make it;
+   returns the process that becomes the command, with these signals blocked, as soon as it is released; and ends this
+   process after it has tried to make such a namespace. */
+pid_t start_command(char **arguments, const char *library, const sigset_t *blocked, pid_t *first);
+void release_command(void);
+__attribute__((noreturn)) void try_namespace(void);
+
 /* device.c: starts a device by these words, with a subsystem file (or -1) that it has as descriptor 3 and that has this
    name, and with these signals blocked. */
 enum { SUBSYSTEM_FILE = STDERR_FILENO + 1 };
@@ -122,19 +129,17 @@ int is_alive(uint64_t id);
 void finish_call(const union notice *notice, int result);
 void refuse_call(const union notice *notice);
 
-/* helpers.c: begins with helpers and keepers; waits some milliseconds at most for a call, which is given
-   to a helper, or for a signal, and returns 0 if none came; and replaces a helper or keeper that was killed, and lets
-   one go on that was stopped. */
+/* helpers.c: begins with helpers and keepers; waits some milliseconds at most for a call, which is given to a helper,
+   or for a signal, and returns 0 if none came; and takes note that one of these processes has ended, without which
+   the launcher can't continue if it was a keeper. */
 void begin_helpers(void);
 unsigned await_call(int signals);
-void replace(pid_t process, int how);
+void note_end(pid_t process);
 
-/* helpers.c: memory that all these processes share; and in a helper, the beginning of a call (a helper that is killed
-   before is replaced, because it had another caller's identity), room for data, and a request to the keeper of a
+/* helpers.c: memory that all these processes share; and in a helper, room for data, and a request to the keeper of a
    controller's device, which returns -1 if the device is gone. The request may also be a scan of controllers. */
 enum { KIND_SCAN = 0xffff };
 void *share(size_t size);
-void begin_call(void);
 void *own_data(void);
 int ask_keeper(const struct request_header *header, struct answer_header *answer);
 
@@ -184,16 +189,18 @@ struct sandbox {
 };
 #define MODEL_FOLDER "/sys/fs/nvme-model"
 #define INSIDE "--inside"
+#define TRIAL "--trial"
 
 /* sandbox.c: returns an NVMe device of the machine, or NULL if it has none; returns why no sandbox can be made, or NULL
    if one can; starts the launcher in it with these words and arguments, in place of this process; and, in it, fails if
-   a mount isn't kept from the command, and returns whether a path is one that bwrap makes anew, such as /dev, or below
-   one. */
+   a mount isn't kept from the command, has each /proc show the processes of this process's namespace alone, and returns
+   whether a path is one that bwrap makes anew, such as /dev, or below one. */
 const char *a_real_node(void);
 const char *why_no_sandbox(const struct sandbox *sandbox);
 __attribute__((noreturn)) void enter_sandbox(const struct sandbox *sandbox, const char *const *first,
                                              char *const *arguments);
 void check_mounts(void);
+void show_own_processes(void);
 int is_replaced(const char *path);
 
 /* The nodes of the machine that each command has. */

@@ -16,8 +16,8 @@ static int move_all(int file, void *at, size_t size, int outwards) {
     return 0;
 }
 
-/* Reports that a device is lost, and then marks it, so that a keeper which was killed before it had done all this is
-   replaced by one that does it. A device that doesn't even start reports the reason itself. */
+/* Reports that a device is lost, before anybody can see it. A device that doesn't even start reports the reason itself.
+ */
 void lose_device(struct device *device) {
     if (device->is_lost || device->count == 0)
         return;

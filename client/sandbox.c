@@ -21,6 +21,8 @@ static const char file_systems[] =
 static const char *const shown[] = {"/sys/devices/system",     "/sys/fs/cgroup",           "/sys/kernel/mm",
                                     "/sys/class/net",          "/sys/devices/virtual/net", "/sys/class/dmi",
                                     "/sys/devices/virtual/dmi"};
+/* Where the parts of /proc are that the command has of the machine's. */
+#define SETTINGS MODEL_FOLDER "/settings"
 /* What root may do in the sandbox: all that files need, and to become another user. */
 static const char rights[] = "--cap-drop ALL --cap-add CAP_CHOWN --cap-add CAP_DAC_OVERRIDE --cap-add CAP_FOWNER"
                              " --cap-add CAP_FSETID --cap-add CAP_KILL --cap-add CAP_SETGID --cap-add CAP_SETUID"
@@ -81,7 +83,8 @@ static void add_below(const char *option, const char *path) {
 struct mount {
     dev_t number;
     uint64_t identifier;
-    char path[4 * PATH_MAX], options[1024], kind[64]; /* the kind of file system, between blanks */
+    char root[4 * PATH_MAX], path[4 * PATH_MAX]; /* what is mounted of the file system, and where */
+    char options[1024], kind[64];                /* the kind of file system, between blanks */
 };
 
 /* Reads the next mount, and replaces the octal numbers in its path. */
@@ -94,8 +97,8 @@ static int read_mount(FILE *mounts, struct mount *mount) {
         return 0;
     const char *behind = strstr(line, " - ");
     if (!behind ||
-        sscanf(line, "%llu %*d %u:%u %*s %16383s %1023s", &identifier, numbers, numbers + 1, mount->path,
-               mount->options) != 5 ||
+        sscanf(line, "%llu %*d %u:%u %16383s %16383s %1023s", &identifier, numbers, numbers + 1, mount->root,
+               mount->path, mount->options) != 6 ||
         sscanf(behind, " - %61s", mount->kind + 1) != 1)
         fail("/proc/self/mountinfo can't be read");
     mount->number = makedev(numbers[0], numbers[1]);
@@ -117,27 +120,30 @@ static int holds_files(const struct mount *mount) {
     return strstr(file_systems, mount->kind) || begins(mount->kind, " fuse.");
 }
 
+/* (all mounts are read at once, so that the list doesn't grow while more are made) */
 static FILE *open_mounts(void) {
-    FILE *mounts = fopen("/proc/self/mountinfo", "re");
-    if (!mounts)
+    char *text = NULL;
+    size_t room = 0;
+    FILE *file = fopen("/proc/self/mountinfo", "re"), *mounts = NULL;
+    ssize_t length = file ? getdelim(&text, &room, '\0', file) : -1;
+    if (length <= 0 || fclose(file) != 0 || !(mounts = fmemopen(text, (size_t)length, "r")))
         fail_by_errno("/proc/self/mountinfo");
     return mounts;
 }
 
-/* Adds a /proc with the command's processes, in which all that can be written besides them is read-only. (bwrap itself
-   leaves /proc/sys as it is for root.) */
-static void add_proc(const char *path) {
+/* Adds what can be written in /proc besides processes, as far as the caller sees it, and read-only. The command's /proc
+   gets it from there. (The kernel lets a user mount another /proc only if nothing covers a part of the first one.) */
+static void add_settings(void) {
     DIR *entries = opendir("/proc");
     struct dirent *entry;
     struct stat about;
-    char from[PATH_MAX], to[5 * PATH_MAX];
-    add("--proc");
-    add(path);
+    char from[PATH_MAX], to[PATH_MAX];
     if (!entries)
         fail_by_errno("/proc");
+    add_words("--perms 0755 --dir " SETTINGS);
     while ((entry = readdir(entries))) {
         snprintf(from, sizeof from, "/proc/%s", entry->d_name);
-        snprintf(to, sizeof to, "%s/%s", path, entry->d_name);
+        snprintf(to, sizeof to, SETTINGS "/%s", entry->d_name);
         if (!strchr(".0123456789", entry->d_name[0]) && lstat(from, &about) == 0 && !S_ISLNK(about.st_mode) &&
             (S_ISDIR(about.st_mode) || about.st_mode & 0222))
             bind_to("--ro-bind-try", from, to);
@@ -166,9 +172,10 @@ static void add_mounts(void) {
         if (strcmp(mount.path, "/") == 0 || is_replaced(mount.path) || (holds_files(&mount) && !is_view) ||
             stat(mount.path, &about) < 0 || about.st_dev != mount.number)
             continue;
-        if (strcmp(mount.kind, " proc ") == 0 && S_ISDIR(about.st_mode))
-            add_proc(mount.path);
-        else
+        if (strcmp(mount.kind, " proc ") == 0 && S_ISDIR(about.st_mode)) {
+            add("--proc");
+            add(mount.path);
+        } else
             bind_to("--ro-bind", mount.path, mount.path);
     }
 }
@@ -209,7 +216,8 @@ static void add_sys(uint64_t limit) {
         if (path && begins(path, "/sys/devices/") && !begins(path, "/sys/devices/virtual/"))
             add_below("--ro-bind-try", path);
     }
-    add_proc("/proc");
+    add_settings();
+    add_words("--proc /proc");
 }
 
 /* Adds a copy of a program or of the library, with permissions for every user. */
@@ -227,9 +235,9 @@ static void compose(const struct sandbox *sandbox, const char *const *first, cha
     add_sys(sandbox->limit);
     add_part("/proc/self/exe", 0555, MODEL_FOLDER "/launcher");
     add_part(sandbox->library, 0555, MODEL_FOLDER "/library.so");
-    add_part(sandbox->device, 0111, MODEL_FOLDER "/device"); /* (device.c says why) */
-    add_words("--unshare-pid --as-pid-1 --unshare-ipc --chdir / %s -- " MODEL_FOLDER "/launcher",
-              geteuid() == 0 ? rights : "");
+    add_part(sandbox->device, 0555, MODEL_FOLDER "/device");
+    add_words("--unshare-pid --as-pid-1 --unshare-ipc --chdir / %s --cap-add CAP_SYS_ADMIN --cap-add CAP_SETPCAP"
+              " -- " MODEL_FOLDER "/launcher", geteuid() == 0 ? rights : "");
     for (; *first; first++)
         add(*first);
     for (; *arguments; arguments++)
@@ -265,7 +273,7 @@ void enter_sandbox(const struct sandbox *sandbox, const char *const *first, char
     fail_by_errno(words[0]);
 }
 
-/* (another process makes a sandbox for --help first, because the status of a bwrap that fails would be taken for the
+/* (another process makes a sandbox for a trial first, because the status of a bwrap that fails would be taken for the
    command's. It ends by itself: a bwrap that is killed as it starts would leave a process that waits for it.) */
 const char *why_no_sandbox(const struct sandbox *sandbox) {
     char *const none[] = {NULL};
@@ -285,7 +293,7 @@ const char *why_no_sandbox(const struct sandbox *sandbox) {
         dup2(null, STDIN_FILENO);
         dup2(null, STDOUT_FILENO);
         dup2(ends[1], STDERR_FILENO);
-        enter_sandbox(sandbox, (const char *const[]){"--help", NULL}, none);
+        enter_sandbox(sandbox, (const char *const[]){TRIAL, NULL}, none);
     }
     close(null);
     close(ends[1]);
@@ -332,5 +340,32 @@ void check_mounts(void) {
         if (reach != HIDDEN && (is_left || !strstr(mount.options, ",nodev")))
             fail("%s is a mount of this machine that can't be kept from the command", mount.path);
     }
+    fclose(mounts);
+}
+
+/* ---- what the command sees of processes */
+
+static void mount_proc(const char *path) {
+    char from[PATH_MAX], to[5 * PATH_MAX];
+    struct dirent *entry;
+    DIR *entries = opendir(SETTINGS);
+    if (!entries || mount("proc", path, "proc", MS_NOSUID | MS_NODEV | MS_NOEXEC, NULL) < 0)
+        fail_by_errno(path);
+    while ((entry = readdir(entries))) {
+        snprintf(from, sizeof from, SETTINGS "/%s", entry->d_name);
+        snprintf(to, sizeof to, "%s/%s", path, entry->d_name);
+        if (entry->d_name[0] != '.' && mount(from, to, NULL, MS_BIND | MS_REC, NULL) < 0)
+            fail_by_errno(to);
+    }
+    closedir(entries);
+}
+
+/* (parts of /proc are mounts as well) */
+void show_own_processes(void) {
+    static struct mount mount;
+    FILE *mounts = open_mounts();
+    while (read_mount(mounts, &mount))
+        if (strcmp(mount.kind, " proc ") == 0 && strcmp(mount.root, "/") == 0 && reach_of(&mount) == REACHED)
+            mount_proc(mount.path);
     fclose(mounts);
 }

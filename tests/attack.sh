@@ -3,14 +3,10 @@
 # it reached, and how often it read the model's data. $place is a folder with the file `number`, the device number of
 # /dev/nvme0n1. $caller is a process outside, and descriptors 7 and 8 of it are / and /dev, and $powerless one without rights.
 PATH=$PATH:/usr/sbin:/sbin
-launcher=${launcher:-$PPID}
-[ -n "${device-}" ] || read -r device rest < "/proc/$launcher/task/$launcher/children"
-export launcher device
 
 paths() {
-    for beginning in '' / /. /proc/.. /proc/self/root "/proc/$$/root" "/proc/$launcher/root" "/proc/$device/root" \
-        "/proc/$caller/root" "/proc/$powerless/root" /proc/1/root "$place/proc/1/root" "$place/proc/$caller/root" \
-        "$place/proc/$powerless/root" /proc/self/fd/7; do
+    for beginning in '' / /. /proc/.. /proc/self/root "/proc/$$/root" "/proc/$caller/root" "/proc/$powerless/root" \
+        /proc/1/root "$place/proc/1/root" "$place/proc/$caller/root" "$place/proc/$powerless/root" /proc/self/fd/7; do
         echo "$beginning/dev/nvme0n1"
     done
     echo /dev/../dev/nvme0n1 ./nvme0n1 ../dev/./nvme0n1 /proc/self/cwd/nvme0n1 "/proc/$caller/cwd/nvme0n1" \

@@ -1,6 +1,7 @@
 """What the tests of ./nvme-model share: the launcher with its parts in a place that every user can read, runs of it,
 and checks that it leaves nothing behind."""
 
+import contextlib
 import functools
 import os
 import pathlib
@@ -9,12 +10,12 @@ import shutil
 import subprocess
 import sys
 
-from tests.support import DEMO, TOP, Case, process_folder, processes, program, run, until
+from tests.support import DEMO, TOP, Case, Running, left_running, process_folder, processes, program, run, until
 
 CLIENT = TOP / 'client'
 PROGRAMS = TOP / 'tests/programs'
 PARTS = {'bin/nvme-model': ('launcher', 'relay', 'nodes', 'sysfs', 'sandbox', 'calls', 'caller', 'filter', 'helpers',
-                            'io', 'refuse', 'device', 'inherited'),
+                            'io', 'refuse', 'device', 'inherited', 'command'),
          'lib/nvme-model/library.so': ('library',),
          'lib/nvme-model/qemu': ('qemu', 'messages', 'function', 'memory', 'proxy', 'vfio_user')}
 WARNINGS = '-Wall', '-Wextra', '-Werror'
@@ -97,6 +98,32 @@ def processes_of(word):
     return processes('cmdline', lambda text: os.fsencode(word) in text)
 
 
+DEVICES, KEEPERS, HELPERS, LAUNCHER = range(4)
+
+
+def parts(devices=1):
+    """Returns the processes that serve the command of the model that runs: lists of its devices, of their keepers, of
+    the helpers, and the launcher. The command can't name them."""
+    found = {b'launcher': [], b'device': []}
+    for number in left_running():
+        # (a process may end meanwhile)
+        with contextlib.suppress(FileNotFoundError, ProcessLookupError):
+            status = pathlib.Path(f'/proc/{number}/status').read_bytes()
+            name, inside = (re.search(rb'(?m)^%s:\t(.*)$' % word, status).group(1) for word in (b'Name', b'NSpid'))
+            if name in found and len(inside.split()) == 2:
+                found[name].append((int(inside.split()[1]), number))
+    launcher, *others = (number for _, number in sorted(found[b'launcher']))
+    return [number for _, number in sorted(found[b'device'])], others[:devices], others[devices:], [launcher]
+
+
+def signals(part, number, devices=1):
+    """Returns a call that sends a signal to these parts."""
+    def send():
+        for process in parts(devices)[part]:
+            os.kill(process, number)
+    return send
+
+
 class ModelCase(Case):
     """A test with a subsystem file of its own, whose name identifies the devices that it starts."""
 
@@ -128,6 +155,17 @@ class ModelCase(Case):
     def shell(self, script, *words, options=(), **more):
         """Runs a shell script over the demonstration file."""
         return self.model('sh', '-c', script, 'sh', *words, options=options, **more)
+
+    def stepped(self, script, *steps, words=(), user=(), options=()):
+        """Starts a shell script that waits at each `step` until one of these steps was taken, outside of the sandbox."""
+        script = 'step() { echo step; read -r line; }; ' + script
+        running = Running(*user, *self.command('sh', '-c', script, 'sh', *words, options=options))
+        self.addCleanup(running.process.kill)
+        for count, step in enumerate(steps, 1):
+            self.assertTrue(until(lambda: running.hear(0) is None or running.heard.count(b'step\n') == count, 60))
+            step()
+            running.say(b'\n')
+        return running
 
     def python(self, script, options=(), **more):
         """Runs a Python script over the demonstration file."""

@@ -6,9 +6,10 @@ import os
 import pathlib
 import re
 import shutil
+import threading
 import unittest
 
-from tests.modelled import ModelCase, installed, mounts, static_program, works
+from tests.modelled import DEVICES, ModelCase, installed, mounts, signals, static_program, works
 from tests.support import TOP, Running, end_all, process_folder, run, until
 
 BYTES = b'MACHINE DATA 16\n' * 4096
@@ -22,17 +23,17 @@ AGAIN = 'sh -c \'. "$place/attack.sh"; attack\''
 # The ways to run the attack, for everybody and for root.
 WAYS = {
     'the command itself': 'attack', 'a static shell': f'busybox {AGAIN}', 'without an environment':
-    f'env -i PATH="$PATH" place="$place" caller=$caller powerless=$powerless launcher=$launcher device=$device {AGAIN}',
+    f'env -i PATH="$PATH" place="$place" caller=$caller powerless=$powerless {AGAIN}',
     'another library': f'LD_PRELOAD=x {AGAIN} 2> /dev/null', 'by unshare':
     f'unshare -Urm sh -c \'umount -l /dev; umount -l /dev; mount --bind / /mnt; mount -o remount,dev /tmp; '
     '. "$place/attack.sh"; attack; head -c 9 /mnt/dev/nvme0n1; :\' 2> /dev/null || attack',
-    'the device is killed': 'kill -9 $device; sleep 0.2; attack',
+    'the device is killed': ': > "$place/begun"; until test -e "$place/killed"; do sleep 0.1; done; attack',
     'by a model within': f'"$model" {AGAIN} 2> /dev/null || attack',
     'a caller of the library is killed': 'nvme id-ns /dev/nvme0 & nvme format /dev/nvme0n1 & kill -9 $!; attack; wait'}
-BY_ROOT = {'su': f'su nobody -s /bin/sh -c "place=$place caller=$caller launcher=$launcher device=$device; '
-                 'export place caller powerless launcher device; . $place/attack.sh; attack"',
+BY_ROOT = {'su': f'su nobody -s /bin/sh -c "place=$place caller=$caller; '
+                 'export place caller powerless; . $place/attack.sh; attack"',
            'setpriv': f'setpriv --reuid=65534 --regid=65534 --clear-groups {AGAIN}',
-           'sudo': f'sudo place=$place caller=$caller launcher=$launcher device=$device {AGAIN}',
+           'sudo': f'sudo place=$place caller=$caller {AGAIN}',
            'nsenter': f'nsenter -t $caller -m {AGAIN} || nsenter -t 1 -m true || attack'}
 
 ATTACH = 'nvme attach-ns /dev/nvme1 -n 1 -c 1 > /dev/null'
@@ -73,10 +74,6 @@ TRIES = {
         '(echo 7 > /sys/block/nvme0n1/ro) 2> /dev/null && echo written; '
         'busybox truncate -s 0 /sys/block/nvme0n1/ro 2> /dev/null && echo cut; cat /sys/block/nvme0n1/ro; '
         'find /dev -type b | sort', b'0\n/dev/nvme0n1\n/dev/nvme0n3\n'),
-    'rights': (
-        'insmod "$place/plain" && echo module; mount -t tmpfs x /mnt && echo mount; mount -t devtmpfs x /mnt && echo dev; '
-        'mknod "$place/made" b 7 0 && echo node; date -s 12:00 > /dev/null && echo time; kill -0 $caller && echo process; '
-        'nsenter -t 1 -n true && echo network; chroot / true && echo root; sysctl -q kernel.panic=1 && echo kernel', b''),
     'open files of other processes': (
         '"$place/takes"', b'-1 1\n'),
     'a user without rights': ('unshare -Ur true; cat /proc/self/status | grep NoNewPrivs', b'NoNewPrivs:\t1\n'),
@@ -165,11 +162,25 @@ class MachineCase(ModelCase):
         self.assertGreaterEqual(max(map(int, found)), least, ended)
         machine.is_unchanged()
 
+    def kill_device(self):
+        """Kills the device as soon as a command asks for it."""
+        if until((self.folder / 'begun').exists, 60):
+            signals(DEVICES, 9)()
+            (self.folder / 'killed').touch()
+
     def attacks(self, kind, user, ways):
         for name, script in ways.items():
             with self.subTest(name, kind=kind, user=user), contextlib.closing(Machine(self, kind)) as machine:
+                killer = threading.Thread(target=self.kill_device)
+                if 'killed"' in script:
+                    killer.start()
                 ended = machine.model(BEGIN + script, user, where='/dev')
                 self.reached_nothing(machine, ended, 0 if 'killed' in name or name in BY_ROOT else 5)
+                if 'killed"' in script:
+                    killer.join()
+                    self.assertIn(b'the device ended', ended.err)
+                    for mark in 'begun', 'killed':
+                        (self.folder / mark).unlink()
             self.leaves_nothing()
 
     def users(self):

@@ -12,7 +12,8 @@ import sys
 import time
 import unittest
 
-from tests.modelled import CLIENT, PARTS, VERSION, ModelCase, compiled_c, installed, processes_of
+from tests.modelled import (CLIENT, DEVICES, PARTS, VERSION, ModelCase, compiled_c, installed, parts, processes_of,
+                            signals)
 from tests.support import TOP, Running, program, run, until
 
 CHECK = 'check', 'check_client'
@@ -53,11 +54,10 @@ class Ioctls(ModelCase):
     def test_device_is_killed_in_a_call(self):
         # each of several calls that wait for an answer gets one, and later calls fail at once
         check = compiled_c(self.folder / 'check', CHECK, '-pthread')
-        ended = self.shell('for i in 1 2 3 4; do "$1" many & done; sleep 0.3; '
-                           'kill -9 $(cat /proc/$PPID/task/*/children | tr " " "\\n" | grep -vx $$); wait; '
-                           'test -c /dev/nvme0 || echo gone', check)
-        self.assertEqual(ended.out, b'gone\n', ended)
-        self.assertIn(b'nvme-model: the device ended', ended.err)
+        running = self.stepped('for i in 1 2 3 4; do "$1" many & done; sleep 0.3; step; wait; '
+                               'test -c /dev/nvme0 || echo gone', signals(DEVICES, 9), words=[check])
+        ended = running.end(60)
+        self.assertRegex(ended.out, b'(?s)^step\n.*nvme-model: the device ended.*gone\n$', ended)
 
 
 class Arguments(ModelCase):
@@ -198,15 +198,14 @@ class Subsystems(ModelCase):
         self.assertNotRegex(ended.err, rb'(?m)^nvme[013] taken Namespace Management \(0x0d\) ')
 
     def test_one_device_is_killed(self):
-        ended = self.shell('kill -9 $(cat /proc/$PPID/task/*/children | cut -d " " -f 2); sleep 0.2; cat /dev/nvme2n1; '
-                           'nvme id-ctrl /dev/nvme3; nvme id-ctrl /dev/nvme1 | grep -c "^sn .*S1"; '
-                           'nvme id-ctrl /dev/nvme4 | grep "^sn "; nvme reset /dev/nvme4; '
-                           'head -c 1 /dev/nvme0n1 | wc -c',
-                           options=['--subsystem', self.subsystem, '--subsystem', self.subsystem])
-        self.ends(ended, 0, b'1\nsn        : S0                  \n1\n')
-        self.assertRegex(ended.err, b'(?m)^nvme-model: the device ended')
-        self.assertRegex(ended.err, b'(?m)^cat: /dev/nvme2n1: No such device or address$')
-        self.assertRegex(ended.err, b'(?m)^/dev/nvme3: No such device or address$')
+        running = self.stepped('step; sleep 0.2; cat /dev/nvme2n1; nvme id-ctrl /dev/nvme3; '
+                               'nvme id-ctrl /dev/nvme1 | grep -c "^sn .*S1"; nvme id-ctrl /dev/nvme4 | grep "^sn "; '
+                               'nvme reset /dev/nvme4; head -c 1 /dev/nvme0n1 | wc -c',
+                               lambda: os.kill(parts(3)[DEVICES][1], 9),
+                               options=['--subsystem', self.subsystem, '--subsystem', self.subsystem])
+        self.ends(running.end(60), 0, b'step\nnvme-model: the device ended, or answered what was not asked\n'
+                  b'cat: /dev/nvme2n1: No such device or address\n/dev/nvme3: No such device or address\n'
+                  b'1\nsn        : S0                  \n1\n')
 
 
 class Signals(ModelCase):

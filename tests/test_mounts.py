@@ -13,7 +13,7 @@ from tests.test_machine import NOBODY, Machine, MachineCase
 
 # A bwrap that first puts another file in a device's place, unless it is only tried.
 EXCHANGES = '''#!/bin/sh
-case "$*" in *--help) ;; *) mv /dev/open/node /dev/open/kept && mv /dev/open/other /dev/open/node ;; esac
+case "$*" in *--trial) ;; *) mv /dev/open/node /dev/open/kept && mv /dev/open/other /dev/open/node ;; esac
 PATH=${PATH#*:} exec bwrap "$@"
 '''
 

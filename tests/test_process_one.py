@@ -2,10 +2,11 @@
 which a command could change something outside that isn't a file: keys, control groups, and memory."""
 
 import os
+import pathlib
 import subprocess
 import unittest
 
-from tests.modelled import CLIENT, WARNINGS, ModelCase, process_folder, works
+from tests.modelled import CLIENT, DEVICES, WARNINGS, ModelCase, parts, process_folder, works
 from tests.support import TOP, Running, run
 
 IS_ROOT = os.geteuid() == 0
@@ -65,23 +66,47 @@ class Confined(ModelCase):
         for which, wanted in ('launcher', b'end\n'), ('device', b'end\nend\n'):
             self.ends(run(program, which), 0, wanted, b'')
 
-    def test_other_processes(self):
-        # process 1 and its children, apart from the command: devices, keepers, and helpers, one of which acts as a user
-        pries = helper('pries')
-        script = ('echo x >> /dev/nvme0n1; read -r all < /proc/1/task/1/children; '
-                  'others="1 $(echo $all | sed "s/\\b$$\\b//")"; for process in $others; do '
-                  'grep -h -e "^Seccomp:" -e "^NoNewPrivs:" /proc/$process/status; done | sort -u; "$1" $others')
+    def test_numbers(self):
+        # no number finds the launcher, its keeper, its helper or the device
+        finds, most = helper('finds'), str(max(int(name) for name in os.listdir('/proc') if name.isdigit()) + 1000)
+        script = '"$1" "$2"; ls /proc | grep -c "^[0-9]"'
         for user in [*USERS, NESTED] if works(*NESTED) else USERS:
             for inside in [(), NOBODY] if IS_ROOT and not user else [()]:
                 with self.subTest(user=user, inside=inside):
-                    ended = run(*user, *self.command(*inside, 'sh', '-c', script, 'sh', pries))
-                    self.assertEqual(ended.out, b'NoNewPrivs:\t1\nSeccomp:\t2\nend\n', ended)
+                    ended = run(*user, *self.command(*inside, 'sh', '-c', script, 'sh', finds, most))
+                    # (process 1, the shell, ls and grep)
+                    self.ends(ended, 0, b'end\n4\n', b'')
 
-    def test_files_of_devices(self):
-        # a device has its streams and its subsystem file
-        for options in (), ('--trace=/dev/null',):
-            self.ends(run(*self.command('sh', '-c', 'ls /proc/2/fd', options=options)), 0 if IS_ROOT else 2,
-                      b'0\n1\n2\n3\n' if IS_ROOT else b'')
+    def test_process_one(self):
+        pries = helper('pries')
+        for user in [*USERS, NESTED] if works(*NESTED) else USERS:
+            for inside in [(), NOBODY] if IS_ROOT and not user else [()]:
+                with self.subTest(user=user, inside=inside):
+                    self.ends(run(*user, *self.command(*inside, pries, '1')), 0, b'end\n', b'')
+
+    def test_rights(self):
+        # those of files, of other users and of audit records, for root alone
+        for user, inside, wanted in ((), (), [0x200000fb] * 5), ((), NOBODY, [0x200000fb, 0, 0, 0x200000fb, 0]), (
+                NOBODY, (), [0] * 5) if IS_ROOT else ((), (), [0] * 5),:
+            with self.subTest(user=user, inside=inside):
+                ended = run(*user, *self.command(*inside, 'grep', '^Cap', '/proc/self/status'))
+                found = dict(line.split() for line in ended.out.decode().splitlines())
+                self.assertEqual([*found], ['CapInh:', 'CapPrm:', 'CapEff:', 'CapBnd:', 'CapAmb:'])
+                self.assertEqual([int(number, 16) for number in found.values()], wanted)
+
+    def look(self):
+        """Looks at what is confined, and at what the device has open."""
+        for process in (number for part in parts() for number in part):
+            status = pathlib.Path(f'/proc/{process}/status').read_text()
+            self.assertRegex(status, r'\nNoNewPrivs:\t1\nSeccomp:\t2\n')
+        self.assertEqual(sorted(os.listdir(f'/proc/{parts()[DEVICES][0]}/fd')), ['0', '1', '2', '3'])
+
+    def test_processes_of_the_launcher(self):
+        for user in USERS:
+            for options in (), ('--trace=/dev/null',):
+                with self.subTest(user=user, options=options):
+                    running = self.stepped('step', self.look, user=user, options=options)
+                    self.ends(running.end(60), 0, b'step\n')
 
 
 # Types into a terminal, by two ioctls. Each prints its error.

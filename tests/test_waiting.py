@@ -3,11 +3,14 @@ and killed processes, and limits. Other calls go on, and a signal ends everythin
 user, as far as these can make such file systems."""
 
 import os
+import pathlib
 import subprocess
 import time
 import unittest
+from signal import SIGCONT, SIGKILL, SIGSTOP
 
-from tests.modelled import PROGRAMS, WARNINGS, ModelCase, process_folder, works
+from tests.modelled import (DEVICES, HELPERS, KEEPERS, LAUNCHER, PROGRAMS, WARNINGS, ModelCase, parts, process_folder,
+                            signals, works)
 from tests.support import Running, run
 
 IS_ROOT = os.geteuid() == 0
@@ -119,78 +122,77 @@ class Hung(WaitingCase):
 class Processes(WaitingCase):
     def test_stopped_device(self):
         # calls of its controllers wait, and all others go on
-        script = ('kill -STOP 2; nvme id-ctrl /dev/nvme0 > /dev/null & '
-                  '(echo 1 > /sys/class/nvme/nvme0/rescan_controller) 2> /dev/null & '
-                  'sleep 0.3; '
+        script = ('step; nvme id-ctrl /dev/nvme0 > /dev/null & '
+                  '(echo 1 > /sys/class/nvme/nvme0/rescan_controller) 2> /dev/null & sleep 0.3; '
                   + OTHERS.replace('nvme0', 'nvme2') + 'head -c 3 /dev/nvme0n1 | wc -c; echo go; sleep 100')
         for user in USERS:
             with self.subTest(user=user):
-                running = self.begun(user, script, 'x', self.folder, options=['--subsystem', self.subsystem])
-                self.assertEqual(self.ends_by_signal(running), b'10\n1\n3\ngo\n')
+                running = self.stepped(script, lambda: os.kill(parts(2)[DEVICES][0], SIGSTOP), words=['x', self.folder],
+                                       user=user, options=['--subsystem', self.subsystem])
+                running.comes(b'go\n', 60)
+                self.assertEqual(self.ends_by_signal(running), b'step\n10\n1\n3\ngo\n')
 
     def test_it_goes_on(self):
-        script = 'kill -STOP 2; (nvme id-ctrl /dev/nvme0 | grep -c S0) & sleep 0.3; echo go; kill -CONT 2; wait'
+        script = 'step; (nvme id-ctrl /dev/nvme0 | grep -c S0) & sleep 0.3; step; wait'
         for user in USERS:
-            self.ends(self.begun(user, script).end(60), 0, b'go\n1\n')
+            running = self.stepped(script, signals(DEVICES, SIGSTOP), signals(DEVICES, SIGCONT), user=user)
+            self.ends(running.end(60), 0, b'step\nstep\n1\n')
 
     def test_many_callers(self):
         # more callers than helpers wait for a device, and each gets its answer
-        script = ('kill -STOP 2; for i in $(seq 100); do (nvme id-ctrl /dev/nvme0 | grep -c S0) & done; sleep 3; '
-                  'echo x > "$1"; cat "$1"; kill -CONT 2; wait')
+        script = ('step; for i in $(seq 100); do (nvme id-ctrl /dev/nvme0 | grep -c S0) & done; sleep 3; '
+                  'echo x > "$1"; cat "$1"; step; wait')
         for user in USERS:
             with self.subTest(user=user):
-                ended = run(*user, *self.command('sh', '-c', script, 'sh', self.folder / f'file{len(user)}'))
-                self.ends(ended, 0, b'x\n' + b'1\n' * 100, b'')
+                running = self.stepped(script, signals(DEVICES, SIGSTOP), signals(DEVICES, SIGCONT), user=user,
+                                       words=[self.folder / f'file{len(user)}'])
+                self.ends(running.end(60), 0, b'step\nx\nstep\n' + b'1\n' * 100)
 
-    def test_stopped_and_killed_helpers(self):
-        # (the first child of the launcher is the device, and the second one the command)
-        helpers = '$(cat /proc/1/task/1/children | cut -d " " -f 3-)'
-        # (a keeper that is killed takes its device with it)
-        for name, there in ('STOP', 1), ('SEGV', 0), ('KILL', 0):
-            script = f'kill -{name} {helpers}; sleep 0.2; {OTHERS} kill -{name} {helpers}; {OTHERS} echo go; sleep 100'
-            for user in USERS:
-                with self.subTest(name, user=user):
-                    out = self.ends_by_signal(self.begun(user, script, 'x', self.folder))
-                    wanted = [b'nvme-model: the device ended, or answered what was not asked'] * (there == 0)
-                    wanted += [b'10', b'%d' % there] * 2 + [b'go']
-                    self.assertEqual(sorted(out.splitlines()), sorted(wanted))
-
-    def test_call_of_a_killed_helper(self):
-        # (the third child is the device's keeper)
-        script = ('kill -STOP 2; (nvme id-ctrl /dev/nvme0 2>&1 | grep -o "Input/output error") & sleep 2; '
-                  'kill -KILL $(cat /proc/1/task/1/children | cut -d " " -f 4-); wait; kill -CONT 2; '
-                  'nvme id-ctrl /dev/nvme0 | grep -c S0')
+    def test_killed_helpers(self):
+        # the call of a helper that is killed fails, and others take its place
+        script = ('step; (nvme id-ctrl /dev/nvme0 2>&1 | grep -o "Input/output error") & sleep 2; step; wait; step; '
+                  + OTHERS * 2)
         for user in USERS:
             with self.subTest(user=user):
-                self.ends(run(*user, *self.command('sh', '-c', script), limit=60), 0, b'Input/output error\n1\n', b'')
+                running = self.stepped(script, signals(DEVICES, SIGSTOP), signals(HELPERS, SIGKILL),
+                                       signals(DEVICES, SIGCONT), user=user, words=['x', self.folder])
+                self.ends(running.end(60), 0, b'step\nstep\nInput/output error\nstep\n' + b'10\n1\n' * 2)
 
-    @unittest.skipUnless(IS_ROOT, 'root alone can become another user')
-    def test_helpers_of_users(self):
-        # a user inside can signal a helper that acts for it, but others' calls go on
-        script = (' '.join(NOBODY) + ' sh -c \'(while :; do for p in $(cat /proc/1/task/1/children); do kill -STOP $p; '
-                  'kill -KILL $p; done; echo x > "$2/file-65534"; done) 2> /dev/null\' sh "$@" & sleep 0.5; '
-                  + OTHERS * 3 + 'echo go; sleep 100')
-        running = self.begun((), script, 'x', self.folder)
-        self.assertEqual(self.ends_by_signal(running), b'10\n1\n' * 3 + b'go\n')
+    def test_killed_keeper(self):
+        # nothing answers for its device any more, so all ends
+        for user in USERS:
+            with self.subTest(user=user):
+                running = self.stepped('step; sleep 100', signals(KEEPERS, SIGKILL), user=user)
+                self.ends(running.end(20), 72, b'step\nnvme-model: the process that talks with a device was killed\n')
+
+    def test_killed_launcher(self):
+        for user in USERS:
+            with self.subTest(user=user):
+                running = self.stepped('step; sleep 100', signals(LAUNCHER, SIGKILL), user=user)
+                self.ends(running.end(20), 137, b'step\n')
+                self.leaves_nothing()
+
+    def spent(self):
+        """Returns how many ticks the launcher, its keeper and its helpers have run."""
+        lines = [pathlib.Path(f'/proc/{number}/stat').read_text().rpartition(')')[2].split()
+                 for part in parts()[KEEPERS:] for number in part]
+        return sum(int(line[11]) + int(line[12]) for line in lines)
+
+    def is_idle(self):
+        before = self.spent()
+        time.sleep(2)
+        self.assertLess(self.spent() - before, 20)
 
     def test_idle(self):
         # none of the launcher's processes takes a turn in vain, after a node was written or made longer
-        script = ('import ctypes, glob, os, time\n'
-                  'def spent():\n'
-                  '    lines = [open(f"/proc/{number}/stat").read().rpartition(")")[2].split()\n'
-                  '             for number in (1, *range(4, 8))\n'
-                  '             if os.path.exists(f"/proc/{number}/stat")]\n'
-                  '    return sum(int(line[11]) + int(line[12]) for line in lines)\n'
-                  'node = os.open("/dev/nvme0n3", os.O_RDWR)\n'
-                  'ctypes.CDLL(None).syscall(18, node, b"x", 1, 9999)\n'
-                  'os.close(node)\n'
-                  'time.sleep(0.5)\n'
-                  'before = spent()\n'
-                  'time.sleep(2)\n'
-                  'print(spent() - before < 20, os.lseek(os.open("/dev/nvme0n3", 0), 0, 2))\n')
+        program = ('import ctypes, os\n'
+                   'node = os.open("/dev/nvme0n3", os.O_RDWR)\n'
+                   'ctypes.CDLL(None).syscall(18, node, b"x", 1, 9999)\n')
+        script = 'python3 -c "$1"; sleep 0.5; step; wc -c < /dev/nvme0n3'
         for user in USERS:
             with self.subTest(user=user):
-                self.ends(run(*user, *self.command('python3', '-c', script)), 0, b'True 4608\n', b'')
+                running = self.stepped(script, self.is_idle, user=user, words=[program])
+                self.ends(running.end(60), 0, b'step\n4608\n')
 
     @unittest.skipUnless(IS_ROOT, 'root alone can take groups')
     def test_many_groups(self):
@@ -211,65 +213,59 @@ class Processes(WaitingCase):
                     self.assertEqual(self.ends_by_signal(self.begun(user, script, 'x')), b'go\n')
                     self.ends(self.begun(user, script, '').end(20), 5, b'go\n')
 
-    def late(self):
-        """Makes the library by which the launcher is late, and returns the words before a command for it."""
-        made = self.folder / 'late.so'
-        subprocess.run(['cc', *WARNINGS, '-shared', '-fPIC', '-o', made, PROGRAMS / 'late.c'], check=True)
-        return 'env', f'LD_PRELOAD={made}'
-
-    def test_limited_at_once(self):
-        # process 1 has all that it needs before the command can limit what it opens
-        late = self.late()
-        for user in USERS:
-            with self.subTest(user=user):
-                running = Running(*user, *late, *self.command('prlimit', '--pid', '1', '--nofile=0:0'))
-                self.addCleanup(running.process.kill)
-                self.ends(running.end(20), 0, b'')
-
     def test_lost_at_once(self):
         # that a device was lost is reported before the command can see it
-        late = self.late()
-        script = ('kill -9 $(cat /proc/1/task/1/children | tr " " "\\n" | grep -vx $$); '
-                  'while test -c /dev/nvme0; do :; done; echo gone')
+        late = self.folder / 'late.so'
+        subprocess.run(['cc', *WARNINGS, '-shared', '-fPIC', '-o', late, PROGRAMS / 'late.c'], check=True)
+        script = 'step; while test -c /dev/nvme0; do :; done; echo gone'
         for user in USERS:
             with self.subTest(user=user):
-                ended = run(*user, *late, *self.command('sh', '-c', script))
-                self.ends(ended, 0, b'gone\n', b'nvme-model: the device ended, or answered what was not asked\n')
+                running = self.stepped(script, signals(DEVICES, SIGKILL), user=(*user, 'env', f'LD_PRELOAD={late}'))
+                self.ends(running.end(60), 0,
+                          b'step\nnvme-model: the device ended, or answered what was not asked\ngone\n')
 
     @unittest.skipUnless(IS_ROOT, 'root alone can take the number of a user without processes')
     def test_too_few_processes(self):
         # a launcher that can't start what it needs says so
-        user = ('setpriv', '--reuid=54321', '--regid=54321', '--clear-groups', 'bash', '-c',
-                'ulimit -u $1; shift; exec "$@"', 'bash')
-        for count in range(4, 9):
+        few = rb'nvme-model: (fork|the command can\'t have a namespace of processes): Resource temporarily unavailable\n'
+        for count in range(4, 10):
+            user = ('setpriv', f'--reuid={54321 + count}', '--regid=54321', '--clear-groups', 'bash', '-c',
+                    'ulimit -u $1; shift; exec "$@"', 'bash')
             ended = run(*user, str(count), *self.command('nvme', 'list-ns', '/dev/nvme0'), limit=60)
-            few = 72, b'nvme-model: fork: Resource temporarily unavailable\n'
-            self.assertIn((ended.status, ended.err), ((0, b''), few), ended)
+            self.assertRegex(ended.err, b'^$' if ended.status == 0 else few + b'$', ended)
+            self.assertIn(ended.status, (0, 72))
 
     def test_many_changes(self):
         # more files are written than the kernel tells while a keeper waits; a node that became longer gets its length
-        script = ('import ctypes, os, sys, time\n'
-                  'call, device = ctypes.CDLL(None).syscall, 2\n'
-                  'os.kill(device, 19)\n'
-                  'controller = os.open("/dev/nvme0", os.O_RDWR)\n'
-                  'if os.fork() == 0:\n'
-                  '    call(16, controller, 0x4e44)\n'
-                  '    os._exit(0)\n'
-                  'time.sleep(1)\n'
-                  'for number in range(10000):\n'
-                  '    for name in "/dev/one", "/dev/other":\n'
-                  '        os.close(os.open(name, os.O_WRONLY | os.O_CREAT))\n'
-                  'node = os.open("/dev/nvme0n3", os.O_RDWR)\n'
-                  'call(18, node, b"x", 1, 9999)\n'
-                  'os.close(node)\n'
-                  'print(os.lseek(os.open("/dev/nvme0n3", 0), 0, 2))\n'
-                  'os.kill(device, 18)\n'
-                  'os.wait()\n'
-                  'time.sleep(1)\n'
-                  'print(os.lseek(os.open("/dev/nvme0n3", 0), 0, 2))\n')
+        program = ('import ctypes, os\n'
+                   'call = ctypes.CDLL(None).syscall\n'
+                   'def step():\n'
+                   '    print("step", flush=True)\n'
+                   '    input()\n'
+                   'def length():\n'
+                   '    return os.lseek(os.open("/dev/nvme0n3", 0), 0, 2)\n'
+                   'step()\n'
+                   'controller = os.open("/dev/nvme0", os.O_RDWR)\n'
+                   'if os.fork() == 0:\n'
+                   '    call(16, controller, 0x4e44)\n'
+                   '    os._exit(0)\n'
+                   'for number in range(10000):\n'
+                   '    for name in "/dev/one", "/dev/other":\n'
+                   '        os.close(os.open(name, os.O_WRONLY | os.O_CREAT))\n'
+                   'node = os.open("/dev/nvme0n3", os.O_RDWR)\n'
+                   'call(18, node, b"x", 1, 9999)\n'
+                   'os.close(node)\n'
+                   'print(length())\n'
+                   'step()\n'
+                   'os.wait()\n'
+                   'while length() != 4608:\n'
+                   '    pass\n'
+                   'print("end")\n')
         for user in USERS:
             with self.subTest(user=user):
-                self.ends(run(*user, *self.command('python3', '-c', script)), 0, b'10000\n4608\n', b'')
+                running = self.stepped('python3 -c "$1"', signals(DEVICES, SIGSTOP), signals(DEVICES, SIGCONT),
+                                       user=user, words=[program])
+                self.ends(running.end(60), 0, b'step\n10000\nstep\nend\n')
 
 
 if __name__ == '__main__':
