@@ -83,7 +83,9 @@ stage:
 	    install -m 644 docs/nvme-$$name.bash $(STAGE)/share/bash-completion/completions/nvme-$$name || exit; \
 	done
 	install -d $(STAGE)/share/man/man1
-	for page in docs/*.1; do $(with_version) $$page > $(STAGE)/share/man/man1/$${page#docs/} || exit; done
+	for program in $(STAGE)/bin/*; do \
+	    page=$${program##*/}.1; $(with_version) docs/$$page > $(STAGE)/share/man/man1/$$page || exit; \
+	done
 	@$(MAKE) --no-print-directory stage-pages
 	@if $(call is_current,nvme_controller) && [ -e out/library/libnvme_controller.a ]; then \
 	    $(MAKE) --no-print-directory stage-library; \

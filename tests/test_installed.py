@@ -94,7 +94,7 @@ class Installed(Case):
 
     def test_manual_pages_have_no_warnings(self):
         pages = [*self.prefix.glob('share/man/man1/*'), TOP / 'docs/nvme_controller.3']
-        self.assertGreater(len(pages), 4)
+        self.assertGreater(len(pages), 3)
         for page in pages:
             with self.subTest(page.name):
                 self.has_no_warnings(page)
