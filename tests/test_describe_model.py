@@ -1,8 +1,10 @@
 """Tests nvme-describe over ./nvme-model: 200 random subsystem files and the largest come back, what it sends is in a
-trace, and what a script left is in the file, or in the commands at its end."""
+trace, and what a script left is in the file, or in the commands at its end. The first commands of README describe a
+drive, and find what a script meets there."""
 
 import random
 import re
+import shutil
 
 from tests.described import MASKS, meaning, random_file, tables_of
 from tests.modelled import ModelCase, installed
@@ -166,12 +168,37 @@ class Left(ModelCase):
         refused = {int(number) for number in re.findall(r'(?m)^line (\d+): ', ended.err.decode())}
         return self.values(text, [line for number, line in enumerate(done, 1) if number not in refused], [select])
 
+    def test_first_commands_of_readme(self):
+        """They describe a drive, here the model of one, and its script ends as the picture shows."""
+        self.needs('nvme')
+        block = re.search(r'(?m)(?:^    .*\n)+', (TOP / 'README.md').read_text())[0]
+        describe, copy, rehearse = [line.partition('#')[0].strip() for line in block.splitlines()]
+        (self.folder / 'nvme-describe').symlink_to(DESCRIBE)
+        (self.folder / 'nvme-model').symlink_to(installed())
+        shutil.copy(TOP / 'examples/split.sh', self.folder / 'provision.sh')
+        drive = TOP / 'examples/split.toml'
+        self.assertTrue(describe.startswith('sudo '))
+        self.ends(run(installed(), '--subsystem', drive, 'sh', '-c', describe[5:], cwd=self.folder), 0, b'', b'')
+        self.assertEqual((self.folder / 'drive.toml').read_text(), drive.read_text())
+        self.assertEqual(copy, 'scp server:drive.toml .')
+        said = (TOP / 'examples/split.txt').read_bytes()
+        self.ends(run('sh', '-c', rehearse, cwd=self.folder, err='&1'), 1, said)
+
     def test_example(self):
         """The example's file has what its script made. Its commands work, by nvme-cli too, and then the next script has
         all that the first one left."""
         left = self.model('sh', TOP / 'examples/keep.sh')
         self.ends(left, 0, (TOP / 'examples/keep.txt').read_bytes(), b'')
         page = (TOP / 'docs/SUBSYSTEM-FILE.md').read_text()
+        # (the page's command keeps what a script prints out of the file)
+        keeping = re.search(r"(?m)^    \./nvme-model --subsystem my\.toml sh -c '(.*)' > after\.toml$", page)[1]
+        self.file('layout.sh', b"echo said\nnvme set-feature /dev/nvme0 --feature-id 6 --value 0\n")
+        if not (self.folder / 'nvme-describe').exists():
+            (self.folder / 'nvme-describe').symlink_to(DESCRIBE)
+        kept = self.shell(keeping, cwd=self.folder)
+        self.assertEqual(kept.status, 0, kept)
+        self.assertTrue(kept.err.startswith(b'said\n'), kept)
+        self.assertEqual(kept.out.splitlines()[-1], b'# nvme set-feature /dev/nvme0 -f 6 --value 0x0', kept)
         command = re.search(r'`(sed -n .*) drive\.toml`', page)[1]
         restored = run('sh', '-c', command, source=left.out).out
         self.assertEqual(restored, b'nvme set-feature /dev/nvme0 -f 6 --value 0x0\n')

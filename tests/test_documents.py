@@ -134,13 +134,13 @@ class Examples(Case):
         self.ends(ended, 0, ''.join(line for line in lines if line[:2] != '> ').encode(), b'')
 
     def test_first_script_of_readme(self):
-        readme = text_of('README.md')
-        shown = re.search(r"nvme-script <<'SCRIPT'\n(.*?)^    SCRIPT$.*?^prints\n\n(.*?)\n^and, on", readme,
-                          re.M | re.S)
-        script, output = (textwrap.dedent(text).encode() for text in shown.groups())
-        ended = run(program('nvme_script'), source=script)
-        self.ends(ended, 0, output)
-        self.assertIn(f'`{ended.err.decode().strip()}`', readme)
+        """README has each line of an example beside what it prints."""
+        table = text_of('README.md').partition('\n| Line | Prints |\n')[2].partition('\n\n')[0]
+        rows = re.findall(r'(?m)^\| `(.*)` \| `(.*)` \|$', table)
+        self.assertEqual(''.join(f'{line}\n' for line, _ in rows), text_of('examples/first.nvme'))
+        shown = [text for _, texts in rows for text in texts.split('`<br>`')]
+        ended = run(program('nvme_script'), source=TOP / 'examples/first.nvme', err='&1')
+        self.ends(ended, 0, ''.join(f'{text}\n' for text in shown).encode())
 
     def test_scripts(self):
         """The lines after `>` in a block of `nvme`, which can name a subsystem file, write all its other lines."""
@@ -271,11 +271,9 @@ class Copies(Case):
     def test_demonstration_file(self):
         source_file, = TOP.glob('crates/*/src/demo.rt')
         source, = re.findall(r'r#"(.*?)"#;', source_file.read_text(), re.S)
-        document = re.sub('(?m)^#.*\n', '', code_of('docs/SUBSYSTEM-FILE.md', 'toml'))
         wanted = [line for line in text_of('examples/demo.toml').splitlines() if line]
         self.assertNotEqual(wanted, [])
-        for copy in source, document:
-            self.assertEqual([line for line in copy.splitlines() if line], wanted)
+        self.assertEqual([line for line in source.splitlines() if line], wanted)
 
     def test_file_of_guide(self):
         self.assertEqual(code_of('docs/GUIDE.md', 'toml'), text_of('examples/guide.toml'))

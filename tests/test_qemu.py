@@ -14,7 +14,6 @@ import shutil
 import signal
 import socket
 import subprocess
-import textwrap
 
 from tests.as_qemu import BROKEN
 from tests.modelled import CLIENT, PARTS, ModelCase, installed, is_there
@@ -405,14 +404,15 @@ class Drivers(ModelCase):
         self.ends(server.end(), -signal.SIGTERM)
 
     def test_recipe(self):
-        # the page's commands, word for word, pack a guest, boot it, and leave nothing in the folder where they run
+        # the example packs a guest, boots it, and leaves nothing in the folder where it runs
         if not shutil.which('cpio'):
             self.skipTest('cpio is not installed')
         page = (TOP / 'docs/QEMU.md').read_text()
-        commands = textwrap.dedent(re.search(r'(?m)^    guest=.*\n(?:    .*\n)*', page).group())
+        self.assertIn('\n    sh examples/machine.sh\n', page)
+        commands = (TOP / 'examples/machine.sh').read_text()
         release = sorted(path.name for path in pathlib.Path('/lib/modules').glob('*'))[-1:]
         if not release or not os.path.exists(f'/boot/vmlinuz-{release[0]}'):
-            # (apart from where they find a kernel that isn't installed)
+            # (apart from where it finds a kernel that isn't installed)
             place, *_ = kernel()[0].rpartition('/boot/')
             for old, new in ((' /lib/', f' {place}/lib/'), ('/boot/', f'{place}/boot/'), (' -S ', f' -d {place} -S ')):
                 self.assertIn(old, commands)

@@ -1,4 +1,4 @@
-"""Requests to nvme-device and their answers, byte by byte. docs/BUS.md defines their bytes, and the values are
+"""Requests to nvme-device and their responses, byte by byte. docs/BUS.md defines their bytes, and the values are
 those of the standard."""
 
 import re
