@@ -179,11 +179,6 @@ class Examples(Case):
                 self.ends(ended, 3, b'', f'nvme-script: subsystem: {fault}\n'.encode())
 
 
-def code_of(name, language):
-    """Returns the blocks of code of this language in a page, one after another."""
-    return ''.join(re.findall(rf'^```{language}\n(.*?)^```$', text_of(name), re.M | re.S))
-
-
 class Copies(Case):
     def test_pictures(self):
         """The pictures show what is in the sources, and are what the program makes, which sees what isn't."""
@@ -274,6 +269,3 @@ class Copies(Case):
         wanted = [line for line in text_of('examples/demo.toml').splitlines() if line]
         self.assertNotEqual(wanted, [])
         self.assertEqual([line for line in source.splitlines() if line], wanted)
-
-    def test_file_of_guide(self):
-        self.assertEqual(code_of('docs/GUIDE.md', 'toml'), text_of('examples/guide.toml'))
