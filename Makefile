@@ -79,7 +79,7 @@ stage:
 	chmod 755 $(STAGE)/bin/nvme-script
 	install -m 755 nvme-describe $(STAGE)/bin
 	install -d $(STAGE)/share/bash-completion/completions
-	for name in script describe; do \
+	for name in script describe model; do \
 	    install -m 644 docs/nvme-$$name.bash $(STAGE)/share/bash-completion/completions/nvme-$$name || exit; \
 	done
 	install -d $(STAGE)/share/man/man1

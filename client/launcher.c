@@ -6,7 +6,6 @@
    machine has no NVMe device, all this happens outside, and nodes are only names. None of this is proved. */
 #include "launcher.h"
 #include "usage.h"
-#include <getopt.h>
 #include <linux/close_range.h>
 #include <sched.h>
 #include <stdarg.h>
@@ -16,8 +15,6 @@
 #include <sys/syscall.h>
 #include <sys/sysinfo.h>
 #include <sys/wait.h>
-
-enum { MOST_ADDED = 64, MOST_OPTIONS = 16 };
 
 struct device *devices;
 unsigned device_count;
@@ -35,14 +32,6 @@ static pid_t first, command;   /* process 1 of the command's namespace, which en
 static int status = -1;        /* of the command, once it has ended */
 static sigset_t mask, watched; /* the signals that were blocked at the start, and the signals to wait for */
 static char parts[PATH_MAX], library[PATH_MAX + 32], program[PATH_MAX + 32];
-
-/* The values of the options. */
-static const char *names[MOST_DEVICES], *added[MOST_ADDED + 1];
-static char *device_words[MOST_OPTIONS + 4] = {program}; /* a device's program and options */
-static unsigned file_count, device_word_count = 1, added_count;
-static int has_trace, may_lack_sandbox;
-static const char *trace_file;
-static uint64_t limit;
 
 /* Kills the keepers, which would report the end of a device, then in a sandbox all processes, whose calls nobody
    answers any more, and the devices. None of these has anything to clean up, and helpers end with the launcher. */
@@ -175,98 +164,6 @@ static void block_signals(void) {
     sigprocmask(SIG_BLOCK, &blocked, NULL);
 }
 
-static const char usage[] =
-    "usage: nvme-model [OPTION..] [--] COMMAND [ARGUMENT..]\n"
-    "       nvme-model --qemu [OPTION..] [-- QEMU-OPTION..]\n"
-    "       nvme-model --vfio-user --socket PATH [OPTION..]\n"
-    "Run COMMAND with the NVMe devices of a model as /dev/nvme0, /dev/nvme0n1 and so on.\n\n"
-    "  --subsystem FILE     use the subsystem of FILE; repeat it for several subsystems, at most 16\n"
-    "  --trace[=FILE]       write what goes over the bus to standard error or to FILE\n"
-    "  --data-limit SIZE    limit the memory for data of namespaces, such as 512M (default: a quarter of all memory)\n"
-    "  --refuse COMMAND[,SKIP[,TIMES]]=STATUS\n"
-    "                       refuse a command, such as format=0x2002, after SKIP of them (0), TIMES times (1)\n"
-    "  --no-notice          let nodes come and go only at `nvme ns-rescan` or a reset\n"
-    "  --device PATH        add a character device of this machine, such as /dev/fuse, to the /dev of COMMAND\n"
-    "  --depth N, --page-size N, --offset N, --list-offset N, --window N, --pace N\n"
-    "                       choose the layout of queues and memory, as for nvme-script\n"
-    "  --no-sandbox         without bubblewrap, if this machine has no NVMe device: make nodes that are only names\n"
-    "  --qemu, --vfio-user  as the first option, give the controllers to virtual machines; see --qemu --help\n"
-    "  --build              as the only argument, in a clone of the repository: prove and build the device\n"
-    "  --help               show this help and the version\n"
-    "  --version            show the version\n\n"
-    "The exit status is that of COMMAND, or 72 if nvme-model itself can't continue. See nvme-model(1).\n"
-    "This is version " MODEL_VERSION ".\n";
-
-static void refuse_options(void) {
-    fputs(usage, stderr);
-    exit(FAILED);
-}
-
-static void show(const char *text) {
-    fputs(text, stdout);
-    exit(fflush(stdout) == 0 ? 0 : FAILED);
-}
-
-static uint64_t read_size(const char *text) {
-    static const char units[] = "KMG";
-    char *end;
-    errno = 0;
-    uint64_t size = strtoull(text, &end, 10);
-    const char *unit = *end ? strchr(units, *end) : NULL;
-    int power = unit ? 10 * (int)(unit - units + 1) : 0;
-    if (*text < '0' || *text > '9' || errno || (*end && (!unit || end[1])) || size > (uint64_t)INT64_MAX >> power)
-        refuse_options();
-    return size << power;
-}
-
-static int read_options(int count, char **arguments) {
-    enum { SUBSYSTEM = 256, TRACE, LIMIT, DEVICE, REFUSE, HELP, VERSION, GEOMETRY, OTHER = GEOMETRY + 3 };
-    static const struct option options[] = {{"subsystem", required_argument, NULL, SUBSYSTEM},
-                                            {"trace", optional_argument, NULL, TRACE},
-                                            {"data-limit", required_argument, NULL, LIMIT},
-                                            {"no-notice", no_argument, &waits, 1},
-                                            {"no-sandbox", no_argument, &may_lack_sandbox, 1},
-                                            {"help", no_argument, NULL, HELP},
-                                            {"version", no_argument, NULL, VERSION},
-                                            {"device", required_argument, NULL, DEVICE},
-                                            {"refuse", required_argument, NULL, REFUSE},
-                                            {"depth", required_argument, NULL, GEOMETRY + DEPTH},
-                                            {"page-size", required_argument, NULL, GEOMETRY + PAGE_SIZE},
-                                            {"offset", required_argument, NULL, OTHER},
-                                            {"list-offset", required_argument, NULL, OTHER},
-                                            {"window", required_argument, NULL, GEOMETRY + WINDOW},
-                                            {"pace", required_argument, NULL, OTHER},
-                                            {0}};
-    int option, place;
-    while ((option = getopt_long(count, arguments, "+", options, &place)) != -1) {
-        if (option == 0)
-            continue; /* (a flag, which is now set) */
-        if (option == SUBSYSTEM && file_count < MOST_DEVICES)
-            names[file_count++] = optarg;
-        else if (option == DEVICE && added_count < MOST_ADDED)
-            added[added_count++] = optarg;
-        else if (option == TRACE) {
-            has_trace = 1;
-            trace_file = optarg;
-        } else if (option == LIMIT)
-            limit = read_size(optarg) ?: 1;
-        else if (option == REFUSE && add_rule(optarg) == 0)
-            continue;
-        else if (option == HELP || option == VERSION)
-            show(option == HELP ? usage : "nvme-model " MODEL_VERSION "\n");
-        else if (option < GEOMETRY || device_word_count > MOST_OPTIONS)
-            refuse_options();
-        else if (asprintf(&device_words[device_word_count++], "--%s=%s", options[place].name, optarg) < 0)
-            fail("out of memory");
-        /* (the devices check whether they are numbers) */
-        if (option >= GEOMETRY && option < OTHER)
-            geometry[option - GEOMETRY] = strtoul(optarg, NULL, 0);
-    }
-    if (optind == count)
-        refuse_options();
-    return optind;
-}
-
 /* Finds the library and the device's program, which are in ../lib/nvme-model beside the launcher's folder. */
 static void find_parts(void) {
     ssize_t length = readlink("/proc/self/exe", parts, sizeof parts - 64);
@@ -298,35 +195,36 @@ static void open_as(int number, const char *path, int flags) {
 static void open_files(void) {
     open_as(HERE, ".", O_PATH);
     open_as(MONITOR, "/proc/self/status", O_RDONLY);
-    for (unsigned at = 0; at < file_count; at++) {
-        open_as(FILES + (int)at, names[at], O_RDONLY);
-        check_file(FILES + (int)at, names[at]);
+    for (unsigned at = 0; at < options.subsystem_count; at++) {
+        open_as(FILES + (int)at, options.subsystems[at], O_RDONLY);
+        check_file(FILES + (int)at, options.subsystems[at]);
     }
-    if (!trace_file)
+    if (!options.trace_file)
         return;
-    open_as(TRACE_TO, trace_file, O_WRONLY | O_CREAT);
-    check_file(TRACE_TO, trace_file);
+    open_as(TRACE_TO, options.trace_file, O_WRONLY | O_CREAT);
+    check_file(TRACE_TO, options.trace_file);
     if (ftruncate(TRACE_TO, 0) < 0 && errno != EINVAL)
-        fail_by_errno(trace_file);
+        fail_by_errno(options.trace_file);
 }
 
 /* Runs the command, with the devices, in the sandbox or without one. */
 static int run(char **arguments) {
     struct rlimit files_limit;
     block_signals();
-    trace = trace_file ? TRACE_TO : STDERR_FILENO;
+    trace = options.trace_file ? TRACE_TO : STDERR_FILENO;
     pid_t started = start_command(arguments, library, &mask, &first);
     umask(0);
     devices = share(MOST_DEVICES * sizeof *devices);
     for (int file = HERE; file < FILES + MOST_DEVICES; file++)
         fcntl(file, F_SETFD, FD_CLOEXEC);
-    if (file_count > 0)
-        device_words[device_word_count++] = "--subsystem=/proc/self/fd/3";
-    if (has_trace)
-        device_words[device_word_count++] = "--trace";
-    for (unsigned at = 0; at == 0 || at < file_count; at++)
-        start_device(device_words, file_count > 0 ? FILES + (int)at : -1, names[at], &mask);
-    for (unsigned at = 0; at < file_count; at++)
+    options.device_words[0] = program;
+    if (options.subsystem_count > 0)
+        options.device_words[options.device_word_count++] = "--subsystem=/proc/self/fd/3";
+    if (options.has_trace)
+        options.device_words[options.device_word_count++] = "--trace";
+    for (unsigned at = 0; at == 0 || at < options.subsystem_count; at++)
+        start_device(options.device_words, options.subsystem_count > 0 ? FILES + (int)at : -1, options.subsystems[at], &mask);
+    for (unsigned at = 0; at < options.subsystem_count; at++)
         close(FILES + (int)at);
     make_nodes();
     command = started; /* (from now on, what can't be made doesn't end it) */
@@ -372,9 +270,9 @@ static void begin_inside(const char *blocked, const char *here) {
     if (chdir(here) < 0 || stat(".", &about) < 0 ||
         (!is_replaced(here) && (about.st_dev != outside.st_dev || about.st_ino != outside.st_ino)))
         fail("the folder %s isn't there for the command: run it from another one", here);
-    if (close_range(STDERR_FILENO + 1, HERE, 0) < 0 || close_range(FILES + file_count, ~0U, 0) < 0)
+    if (close_range(STDERR_FILENO + 1, HERE, 0) < 0 || close_range(FILES + options.subsystem_count, ~0U, 0) < 0)
         fail_by_errno("close_range");
-    if (!trace_file)
+    if (!options.trace_file)
         close(TRACE_TO);
     if (prctl(PR_SET_PDEATHSIG, SIGKILL) < 0)
         fail_by_errno("the end of bwrap can't be followed");
@@ -384,7 +282,7 @@ static void begin_inside(const char *blocked, const char *here) {
 /* Makes the sandbox and runs the command there, or else, with --no-sandbox, without one if the machine has no NVMe
    device. */
 static int begin_outside(char **arguments, char **command_arguments) {
-    const struct sandbox sandbox = {limit, added, library, program};
+    const struct sandbox sandbox = {options.limit, options.added, library, program};
     const char *reason = why_no_sandbox(&sandbox), *node = a_real_node();
     if (!reason)
         go_inside(&sandbox, arguments);
@@ -394,7 +292,7 @@ static int begin_outside(char **arguments, char **command_arguments) {
     if (access("/sys/class/block", F_OK) < 0)
         fail("without /sys, nothing tells whether this machine has NVMe devices, and no sandbox can be made: %s",
              reason);
-    if (!may_lack_sandbox)
+    if (!options.may_lack_sandbox)
         fail("no sandbox can be made: %s; --no-sandbox runs the command without one", reason);
     fprintf(stderr,
             "nvme-model: the command runs without a sandbox (%s): nodes can be opened by their names in /dev but hold "
@@ -422,7 +320,7 @@ int main(int count, char **arguments) {
             check_streams();
         hold_streams();
         if (is_qemu && count == 3 && strcmp(arguments[2], "--help") == 0)
-            show(qemu_usage);
+            exit(fputs(qemu_usage, stdout) >= 0 && fflush(stdout) == 0 ? 0 : FAILED);
         if (is_qemu)
             run_qemu(arguments);
         if (close_range(STDERR_FILENO + 1, ~0U, CLOSE_RANGE_CLOEXEC) < 0)
@@ -430,7 +328,7 @@ int main(int count, char **arguments) {
     }
     arguments[0] = "nvme-model";
     if (sysinfo(&machine) == 0)
-        limit = (uint64_t)machine.totalram * machine.mem_unit / 4;
+        options.limit = (uint64_t)machine.totalram * machine.mem_unit / 4;
     int at = read_options(count, arguments);
     signal(SIGCHLD, SIG_DFL);
     if (is_inside) {

@@ -44,6 +44,18 @@ __attribute__((noreturn)) void fail_by_errno(const char *what);
 void cannot(const char *path);
 const char *last_line(int file, const char *program);
 
+/* options.c: what the options choose, and reads them; returns where the command's words begin. */
+enum { MOST_ADDED = 64, MOST_LAYOUT = 16 };
+struct options {
+    const char *subsystems[MOST_DEVICES], *added[MOST_ADDED + 1], *trace_file; /* (`added` ends with NULL) */
+    char *device_words[MOST_LAYOUT + 4]; /* a device's program and options */
+    unsigned subsystem_count, added_count, device_word_count;
+    int has_trace, may_lack_sandbox;
+    uint64_t limit; /* of the memory for data */
+};
+extern struct options options;
+int read_options(int count, char **arguments);
+
 /* command.c: starts process 1 of the command's own namespace, which is stored, and gives up the rights that make it;
    returns the process that becomes the command, with these signals blocked, as soon as it is released; and ends this
    process after it has tried to make such a namespace. */

@@ -133,6 +133,13 @@ class Installed(Case):
             self.ends(run('bash', '-c', line, completion, 'nvme-describe', word), 0, wanted, b'')
 
     @unittest.skipUnless(shutil.which('bash'), 'there is no bash')
+    def test_completion_of_model(self):
+        line = '. "$0"; COMP_WORDS=("$@"); COMP_CWORD=$(($# - 1)); _nvme_model; echo ${COMPREPLY[*]}'
+        completion = self.prefix / 'share/bash-completion/completions/nvme-model'
+        for word, wanted in ('--no', b'--no-notice --no-sandbox\n'), ('/dev/nul', b'/dev/null\n'), ('seqq', b'\n'):
+            self.ends(run('bash', '-c', line, completion, self.prefix / 'bin/nvme-model', word), 0, wanted, b'')
+
+    @unittest.skipUnless(shutil.which('bash'), 'there is no bash')
     def test_completion(self):
         for words, wanted in [(['']), ' '.join(OPTIONS)], (['--p'], '--page-size --pace'), \
                 (['--page-size', '=', '8'], '8192'), (['--subsystem', 'examples/de'], 'examples/demo.toml'):

@@ -69,7 +69,7 @@ class Arguments(ModelCase):
             with self.subTest(words):
                 ended = run(installed(), *words.split())
                 self.ends(ended, 72, b'')
-                self.assertRegex(ended.err, b'(?m)^usage: nvme-model ')
+                self.assertRegex(ended.err, b'^nvme-model: .+\nsee nvme-model --help\n$')
 
     @unittest.skipUnless(os.access('/dev/kmsg', os.R_OK), '/dev/kmsg can not be read')
     def test_refused_streams(self):

@@ -122,7 +122,7 @@ class Refuse(ModelCase):
             with self.subTest(rule):
                 ended = run(installed(), '--refuse', rule, 'true')
                 self.ends(ended, 72, b'')
-                self.assertRegex(ended.err, b'^usage: nvme-model ')
+                self.assertRegex(ended.err, b'^nvme-model: .+\nsee nvme-model --help\n$')
         most = [word for _ in range(64) for word in ('--refuse', 'format=1')]
         self.ends(run(installed(), *most, 'true'), 0, b'')
         self.ends(run(installed(), *most, '--refuse', 'format=1', 'true'), 72, b'')

@@ -1,0 +1,161 @@
+/* The options of the launcher: a row for each, from which the help is made as well. None of this is proved. */
+#include "launcher.h"
+#include <getopt.h>
+
+struct options options = {.device_word_count = 1};
+
+/* ---- what an option sets, by its name and argument; each of these returns why it can't, or NULL */
+
+static const char *set_subsystem(const char *name, const char *text) {
+    (void)name;
+    if (options.subsystem_count == MOST_DEVICES)
+        return "there can be 16 subsystems at most";
+    options.subsystems[options.subsystem_count++] = text;
+    return NULL;
+}
+
+static const char *set_trace(const char *name, const char *text) {
+    (void)name;
+    options.has_trace = 1;
+    options.trace_file = text;
+    return NULL;
+}
+
+static const char *set_limit(const char *name, const char *text) {
+    static const char units[] = "KMG";
+    char *end;
+    (void)name;
+    errno = 0;
+    uint64_t size = strtoull(text, &end, 10);
+    const char *unit = *end ? strchr(units, *end) : NULL;
+    int power = unit ? 10 * (int)(unit - units + 1) : 0;
+    if (*text < '0' || *text > '9' || errno || (*end && (!unit || end[1])) || size > (uint64_t)INT64_MAX >> power)
+        return "this isn't a size, such as 512M";
+    options.limit = size << power ?: 1;
+    return NULL;
+}
+
+static const char *set_refusal(const char *name, const char *text) {
+    (void)name;
+    return add_rule(text) == 0 ? NULL : "this isn't a command and its status, such as format=0x2002, or there are over 64";
+}
+
+static const char *set_device(const char *name, const char *text) {
+    (void)name;
+    if (options.added_count == MOST_ADDED)
+        return "there can be 64 of these at most";
+    options.added[options.added_count++] = text;
+    return NULL;
+}
+
+static const char *set_switch(const char *name, const char *text) {
+    (void)text;
+    *(strcmp(name, "no-notice") == 0 ? &waits : &options.may_lack_sandbox) = 1;
+    return NULL;
+}
+
+/* (the devices check whether these are numbers) */
+static const char *set_layout(const char *name, const char *text) {
+    static const char *const parts[] = {[DEPTH] = "depth", [PAGE_SIZE] = "page-size", [WINDOW] = "window"};
+    if (options.device_word_count > MOST_LAYOUT)
+        return "there can be 16 of these at most";
+    if (asprintf(&options.device_words[options.device_word_count++], "--%s=%s", name, text) < 0)
+        fail("out of memory");
+    for (unsigned at = 0; at < sizeof parts / sizeof *parts; at++)
+        if (strcmp(name, parts[at]) == 0)
+            geometry[at] = strtoul(text, NULL, 0);
+    return NULL;
+}
+
+static const char *set_nothing(const char *name, const char *text) {
+    (void)name, (void)text;
+    return "this can only be the first word";
+}
+
+static const char *show_help(const char *name, const char *text);
+static const char *show_version(const char *name, const char *text);
+
+/* An option, with its argument, which begins with [ if it may be missing, and what the help says. */
+static const struct row {
+    const char *name, *argument, *help;
+    const char *(*set)(const char *name, const char *text);
+} rows[] = {
+    {"subsystem", "FILE", "use the subsystem of FILE; repeat it for several subsystems, at most 16", set_subsystem},
+    {"trace", "[=FILE]", "write what goes over the bus to standard error or to FILE", set_trace},
+    {"data-limit", "SIZE", "limit the memory for data of namespaces, such as 512M (default: a quarter of all memory)",
+     set_limit},
+    {"refuse", "COMMAND[,SKIP[,TIMES]]=STATUS",
+     "refuse a command, such as format=0x2002, after SKIP of them (0), TIMES times (1)", set_refusal},
+    {"no-notice", NULL, "let nodes come and go only at `nvme ns-rescan` or a reset", set_switch},
+    {"device", "PATH", "add a character device of this machine, such as /dev/fuse, to the /dev of COMMAND", set_device},
+    {"no-sandbox", NULL, "without bubblewrap, if this machine has no NVMe device: make nodes that are only names",
+     set_switch},
+    {"depth", "N", "give each queue N entries; this option and those up to --pace are nvme-script's", set_layout},
+    {"page-size", "N", "make pages of N bytes", set_layout},
+    {"offset", "N", "let each command's data begin N bytes into a page", set_layout},
+    {"list-offset", "N", "let each PRP list begin N bytes into a page", set_layout},
+    {"window", "N", "keep up to N commands outstanding", set_layout},
+    {"pace", "N", "let a controller do N commands in a turn", set_layout},
+    {"qemu", NULL, "as the first option, run QEMU with the controllers; see --qemu --help", set_nothing},
+    {"vfio-user", NULL, "as the first option, serve them to virtual machines; see --qemu --help", set_nothing},
+    {"build", NULL, "as the only argument, in a clone of the repository: prove and build the device", set_nothing},
+    {"help", NULL, "show this help and the version", show_help},
+    {"version", NULL, "show the version", show_version}};
+enum { ROWS = sizeof rows / sizeof *rows, COLUMN = 23 };
+
+static const char *show_version(const char *name, const char *text) {
+    (void)name, (void)text;
+    puts("nvme-model " MODEL_VERSION);
+    exit(fflush(stdout) == 0 ? 0 : FAILED);
+}
+
+static const char *show_help(const char *name, const char *text) {
+    (void)name, (void)text;
+    fputs("usage: nvme-model [OPTION..] [--] COMMAND [ARGUMENT..]\n"
+          "       nvme-model --qemu [OPTION..] [-- QEMU-OPTION..]\n"
+          "       nvme-model --vfio-user --socket PATH [OPTION..]\n"
+          "Run COMMAND with the NVMe devices of a model as /dev/nvme0, /dev/nvme0n1 and so on.\n\n",
+          stdout);
+    for (const struct row *row = rows; row < rows + ROWS; row++) {
+        const char *argument = row->argument ?: "";
+        int width = printf("  --%s%s%s", row->name, *argument && *argument != '[' ? " " : "", argument);
+        printf("%s%*s%s\n", width < COLUMN - 1 ? "" : "\n", width < COLUMN - 1 ? COLUMN - width : COLUMN, "", row->help);
+    }
+    fputs("\nThe exit status is that of COMMAND, or 72 if nvme-model itself can't continue. See nvme-model(1).\n"
+          "This is version " MODEL_VERSION ".\n",
+          stdout);
+    exit(fflush(stdout) == 0 ? 0 : FAILED);
+}
+
+/* ---- reading them */
+
+__attribute__((noreturn)) static void refuse_words(void) {
+    fputs("see nvme-model --help\n", stderr);
+    exit(FAILED);
+}
+
+/* (each option has a number behind the characters, and getopt_long says what is wrong with others) */
+int read_options(int count, char **arguments) {
+    struct option list[ROWS + 1] = {{0}};
+    int number;
+    for (int at = 0; at < ROWS; at++) {
+        const char *argument = rows[at].argument;
+        list[at].name = rows[at].name;
+        list[at].has_arg = !argument ? no_argument : *argument == '[' ? optional_argument : required_argument;
+        list[at].val = UCHAR_MAX + 1 + at;
+    }
+    while ((number = getopt_long(count, arguments, "+", list, NULL)) != -1) {
+        if (number <= UCHAR_MAX)
+            refuse_words();
+        const struct row *row = rows + (number - UCHAR_MAX - 1);
+        const char *reason = row->set(row->name, optarg);
+        if (reason) {
+            fprintf(stderr, "nvme-model: --%s%s%s: %s\n", row->name, optarg ? " " : "", optarg ?: "", reason);
+            refuse_words();
+        }
+    }
+    if (optind < count)
+        return optind;
+    fputs("nvme-model: there is no command\n", stderr);
+    refuse_words();
+}
