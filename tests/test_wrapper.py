@@ -7,7 +7,9 @@ import re
 import shutil
 import signal
 import time
+import unittest
 
+from tests.modelled import works
 from tests.support import TOP, Case, Running, copy_sources, left_running, program, run, until
 from tests.test_installed import OPTIONS
 
@@ -126,6 +128,19 @@ class WhichProgram(Copy):
         self.env['PATH'] = '/usr/bin:/bin'
         self.is_proved()
 
+    def test_advice(self):
+        # a second line says what to do about the usual mistakes
+        see, read = b'nvme-script --help shows the options', b'a script is read from standard input: nvme-script < FILE'
+        for words, advice in (
+                ('-h', see), ('--bogus', see), ('--pace=1 -q', see), ('--bogus=3 x', see), ('-', see), ('x.nvme', read),
+                ('--depth 8 x', read), ('--subsystem=-x x', read), ('--depth', None), ('--subsystem -x', None),
+                ('--depth 8 --depth 8', None), ('--build more', None), ('--help --help', None)):
+            with self.subTest(words):
+                line = b'nvme-script: ' + advice + b'\n' if advice else b''
+                self.ends(self.script(*words.split()), 3, b'', b'nvme-script: arguments\n' + line)
+        for words in '', '--pace 0', '--subsystem missing.toml':
+            self.assertNotIn(b'FILE', self.script(*words.split()).err)
+
 
 class Builds(Copy):
     def begun(self):
@@ -147,6 +162,38 @@ class Builds(Copy):
                     (self.kit / 'go').touch()
                 self.assertTrue(until(lambda: not left_running()), 'a step of the build goes on')
                 (self.kit / 'begun').unlink()
+
+    def test_keys(self):
+        # a line on the terminal changes, and an interrupted build says what is kept
+        build = Running(self.command, '--build', terminal=True, env=self.env)
+        total = len(run('tools/crates').out.splitlines())
+        line = b'\x1b[Knvme-script: 0 min 2 s: 0 of %d crates are built; under way: nv_' % total
+        self.assertTrue(until(lambda: (build.hear(1), line in build.heard)[1], 60), build.heard)
+        self.assertIn(b'nv_bits (3 of 7 ', build.heard)
+        self.assertNotIn(b'building', build.heard)
+        self.assertLess(max(map(len, build.heard.split(b'\x1b[K'))), 80)
+        build.say(b'\x03')
+        build.comes(b'nvme-script: what was proved is kept, and the next build goes on from there\n')
+        self.assertEqual(build.process.wait(60), -signal.SIGINT, build.line)
+
+    @unittest.skipUnless(works('unshare', '-Urm'), 'no file system can be mounted by a user here')
+    def test_full_disk(self):
+        script = 'mount -t tmpfs -o size=200m none "$1" && cp -r "$0/." "$1" && exec "$1/nvme-script" --build'
+        place = self.folder / 'small'
+        place.mkdir()
+        ended = self.script('-Urm', 'sh', '-c', script, self.copy, place, command='unshare')
+        self.ends(ended, 72, b'', b'nvme-script: the disk is full: a build needs 6 GB in %s\n' % os.fsencode(place))
+
+    def test_packages(self):
+        # a build of the device names what commands need besides
+        (self.kit / 'go').touch()
+        tools = self.folder / 'tools'
+        tools.mkdir()
+        for tool in {name for folder in ('/usr/bin', '/bin') for name in os.listdir(folder)} - {'cc', 'bwrap'}:
+            (tools / tool).symlink_to(f'/usr/bin/{tool}' if os.path.exists(f'/usr/bin/{tool}') else f'/bin/{tool}')
+        self.env['PATH'] = f'{self.kit}/bin:{tools}'
+        ended = self.script('nvme_device', command=self.copy / 'tools/build')
+        self.assertIn(b'nvme-device: what runs over the device needs more: apt install gcc bubblewrap\n', ended.err)
 
     def test_failed(self):
         (self.kit / 'go').touch()
