@@ -91,8 +91,10 @@ int act_as_caller(const struct call *call) {
     return 0;
 }
 
+int is_administrator(void) { return taken.user == (uid_t)NO_USER || taken.user == 0; }
+
 int open_own_data(const struct call *call) {
-    int is_other = taken.user != (uid_t)NO_USER && taken.user != 0;
+    int is_other = !is_administrator();
     if (is_other && setresuid(NO_USER, 0, NO_USER) < 0)
         return -1;
     int file = open_data(&call->node);

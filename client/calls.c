@@ -5,6 +5,7 @@
    result is that of the call, or an error's number as a negative one. None of this is proved. */
 #include "launcher.h"
 #include <linux/audit.h>
+#include <linux/blkzoned.h>
 #include <linux/fs.h>
 #include <linux/hdreg.h>
 #include <linux/nvme_ioctl.h>
@@ -74,8 +75,9 @@ int put_result(const struct call *call, int is_wide, uint64_t result, int status
 }
 
 static int ask(const struct call *call, uint16_t kind) {
-    const struct request_header header = {
-        .controller = (uint16_t)call->node.controller, .kind = kind, .length = kind == KIND_SCAN};
+    const struct request_header header = {.controller = (uint16_t)call->node.controller,
+                                          .kind = kind,
+                                          .length = kind == KIND_SHOW ? call->node.nsid : kind == KIND_SCAN};
     struct answer_header answer;
     return ask_keeper(&header, &answer) < 0 ? -ENXIO : 0;
 }
@@ -94,7 +96,7 @@ static int pass_through(const struct call *call, const struct nvme_passthru_cmd 
     memcpy(header.entry + 40, dwords, sizeof dwords);
     if (copy_in(call, given->addr, data, length) < 0)
         return -EFAULT;
-    int status = refusal_of(0, given->opcode, given->cdw10);
+    int status = follow_rules(call, 0, given);
     if (status != 0)
         return status;
     if (ask_keeper(&header, &answer) < 0 || answer.outcome != ANSWERED)
@@ -107,6 +109,8 @@ static int pass_through(const struct call *call, const struct nvme_passthru_cmd 
 static int admin(const struct call *call) {
     struct nvme_passthru_cmd given;
     uint64_t dword_0 = 0;
+    if (!is_administrator())
+        return -EACCES;
     if (copy_in(call, call->argument, &given, sizeof given) < 0)
         return -EFAULT;
     if (given.flags || given.data_len > MOST_DATA)
@@ -115,16 +119,39 @@ static int admin(const struct call *call) {
     return status < 0 ? status : put_result(call, call->request == NVME_IOCTL_ADMIN64_CMD, dword_0, status);
 }
 
+/* Sets or finds a lock of a byte after all data, and returns what is there, or -1 if it can't be set. */
+static int lock(int file, int command, short type, off_t place) {
+    struct flock byte = {.l_type = type, .l_start = (off_t)1 << 62 | place, .l_len = 1};
+    return fcntl(file, command, &byte) < 0 ? -1 : byte.l_type;
+}
+
+/* Claims a block device for a file that is opened with O_EXCL, which then has a lock as long as it is open, unless
+   another one has it or just gets it (and so has the first lock). */
+static int claim(const struct call *call, int file) {
+    short type = (fcntl(file, F_GETFL) & O_ACCMODE) == O_RDONLY ? F_RDLCK : F_WRLCK;
+    off_t place = 1 + call->node.controller;
+    int own = open_own_data(call);
+    int is_free = own >= 0 && lock(own, F_OFD_SETLK, F_WRLCK, 0) >= 0 &&
+                  lock(own, F_OFD_GETLK, F_WRLCK, place) == F_UNLCK && lock(file, F_OFD_SETLK, type, place) >= 0;
+    if (own >= 0)
+        close(own);
+    return is_free ? 0 : -EBUSY;
+}
+
 /* Discards blocks, which are then zeros. */
 static int discard(const struct call *call, uint64_t size, uint64_t block) {
     int file = -1, punched = FALLOC_FL_PUNCH_HOLE | FALLOC_FL_KEEP_SIZE;
     uint64_t range[2];
     if (!call->is_writable)
         return -EBADF;
+    if (call->request == BLKSECDISCARD)
+        return -EOPNOTSUPP;
     if (copy_in(call, call->argument, range, sizeof range) < 0)
         return -EFAULT;
     if ((range[0] | range[1]) % block || range[1] == 0 || range[0] > size || range[1] > size - range[0])
         return -EINVAL;
+    if (volume_of(&call->node)->is_read_only)
+        return -EPERM;
     if ((file = open_own_data(call)) < 0)
         return -ENXIO;
     int result = fallocate(file, punched, (off_t)range[0], (off_t)range[1]) < 0 ? -errno : 0;
@@ -132,13 +159,41 @@ static int discard(const struct call *call, uint64_t size, uint64_t block) {
     return result;
 }
 
-/* Reports numbers about a block device, in their sizes, as Linux does for a device with one queue. */
+/* Changes a block device, which the administrator alone may. (A buffer has the size that is set only for its process,
+   because nothing tells when a device is closed.) */
+static int change(const struct call *call, uint32_t request, uint64_t block) {
+    struct volume *volume = volume_of(&call->node);
+    uint32_t number = 0;
+    if (!is_administrator())
+        return -EACCES;
+    if ((request == BLKROSET || request == BLKBSZSET) && copy_in(call, call->argument, &number, sizeof number) < 0)
+        return -EFAULT;
+    if (request == BLKBSZSET && (number < block || number > (block > 4096 ? block : 4096) || number & (number - 1)))
+        return -EINVAL;
+    if (request == BLKBSZSET) {
+        volume->buffer = number;
+        volume->buffer_of = call->process;
+    }
+    if (request == BLKROSET)
+        volume->is_read_only = number != 0;
+    if (request == BLKRASET || request == BLKFRASET)
+        volume->read_ahead = call->argument / 8 * 8;
+    return request == BLKROSET || request == BLKRASET || request == BLKFRASET ? ask(call, KIND_SHOW) : 0;
+}
+
+/* Reports numbers about a block device, in their sizes, as Linux does for a device with one queue, or changes it. */
 static int of_block_device(const struct call *call) {
+    const struct volume *kept = volume_of(&call->node);
     struct volume volume;
     if (!read_volume(&call->node, &volume))
         return -ENXIO;
     const uint64_t block = 1ULL << volume.power, size = volume.blocks << volume.power;
     const uint32_t word = call->is_old ? 4 : 8;
+    uint64_t buffer = block;
+    while (buffer < 4096 && !(size & buffer))
+        buffer *= 2;
+    if (kept->buffer_of == call->process)
+        buffer = kept->buffer;
     /* (a few requests of 32-bit programs have the size of their words) */
     uint32_t nr = _IOC_NR(call->request), is_sized = call->is_old && _IOC_SIZE(call->request) == 4;
     uint32_t request = call->request + (is_sized && nr >= 112 && nr <= 114 ? 4u << _IOC_SIZESHIFT : 0);
@@ -146,21 +201,25 @@ static int of_block_device(const struct call *call) {
     const struct {
         uint32_t request, bytes;
         uint64_t value;
-    } numbers[] = {{BLKGETSIZE64, 8, size}, {BLKGETSIZE, word, size / 512},
-                   {BLKSSZGET, 4, block},   {BLKPBSZGET, 4, block},
-                   {BLKIOMIN, 4, block},    {BLKIOOPT, 4, 0},
-                   {BLKALIGNOFF, 4, 0},     {BLKBSZGET, 4, block},
-                   {BLKROGET, 4, 0},        {BLKRAGET, word, 256},
-                   {BLKFRAGET, word, 256},  {BLKSECTGET, 2, 256},
-                   {BLKROTATIONAL, 2, 0},   {BLKDISCARDZEROES, 4, 0},
-                   {BLKBSZSET, 0, 0},       {BLKRRPART, 0, 0},
-                   {BLKFLSBUF, 0, 0},       {BLKRASET, 0, 0}};
+    } numbers[] = {{BLKGETSIZE64, 8, size},         {BLKGETSIZE, word, size / 512},
+                   {BLKSSZGET, 4, block},           {BLKPBSZGET, 4, block},
+                   {BLKIOMIN, 4, block},            {BLKIOOPT, 4, block},
+                   {BLKALIGNOFF, 4, 0},             {BLKBSZGET, 4, buffer},
+                   {BLKRAGET, word, kept->read_ahead},     {BLKFRAGET, word, kept->read_ahead},
+                   {BLKROGET, 4, kept->is_read_only},      {BLKSECTGET, 2, most_sectors(call->node.controller)},
+                   {BLKROTATIONAL, 2, 0},           {BLKDISCARDZEROES, 4, 0},
+                   {BLKGETZONESZ, 4, 0},            {BLKGETNRZONES, 4, 0}};
+    static const uint32_t changes[] = {BLKROSET, BLKRASET, BLKFRASET, BLKFLSBUF, BLKBSZSET, BLKRRPART};
     for (unsigned at = 0; at < sizeof numbers / sizeof *numbers; at++)
         if (numbers[at].request == request)
             return copy_out(call, call->argument, &numbers[at].value, numbers[at].bytes);
+    for (unsigned at = 0; at < sizeof changes / sizeof *changes; at++)
+        if (changes[at] == request)
+            return change(call, request, block);
     if (request == HDIO_GETGEO)
         return copy_out(call, call->argument, geometry, 2 * word);
-    return request == BLKDISCARD || request == BLKZEROOUT ? discard(call, size, block) : -ENOTTY;
+    int discards = request == BLKDISCARD || request == BLKZEROOUT || request == BLKSECDISCARD;
+    return discards ? discard(call, size, block) : -ENOTTY;
 }
 
 static int carry_out_ioctl(struct call *call) {
@@ -177,11 +236,16 @@ static int carry_out_ioctl(struct call *call) {
     case NVME_IOCTL_ID:
         return kind == 'c' ? -ENOTTY : (int)call->node.nsid;
     case NVME_IOCTL_RESCAN:
-        return kind == 'c' ? ask(call, KIND_SCAN) : -ENOTTY;
     case NVME_IOCTL_RESET:
-        return kind == 'c' ? ask(call, KIND_RESET) : -ENOTTY;
-    case NVME_IOCTL_SUBMIT_IO:
+    case NVME_IOCTL_SUBSYS_RESET:
+        if (kind == 'c' && !is_administrator())
+            return -EACCES;
+        if (kind != 'c' || call->request == NVME_IOCTL_SUBSYS_RESET)
+            return -ENOTTY;
+        return ask(call, call->request == NVME_IOCTL_RESET ? KIND_RESET : KIND_SCAN);
     case NVME_IOCTL_IO_CMD:
+        return io(call);
+    case NVME_IOCTL_SUBMIT_IO:
     case NVME_IOCTL_IO64_CMD:
         return kind == 'c' ? -ENOTTY : io(call);
     default:
@@ -220,12 +284,11 @@ static int control(const char *name) {
 }
 
 /* Answers a call that opens a file that was found, or that changes its length: a file of /sys that isn't there for
-   writing can't be opened for it, even by root, and a node isn't truncated, or opened for direct access, which has no
-   meaning for data in memory. Others are opened as the caller could. */
-static int open_found(int file, uint64_t flags, int is_length) {
-    const int left_out = O_CREAT | O_EXCL | O_TRUNC | O_DIRECT | O_NOFOLLOW;
+   writing can't be opened for it, even by root, and a node isn't truncated. Others are opened as the caller could.
+   (Linux 6.6 and later open files in memory for direct access. The library tells by this flag which writes fail.) */
+static int open_found(struct call *call, int file, uint64_t flags, int is_length) {
+    const int left_out = O_CREAT | O_EXCL | O_TRUNC | O_NOFOLLOW;
     char place[64], name[PATH_MAX];
-    struct node node;
     struct stat about;
     if (fstat(file, &about) < 0 || !S_ISREG(about.st_mode) ||
         (about.st_dev != number_of(OF_DEV) && about.st_dev != number_of(OF_SYS)))
@@ -234,18 +297,21 @@ static int open_found(int file, uint64_t flags, int is_length) {
         return -EACCES;
     snprintf(place, sizeof place, "/proc/self/fd/%d", file);
     read_link(place, name);
-    int is_node = strncmp(name, "/dev/", 5) == 0 && read_name(name + 5, &node);
+    int is_node = strncmp(name, "/dev/", 5) == 0 && read_name(name + 5, &call->node);
     if (is_node && is_length)
         return -EINVAL;
-    if (is_length || (is_node ? !(flags & (O_TRUNC | O_DIRECT)) : strncmp(name, "/sys/", 5) != 0))
+    if (is_length || (is_node ? !(flags & (O_TRUNC | O_DIRECT | O_EXCL)) : strncmp(name, "/sys/", 5) != 0))
         return NOT_OURS;
     int again = open(place, ((int)flags & ~left_out) | O_CLOEXEC);
+    if (again < 0 && errno == EINVAL && flags & O_DIRECT)
+        again = open(place, ((int)flags & ~(left_out | O_DIRECT)) | O_CLOEXEC);
     if (again < 0)
         return -errno;
-    if (is_node || control(name))
+    int result = is_node && flags & O_EXCL && call->node.kind == 'b' ? claim(call, again) : 0;
+    if (result == 0 && (is_node || control(name)))
         return again;
     close(again);
-    return NOT_OURS;
+    return result == 0 ? NOT_OURS : result;
 }
 
 /* Reads how a call opens a file, with the size that it tells. Returns 0 if Linux refuses this, whatever the path. */
@@ -273,7 +339,7 @@ static int answer_row(struct call *call, const struct handed_call *row, const __
         return NOT_OURS;
     *flags = (int)how.flags;
     int file = look_up(call, directory, text, &how);
-    int result = file < 0 ? NOT_OURS : open_found(file, how.flags, row->error != 0);
+    int result = file < 0 ? NOT_OURS : open_found(call, file, how.flags, row->error != 0);
     if (file >= 0)
         close(file);
     return result;
@@ -299,13 +365,13 @@ void finish_call(const union notice *notice, int result) {
     ioctl(calls, SECCOMP_IOCTL_NOTIF_SEND, &answer);
 }
 
-/* Answers a call by a file, which the process gets a descriptor of. Returns 0, or an error's number. */
-static int finish_by_file(const union notice *notice, int file, int flags) {
-    struct seccomp_notif_addfd added = {.id = notice->got.id,
-                                        .flags = SECCOMP_ADDFD_FLAG_SEND,
-                                        .srcfd = (uint32_t)file,
-                                        .newfd_flags = (uint32_t)flags & O_CLOEXEC};
-    int result = ioctl(calls, SECCOMP_IOCTL_NOTIF_ADDFD, &added) < 0 ? -errno : 0;
+/* Gives the process of a call a descriptor of a file, and returns that, or an error's number. (The file is closed here
+   before the process goes on, so that its claim ends when the process closes it.) */
+static int give_file(const union notice *notice, int file, int flags) {
+    struct seccomp_notif_addfd added = {
+        .id = notice->got.id, .srcfd = (uint32_t)file, .newfd_flags = (uint32_t)flags & O_CLOEXEC};
+    int result = ioctl(calls, SECCOMP_IOCTL_NOTIF_ADDFD, &added);
+    result = result < 0 ? -errno : result;
     close(file);
     return result;
 }
@@ -341,9 +407,7 @@ void answer_call(const union notice *notice) {
     int is_ours = act_as_caller(&call);
     if (is_ours && is_alive(call.id))
         result = row ? answer_row(&call, row, data->args, &flags) : answer_ioctl(&call);
-    int is_file = row && row->path >= 0 && result >= 0;
-    if (is_file)
-        result = finish_by_file(notice, result, flags);
-    if (!is_file || result < 0)
-        finish_call(notice, result);
+    if (row && row->path >= 0 && result >= 0)
+        result = give_file(notice, result, flags);
+    finish_call(notice, result);
 }

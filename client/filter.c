@@ -13,7 +13,7 @@
 #define SECCOMP_FILTER_FLAG_WAIT_KILLABLE_RECV (1UL << 5)
 #endif
 
-enum { CHANGES = O_WRONLY | O_RDWR | O_TRUNC | O_DIRECT, MISSING = SECCOMP_RET_ERRNO | ENOSYS };
+enum { CHANGES = O_WRONLY | O_RDWR | O_TRUNC | O_DIRECT | O_EXCL, MISSING = SECCOMP_RET_ERRNO | ENOSYS };
 enum { OLD_IOCTL = 54, SIGNAL_BY_DESCRIPTOR = 424, TO_GROUP = 4, TAKE_FILE = 438, X32_BIT = 0x40000000 };
 enum { GROUP_PRIORITY = 1, GROUP_IO_PRIORITY = 2 };
 
@@ -158,7 +158,7 @@ static const int common_calls[] = {
    such as those that made calls; and to wait. */
 static const int launcher_calls[] = {
     SYS_open, SYS_openat, SYS_openat2, SYS_getdents64, SYS_mkdir, SYS_mkdirat, SYS_mknod, SYS_mknodat, SYS_linkat,
-    SYS_symlinkat, SYS_unlink, SYS_unlinkat, SYS_rmdir, SYS_ftruncate, SYS_fallocate, SYS_fchown, SYS_statfs,
+    SYS_symlinkat, SYS_unlink, SYS_unlinkat, SYS_rmdir, SYS_ftruncate, SYS_fallocate, SYS_fchmod, SYS_fchown, SYS_statfs,
     SYS_fstatfs, SYS_inotify_init1, SYS_inotify_add_watch,
     SYS_process_vm_readv, SYS_process_vm_writev, SYS_fork, SYS_wait4, SYS_waitid, SYS_kill, SYS_getppid, SYS_setsid,
     SYS_setgroups, SYS_setresuid, SYS_setresgid,

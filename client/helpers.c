@@ -107,6 +107,8 @@ static void serve(struct device *device) {
         helper->result = 0;
         if (request.kind == KIND_SCAN)
             scan(device, request.controller, request.length);
+        else if (request.kind == KIND_SHOW)
+            show_anew(device, request.length);
         else
             helper->result = carry_out(&request, data_of(helper), &helper->answer);
         store_and_wake(&helper->answered, helper->asked);

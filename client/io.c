@@ -1,7 +1,9 @@
-/* I/O commands by ioctl, over the data of a namespace, with the statuses of a drive. No controller is asked, and no
-   proof speaks about them. */
+/* Commands that the launcher carries out in the controllers' place, with the statuses of a drive. No proof speaks about
+   them. */
 #include "launcher.h"
 #include <linux/nvme_ioctl.h>
+
+/* ---- I/O commands, over the data of a namespace */
 
 enum { FLUSH = 0x00, WRITE = 0x01, READ = 0x02, COMPARE = 0x05, WRITE_ZEROES = 0x08, DATASET = 0x09, VERIFY = 0x0c };
 
@@ -114,20 +116,132 @@ static int read_user_io(const struct call *call, unsigned power, struct nvme_pas
     return 0;
 }
 
+/* Finds the only namespace of a controller, to whose node a command was sent. */
+static int find_only_namespace(struct node *node) {
+    unsigned count = 0;
+    for (uint32_t nsid = 1; nsid <= MOST_NSID; nsid++)
+        if (is_shown(node->controller, nsid)) {
+            node->nsid = nsid;
+            count++;
+        }
+    return count == 1 ? 0 : count == 0 ? -ENOTTY : -EINVAL;
+}
+
 int io(struct call *call) {
     struct nvme_passthru_cmd given;
     int is_user_io = call->request == NVME_IOCTL_SUBMIT_IO;
     struct data data = {.volume = {.power = 0}};
+    int found = call->node.kind == 'c' ? find_only_namespace(&call->node) : 0;
+    if (found < 0 || (!is_user_io && !is_administrator()))
+        return found < 0 ? found : -EACCES;
     data.file = read_volume(&call->node, &data.volume) ? open_own_data(call) : -1;
     int status = is_user_io ? read_user_io(call, data.volume.power, &given)
                             : copy_in(call, call->argument, &given, sizeof given);
     if (status == 0 && (given.flags || given.nsid != call->node.nsid))
         status = -EINVAL;
     if (status == 0)
-        status = refusal_of(1, given.opcode, given.cdw10);
+        status = follow_rules(call, 1, &given);
     if (status == 0)
         status = data.file < 0 ? INVALID_NAMESPACE : carry_out_io(call, &data, &given);
     if (data.file >= 0)
         close(data.file);
     return status < 0 || is_user_io ? status : put_result(call, call->request == NVME_IOCTL_IO64_CMD, 0, status);
+}
+
+/* ---- admin commands of drives with namespace management that the controllers don't have, which a keeper answers from
+   what these say */
+
+enum { OPCODE_GET_LOG = 0x02, CNS_NAMESPACE = 0x00, CNS_CONTROLLER = 0x01, CNS_ALLOCATED = 0x11, CNS_ATTACHED = 0x12 };
+
+/* A command's answer is a page of data, and its status is returned. */
+typedef int answer(struct device *device, unsigned controller, const unsigned char *entry, unsigned char *page);
+
+/* Looks whether a namespace is active or allocated. */
+static int look_for(struct device *device, unsigned controller, const unsigned char *entry, uint32_t cns) {
+    uint32_t nsid = (uint32_t)number_at(entry + 4, 4);
+    unsigned char data[IDENTIFY_BYTES];
+    if (nsid == EVERY_NSID && cns == CNS_ALLOCATED)
+        return INVALID_FIELD;
+    if (nsid == EVERY_NSID || identify(device, controller, nsid, cns, data) < 0)
+        return INVALID_NAMESPACE;
+    return number_at(data, 8) == 0 ? INVALID_FIELD : DONE;
+}
+
+/* A namespace has no identifiers, but that of its command set. */
+static int list_identifiers(struct device *device, unsigned controller, const unsigned char *entry, unsigned char *page) {
+    memcpy(page, (const unsigned char[]){4, 1, 0, 0, 0}, 5);
+    return look_for(device, controller, entry, CNS_NAMESPACE);
+}
+
+/* The controllers of the subsystem, or those to which a namespace is attached, in the order of their identifiers. */
+static int list_controllers(struct device *device, unsigned controller, const unsigned char *entry, unsigned char *page) {
+    static unsigned char is_listed[UINT16_MAX + 1], is_active[MOST_NSID + 1], data[IDENTIFY_BYTES];
+    int is_of_one = entry[40] == CNS_ATTACHED;
+    int status = is_of_one ? look_for(device, controller, entry, CNS_ALLOCATED) : DONE;
+    unsigned count = 0;
+    memset(is_listed, 0, sizeof is_listed);
+    for (unsigned at = device->first; at < device->first + device->count && status == DONE; at++)
+        if ((!is_of_one || (list_active(device, at, is_active) >= 0 && is_active[number_at(entry + 4, 4)])) &&
+            identify(device, at, 0, CNS_CONTROLLER, data) >= 0)
+            is_listed[number_at(data + 78, 2)] = 1;
+    for (unsigned id = (unsigned)number_at(entry + 42, 2); id <= UINT16_MAX; id++)
+        if (is_listed[id])
+            put_dword(page + 2 * ++count, id);
+    put_dword(page, count | (uint32_t)number_at(page + 2, 2) << 16);
+    return status;
+}
+
+/* The firmware that Identify names is in the first slot. */
+static int list_firmware(struct device *device, unsigned controller, const unsigned char *entry, unsigned char *page) {
+    unsigned char data[IDENTIFY_BYTES];
+    (void)entry;
+    page[0] = 1;
+    if (identify(device, controller, 0, CNS_CONTROLLER, data) >= 0)
+        memcpy(page + 8, data + 64, 8);
+    return DONE;
+}
+
+/* The namespaces that came to a controller, or left it, since its nodes were looked for. */
+static int list_changes(struct device *device, unsigned controller, const unsigned char *entry, unsigned char *page) {
+    unsigned char is_active[MOST_NSID + 1];
+    (void)entry;
+    list_active(device, controller, is_active);
+    for (uint32_t nsid = 1; nsid <= MOST_NSID; nsid++)
+        if (is_active[nsid] != is_shown(controller, nsid)) {
+            put_dword(page, nsid);
+            page += 4;
+        }
+    return DONE;
+}
+
+/* These commands, by the opcode and CNS or LID, with the size of what each answers. */
+static const struct supplied {
+    unsigned char opcode, selector;
+    uint32_t size;
+    answer *answer;
+} supplied[] = {{OPCODE_IDENTIFY, 0x03, IDENTIFY_BYTES, list_identifiers},
+                {OPCODE_IDENTIFY, CNS_ATTACHED, IDENTIFY_BYTES, list_controllers},
+                {OPCODE_IDENTIFY, 0x13, IDENTIFY_BYTES, list_controllers},
+                {OPCODE_GET_LOG, 0x03, 512, list_firmware},
+                {OPCODE_GET_LOG, 0x04, 4 * MOST_NSID, list_changes},
+                {0}};
+
+int supply(struct device *device, const struct request_header *request, void *data, struct answer_header *answer) {
+    unsigned char page[IDENTIFY_BYTES] = {0};
+    const unsigned char *entry = request->entry;
+    const struct supplied *row = supplied;
+    while (row->answer && (row->opcode != entry[0] || row->selector != entry[40]))
+        row++;
+    if (request->kind != KIND_ENTRY || !row->answer)
+        return 0;
+    const uint32_t nsid = (uint32_t)number_at(entry + 4, 4);
+    int is_log = row->opcode == OPCODE_GET_LOG;
+    uint64_t from = is_log ? number_at(entry + 48, 8) : 0, size = row->size - from;
+    int is_wrong = is_log && (from % 4 || from > row->size || (nsid != 0 && nsid != EVERY_NSID));
+    int status = is_wrong ? INVALID_FIELD : row->answer(device, device->first + request->controller, entry, page);
+    *answer = (struct answer_header){.status = (uint16_t)status, .length = request->length};
+    memset(data, 0, request->length);
+    if (status == DONE)
+        memcpy(data, page + from, size < request->length ? size : request->length);
+    return 1;
 }

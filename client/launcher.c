@@ -19,7 +19,7 @@
 struct device *devices;
 unsigned device_count;
 int has_sandbox, waits;
-uint64_t geometry[] = {[DEPTH] = 32, [PAGE_SIZE] = 4096, [WINDOW] = 1};
+uint64_t geometry[NUMBERS] = {[DEPTH] = 32, [PAGE_SIZE] = 4096, [WINDOW] = 1};
 
 /* The descriptors that the launcher outside hands on: of the current folder, until it was found inside; of bwrap's
    status, which tells the signals that wait there; of the trace; and of the subsystem files, until the devices have

@@ -14,10 +14,10 @@
 #include <unistd.h>
 
 /* The greatest numbers of subsystems, and of controllers altogether. */
-enum { MOST_DEVICES = 16, MOST_CONTROLLERS = 256 };
+enum { MOST_DEVICES = 32, MOST_CONTROLLERS = 256 };
 
-/* The parts of the geometry that show in registers. */
-enum { DEPTH, PAGE_SIZE, WINDOW };
+/* The geometry of the devices' drivers. */
+enum { DEPTH, PAGE_SIZE, WINDOW, OFFSET, LIST_OFFSET, PACE, NUMBERS };
 
 /* A device is the process of one subsystem. */
 struct device {
@@ -32,7 +32,7 @@ extern struct device *devices; /* (in shared memory, as all that helpers read) *
 extern unsigned device_count;
 extern int has_sandbox;     /* whether /dev and /sys are the command's own */
 extern int waits;           /* whether nodes wait for a scan or a reset, because of --no-notice */
-extern uint64_t geometry[]; /* of the devices' drivers */
+extern uint64_t geometry[NUMBERS];
 
 /* launcher.c: `fail` reports why the launcher can't continue, and ends everything that was started; `fail_by_errno`
    adds why the last call failed; `cannot` reports by errno that a path can't be made, which ends the launcher only
@@ -44,17 +44,19 @@ __attribute__((noreturn)) void fail_by_errno(const char *what);
 void cannot(const char *path);
 const char *last_line(int file, const char *program);
 
-/* options.c: what the options choose, and reads them; returns where the command's words begin. */
-enum { MOST_ADDED = 64, MOST_LAYOUT = 16 };
+/* options.c: what the options choose, and reads them; returns where the command's words begin; and reports that a number
+   isn't one that an option of the layout takes. */
+enum { MOST_ADDED = 64 };
 struct options {
     const char *subsystems[MOST_DEVICES], *added[MOST_ADDED + 1], *trace_file; /* (`added` ends with NULL) */
-    char *device_words[MOST_LAYOUT + 4]; /* a device's program and options */
+    char *device_words[NUMBERS + 4]; /* a device's program and options */
     unsigned subsystem_count, added_count, device_word_count;
     int has_trace, may_lack_sandbox;
     uint64_t limit; /* of the memory for data */
 };
 extern struct options options;
 int read_options(int count, char **arguments);
+__attribute__((noreturn)) void fail_by_number(const char *name);
 
 /* command.c: starts process 1 of the command's own namespace, which is stored, and gives up the rights that make it;
    returns the process that becomes the command, with these signals blocked, as soon as it is released; and ends this
@@ -83,32 +85,46 @@ struct volume {
     unsigned power;      /* a block has two to this power bytes; 0 if the namespace isn't known */
     unsigned generation; /* how many namespaces had this NSID before */
     int left;            /* the file of its data while no node has it, or 0 */
+
+    /* What ioctls of its block devices have set: whether they can't be written, the sectors that are read ahead, and
+       the bytes of a buffer, which hold for one process. */
+    int is_read_only;
+    uint64_t read_ahead;
+    unsigned buffer;
+    pid_t buffer_of;
 };
 
 /* nodes.c: makes the nodes of all controllers; looks for changes after a command; scans the namespaces of some
    controllers; makes the nodes of a lost device unusable; returns a descriptor that tells which nodes of a device were
-   written, and restores their lengths; returns whether a name is that of a node, which may have been removed, and
-   stores the node; opens the data of a namespace that is active on a node's controller, or returns -1; and stores how
-   long a namespace is, or returns 0 if this isn't known or just changes. */
+   written, and restores their lengths; shows a namespace anew after an ioctl changed it; returns whether a name is that
+   of a node, which may have been removed, and stores the node; returns whether a controller shows a namespace; asks a
+   controller, as Identify does or for its active namespaces, and returns the length of what came, or -1; opens the data of a namespace that is active on a node's controller, or returns -1; and stores how long a namespace is, or
+   returns 0 if this isn't known or just changes. */
 void make_nodes(void);
 void look_for_changes(struct device *device, const struct request_header *request, const struct answer_header *answer);
 void scan(struct device *device, unsigned first, unsigned count);
 void lose_nodes(const struct device *device);
 int watch_nodes(const struct device *device);
 void repair_files(const struct device *device, int watcher);
+void show_anew(struct device *device, uint32_t nsid);
 int read_name(const char *name, struct node *node);
 struct device *device_of(unsigned controller);
+int is_shown(unsigned controller, uint32_t nsid);
+int identify(struct device *device, unsigned controller, uint32_t nsid, uint32_t cns, void *data);
+int list_active(struct device *device, unsigned controller, unsigned char is_active[MOST_NSID + 1]);
 int open_data(const struct node *node);
+struct volume *volume_of(const struct node *node);
 int read_volume(const struct node *node, struct volume *volume);
 
 /* sysfs.c: puts the files of /sys that are there at first, and those that describe a subsystem, a controller with its
-   place in it, and a namespace, whose data is in an open file (or -1, if it has its node), with the nodes of these; and
-   removes those of a namespace. */
+   place in it, and a namespace, whose data is in an open file (or -1, if it has its node), with the nodes of these;
+   removes those of a namespace; and returns the greatest number of sectors in a transfer of a controller. */
 void begin_sys(void);
 void put_subsystem(unsigned number, const unsigned char *identity);
 void put_controller(unsigned number, unsigned place, const unsigned char *identity);
 void put_namespace(unsigned controller, uint32_t nsid, const struct volume *volume, int file);
 void remove_namespace(unsigned controller, uint32_t nsid);
+unsigned most_sectors(unsigned controller);
 
 /* A call that is handed to the launcher by programs in a sandbox. */
 struct handed_call {
@@ -149,8 +165,9 @@ unsigned await_call(int signals);
 void note_end(pid_t process);
 
 /* helpers.c: memory that all these processes share; and in a helper, room for data, and a request to the keeper of a
-   controller's device, which returns -1 if the device is gone. The request may also be a scan of controllers. */
-enum { KIND_SCAN = 0xffff };
+   controller's device, which returns -1 if the device is gone. The request may also be a scan of controllers, or to show
+   a namespace anew. */
+enum { KIND_SCAN = 0xffff, KIND_SHOW = 0xfffe };
 void *share(size_t size);
 void *own_data(void);
 int ask_keeper(const struct request_header *header, struct answer_header *answer);
@@ -166,9 +183,11 @@ struct call {
 };
 
 /* caller.c: takes the identity of the process that made a call, because its memory and its files are open to nobody
-   else, and returns whether it did (root alone can, and is root again where it opens the data of a node); and copy
-   between a helper and the memory of the process, and return 0, or -EFAULT. */
+   else, and returns whether it did (root alone can, and is root again where it opens the data of a node); returns
+   whether the process may administer devices, as root may on a machine: here it is the user who started the model; and
+   copy between a helper and the memory of the process, and return 0, or -EFAULT. */
 int act_as_caller(const struct call *call);
+int is_administrator(void);
 int open_own_data(const struct call *call);
 int copy_in(const struct call *call, uint64_t from, void *into, size_t size);
 int copy_out(const struct call *call, uint64_t into, const void *from, size_t size);
@@ -184,14 +203,19 @@ int signal_group(const struct call *call, int number);
    its status, or -EFAULT. */
 int put_result(const struct call *call, int is_wide, uint64_t result, int status);
 
-/* refuse.c: adds a rule of --refuse, or returns -1 if it isn't one; returns the status with which a command is refused,
-   which counts then, or 0; and reports which rules refused no command. */
-int add_rule(const char *text);
-int refusal_of(int is_io, unsigned opcode, uint32_t dword_10);
+/* refuse.c: adds a rule of --refuse or --delay, or returns why it isn't one; does with a command what the rules say,
+   and returns the status with which it is refused, an error's number as a negative one, or 0; and reports which rules
+   had no effect. */
+enum rule_action { REFUSE, DELAY };
+struct nvme_passthru_cmd;
+const char *add_rule(enum rule_action action, const char *text);
+int follow_rules(const struct call *call, int is_io, const struct nvme_passthru_cmd *given);
 void report_rules(void);
 
-/* io.c: carries out an I/O command, and returns its status, or an error's number as a negative one. */
+/* io.c: carries out an I/O command, and returns its status, or an error's number as a negative one; and answers an admin
+   command that the controllers don't have, and returns whether it is one. */
 int io(struct call *call);
+int supply(struct device *device, const struct request_header *request, void *data, struct answer_header *answer);
 
 /* sandbox.c: what a sandbox is made of, and the place of these programs in it. */
 struct sandbox {

@@ -9,6 +9,7 @@
 #include <errno.h>
 #include <fcntl.h>
 #include <limits.h>
+#include <linux/fs.h>
 #include <spawn.h>
 #include <stdarg.h>
 #include <sys/mman.h>
@@ -128,7 +129,7 @@ static int describe(int found, const struct node *node, struct stat *about) {
     if (found <= 0)
         return found;
     unsigned major = node->kind == 'b' ? BLOCK_MAJOR : node->kind == 'g' ? GENERIC_MAJOR : CONTROLLER_MAJOR;
-    about->st_mode = (about->st_mode & 07777) | (node->kind == 'b' ? S_IFBLK : S_IFCHR);
+    about->st_mode = (about->st_mode & 07777 & ~READ_ONLY) | (node->kind == 'b' ? S_IFBLK : S_IFCHR);
     about->st_rdev = makedev(major, minor_of(node->controller, node->nsid));
     about->st_size = about->st_blocks = 0;
     about->st_nlink = 1;
@@ -234,18 +235,36 @@ static int kind_of(int file, struct stat *about) {
     return found > 0 ? node.kind : found;
 }
 
+/* Whether Linux takes a direct write of these pieces, whose memory is at multiples of 4. */
+static int is_aligned(int file, const struct iovec *pieces, int count, off_t from) {
+    unsigned block;
+    if (NEXT(ioctl)(file, BLKSSZGET, &block) < 0)
+        return 1;
+    size_t bits = (size_t)from;
+    for (; count > 0; pieces++, count--)
+        bits |= pieces->iov_len | ((uintptr_t)pieces->iov_base % 4);
+    return bits % block == 0;
+}
+
 /* Writes to a node: the first piece, which is enough, because a write may be short. (The place -1 is the offset.) */
-static ssize_t write_node(int kind, int file, off_t size, const struct iovec *pieces, int count, off_t at, int flags) {
+static ssize_t write_node(int kind, int file, const struct stat *about, const struct iovec *pieces, int count, off_t at,
+                          int flags) {
+    int how = fcntl(file, F_GETFL);
     if (kind < 0)
         return -1;
-    if (kind != 'b')
-        return fails_by(EINVAL);
+    if ((how & O_ACCMODE) == O_RDONLY)
+        return fails_by(EBADF);
+    if (kind != 'b' || about->st_mode & READ_ONLY)
+        return fails_by(kind == 'b' ? EPERM : EINVAL);
     while (count > 1 && pieces->iov_len == 0)
         pieces++, count--;
     struct iovec piece = *pieces;
-    off_t from = fcntl(file, F_GETFL) & O_APPEND ? size : at < 0 ? lseek(file, 0, SEEK_CUR) : at;
+    off_t size = about->st_size;
+    off_t from = how & O_APPEND ? size : at < 0 ? lseek(file, 0, SEEK_CUR) : at;
     if (piece.iov_len > 0 && from >= size)
         return fails_by(ENOSPC);
+    if (piece.iov_len > 0 && how & O_DIRECT && !is_aligned(file, pieces, count, from))
+        return fails_by(EINVAL);
     if ((off_t)piece.iov_len > size - from)
         piece.iov_len = (size_t)(size - from);
     return NEXT(pwritev2)(file, &piece, 1, at, flags);
@@ -256,8 +275,7 @@ static ssize_t write_node(int kind, int file, off_t size, const struct iovec *pi
     PUBLIC ssize_t name parameters { \
         struct stat about; \
         int kind = (count) < 1 || (at) < -1 ? 0 : kind_of(file, &about); \
-        return kind == 0 ? NEXT(name)(__VA_ARGS__) \
-                         : write_node(kind, file, about.st_size, pieces, count, at, flags); \
+        return kind == 0 ? NEXT(name)(__VA_ARGS__) : write_node(kind, file, &about, pieces, count, at, flags); \
     }
 #define PIECE &(struct iovec){(void *)from, size}
 
@@ -271,6 +289,22 @@ WRITES(pwritev2, (int file, const struct iovec *pieces, int count, off_t at, int
 SAME(pwrite64, pwrite);
 SAME(pwritev64, pwritev);
 SAME(pwritev64v2, pwritev2);
+
+/* A call that reads. A character device has nothing to read, which is told only if nothing was read, because others are
+   not to wait for this. */
+#define READS(name, parameters, ...) \
+    PUBLIC ssize_t name parameters { \
+        struct stat about; \
+        ssize_t count = NEXT(name)(__VA_ARGS__); \
+        int kind = count == 0 ? kind_of(file, &about) : 0; \
+        return kind == 'c' || kind == 'g' ? fails_by(EINVAL) : count; \
+    }
+
+READS(read, (int file, void *into, size_t size), file, into, size)
+READS(__read_chk, (int file, void *into, size_t size, size_t room), file, into, size, room)
+READS(pread, (int file, void *into, size_t size, off_t at), file, into, size, at)
+READS(readv, (int file, const struct iovec *pieces, int number), file, pieces, number)
+SAME(pread64, pread);
 
 /* The launcher answers the ioctls of nodes (calls.c). If a signal came before it took one, nothing was done. Linux
    wouldn't interrupt it, so it is made again. Others would be answered as those of a file. */
@@ -286,6 +320,8 @@ PUBLIC int ioctl(int file, unsigned long request, ...) {
         return fails_by(ENOTTY);
     while ((result = NEXT(ioctl)(file, request, argument)) < 0 && errno == EINTR && is_answered)
         continue;
+    if (result < 0 && errno == OVERDUE && type == NVME_TYPE)
+        errno = EINTR;
     return result;
 }
 

@@ -8,6 +8,9 @@
 
 enum { CNS_NAMESPACE = 0, CNS_CONTROLLER = 1, MOST_NAME = 40 };
 
+/* How many sectors of 512 bytes Linux reads ahead at first. */
+enum { READ_AHEAD = 256 };
+
 /* What each controller's nodes show now: the generation of the namespace plus 1, or 0 if there is no node. */
 static unsigned (*shown)[MOST_NSID + 1];
 static struct volume (*volumes)[MOST_NSID + 1];
@@ -21,9 +24,13 @@ struct device *device_of(unsigned controller) {
     return device;
 }
 
+struct volume *volume_of(const struct node *node) { return volume_at(device_of(node->controller), node->nsid); }
+
+int is_shown(unsigned controller, uint32_t nsid) { return shown[controller][nsid] != 0; }
+
 /* (a namespace that gets another format has no power meanwhile) */
 int read_volume(const struct node *node, struct volume *volume) {
-    const volatile struct volume *now = volume_at(device_of(node->controller), node->nsid);
+    const volatile struct volume *now = volume_of(node);
     *volume = (struct volume){.power = now->power};
     volume->blocks = now->blocks;
     return volume->power != 0 && volume->power == now->power;
@@ -95,6 +102,8 @@ static const struct group *disk; /* to which root's block devices belong, as on 
    piece by piece, because that gets no name again. */
 static int make_data(struct volume *volume) {
     static unsigned char piece[1 << 18];
+    volume->is_read_only = 0;
+    volume->read_ahead = READ_AHEAD;
     off_t at = 0;
     ssize_t count = 0;
     int file = open("/dev", O_TMPFILE | O_RDWR | O_CLOEXEC, 0660), from = volume->left;
@@ -164,6 +173,10 @@ static int ask(struct device *device, unsigned controller, uint16_t kind, uint32
     return exchange(device, &header, data, &answer) == 0 && answer.status == 0 ? (int)answer.length : -1;
 }
 
+int identify(struct device *device, unsigned controller, uint32_t nsid, uint32_t cns, void *data) {
+    return ask(device, controller, KIND_ENTRY, nsid, cns, data);
+}
+
 /* Finds out how long a namespace is, if this isn't known. */
 static int measure(struct device *device, unsigned controller, uint32_t nsid) {
     unsigned char data[IDENTIFY_BYTES];
@@ -173,12 +186,13 @@ static int measure(struct device *device, unsigned controller, uint32_t nsid) {
     if (ask(device, controller, KIND_ENTRY, nsid, CNS_NAMESPACE, data) < 0)
         return -1;
     unsigned power = data[128 + 4 * (data[26] & 15) + 2];
+    volume->read_ahead = READ_AHEAD;
     __atomic_store_n(&volume->blocks, number_at(data, 8), __ATOMIC_SEQ_CST);
     __atomic_store_n(&volume->power, power < 32 ? power : 0, __ATOMIC_SEQ_CST);
     return volume->power > 0 ? 0 : -1;
 }
 
-static int list_active(struct device *device, unsigned controller, unsigned char is_active[MOST_NSID + 1]) {
+int list_active(struct device *device, unsigned controller, unsigned char is_active[MOST_NSID + 1]) {
     unsigned char list[4 * MOST_NSID];
     int length = ask(device, controller, KIND_LIST, 0, 0, list);
     memset(is_active, 0, MOST_NSID + 1);
@@ -225,6 +239,21 @@ static void forget_namespace(struct device *device, uint32_t nsid) {
     *volume = (struct volume){.generation = volume->generation + 1};
 }
 
+/* (the library sees by the mode of the file whether it may write) */
+void show_anew(struct device *device, uint32_t nsid) {
+    struct volume *volume = volume_at(device, nsid);
+    int file = open_volume(device, nsid);
+    struct stat about;
+    if (file >= 0 && (fstat(file, &about) < 0 ||
+                      fchmod(file, (about.st_mode & 0777) | (volume->is_read_only ? READ_ONLY : 0)) < 0))
+        cannot("/dev");
+    if (file >= 0)
+        close(file);
+    for (unsigned at = device->first; at < device->first + device->count; at++)
+        if (shown[at][nsid] == volume->generation + 1)
+            put_namespace(at, nsid, volume, -1);
+}
+
 /* Clears the data of a formatted namespace, and makes it as long as the new format requires. */
 static void clear_namespace(struct device *device, unsigned controller, uint32_t nsid) {
     struct volume *volume = volume_at(device, nsid);
@@ -235,9 +264,7 @@ static void clear_namespace(struct device *device, unsigned controller, uint32_t
     if (measure(device, controller, nsid) < 0)
         return;
     set_length(device, nsid, length_of(volume));
-    for (unsigned at = device->first; at < device->first + device->count; at++)
-        if (shown[at][nsid] == volume->generation + 1)
-            put_namespace(at, nsid, volume, -1);
+    show_anew(device, nsid);
 }
 
 /* (a command for all namespaces formats those that are active on the controller) */

@@ -9,7 +9,7 @@ struct options options = {.device_word_count = 1};
 static const char *set_subsystem(const char *name, const char *text) {
     (void)name;
     if (options.subsystem_count == MOST_DEVICES)
-        return "there can be 16 subsystems at most";
+        return "there can be 32 subsystems at most";
     options.subsystems[options.subsystem_count++] = text;
     return NULL;
 }
@@ -30,14 +30,13 @@ static const char *set_limit(const char *name, const char *text) {
     const char *unit = *end ? strchr(units, *end) : NULL;
     int power = unit ? 10 * (int)(unit - units + 1) : 0;
     if (*text < '0' || *text > '9' || errno || (*end && (!unit || end[1])) || size > (uint64_t)INT64_MAX >> power)
-        return "this isn't a size, such as 512M";
+        return "this isn't a number of bytes, or one with K, M or G";
     options.limit = size << power ?: 1;
     return NULL;
 }
 
-static const char *set_refusal(const char *name, const char *text) {
-    (void)name;
-    return add_rule(text) == 0 ? NULL : "this isn't a command and its status, such as format=0x2002, or there are over 64";
+static const char *set_rule(const char *name, const char *text) {
+    return add_rule(strcmp(name, "delay") == 0 ? DELAY : REFUSE, text);
 }
 
 static const char *set_device(const char *name, const char *text) {
@@ -54,16 +53,41 @@ static const char *set_switch(const char *name, const char *text) {
     return NULL;
 }
 
-/* (the devices check whether these are numbers) */
+/* The numbers of the layout that options take, and those that the devices accept. */
+static const struct {
+    const char *name, *range;
+} numbers[NUMBERS] = {[DEPTH] = {"depth", "2 to 4096"},
+                      [PAGE_SIZE] = {"page-size", "4096, 8192, 16384, 32768 or 65536"},
+                      [WINDOW] = {"window", "1 to 16, below the depth"},
+                      [OFFSET] = {"offset", "a multiple of 4 below the page size"},
+                      [LIST_OFFSET] = {"list-offset", "a multiple of 8 below the page size"},
+                      [PACE] = {"pace", "1 to 4096"}};
+
+/* (a device writes page_size, and three letters tell them apart) */
+static unsigned find_number(const char *name) {
+    unsigned at = 0;
+    while (at < PACE && strncmp(numbers[at].name, name, 3) != 0)
+        at++;
+    return at;
+}
+
+void fail_by_number(const char *name) {
+    unsigned at = find_number(name);
+    fail("--%s: %s\nsee nvme-model --help", numbers[at].name, numbers[at].range);
+}
+
+/* (of several numbers for one option, the last one counts) */
 static const char *set_layout(const char *name, const char *text) {
-    static const char *const parts[] = {[DEPTH] = "depth", [PAGE_SIZE] = "page-size", [WINDOW] = "window"};
-    if (options.device_word_count > MOST_LAYOUT)
-        return "there can be 16 of these at most";
-    if (asprintf(&options.device_words[options.device_word_count++], "--%s=%s", name, text) < 0)
+    static unsigned places[NUMBERS];
+    unsigned at = find_number(name);
+    char *end;
+    geometry[at] = strtoul(text, &end, 0);
+    if (*text < '0' || *text > '9' || *end || geometry[at] > UINT32_MAX)
+        return numbers[at].range;
+    if (places[at] == 0)
+        places[at] = options.device_word_count++;
+    if (asprintf(&options.device_words[places[at]], "--%s=%s", name, text) < 0)
         fail("out of memory");
-    for (unsigned at = 0; at < sizeof parts / sizeof *parts; at++)
-        if (strcmp(name, parts[at]) == 0)
-            geometry[at] = strtoul(text, NULL, 0);
     return NULL;
 }
 
@@ -80,12 +104,13 @@ static const struct row {
     const char *name, *argument, *help;
     const char *(*set)(const char *name, const char *text);
 } rows[] = {
-    {"subsystem", "FILE", "use the subsystem of FILE; repeat it for several subsystems, at most 16", set_subsystem},
+    {"subsystem", "FILE", "use the subsystem of FILE; repeat it for several subsystems, at most 32", set_subsystem},
     {"trace", "[=FILE]", "write what goes over the bus to standard error or to FILE", set_trace},
     {"data-limit", "SIZE", "limit the memory for data of namespaces, such as 512M (default: a quarter of all memory)",
      set_limit},
     {"refuse", "COMMAND[,SKIP[,TIMES]]=STATUS",
-     "refuse a command, such as format=0x2002, after SKIP of them (0), TIMES times (1)", set_refusal},
+     "refuse a command, such as format=0x2002, after SKIP of them (0), TIMES times (1)", set_rule},
+    {"delay", "COMMAND[,SKIP[,TIMES]]=SECONDS", "delay a command, such as format=30, likewise", set_rule},
     {"no-notice", NULL, "let nodes come and go only at `nvme ns-rescan` or a reset", set_switch},
     {"device", "PATH", "add a character device of this machine, such as /dev/fuse, to the /dev of COMMAND", set_device},
     {"no-sandbox", NULL, "without bubblewrap, if this machine has no NVMe device: make nodes that are only names",
@@ -156,6 +181,6 @@ int read_options(int count, char **arguments) {
     }
     if (optind < count)
         return optind;
-    fputs("nvme-model: there is no command\n", stderr);
+    fputs("nvme-model: there is no command to run\n", stderr);
     refuse_words();
 }

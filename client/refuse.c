@@ -1,12 +1,14 @@
-/* Refuses commands that processes send by ioctl, as --refuse says, in place of a controller or of the I/O commands. No
-   log entry is made, and no proof speaks about any of this. */
+/* Refuses and delays commands that processes send by ioctl, as --refuse and --delay say, in place of a controller or of
+   the I/O commands. No log entry is made, and no proof speaks about any of this. */
 #include "launcher.h"
+#include <linux/nvme_ioctl.h>
+#include <time.h>
 
-enum { MOST_RULES = 64, GREATEST_STATUS = 0x7fff };
+enum { MOST_RULES = 64, GREATEST_STATUS = 0x7fff, MOST_SECONDS = 86400 };
 
 /* The commands of nvme-cli: by the opcode and, unless any will do, by the lowest bits of dword 10 (CNS, SEL or LID), of
    which some commands have two. */
-static const struct {
+static const struct command {
     const char *name;
     int is_io;
     unsigned opcode, bits, one, other;
@@ -25,83 +27,108 @@ static const struct {
                 {"compare", 1, 0x05, 0, 0, 0},              {"write-zeroes", 1, 0x08, 0, 0, 0},
                 {"dsm", 1, 0x09, 0, 0, 0},                  {"verify", 1, 0x0c, 0, 0, 0}};
 
-/* A rule: after `skip` commands, `times` of them get a status. */
+/* What the options do. */
+static const struct action {
+    const char *option, *done, *form;
+    uint64_t most;
+} actions[] = {
+    [REFUSE] = {"--refuse", "refused", "the form is COMMAND[,SKIP[,TIMES]]=STATUS, with a STATUS of 1 to 0x7fff", GREATEST_STATUS},
+    [DELAY] = {"--delay", "delayed", "the form is COMMAND[,SKIP[,TIMES]]=SECONDS, with 1 to 86400 SECONDS", MOST_SECONDS}};
+
+/* A rule: after `skip` commands, `times` of them get a status or are delayed by seconds. */
 static struct rule {
     const char *text;
-    int is_io;
-    unsigned opcode, bits, one, other;
-    uint64_t skip, times;
-    int status;
+    enum rule_action action;
+    struct command command;
+    uint64_t skip, times, value;
 } rules[MOST_RULES];
 static unsigned rule_count;
 
-/* What the helpers share: for each rule, how many commands came, and whether one was refused. */
+/* What the helpers share: for each rule, how many commands came, and whether it had an effect on one. */
 static struct {
-    uint64_t came, has_refused;
+    uint64_t came, has_acted;
 } *counts;
 
-/* Reads a number up to a limit at the beginning of a text, and returns what follows it, or NULL. */
-static const char *read_number(const char *text, uint64_t most, uint64_t *number) {
+/* Reads a number of a range, which one of a rule's signs or its end follows, and returns what follows it, or NULL. */
+static const char *read_number(const char *text, uint64_t least, uint64_t most, uint64_t *number) {
     char *end;
     errno = 0;
     *number = strtoull(text, &end, 0);
-    return *text >= '0' && *text <= '9' && errno == 0 && *number <= most ? end : NULL;
+    int is_number = *text >= '0' && *text <= '9' && errno == 0 && (!*end || strchr(",=", *end));
+    return is_number && *number >= least && *number <= most ? end : NULL;
 }
 
 /* Finds the command of a rule, and returns what follows it, or NULL. */
-static const char *read_command(const char *text, struct rule *rule) {
+static const char *read_command(const char *text, struct command *command) {
     size_t length = strcspn(text, ",=");
     uint64_t opcode;
     for (unsigned at = 0; at < sizeof commands / sizeof *commands; at++)
         if (strlen(commands[at].name) == length && strncmp(commands[at].name, text, length) == 0) {
-            *rule = (struct rule){rule->text, commands[at].is_io, commands[at].opcode, commands[at].bits,
-                                  commands[at].one, commands[at].other, 0, 1, 0};
+            *command = commands[at];
             return text + length;
         }
     int is_io = strncmp(text, "io:", 3) == 0;
-    const char *end = read_number(text + 3 * is_io, 0xff, &opcode);
-    *rule = (struct rule){rule->text, is_io, (unsigned)opcode, 0, 0, 0, 0, 1, 0};
+    const char *end = read_number(text + 3 * is_io, 0, 0xff, &opcode);
+    *command = (struct command){NULL, is_io, (unsigned)opcode, 0, 0, 0};
     return end == text + length ? end : NULL;
 }
 
-int add_rule(const char *text) {
-    uint64_t *const numbers[] = {&rules[rule_count].skip, &rules[rule_count].times};
+const char *add_rule(enum rule_action action, const char *text) {
     struct rule *rule = rules + rule_count;
-    uint64_t status = 0;
     if (rule_count == MOST_RULES)
-        return -1;
-    rule->text = text;
-    const char *at = read_command(text, rule);
-    for (unsigned number = 0; at && *at == ',' && number < 2; number++)
-        at = read_number(at + 1, UINT32_MAX, numbers[number]);
-    at = at && *at == '=' ? read_number(at + 1, GREATEST_STATUS, &status) : NULL;
-    rule->status = (int)status;
-    if (!at || *at || status == 0 || rule->times == 0)
-        return -1;
+        return "64 rules are the most";
+    *rule = (struct rule){.text = text, .action = action, .times = 1};
+    const char *at = read_command(text, &rule->command);
+    if (!at)
+        return "there is no such command";
+    if (*at == ',' && !(at = read_number(at + 1, 0, UINT32_MAX, &rule->skip)))
+        return "SKIP: 0 to 4294967295";
+    if (*at == ',' && !(at = read_number(at + 1, 1, UINT32_MAX, &rule->times)))
+        return "TIMES: 1 to 4294967295";
+    at = *at == '=' ? read_number(at + 1, 1, actions[action].most, &rule->value) : NULL;
+    if (!at || *at)
+        return actions[action].form;
     if (rule_count++ == 0)
         counts = share(MOST_RULES * sizeof *counts);
-    return 0;
+    return NULL;
 }
 
-int refusal_of(int is_io, unsigned opcode, uint32_t dword_10) {
-    int status = 0;
+/* Waits as long as a command is delayed. Linux gives a command the time that its process says, or else a minute. (An
+   admin command has that by default, and an I/O command has half of it twice, because it is aborted first.) Then it
+   resets the controller, and the call fails. */
+static int wait_for(const struct call *call, int is_io, uint64_t seconds, uint32_t limit) {
+    const struct request_header reset = {.controller = (uint16_t)call->node.controller, .kind = KIND_RESET};
+    const uint64_t most = limit ? (uint64_t)limit << is_io : 60000, least = seconds * 1000 < most ? seconds * 1000 : most;
+    struct timespec left = {.tv_sec = (time_t)(least / 1000), .tv_nsec = (long)(least % 1000 * 1000000)};
+    while (nanosleep(&left, &left) < 0 && errno == EINTR)
+        continue;
+    if (seconds * 1000 <= most)
+        return 0;
+    return ask_keeper(&reset, &(struct answer_header){0}) < 0 ? -ENXIO : -OVERDUE;
+}
+
+int follow_rules(const struct call *call, int is_io, const struct nvme_passthru_cmd *given) {
+    uint64_t values[] = {[REFUSE] = 0, [DELAY] = 0};
     for (unsigned at = 0; at < rule_count; at++) {
         const struct rule *rule = rules + at;
-        unsigned selected = dword_10 & rule->bits;
-        if (rule->is_io != is_io || rule->opcode != opcode || (selected != rule->one && selected != rule->other))
+        const struct command *command = &rule->command;
+        unsigned selected = given->cdw10 & command->bits;
+        if (command->is_io != is_io || command->opcode != given->opcode ||
+            (selected != command->one && selected != command->other))
             continue;
         uint64_t before = __atomic_fetch_add(&counts[at].came, 1, __ATOMIC_SEQ_CST);
-        if (status != 0 || before < rule->skip || before - rule->skip >= rule->times)
+        if (values[rule->action] != 0 || before < rule->skip || before - rule->skip >= rule->times)
             continue;
-        __atomic_store_n(&counts[at].has_refused, 1, __ATOMIC_SEQ_CST);
-        status = rule->status;
+        __atomic_store_n(&counts[at].has_acted, 1, __ATOMIC_SEQ_CST);
+        values[rule->action] = rule->value;
     }
-    return status;
+    int result = values[DELAY] ? wait_for(call, is_io, values[DELAY], given->timeout_ms) : 0;
+    return result < 0 ? result : (int)values[REFUSE];
 }
 
 void report_rules(void) {
-    for (unsigned at = 0; at < rule_count; at++)
-        if (!counts[at].has_refused)
-            fprintf(stderr, "nvme-model: --refuse %s refused no command; %ju came\n", rules[at].text,
-                    (uintmax_t)counts[at].came);
+    for (const struct rule *rule = rules; rule < rules + rule_count; rule++)
+        if (!counts[rule - rules].has_acted)
+            fprintf(stderr, "nvme-model: %s %s %s no command; %ju came\n", actions[rule->action].option, rule->text,
+                    actions[rule->action].done, (uintmax_t)counts[rule - rules].came);
 }

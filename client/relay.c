@@ -48,7 +48,7 @@ int exchange(struct device *device, const struct request_header *header, void *d
 int carry_out(struct request_header *header, void *data, struct answer_header *answer) {
     struct device *device = device_of(header->controller);
     header->controller -= (uint16_t)device->first;
-    int result = exchange(device, header, data, answer);
+    int result = supply(device, header, data, answer) ? 0 : exchange(device, header, data, answer);
     if (result == 0)
         look_for_changes(device, header, answer);
     return result;
@@ -56,7 +56,7 @@ int carry_out(struct request_header *header, void *data, struct answer_header *a
 
 /* Ends the launcher because a device can't start, with the reason that the device told, and the file that has it. */
 __attribute__((noreturn)) static void fail_by_device(struct device *device, const char *name) {
-    static const char subject[] = "subsystem: ";
+    static const char subject[] = "subsystem: ", number[] = "geometry: ";
     if (device->process > 0)
         kill(device->process, SIGKILL);
     fcntl(device->said, F_SETFL, 0);
@@ -64,6 +64,8 @@ __attribute__((noreturn)) static void fail_by_device(struct device *device, cons
     device->said = -1;
     if (name && strncmp(line, subject, strlen(subject)) == 0)
         fail("%s: %s", name, line + strlen(subject));
+    if (strncmp(line, number, strlen(number)) == 0)
+        fail_by_number(line + strlen(number));
     fail("%s", *line ? line : "the device ended before it answered");
 }
 

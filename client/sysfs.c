@@ -314,12 +314,18 @@ void put_controller(unsigned number, unsigned place, const unsigned char *identi
     }
 }
 
+unsigned most_sectors(unsigned number) {
+    const unsigned usual = 2560, mdts = identities[number][77];
+    return mdts != 0 && mdts < 9 ? 8u << mdts : usual;
+}
+
 void put_namespace(unsigned number, uint32_t nsid, const struct volume *volume, int file) {
     static uint32_t queues; /* a bit for each power of a block's size whose folder is there */
     uint64_t size = volume->power < 9 ? volume->blocks >> (9 - volume->power) : volume->blocks << (volume->power - 9);
     set_controller(number);
     set("size", "%llu", (unsigned long long)size);
     set("block", "%llu", 1ULL << volume->power);
+    set("ro", "%d", volume->is_read_only);
     set("file", "%d", file);
     set_numbers(BLOCK_MAJOR, number, nsid);
     put_folder(&block);

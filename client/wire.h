@@ -61,6 +61,13 @@ static inline unsigned minor_of(unsigned controller, uint32_t nsid) {
 /* A node whose device is gone becomes a socket, because Linux answers ENXIO when a socket is opened. */
 #define LOST_NODE (S_IFSOCK | 01666)
 
+/* The mode bit of a block device's file while the device is read-only, which the library keeps to itself. */
+#define READ_ONLY S_ISVTX
+
+/* The error of a command that took too long. The library makes it EINTR, which it would take for a signal that came
+   before the launcher took the call. */
+#define OVERDUE ETIMEDOUT
+
 /* Types of ioctls, and one of an older kind, that the launcher answers for nodes (calls.c). */
 enum { NVME_TYPE = 'N', BLOCK_TYPE = 0x12, GEOMETRY_REQUEST = 0x0301 };
 

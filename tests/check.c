@@ -252,7 +252,7 @@ static void try_identify(void) {
     refused(0, identify(2, 0xfffffffe), INVALID_NAMESPACE);
     refused(0, identify(0x10, EVERY), INVALID_NAMESPACE);
     for (unsigned cns = 0; cns < 256; cns++)
-        if (cns > 2 && cns != 0x10 && cns != 0x11)
+        if (cns > 3 && (cns < 0x10 || cns > 0x13))
             refused(0, identify(cns, 1), INVALID_FIELD);
     is_booked(0, 0);
 }
@@ -268,7 +268,7 @@ static void try_logs(void) {
     is_number(0, 8, refusals[0] - 1);
     is_number(128, 8, refusals[0] - 3);
     must(all_are(common, 192, 256, 0), "the first controller keeps four entries");
-    refused(0, get_log(EVERY, 3, 512, 0), INVALID_LOG);
+    refused(0, get_log(EVERY, 5, 512, 0), INVALID_LOG);
     refused(0, get_log(EVERY, 2, 512, 2), INVALID_FIELD);
     refused(0, get_log(EVERY, 2, 512, 516), INVALID_FIELD);
     refused(0, get_log(1, 2, 512, 0), INVALID_FIELD);
@@ -369,6 +369,44 @@ static void try_others(void) {
     is_booked(0, 0);
 }
 
+/* Sends a command that the launcher answers itself, with this status and these bytes, and zeros after them. */
+static void supplied(unsigned controller, struct command command, int status, const char *bytes, size_t count) {
+    uint64_t result;
+    int value = send_command(files[controller], &command, &result);
+    must(value == status && result == 0, "opcode %02xh, NSID %xh, dword 10 %xh: status %xh; it was %xh", command.opcode,
+         command.nsid, command.cdw10, status, value);
+    must(memcmp(common, bytes, count) == 0 && all_are(common, count, command.length, 0), "and %zu bytes of data", count);
+}
+
+static void try_supplied(void) {
+    enum { DESCRIPTORS = 0x03, ATTACHED = 0x12, CONTROLLERS = 0x13, FROM_ONE = 1 << 16, FIRMWARE = 0x03, CHANGED = 0x04 };
+    enum { NO_FIELD = 0x4002, NO_NAMESPACE = 0x400b };
+    done(0, create(18, 18, 0, 0, 1), 1);
+    done(0, attachment(0, 1, 1, 1, 0), 0);
+    supplied(0, identify(CONTROLLERS, 0), 0, "\2\0\0\0\1", 5);
+    supplied(1, identify(CONTROLLERS | FROM_ONE, 0), 0, "\1\0\1", 3);
+    supplied(1, identify(CONTROLLERS | 2 << 16, 7), 0, "", 0);
+    supplied(0, identify(ATTACHED, 1), 0, "\1\0\1", 3);
+    supplied(0, identify(ATTACHED | 2 << 16, 1), 0, "", 0);
+    supplied(1, identify(DESCRIPTORS, 1), 0, "\4\1", 2);
+    supplied(0, identify(DESCRIPTORS, 1), NO_FIELD, "", 0);
+    for (uint32_t cns = DESCRIPTORS; cns <= ATTACHED; cns += ATTACHED - DESCRIPTORS) {
+        supplied(0, identify(cns, 0), NO_NAMESPACE, "", 0);
+        supplied(0, identify(cns, 2), NO_FIELD, "", 0);
+        supplied(0, identify(cns, 5), NO_NAMESPACE, "", 0);
+        supplied(0, identify(cns, EVERY), cns == ATTACHED ? NO_FIELD : NO_NAMESPACE, "", 0);
+    }
+    done(0, attachment(0, 1, 1, 0, 0), 0);
+    supplied(1, identify(ATTACHED, 1), 0, "\2\0\0\0\1", 5);
+    supplied(0, get_log(EVERY, FIRMWARE, 512, 0), 0, "\1\0\0\0\0\0\0\0001.0     ", 16);
+    supplied(0, get_log(0, FIRMWARE, 4, 8), 0, "1.0 ", 4);
+    supplied(0, get_log(0, FIRMWARE, 1024, 512), 0, "", 0);
+    supplied(0, get_log(0, FIRMWARE, 8, 2), NO_FIELD, "", 0);
+    supplied(0, get_log(0, FIRMWARE, 8, 516), NO_FIELD, "", 0);
+    supplied(0, get_log(1, FIRMWARE, 8, 0), NO_FIELD, "", 0);
+    supplied(1, get_log(EVERY, CHANGED, 4096, 0), 0, "", 0);
+}
+
 static void try_commands(void) {
     try_identify();
     try_logs();
@@ -376,6 +414,7 @@ static void try_commands(void) {
     try_management();
     try_formats();
     try_others();
+    try_supplied();
 }
 
 /* Checks data from the controller: as many of these bytes as fit, then zeros, and nothing past the end of the room. */

@@ -62,14 +62,32 @@ class Ioctls(ModelCase):
 
 class Arguments(ModelCase):
     def test_refused_arguments(self):
-        for words in ('', '--', '--depth', '--depth 2', '--bogus 3 true', '--subsystem=x', '-d 3 true', '--no-notice',
-                      '--no-notice=1 true', '--data-limit x true', '--data-limit 1T true', '--data-limit -1 true',
-                      '--data-limit= true', '--data-limit 9999999999G true', '--d 3 true', '--help=1', '--trace',
-                      '--p 4096 true', '--without-namespace true', '--device', '--subsystem x ' * 17 + 'true'):
+        none, size = 'there is no command to run', "this isn't a number of bytes, or one with K, M or G"
+        ranges = {'depth': '2 to 4096', 'page-size': '4096, 8192, 16384, 32768 or 65536', 'window': '1 to 16, below the depth',
+                  'offset': 'a multiple of 4 below the page size', 'list-offset': 'a multiple of 8 below the page size',
+                  'pace': '1 to 4096'}
+        for words, said in (
+                ('', none), ('--', none), ('--depth 2', none), ('--subsystem=x', none), ('--no-notice', none), ('--trace', none),
+                ('--depth', "option '--depth' requires an argument"), ('--device', "option '--device' requires an argument"),
+                ('--bogus 3 true', "unrecognized option '--bogus'"), ('-d 3 true', "invalid option -- 'd'"),
+                ('--without-namespace true', "unrecognized option '--without-namespace'"),
+                ('--no-notice=1 true', "option '--no-notice' doesn't allow an argument"),
+                ('--help=1', "option '--help' doesn't allow an argument"),
+                ('--d 3 true', "option '--d' is ambiguous; .*"), ('--p 4096 true', "option '--p' is ambiguous; .*"),
+                *((f'--data-limit {text} true', f'--data-limit {text}: {size}') for text in ('x', '5X', '1T', '-1', '9999999999G')),
+                ('--data-limit= true', f'--data-limit : {size}'),
+                *((f'--{name} {text} true', f'--{name} {text}: {range}') for name, range in ranges.items()
+                  for text in ('x', '-1', '2x', '4294967296')),
+                *((f'--{name} 4294967295 true', f'--{name}: {range}') for name, range in ranges.items()),
+                ('--depth 4 --qemu true', '--qemu: this can only be the first word'),
+                ('--depth 2 --window 2 true', f"--window: {ranges['window']}"), ('--dep 1 true', '--depth: 2 to 4096'),
+                ('--subsystem x ' * 33 + 'true', '--subsystem x: there can be 32 subsystems at most'),
+                ('--device /dev/tty ' * 65 + 'true', '--device /dev/tty: there can be 64 of these at most')):
             with self.subTest(words):
                 ended = run(installed(), *words.split())
                 self.ends(ended, 72, b'')
-                self.assertRegex(ended.err, b'^nvme-model: .+\nsee nvme-model --help\n$')
+                self.assertRegex(ended.err.decode(), f'^nvme-model: {said}\nsee nvme-model --help\n$')
+        self.ends(self.model('true', options=['--depth', '1', '--depth', '4', '--window', '3']), 0, b'', b'')
 
     @unittest.skipUnless(os.access('/dev/kmsg', os.R_OK), '/dev/kmsg can not be read')
     def test_refused_streams(self):
@@ -82,13 +100,14 @@ class Arguments(ModelCase):
 
     def test_refused_by_the_device(self):
         bad = self.file('bad.toml', b'x = 1\n')
-        for options, said in (('--depth 1', 'geometry: depth'), ('--depth x', 'arguments'), ('--pace 0', 'geometry: pace'),
-                              ('--page-size 5000', 'geometry: page_size'), ('--subsystem /none', '/none: No such file'),
+        for options, said in (('--depth 1', '--depth: 2 to 4096\n'), ('--pace 0', '--pace: 1 to 4096\n'),
+                              ('--page-size 5000', '--page-size: 4096, 8192, 16384, 32768 or 65536\n'),
+                              ('--subsystem /none', '/none: No such file'),
                               (f'--subsystem {bad}', f'{bad}: missing top.version')):
             with self.subTest(options):
                 ended = self.model('touch', self.folder / 'touched', options=options.split())
                 self.ends(ended, 72, b'')
-                self.assertRegex(ended.err.decode(), f'^nvme-model: {said}.*\n$')
+                self.assertRegex(ended.err.decode(), f'^nvme-model: {said}.*\n?.*\n$')
                 self.assertFalse((self.folder / 'touched').exists())
         for device in '/bin/false', '/none':
             launcher = self.folder / device.strip('/') / 'bin/nvme-model'
@@ -184,8 +203,8 @@ class Subsystems(ModelCase):
                   b'0\n1\n7\n3\n0\n1\nffc:800\nffc:1000\n', b'')
 
     def test_most(self):
-        self.ends(self.shell('ls -d /dev/nvme?? | wc -l; nvme id-ctrl /dev/nvme31 | grep -c "^sn .*S1"',
-                             options=['--subsystem', self.subsystem] * 15), 0, b'22\n1\n', b'')
+        self.ends(self.shell('ls -d /dev/nvme?? | wc -l; nvme id-ctrl /dev/nvme63 | grep -c "^sn .*S1"',
+                             options=['--subsystem', self.subsystem] * 31), 0, b'54\n1\n', b'')
 
     def test_commands_data_and_traces_are_apart(self):
         ended = self.shell('nvme create-ns /dev/nvme2 -s 8 -c 8 -f 0 && nvme attach-ns /dev/nvme2 -n 2 -c 0 && '

@@ -13,7 +13,7 @@ from tests.support import TOP, run
 
 # What programs/io_commands.py prints.
 IO_ANSWERS = (b'0 ;0 abc;0 abc;0 abc;0 abc;0 ;4285 ;0 ;0 ;4080 ;4080 ;4080 ;4002 ;4002 ;0 ;0 ;0 ;0 ;0 ;4080 ;4002 ;4001 ;EINVAL ;'
-              b'EINVAL ;ENOTTY ;EINVAL ;')
+              b'EINVAL ;EINVAL ;EINVAL ;')
 
 
 class Nodes(ModelCase):
@@ -287,7 +287,7 @@ class Data(ModelCase):
         self.file('copy.x', b'inside\n')
         self.ends(self.shell(script, self.folder / 'copy'), 0,
                   b'name\n12345678-1234-1234-1234-123456789012\n1024\next4\n' +
-                  b'ext4 0x438\n1048576\n512\n0\n512\nsame\n'
+                  b'ext4 0x438\n1048576\n512\n0\n4096\nsame\n'
                   b'Allocated inode: 12\ninside\nnone\nrefused\nnvme0n1 1048576 disk 512\n1\n', b'')
 
 
@@ -402,7 +402,7 @@ class Tools(ModelCase):
         for commands, status in rows:
             for command in re.findall('`(.*?)`', commands):
                 with self.subTest(command):
-                    node = '/dev/nvme0n1' if status == '0x4001' or command in ('ns-descs', 'get-lba-status') else '/dev/nvme0'
+                    node = '/dev/nvme0n1' if status == '0x4001' or command == 'get-lba-status' else '/dev/nvme0'
                     ended = self.model('nvme', command, node, *more.get(command, '').split())
                     self.assertIn(f'({status})'.encode(), ended.err + ended.out, ended)
 

@@ -1,8 +1,9 @@
-"""Tests nvme-model --refuse: which commands it refuses, which rules it reports, and what nvme-cli, smartctl and a script
-make of it."""
+"""Tests nvme-model --refuse and --delay: which commands they are about, which rules are reported, and what nvme-cli,
+smartctl and a script make of it."""
 
 import re
 import sys
+import time
 
 from tests.modelled import ModelCase, installed
 from tests.support import TOP, run
@@ -24,14 +25,13 @@ for word in sys.argv[1:]:
 
 
 class Refuse(ModelCase):
-    def ended(self, rules, script, status=0, left=()):
-        """Runs a shell script with these rules. Returns its output, and checks its status and which rules are reported
-        with how many commands."""
-        options = [f'--refuse={rule}' for rule in rules]
-        ended = self.shell(script, options=options)
+    def ended(self, rules, script, status=0, left=(), options=()):
+        """Runs a shell script with these rules. Returns its output, and checks its status and which rules are
+        reported with how many commands."""
+        ended = self.shell(script, options=[*(f'--refuse={rule}' for rule in rules), *options])
         self.assertEqual(ended.status, status, ended)
-        found = re.findall(rb'nvme-model: --refuse (\S+) refused no command; (\d+) came\n', ended.err)
-        self.assertEqual([(rule.decode(), int(count)) for rule, count in found], list(left), ended)
+        found = re.findall(r'(?m)^nvme-model: --(\w+ \S+) (?:refused|delayed) no command; (\d+) came$', ended.err.decode())
+        self.assertEqual([(rule, int(count)) for rule, count in found], list(left), ended)
         return ended
 
     def sent(self, rules, *words, left=()):
@@ -62,9 +62,9 @@ class Refuse(ModelCase):
                 (['id-ctrl=2'], [other, identify, identify], ['0x0', '0x2', '0x0'], []),
                 (['id-ctrl,1=0x4002'], 3 * [identify], ['0x0', '0x4002', '0x0'], []),
                 (['id-ctrl,1,2=0x7fff'], 4 * [identify], ['0x0', '0x7fff', '0x7fff', '0x0'], []),
-                (['id-ctrl,0,4294967295=1', 'list-ns=3'], 2 * [identify], ['0x1', '0x1'], [('list-ns=3', 0)]),
-                (['id-ctrl,2=1'], 2 * [identify], ['0x0', '0x0'], [('id-ctrl,2=1', 2)]),
-                (['id-ctrl=1', 'id-ctrl,1=2', '06=3'], 3 * [identify], ['0x1', '0x2', '0x0'], [('06=3', 3)]),
+                (['id-ctrl,0,4294967295=1', 'list-ns=3'], 2 * [identify], ['0x1', '0x1'], [('refuse list-ns=3', 0)]),
+                (['id-ctrl,2=1'], 2 * [identify], ['0x0', '0x0'], [('refuse id-ctrl,2=1', 2)]),
+                (['id-ctrl=1', 'id-ctrl,1=2', '06=3'], 3 * [identify], ['0x1', '0x2', '0x0'], [('refuse 06=3', 3)]),
                 (['list-ns,0,2=5'], [other, identify, 'a6,0,0x10'], ['0x5', '0x0', '0x5'], []),
                 (['id-ns,0,9=5'], ['a6,1,0', 'a6,1,0x11', other], ['0x5', '0x5', '0x0'], []),
                 (['attach-ns=5', 'detach-ns=6'], ['a0x15,1,0', 'a0x15,1,1'], ['0x5', '0x6'], []),
@@ -114,18 +114,54 @@ class Refuse(ModelCase):
         source = (TOP / 'client/refuse.c').read_text()
         self.assertEqual(re.findall('`([a-z-]+)`', listed), re.findall(r'\{"([a-z-]+)", [01], ', source))
 
+    def test_delays(self):
+        started = time.monotonic()
+        ended = self.ended([], f'{FORMAT} & sleep 0.3; nvme smart-log /dev/nvme0 > /dev/null; head -c 1 /dev/nvme0n1 | wc -c; '
+                           'nvme flush /dev/nvme0n1; echo now; wait', options=['--delay=format=3', '--delay=io:0,1=9'],
+                           left=[('delay io:0,1=9', 1)])
+        self.ends(ended, 0, b'1\nNVMe Flush: success\nnow\nSuccess formatting namespace:1\n')
+        self.assertTrue(3 <= time.monotonic() - started < 9)
+        # a command is delayed and then refused, and one whose process has gone is carried out
+        ended = self.ended(['format=0x2002'], f'{FORMAT}; (timeout -s KILL 0.5 {FORMAT}) 2> /dev/null; echo "status $?"; '
+                           'until nvme id-ns /dev/nvme0n1 | grep -q "lbads:12 .*in use"; do sleep 0.1; done',
+                           options=['--delay=format,0,2=2'])
+        self.assertIn(b'(0x2002)', ended.err)
+        self.ends(ended, 0, b'status 137\n')
+
+    def test_commands_that_take_too_long(self):
+        """A command that takes longer than its time fails, and its controller is reset, as under Linux."""
+        late = 'nvme admin-passthru /dev/nvme0 -o 6 -l 4096 -r --cdw10=1 -t 500'
+        ended = self.ended([], f'nvme set-feature /dev/nvme0 -f 6 -v 0 > /dev/null; {late} 2>&1; nvme get-feature /dev/nvme0 -f 6; '
+                           f'{late} | wc -c', options=['--delay=id-ctrl=30'])
+        self.assertRegex(ended.out, rb'Interrupted system call\n.*Current value:0*x?0*1\n(?s:.*)\d{4}\n')
+        # (an I/O command is aborted first, which takes as long again, and this program doesn't load the library)
+        ended = self.ended([], 'nvme io-passthru /dev/nvme0n1 -n 1 -o 0 -t 400 2>&1; nvme io-passthru /dev/nvme0n1 -n 1 -o 0 -t 600 2>&1',
+                           options=['--delay=flush,0,2=1'])
+        self.assertRegex(ended.out, rb'(?s)Interrupted system call\n.*[Ss]uccess')
+
     def test_wrong_rules(self):
-        for rule in ('', 'format', 'format=', 'format=0', 'format=0x8000', 'format=-1', 'format=1x', 'format=x', '=1',
-                     'bogus=1', 'forma=1', 'formats=1', '256=1', '0x=1', '-6=1', 'format,=1', 'format,1,=1', 'format,x=1',
-                     'format,1,0=1', 'format,1,1,1=1', 'format,-1=1', 'format,4294967296=1', 'io=1', 'io:=1', 'io:256=1',
-                     'read,1 =1', ' format=1'):
-            with self.subTest(rule):
-                ended = run(installed(), '--refuse', rule, 'true')
-                self.ends(ended, 72, b'')
-                self.assertRegex(ended.err, b'^nvme-model: .+\nsee nvme-model --help\n$')
+        for rule, said in (
+                *((rule, 'there is no such command') for rule in (
+                    '', '=1', 'bogus=1', 'forma=1', 'formats=1', '256=1', '0x=1', '-6=1', 'io=1', 'io:=1', 'io:256=1', ' format=1')),
+                *((rule, 'SKIP: 0 to 4294967295') for rule in (
+                    'format,=1', 'format,x=1', 'format,-1=1', 'format,4294967296=1', 'read,1 =1', 'format,1x=1')),
+                *((rule, 'TIMES: 1 to 4294967295') for rule in ('format,1,=1', 'format,1,0=1', 'format,1,x=1')),
+                *((rule, 'the form is COMMAND[,SKIP[,TIMES]]=') for rule in (
+                    'format', 'format=', 'format=0', 'format=0x15181', 'format=-1', 'format=1x', 'format=x', 'format,1,1,1=1',
+                    'format,1', 'format=1,1', 'format=1=1'))):
+            for option in '--refuse', '--delay':
+                with self.subTest(rule, option=option):
+                    ended = run(installed(), option, rule, 'true')
+                    self.ends(ended, 72, b'')
+                    self.assertTrue(ended.err.decode().startswith(f'nvme-model: {option} {rule}: {said}'), ended)
+                    self.assertTrue(ended.err.endswith(b'\nsee nvme-model --help\n'), ended)
+        self.ends(run(installed(), '--refuse', 'format=0x8000', 'true'), 72, b'',
+                  b'nvme-model: --refuse format=0x8000: the form is COMMAND[,SKIP[,TIMES]]=STATUS, with a STATUS of 1 to 0x7fff\n'
+                  b'see nvme-model --help\n')
         most = [word for _ in range(64) for word in ('--refuse', 'format=1')]
         self.ends(run(installed(), *most, 'true'), 0, b'')
-        self.ends(run(installed(), *most, '--refuse', 'format=1', 'true'), 72, b'')
+        self.ends(run(installed(), *most, '--delay', 'format=1', 'true'), 72, b'',
+                  b'nvme-model: --delay format=1: 64 rules are the most\nsee nvme-model --help\n')
 
     def test_example(self):
         """The error path of a script, which leaves nothing behind."""
