@@ -77,11 +77,13 @@ stage:
 	done
 	$(with_version) nvme-script > $(STAGE)/bin/nvme-script
 	chmod 755 $(STAGE)/bin/nvme-script
-	install -m 755 nvme-describe $(STAGE)/bin
-	install -d $(STAGE)/share/bash-completion/completions
-	for name in script describe model; do \
-	    install -m 644 docs/nvme-$$name.bash $(STAGE)/share/bash-completion/completions/nvme-$$name || exit; \
+	$(with_version) nvme-describe > $(STAGE)/bin/nvme-describe
+	chmod 755 $(STAGE)/bin/nvme-describe
+	for name in script trace model describe; do \
+	    install -D -m 644 docs/completion.bash $(STAGE)/share/bash-completion/completions/nvme-$$name && \
+	    install -D -m 644 docs/completion.fish $(STAGE)/share/fish/vendor_completions.d/nvme-$$name.fish || exit; \
 	done
+	install -D -m 644 docs/completion.zsh $(STAGE)/share/zsh/site-functions/_nvme-script
 	install -d $(STAGE)/share/man/man1
 	for program in $(STAGE)/bin/*; do \
 	    page=$${program##*/}.1; $(with_version) docs/$$page > $(STAGE)/share/man/man1/$$page || exit; \

@@ -225,8 +225,15 @@ class Running:
 
     def comes(self, text, limit=300):
         """Waits until what was read ends with this text."""
+        self.waits(lambda: self.heard.endswith(text), text, limit)
+
+    def has(self, text, limit=300):
+        """Waits until what was read has this text in it."""
+        self.waits(lambda: text in self.heard, text, limit)
+
+    def waits(self, condition, text, limit):
         end = time.monotonic() + limit
-        while not self.heard.endswith(text):
+        while not condition():
             if not self.hear(end - time.monotonic()):
                 raise AssertionError(f'{self.line}\n{text} did not come, only {self.heard[-2000:]}')
 

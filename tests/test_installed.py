@@ -1,13 +1,16 @@
 """Installs the built programs with their manual pages in a folder, as a user would. The programs work from there, the
 manual pages have no warnings, and each option of a program is in its manual page and in the completion."""
 
+import contextlib
+import functools
+import os
 import re
 import shlex
 import shutil
 import unittest
 
 from tests.modelled import VERSION
-from tests.support import DEMO, TOP, Case, library, run
+from tests.support import DEMO, TOP, Case, Running, library, process_folder, run
 
 SYNOPSIS = re.search(r'(?m)^nvme-script \[.*', (TOP / 'docs/COMMANDS.md').read_text()).group()
 OPTIONS = re.findall(r'\[(--[a-z-]+)', SYNOPSIS)
@@ -15,14 +18,35 @@ OPTIONS = re.findall(r'\[(--[a-z-]+)', SYNOPSIS)
 LOOK = 'test -c /dev/nvme0 && test -b /dev/nvme0n3 && cat /sys/class/nvme/nvme1/serial'
 
 
+# Words that the shells complete to one more word, or to one in place of the last.
+COMPLETED = {('nvme-script', '--page'): '--page-size', ('nvme-trace', '--win'): '--window',
+             ('nvme-model', '--no-n'): '--no-notice', ('nvme-describe', '--cu'): '--current',
+             ('nvme-script', '--subsystem', 'examples/demo.t'): 'examples/demo.toml',
+             ('nvme-model', '--device', '/dev/nul'): '/dev/null', ('nvme-describe', '/dev/nul'): '/dev/null',
+             ('nvme-model', 'mkfs.ext4'): 'mkfs.ext4'}
+
+
+def make(target, prefix):
+    return run('make', '-s', target, f'PREFIX={prefix}')
+
+
+@functools.lru_cache(maxsize=None)
+def installed():
+    """Installs all that is built, once in this process, and returns where."""
+    with contextlib.suppress(unittest.SkipTest):
+        library()
+    prefix = process_folder() / 'a prefix'
+    ended = make('install', prefix)
+    if ended.status != 0:
+        raise AssertionError(ended)
+    return prefix
+
+
 class Installed(Case):
     def setUp(self):
         super().setUp()
-        self.prefix = self.folder / 'a prefix'
-        self.ends(self.make('install'), 0)
-
-    def make(self, target):
-        return run('make', '-s', target, f'PREFIX={self.prefix}')
+        self.prefix = installed()
+        self.env = {'PATH': f'{self.prefix}/bin:{os.environ["PATH"]}'}
 
     def test_program(self):
         elsewhere = self.file('elsewhere.toml', DEMO.read_bytes())
@@ -52,7 +76,6 @@ class Installed(Case):
 
     def test_library(self):
         library()
-        self.ends(self.make('install'), 0)
         made = self.folder / 'bench'
         flags = f'-I{self.prefix}/include', f'-L{self.prefix}/lib', '-lnvme_controller', f'-Wl,-rpath,{self.prefix}/lib'
         if shutil.which('pkg-config'):
@@ -73,7 +96,6 @@ class Installed(Case):
     def test_programs_in_an_empty_folder(self):
         """The program and the commands of EMBEDDING, in which the prefix is a folder of the user."""
         library()
-        self.ends(self.make('install'), 0)
         page = (TOP / 'docs/EMBEDDING.md').read_text()
         section = page.split('## A program in an empty folder\n')[1].split('\n## ')[0]
         blocks = re.findall(r'(?m)(?:^    .*\n|^\n(?=    ))+', section)
@@ -125,59 +147,79 @@ class Installed(Case):
         for option in options:
             self.assertRegex(page, rf'It (.*, )?Fl \\{option[1:]}\b|, \\?\n?Fl \\{option[1:]}\b')
 
-    @unittest.skipUnless(shutil.which('bash'), 'there is no bash')
-    def test_completion_of_describe(self):
-        line = '. "$0"; COMP_WORDS=("$@"); COMP_CWORD=$(($# - 1)); _nvme_describe; echo ${COMPREPLY[*]}'
-        completion = self.prefix / 'share/bash-completion/completions/nvme-describe'
-        for word, wanted in ('--c', b'--current\n'), ('-', b'--current --help\n'), ('/dev/nul', b'/dev/null\n'):
-            self.ends(run('bash', '-c', line, completion, 'nvme-describe', word), 0, wanted, b'')
+    def completed(self, *words):
+        """Returns what bash can complete the last of these words to."""
+        line = '. "$0"; compopt() { :; }; COMP_WORDS=("$@"); COMP_CWORD=$(($# - 1)); _nvme_model; echo ${COMPREPLY[*]}'
+        completion = self.prefix / f'share/bash-completion/completions/{words[0]}'
+        ended = run('bash', '-c', line, completion, *words, env=self.env)
+        self.ends(ended, 0, err=b'')
+        return ended.out.decode().split()
 
-    @unittest.skipUnless(shutil.which('bash'), 'there is no bash')
-    def test_completion_of_model(self):
-        line = '. "$0"; COMP_WORDS=("$@"); COMP_CWORD=$(($# - 1)); _nvme_model; echo ${COMPREPLY[*]}'
-        completion = self.prefix / 'share/bash-completion/completions/nvme-model'
-        for word, wanted in ('--no', b'--no-notice --no-sandbox\n'), ('/dev/nul', b'/dev/null\n'), ('seqq', b'\n'):
-            self.ends(run('bash', '-c', line, completion, self.prefix / 'bin/nvme-model', word), 0, wanted, b'')
-
-    @unittest.skipUnless(shutil.which('bash'), 'there is no bash')
-    def test_completion(self):
-        for words, wanted in [(['']), ' '.join(OPTIONS)], (['--p'], '--page-size --pace'), \
-                (['--page-size', '=', '8'], '8192'), (['--subsystem', 'examples/de'], 'examples/demo.toml'):
+    def test_completion_by_bash(self):
+        for words, wanted in COMPLETED.items():
             with self.subTest(words):
-                self.ends(self.completed(words), 0, wanted.encode() + b'\n', b'')
+                self.assertEqual(self.completed(*words), [wanted])
+        self.assertEqual(self.completed('nvme-script', ''), [*OPTIONS, '--help', '--version'])
+        self.assertEqual(self.completed('nvme-script', '--subsystem', '=', 'examples/demo.t'), ['examples/demo.toml'])
+        self.assertEqual(self.completed('nvme-script', '--depth', '=', '8'), [])
+        for name in 'nvme-script', 'nvme-model', 'nvme-describe':
+            shown = re.findall('(?m)^  (?:-h, )?(--[a-z-]+)', run(name, '--help', env=self.env).out.decode())
+            self.assertEqual(self.completed(name, '--'), [option for option in shown if option != '--build'])
 
-    def completed(self, words):
-        """Runs the completion, which prints what the last of these words can be completed to."""
-        line = '. "$0"; compopt() { :; }; COMP_WORDS=("$@"); COMP_CWORD=$(($# - 1)); _nvme_script; echo ${COMPREPLY[*]}'
-        completion = self.prefix / 'share/bash-completion/completions/nvme-script'
-        return run('bash', '-c', line, completion, 'nvme-script', *words)
+    @unittest.skipUnless(shutil.which('fish'), 'fish is not installed')
+    def test_completion_by_fish(self):
+        for words, wanted in COMPLETED.items():
+            with self.subTest(words):
+                file = self.prefix / f'share/fish/vendor_completions.d/{words[0]}.fish'
+                line = f"source '{file}'; complete -C '{' '.join(words)}'"
+                ended = run('fish', '--no-config', '-c', line, env={**self.env, 'HOME': self.folder})
+                self.ends(ended, 0, err=b'')
+                self.assertEqual([line.split(b'\t')[0].decode() for line in ended.out.splitlines()], [wanted])
+
+    @unittest.skipUnless(shutil.which('zsh'), 'zsh is not installed')
+    def test_completion_by_zsh(self):
+        place = self.prefix / 'share/zsh/site-functions'
+        shell = Running('zsh', '-f', '-i', terminal=True, env={**self.env, 'HOME': self.folder, 'TERM': 'dumb'})
+        self.addCleanup(shell.process.kill)
+        shell.say(b"fpath=('%s' $fpath); autoload -Uz compinit; compinit -u -D; echo rea''dy\n" % os.fsencode(place))
+        shell.has(b'ready\n')
+        for words, wanted in COMPLETED.items():
+            with self.subTest(words):
+                shell.heard = b''
+                shell.say(' '.join(words).encode() + b'\t')
+                shell.has(wanted.encode())
+                shell.say(b'\x15')
 
     def test_version(self):
         ended = run(self.prefix / 'bin/nvme-model', '--help')
         self.assertEqual(ended.out.splitlines()[-1], f'This is version {VERSION}.'.encode(), ended)
         ended = run(self.prefix / 'bin/nvme-model', '--version')
         self.ends(ended, 0, f'nvme-model {VERSION}\n'.encode(), b'')
+        for program in self.prefix / 'bin/nvme-describe', TOP / 'nvme-describe':
+            self.ends(run(program, '--version'), 0, f'nvme-describe {VERSION}\n'.encode(), b'')
         for page in self.prefix.glob('share/man/man*/*'):
             self.assertIn(f'\n.Os nvme-script {VERSION}\n', page.read_text(), page)
 
     def test_uninstall(self):
         # (a second installation takes the place of the first)
-        self.ends(self.make('install'), 0)
+        self.prefix = self.folder / 'another prefix'
+        for _ in range(2):
+            self.ends(make('install', self.prefix), 0)
         self.assertTrue((self.prefix / 'bin/nvme-script').exists())
-        self.ends(self.make('uninstall'), 0)
+        self.ends(make('uninstall', self.prefix), 0)
         self.assertFalse(self.prefix.exists(), list(self.prefix.rglob('*')))
-        self.ends(self.make('uninstall'), 2)
+        self.ends(make('uninstall', self.prefix), 2)
 
     def test_uninstall_among_other_files(self):
         before = ['bin/', 'share/man/', 'share/man/man1/', 'share/man/man1/nvme.1', 'share/nvme-script/', 'lib/other']
-        self.ends(self.make('uninstall'), 0)
+        self.prefix = self.folder / 'another prefix'
         for name in before:
             path = self.prefix / name
             path.parent.mkdir(parents=True, exist_ok=True)
             path.mkdir() if name.endswith('/') else path.touch()
         before = set(self.prefix.rglob('*'))
-        self.ends(self.make('install'), 0)
+        self.ends(make('install', self.prefix), 0)
         own = self.prefix / 'share/doc/nvme-script/own'
         own.touch()
-        self.ends(self.make('uninstall'), 0)
+        self.ends(make('uninstall', self.prefix), 0)
         self.assertEqual(set(self.prefix.rglob('*')), {*before, own, own.parent, own.parents[1]})
