@@ -57,7 +57,7 @@ void set_counter(struct function *function, int *counter, int file) {
     if (*counter >= 0)
         close(*counter);
     *counter = file;
-    function->is_masked &= counter != &function->pin;
+    function->mask = counter == &function->pin ? UNMASKED : function->mask;
     if (counter == &function->bell && file >= 0 && function->posted != function->head)
         add_one(file);
 }
@@ -68,25 +68,30 @@ void set_counter(struct function *function, int *counter, int file) {
 int raise_pin(struct function *function) {
     int is_off = function->config[COMMAND + 1] & HAS_NO_PIN || function->config[MESSAGES] & SENDS_MESSAGES;
     struct timespec time;
-    if (function->posted == function->head || function->pin < 0 || function->bell >= 0 || is_off || function->is_masked)
+    if (function->posted == function->head || function->pin < 0 || function->bell >= 0 || is_off || function->mask)
         return -1;
     clock_gettime(CLOCK_MONOTONIC, &time);
     int64_t now = time.tv_sec * 1000 + time.tv_nsec / 1000000, left = function->raised_at + PIN_WAIT - now;
     if (left > 0 && !function->has_taken)
         return (int)left;
-    function->is_masked = 1;
+    function->mask = BY_RAISE;
     function->has_taken = 0;
     function->raised_at = now;
     add_one(function->pin);
     return -1;
 }
 
+/* Reads an event counter, without waiting, and sets it to 0. Returns whether it was more. */
+static int take_back(int counter) {
+    uint64_t count;
+    return preadv2(counter, &(struct iovec){&count, sizeof count}, 1, -1, RWF_NOWAIT) == sizeof count;
+}
+
 /* The other process has seen the pin's interrupt. */
 void see_interrupt(struct function *function) {
-    uint64_t count;
-    if (preadv2(function->unmask, &(struct iovec){&count, sizeof count}, 1, -1, RWF_NOWAIT) < 0 && errno != EAGAIN)
+    if (!take_back(function->unmask) && errno != EAGAIN)
         set_counter(function, &function->unmask, -1);
-    function->is_masked = 0;
+    function->mask = UNMASKED;
 }
 
 static uint32_t read_register(const struct function *function, uint32_t offset) {
@@ -122,7 +127,11 @@ static void write_register(struct function *function, uint32_t offset, uint32_t 
     else if (offset == NVME_HEAD_DOORBELL && is_ready && value < slots &&
              (value + slots - head) % slots <= (function->posted + slots - head) % slots)
         function->head = value;
-    function->has_taken |= offset == NVME_CC || offset == NVME_HEAD_DOORBELL;
+    int may_take = offset == NVME_CC || offset == NVME_HEAD_DOORBELL;
+    function->has_taken |= may_take;
+    // (a raise that nobody has read yet would be an interrupt without a completion)
+    if (may_take && function->posted == function->head && function->mask == BY_RAISE && take_back(function->pin))
+        function->mask = UNMASKED;
 }
 
 /* Reads or writes the configuration or registers, of those only whole dwords. Returns whether they exist. (After a
@@ -151,5 +160,5 @@ void reset(struct function *function) {
         function->config[STATUS] = function->config[CAPABILITY] = 0;
     write_register(function, NVME_CC, 0);
     write_register(function, NVME_CC, 0);
-    function->is_masked = 0;
+    function->mask = UNMASKED;
 }

@@ -44,7 +44,7 @@ struct function {
     struct section sections[MOST_SECTIONS];
     unsigned section_count;
     int pin, bell, unmask;  /* event counters for the pin, for messages, and of the pin's being seen; or -1 */
-    int is_masked;          /* whether the pin waits to be seen */
+    enum { UNMASKED, BY_RAISE, BY_CLIENT } mask; /* whether the pin waits to be seen, or the client masked it */
     int has_taken;          /* whether the guest wrote a head since the pin was raised */
     int64_t raised_at;      /* when that was, in milliseconds */
     int has_more;           /* whether more entries may wait after the last turn */

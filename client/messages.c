@@ -7,7 +7,7 @@
 #include <sys/socket.h>
 #include <sys/vfs.h>
 
-enum { CLIENT, SERVER, OTHERS }; /* the descriptors of a receiver */
+enum { CLIENT, SERVER, NOTHING, OTHERS }; /* the descriptors of a receiver */
 
 /* Takes bytes, and adds the descriptors that come with them, as far as there is room. */
 static ssize_t take(int from, void *bytes, size_t most, int flags, struct files *files) {
@@ -39,11 +39,12 @@ static int is_memory(int file) {
 }
 
 /* Takes as many bytes as the server wants, and closes what it no longer needs, until the server closes its end. In the
-   place of a descriptor that isn't passed on, the client's own socket is, which is neither counter nor file. */
+   place of a descriptor that isn't passed on, one of /dev/null is, which is neither a counter nor a file in memory. */
 __attribute__((noreturn)) static void run_receiver(int client, int server) {
     static unsigned char bytes[MOST_MESSAGE];
     uint32_t wanted;
-    if (dup2(client, CLIENT) < 0 || dup2(server, SERVER) < 0)
+    if (dup2(client, CLIENT) < 0 || dup2(server, SERVER) < 0 || close_range(NOTHING, ~0u, 0) < 0 ||
+        open("/dev/null", O_RDONLY) != NOTHING)
         _exit(FAILED);
     for (;;) {
         struct files files = {0};
@@ -54,7 +55,7 @@ __attribute__((noreturn)) static void run_receiver(int client, int server) {
         ssize_t count = wanted > 0 ? take(CLIENT, bytes, wanted, MSG_DONTWAIT, memset(&files, 0, sizeof files)) : 0;
         for (unsigned at = 0; at < files.count; at++)
             if (!is_counter(files.at[at]) && !is_memory(files.at[at]))
-                files.at[at] = CLIENT;
+                files.at[at] = NOTHING;
         if (wanted > 0 && (count <= 0 || !give(SERVER, bytes, (size_t)count, files.at, files.count)))
             _exit(FAILED);
     }
@@ -63,10 +64,10 @@ __attribute__((noreturn)) static void run_receiver(int client, int server) {
 /* Begins to serve a function's client, with a receiver of its own. Returns whether it could. (A byte out of band must
    be one like all others, or it would be taken, with its descriptors, unseen.) */
 int begin(struct function *function) {
-    int ends[2], on = 1;
-    if (socketpair(AF_UNIX, SOCK_SEQPACKET | SOCK_CLOEXEC, 0, ends) < 0)
-        return 0;
-    function->socket = accept4(function->listener, NULL, NULL, SOCK_CLOEXEC);
+    static int is_told;
+    int ends[2] = {-1, -1}, on = 1;
+    if (socketpair(AF_UNIX, SOCK_SEQPACKET | SOCK_CLOEXEC, 0, ends) == 0)
+        function->socket = accept4(function->listener, NULL, NULL, SOCK_CLOEXEC);
     function->to_receiver = ends[0];
     function->receiver = setsockopt(function->socket, SOL_SOCKET, SO_OOBINLINE, &on, sizeof on) == 0 ? fork() : -1;
     if (function->receiver == 0)
@@ -74,6 +75,8 @@ int begin(struct function *function) {
     close(ends[1]);
     if (function->receiver < 0)
         lose(function);
+    if (function->socket < 0 && !is_told++)
+        warnx("a client waits, because the limit of open files or processes is too low");
     return function->socket >= 0;
 }
 

@@ -5,6 +5,7 @@
 #include "usage.h"
 #include <getopt.h>
 #include <poll.h>
+#include <pthread.h>
 #include <sys/prctl.h>
 #include <sys/resource.h>
 #include <sys/signalfd.h>
@@ -23,6 +24,7 @@ static struct function functions[MOST_FUNCTIONS];
 static int ways[MOST_FUNCTIONS];                             /* QEMU's ways to the sockets */
 static char folder[24] = "/tmp/nvme-model.XXXXXX", *sockets; /* for QEMU's sockets, and how the paths of all begin */
 static pid_t qemu;
+static _Atomic int ending; /* the signal that ends this process */
 
 static struct sockaddr_un address_of(const char *path, unsigned number) {
     struct sockaddr_un made = {.sun_family = AF_UNIX};
@@ -39,6 +41,38 @@ static void remove_sockets(void) {
     if (sockets && !is_server)
         rmdir(folder);
     sockets = NULL;
+}
+
+/* Ends the connections of a server's clients. (What a client sent is read, because otherwise it would learn by a
+   reset that the connection ended, which aborts QEMU 11.1.) */
+static void leave_clients(void) {
+    char rest[4096];
+    for (unsigned at = 0; is_server && at < function_count; at++)
+        if (functions[at].socket >= 0 && shutdown(functions[at].socket, SHUT_RD) == 0)
+            while (recv(functions[at].socket, rest, sizeof rest, MSG_DONTWAIT) > 0)
+                ;
+}
+
+static int end_now(int number) {
+    sigset_t mask;
+    leave_clients();
+    remove_sockets();
+    sigemptyset(&mask);
+    sigaddset(&mask, number);
+    pthread_sigmask(SIG_UNBLOCK, &mask, NULL);
+    return raise(number);
+}
+
+/* Waits for a signal that ends this process, and ends it after a second if it didn't end by itself, because a client can
+   make a turn as long as it likes. */
+static void *end_in_time(void *endings) {
+    int number;
+    sigwait(endings, &number);
+    ending = number;
+    kill(getpid(), SIGCHLD);
+    sleep(1);
+    end_now(number);
+    return NULL;
 }
 
 /* Serves what came: that the pin was seen, what the receiver took, a client, that it reads, or more of a message. From
@@ -58,7 +92,7 @@ static void serve(struct function *function, const struct pollfd awaited[2]) {
    The next client waits until the receiver of the former one has ended. */
 static unsigned await(struct function *function, struct pollfd awaited[2], unsigned other) {
     unsigned rest = (unsigned)raise_pin(function), wait = function->has_more ? 0 : function->is_paused ? PAUSE : rest;
-    int counter = function->is_masked ? function->unmask : -1;
+    int counter = function->mask ? function->unmask : -1;
     int event = function->is_asked ? 0 : function->to_send > 0 ? POLLOUT : POLLIN;
     if (function->socket < 0 && function->receiver > 0 && waitpid(function->receiver, NULL, WNOHANG) != 0)
         function->receiver = 0;
@@ -69,12 +103,12 @@ static unsigned await(struct function *function, struct pollfd awaited[2], unsig
 }
 
 /* Serves until QEMU has ended and nothing that it sent is left, and returns its status as a shell does, or until a
-   signal ends this process, and returns minus its number. (Those of the terminal's keys are QEMU's.) */
-static int serve_all(int signals) {
-    struct pollfd awaited[1 + 2 * MOST_FUNCTIONS] = {{signals, POLLIN, 0}};
-    struct signalfd_siginfo about = {.ssi_signo = SIGCHLD};
+   signal ends this process, and returns minus its number. */
+static int serve_all(int children) {
+    struct pollfd awaited[1 + 2 * MOST_FUNCTIONS] = {{children, POLLIN, 0}};
+    struct signalfd_siginfo about;
     int how = 0, has_ended = 0;
-    while (about.ssi_signo == SIGCHLD || (!is_server && (about.ssi_signo == SIGINT || about.ssi_signo == SIGQUIT))) {
+    while (!ending) {
         unsigned wait = has_ended ? 0 : -1u;
         for (unsigned at = 0; at < function_count; at++)
             wait = await(functions + at, awaited + 1 + 2 * at, wait);
@@ -83,10 +117,10 @@ static int serve_all(int signals) {
             return WIFEXITED(how) ? WEXITSTATUS(how) : 128 + WTERMSIG(how);
         for (unsigned at = 0; ready >= 0 && at < function_count; at++)
             serve(functions + at, awaited + 1 + 2 * at);
-        if (ready > 0 && awaited[0].revents && read(signals, &about, sizeof about) > 0 && !is_server)
+        if (ready > 0 && awaited[0].revents && read(children, &about, sizeof about) > 0 && !is_server)
             has_ended |= waitpid(qemu, &how, WNOHANG) != 0;
     }
-    return -(int)about.ssi_signo;
+    return -ending;
 }
 
 /* Chooses the protocol that QEMU has. (If it can't be run, running it tells why.) */
@@ -136,18 +170,28 @@ static void run_qemu(char **options, unsigned count, const sigset_t *mask, pid_t
     err(errno == ENOENT ? NOT_FOUND : NOT_EXECUTABLE, "%s", *arguments);
 }
 
-/* Returns a descriptor from which signals are read, except for those that were ignored. */
+/* Returns a descriptor that tells that a child has ended, and has a thread wait for the signals that end this process,
+   except for those that were ignored. (Beside QEMU, those of the terminal's keys are QEMU's.) */
 static int watch_signals(sigset_t *mask) {
-    static const int numbers[] = {SIGCHLD, SIGTERM, SIGHUP, SIGINT, SIGQUIT};
+    static const int numbers[] = {SIGTERM, SIGHUP, SIGINT, SIGQUIT};
+    static sigset_t endings;
     struct sigaction former;
-    sigset_t watched;
-    sigemptyset(&watched);
+    sigset_t children;
+    pthread_t waiting;
+    sigemptyset(&endings);
+    sigemptyset(&children);
+    sigaddset(&children, SIGCHLD);
     signal(SIGCHLD, SIG_DFL);
+    sigprocmask(SIG_BLOCK, &children, mask);
     for (unsigned at = 0; at < sizeof numbers / sizeof *numbers; at++)
         if (sigaction(numbers[at], NULL, &former) == 0 && former.sa_handler != SIG_IGN)
-            sigaddset(&watched, numbers[at]);
-    sigprocmask(SIG_BLOCK, &watched, mask);
-    return signalfd(-1, &watched, SFD_CLOEXEC | SFD_NONBLOCK);
+            sigaddset(&endings, numbers[at]);
+    sigprocmask(SIG_BLOCK, &endings, NULL);
+    if (!is_server)
+        sigdelset(&endings, SIGINT), sigdelset(&endings, SIGQUIT);
+    if (pthread_create(&waiting, NULL, end_in_time, &endings) != 0)
+        errx(FAILED, "a thread could not be started");
+    return signalfd(-1, &children, SFD_CLOEXEC | SFD_NONBLOCK);
 }
 
 /* Makes a function for each controller of a subsystem: that of a file, or the demonstration subsystem. */
@@ -269,9 +313,5 @@ int main(int count, char **arguments) {
     int status = serve_all(signals);
     if (has_summary)
         tell_summary();
-    if (status >= 0)
-        return status;
-    remove_sockets();
-    sigprocmask(SIG_SETMASK, &mask, NULL);
-    return raise(-status);
+    return status >= 0 ? status : end_now(-status);
 }

@@ -76,7 +76,7 @@ static int set_interrupts(struct function *function, const unsigned char *payloa
     else if (flags == (UNMASK | WITH_COUNTER) && index == PIN && count)
         set_counter(function, &function->unmask, take_file(function, 0));
     else if ((flags == (MASK | WITH_NONE) || flags == (UNMASK | WITH_NONE)) && index == PIN && count)
-        function->is_masked = flags == (MASK | WITH_NONE);
+        function->mask = flags == (MASK | WITH_NONE) ? BY_CLIENT : UNMASKED;
     else
         return -EINVAL;
     return 0;

@@ -7,6 +7,7 @@ import os
 import re
 import shlex
 import shutil
+import sys
 import unittest
 
 from tests.modelled import VERSION
@@ -201,11 +202,13 @@ class Installed(Case):
             self.assertIn(f'\n.Os nvme-script {VERSION}\n', page.read_text(), page)
 
     def test_uninstall(self):
-        # (a second installation takes the place of the first)
+        # (a second installation takes the place of the first, and what Python made of the module goes with it)
+        library()
         self.prefix = self.folder / 'another prefix'
         for _ in range(2):
             self.ends(make('install', self.prefix), 0)
         self.assertTrue((self.prefix / 'bin/nvme-script').exists())
+        self.ends(run(sys.executable, '-m', 'compileall', '-q', self.prefix / 'share/nvme_controller'), 0)
         self.ends(make('uninstall', self.prefix), 0)
         self.assertFalse(self.prefix.exists(), list(self.prefix.rglob('*')))
         self.ends(make('uninstall', self.prefix), 2)

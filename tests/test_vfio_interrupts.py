@@ -159,6 +159,29 @@ class Interrupts(Served):
             self.assertEqual(self.driver.set_irqs(UNMASK, PIN), 0)
             self.assertFalse(is_raised(pin))
 
+    def test_raise_that_nobody_read(self):
+        # a raise is taken back if the guest takes all completions before the other process has read it
+        pin = counter()
+        self.assertEqual(self.driver.set_irqs(BIND, PIN, file=pin), 0)
+        self.put()
+        self.assertTrue(is_raised(pin))
+        for take in self.driver.take, self.driver.enable:
+            self.assertEqual(self.driver.set_irqs(UNMASK, PIN), 0)
+            self.assertTrue(select.select([pin], [], [], 10)[0])
+            take()
+            self.driver.register(CSTS)
+            self.assertFalse(is_raised(pin))
+            self.put()
+            self.assertTrue(is_raised(pin))
+        # (a pin that the client masked stays masked)
+        self.assertEqual(self.driver.set_irqs(UNMASK, PIN), 0)
+        self.assertTrue(select.select([pin], [], [], 10)[0])
+        self.assertEqual(self.driver.set_irqs(MASK, PIN), 0)
+        self.driver.take()
+        self.put()
+        self.assertTrue(is_raised(pin))
+        self.assertFalse(is_raised(pin, 0.1))
+
     def test_idle_pin(self):
         # completions that nobody takes raise the pin once, and nothing wakes the server while it is masked or disabled
         pin = counter()

@@ -14,12 +14,13 @@ import sys
 import threading
 import time
 
-from tests.as_client import BIND, DMA_MAP, MESSAGES, PAGE, PIN, VERSION, counter, memory_file, until
+from tests.as_client import BIND, CC, DMA_MAP, MESSAGES, PAGE, PIN, VERSION, counter, memory_file, until
 from tests.modelled import works
 from tests.served import EINVAL, EMFILE, ENOENT, Served
 from tests.support import Running
 
 USERFAULTFD, UFFDIO_API, UFFDIO_REGISTER = 323, 0xc018_aa3f, 0xc020_aa00
+PTRACE_SEIZE, PTRACE_INTERRUPT = 0x4206, 0x4207
 LIBC = ctypes.CDLL(None, use_errno=True)
 
 
@@ -170,6 +171,27 @@ class Waiting(Served):
         self.assertTrue(until(lambda: not os.path.exists(f'/proc/{left[0]}')))
         self.server = self.start()
 
+    def test_end_with_messages_left(self):
+        # a server that ends has read what its clients sent, so they find the end of a stream, and no reset
+        client = self.greeted()
+        with self.stopped():
+            for _ in range(100):
+                client.set_register(CC, 0)
+            self.server.process.send_signal(signal.SIGTERM)
+        self.assertEqual(client.socket.recv(1), b'')
+        self.assertEqual(self.server.end().status, -signal.SIGTERM)
+        self.server = self.start()
+
+    def test_turn_without_an_end(self):
+        # a signal ends the server although its turn doesn't end, and no socket is left
+        number = self.server.process.pid
+        for request in PTRACE_SEIZE, PTRACE_INTERRUPT:
+            self.assertEqual(LIBC.ptrace(request, number, None, None), 0)
+        begun_at = time.monotonic()
+        self.stop(self.server)
+        self.assertLess(time.monotonic() - begun_at, 10)
+        self.server = self.start()
+
     def receivers(self):
         """Returns the processes of the server that take descriptors."""
         number = self.server.process.pid
@@ -181,11 +203,15 @@ class Waiting(Served):
         for most in range(9, 15):
             self.stop(self.server)
             self.server = self.start(by=('sh', '-c', 'ulimit -n "$0"; exec "$@"', str(most)))
-            outcomes.add(self.mapped())
+            outcomes.add(count := self.mapped())
             before = self.spent()
             time.sleep(0.5)
             self.assertLess(self.spent() - before, 0.2)
+            if count == 0:
+                self.assertIn('nvme-model: a client waits', self.stop(self.server))
+                self.server = self.start()
         self.assertGreater(len(outcomes), 3, outcomes)
+        self.assertIn(0, outcomes)
 
     def mapped(self):
         """Returns how many pieces of memory a client could map, or 0 if it is never served. All of them are there."""
