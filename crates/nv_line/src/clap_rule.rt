@@ -40,7 +40,7 @@ fn option_arg<'a>(alloc: Global, option: CommandOption) -> Arg<'a>
 /// none has an option for help. It is called only when a command word first occurs, so that the code
 /// that reads each line is small.
 #[inline(never)]
-fn clap_command<'a>(alloc: Global, verb: Verb) -> Result<Command<'a>, AllocError>
+pub fn clap_command<'a>(alloc: Global, verb: Verb) -> Result<Command<'a>, AllocError>
     ensures { IfOk result (λ c. app_of c ≡ app_for verb) }
 {
     let mut command = Command::new(alloc, verb.word()).disable_help_flag(true);

@@ -24,10 +24,12 @@ mod request;
 mod value;
 mod verb;
 
+pub use clap_rule::clap_command;
 pub use fault::LineFault;
 pub use line::{LINE_LIMIT, Line, LineReader, is_skipped_line, read_line, split_words};
 pub use nv_layout::CtrlList;
-pub use option::OptionName;
+pub use option::{CommandOption, FlagOption, FormatOption, ListOption, NumberOption, OptionName};
 pub use output_format::OutputFormat;
 pub use request::{Ask, Query, Request};
 pub use value::parse_number;
+pub use verb::{DeviceVerb, VERBS, Verb};

@@ -14,7 +14,7 @@ pub enum OutputFormat {
 
 impl OutputFormat {
     /// Returns the format of this name.
-    pub(crate) fn of(name: &str) -> Option<OutputFormat>
+    pub fn of(name: &str) -> Option<OutputFormat>
         ensures { result ≡ format_named name.now }
     {
         match name {

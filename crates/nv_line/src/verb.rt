@@ -191,7 +191,8 @@ pub const OUTPUT_FORMAT: FormatOption = FormatOption {
     letter: 'o',
 };
 
-static VERBS: [Verb; 14] = [
+/// All command words.
+pub static VERBS: [Verb; 14] = [
     Verb::Of(DeviceVerb::IdCtrl),
     Verb::Of(DeviceVerb::IdNs),
     Verb::Of(DeviceVerb::ListNs),
@@ -302,7 +303,7 @@ pub enum Verb {
 
 impl Verb {
     /// Returns the word of the command in a script.
-    pub(crate) fn word<'a>(self) -> &'a str
+    pub fn word<'a>(self) -> &'a str
         ensures { result.now ≡ word_of self }
     {
         match self {
@@ -324,7 +325,7 @@ impl Verb {
     }
 
     /// Returns its options, in order.
-    pub(crate) fn options(self) -> &'static [CommandOption]
+    pub fn options(self) -> &'static [CommandOption]
         ensures { result.now ≡ options_of self }
     {
         match self {
@@ -344,7 +345,7 @@ impl Verb {
     }
 
     /// Returns the command of a word.
-    pub(crate) fn of(word: &str) -> Option<Verb>
+    pub fn of(word: &str) -> Option<Verb>
         ensures { result ≡ verb_of word.now }
     {
         VERBS.iter().copied().find(|verb| word == verb.word())

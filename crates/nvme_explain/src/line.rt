@@ -1,0 +1,151 @@
+//! Why a line can't be read.
+
+use clap::ArgMatches;
+use clap::error::ErrorKind;
+use nv_layout::CtrlList;
+use nv_line::{
+    CommandOption, LINE_LIMIT, LineFault, OptionName, OutputFormat, VERBS, Verb, clap_command,
+    read_line, split_words,
+};
+use std::alloc::{AllocError, Global};
+use strsim::jaro;
+
+/// Returns the fault of a line and its reason, or nothing if the line can be read for a subsystem
+/// with this many controllers.
+pub fn fault_in(
+    alloc: Global,
+    line: &[u8],
+    controllers: u16,
+) -> Result<Option<String>, AllocError> {
+    let line = match line.split_last() {
+        Some((b'\n', rest)) => rest,
+        _ => line,
+    };
+    let mut place = CtrlList::new();
+    let fault = match read_line(alloc, line, controllers, &mut place) {
+        Ok(_) => return Ok(None),
+        Err(LineFault::Memory) => return Err(AllocError),
+        Err(fault) => fault,
+    };
+    let reason = match str::from_utf8(line) {
+        _ if line.len() > LINE_LIMIT => {
+            format!(in alloc; "it has {} bytes, and at most {LINE_LIMIT} are read", line.len())?
+        }
+        Err(error) => format!(in alloc; "byte {} is invalid", error.valid_up_to())?,
+        Ok(text) => reason_of(alloc, text, controllers, fault)?,
+    };
+    Ok(Some(format!(in alloc; "{fault}: {reason}")?))
+}
+
+/// Returns the reason of a fault that the words of a line have.
+fn reason_of(
+    alloc: Global,
+    text: &str,
+    controllers: u16,
+    fault: LineFault,
+) -> Result<String, AllocError> {
+    let words = split_words(alloc, text)?;
+    let words = match words.split_first() {
+        Some((first, rest)) if *first == "nvme" => rest,
+        _ => words.as_slice(),
+    };
+    let Some(word) = words.first() else {
+        return String::from_str(alloc, "there is no command");
+    };
+    let Some(verb) = Verb::of(word) else {
+        return unknown_command(alloc, word);
+    };
+    let command = clap_command(alloc, verb)?;
+    match command.try_get_matches_from(words) {
+        Err(error) if error.kind() == ErrorKind::OutOfMemory => Err(AllocError),
+        Err(error) => words_of_clap(alloc, &format!(in alloc; "{error}")?),
+        Ok(matches) => match fault {
+            LineFault::Number(option) => wrong_value(alloc, verb, option, &matches),
+            LineFault::Device => unknown_device(alloc, controllers, &matches),
+            _ => missing_or_unknown(alloc, &matches),
+        },
+    }
+}
+
+/// Returns the sentences of an error of `clap`, in one line and without the usage.
+fn words_of_clap(alloc: Global, text: &str) -> Result<String, AllocError> {
+    let mut words = String::new(alloc);
+    for line in text.lines() {
+        let line = line.trim();
+        if line.starts_with("Usage:") {
+            break;
+        }
+        if line.is_empty() {
+            continue;
+        }
+        if line.starts_with("tip:") {
+            words.push_str(";")?;
+        }
+        if !words.is_empty() {
+            words.push_str(" ")?;
+        }
+        words.push_str(line.strip_prefix("error: ").unwrap_or(line))?;
+    }
+    Ok(words)
+}
+
+/// Names the command that is most like a word, if one is.
+fn unknown_command(alloc: Global, word: &str) -> Result<String, AllocError> {
+    let mut nearest = None;
+    let mut most = 0.7;
+    for verb in VERBS {
+        let likeness = jaro(alloc, word, verb.word())?;
+        if likeness > most {
+            nearest = Some(verb.word());
+            most = likeness;
+        }
+    }
+    match nearest {
+        Some(name) => format!(in alloc; "there is no command '{word}'; the nearest is '{name}'"),
+        None => format!(in alloc; "there is no command '{word}'"),
+    }
+}
+
+fn unknown_device(
+    alloc: Global,
+    controllers: u16,
+    matches: &ArgMatches<'_>,
+) -> Result<String, AllocError> {
+    let device = matches.get_str("device").unwrap_or("");
+    let last = controllers.saturating_sub(1);
+    format!(in alloc; "'{device}' is no controller, /dev/nvme0 to /dev/nvme{last}, and no namespace of one, \
+        such as /dev/nvme0n1")
+}
+
+/// Names what is wrong where `clap` finds nothing: the output format, or else that there is no NSID.
+fn missing_or_unknown(alloc: Global, matches: &ArgMatches<'_>) -> Result<String, AllocError> {
+    match matches.get_str("output-format") {
+        Some(format) if OutputFormat::of(format).is_none() => {
+            format!(in alloc; "'{format}' is no output format, which is 'normal' or 'json'")
+        }
+        _ => {
+            let device = matches.get_str("device").unwrap_or("");
+            format!(in alloc; "--namespace-id is missing, and '{device}' names no namespace")
+        }
+    }
+}
+
+/// Shows the value of an option, and which ones it takes.
+fn wrong_value(
+    alloc: Global,
+    verb: Verb,
+    option: OptionName,
+    matches: &ArgMatches<'_>,
+) -> Result<String, AllocError> {
+    let name = format!(in alloc; "{option}")?;
+    let value = matches.get_str(&name).unwrap_or("");
+    for row in verb.options() {
+        if let CommandOption::Number(number) = row
+            && number.name == option
+        {
+            let (least, most) = (number.least, number.most);
+            return format!(in alloc; "'{value}' is no number from {least} to {most}");
+        }
+    }
+    format!(in alloc; "'{value}' is no list of controller identifiers, such as 0,1")
+}
