@@ -9,9 +9,10 @@ import os
 import select
 import socket
 import struct
-import time
 
-PAGE, REACHED = 4096, 128 << 30
+from tests.driver import ACQ, AQA, ASQ, CC, COMMAND, CSTS, HEAD, MASTER, PAGE, TAIL, Driver, counter, memory_file
+
+REACHED = 128 << 30
 (VERSION, DMA_MAP, DMA_UNMAP, DEVICE_INFO, REGION_INFO, IRQ_INFO, SET_IRQS, REGION_READ, REGION_WRITE,
  RESET) = 1, 2, 3, 4, 5, 7, 8, 9, 10, 13
 REQUEST, ANSWER, WANTS_NONE, ERROR = 0, 1, 0x10, 0x20
@@ -19,9 +20,7 @@ BAR, CONFIG = 0, 7
 PIN, MESSAGES = 0, 1
 READ, WRITE = 1, 2
 BIND, UNBIND, MASK, UNMASK, BIND_UNMASK = 0x24, 0x21, 0x09, 0x11, 0x14
-CC, CSTS, AQA, ASQ, ACQ, TAIL, HEAD = 0x14, 0x1c, 0x24, 0x28, 0x30, 0x1000, 0x1004
-COMMAND, STATUS, BASE, MESSAGE_CONTROL = 4, 6, 0x10, 0x42
-MASTER, NO_INTERRUPT, ENABLED = 6, 0x400, 0x0046_0001
+STATUS, MESSAGE_CONTROL = 6, 0x42
 QEMU_CAPABILITIES = (b'{"capabilities": {"pgsizes": 4096, "max_msg_fds": 16, "max_dma_maps": 65535, '
                      b'"max_data_xfer_size": 1048576, "migration": {"pgsize": 4096, "max_bitmap_size": 8192}, '
                      b'"write_multiple": true}}\0')
@@ -29,12 +28,6 @@ QEMU_CAPABILITIES = (b'{"capabilities": {"pgsizes": 4096, "max_msg_fds": 16, "ma
 
 class Refused(Exception):
     """The server refused a request with this number of an error."""
-
-
-def counter():
-    """Returns an event counter whose reads don't wait. (Python's `os` has `eventfd` from 3.10 on.)"""
-    import ctypes
-    return ctypes.CDLL(None).eventfd(0, os.O_NONBLOCK | os.O_CLOEXEC)
 
 
 def is_raised(number, seconds=0):
@@ -150,13 +143,6 @@ class Client:
         return not select.select([self.socket], [], [], seconds)[0]
 
 
-def memory_file(length):
-    """Returns a file of memory without seals."""
-    file = os.memfd_create('ram', os.MFD_CLOEXEC | os.MFD_ALLOW_SEALING)
-    os.ftruncate(file, length)
-    return file
-
-
 def machine_of(place, file=None):
     """Returns a machine of the library in this folder, by its Python module."""
     found = importlib.util.spec_from_file_location('nvme_controller', place / 'nvme_controller.py')
@@ -174,7 +160,7 @@ class Piece:
         self.bytes = mmap.mmap(self.file, length, offset=offset)
 
 
-class Guest(Client):
+class Guest(Driver, Client):
     """A client with memory and a driver. Beside it there may be a machine of the library, to which the same is done;
     `ctrl` is the controller's number in it. The machine is lent all that a controller reaches. These of its pages are
     no memory, but hold FFh at the beginning of each turn."""
@@ -233,47 +219,6 @@ class Guest(Client):
             wanted = self.flat[piece.address:piece.address + piece.length]
             assert piece.bytes[:] == wanted, (hex(piece.address), differing(piece.bytes[:], wanted))
 
-    def enable(self, rings=(0, PAGE), slots=(16, 16), power=0):
-        """Enables the controller with pages of 4,096 bytes, doubled `power` times."""
-        self.rings, self.slots, self.tail, self.head, self.phase = rings, slots, 0, 0, 1
-        attributes = slots[0] - 1 | slots[1] - 1 << 16
-        for offset, value in (CC, 0), (AQA, attributes), (ASQ, rings[0]), (ACQ, rings[1]), (CC, ENABLED | power << 7):
-            self.set(offset, value, 8 if offset in (ASQ, ACQ) else 4)
-
-    def put(self, opcode, first=0, second=0, nsid=0, dword10=0, dword11=0, rings=True):
-        """Writes an entry, and rings the tail doorbell."""
-        entry = struct.pack('<BBHIQQQQ6I', opcode, 0, self.tail + 100, nsid, 0, 0, first, second, dword10, dword11,
-                            *[0] * 4)
-        self.at(self.rings[0] + 64 * self.tail, 64)[:] = entry
-        self.tail = (self.tail + 1) % self.slots[0]
-        if rings:
-            self.set(TAIL, self.tail)
-
-    def completion(self):
-        """Returns the next completion's command identifier and status, or nothing if there is none."""
-        data = self.at(self.rings[1] + 16 * self.head, 16)
-        identifier, status = struct.unpack_from('<HH', data, 12)
-        return (identifier - 100, status >> 1 & 0x7ff) if status & 1 == self.phase else None
-
-    def take(self):
-        """Takes the next completion, and returns its status."""
-        found = self.completion()
-        assert found, 'there is no completion'
-        self.head += 1
-        if self.head == self.slots[1]:
-            self.head, self.phase = 0, 1 - self.phase
-        self.set(HEAD, self.head)
-        return found[1]
-
-    def status_of(self, *command, **more):
-        self.put(*command, **more)
-        return self.take()
-
-    def serial(self, page=2 * PAGE):
-        """Returns the serial number in the Identify Controller data."""
-        assert self.status_of(6, page, dword10=1) == 0
-        return bytes(self.at(page + 4, 20)).decode().strip()
-
     def counters(self):
         """Binds event counters to the pin and to messages, and returns them."""
         found = counter(), counter()
@@ -286,10 +231,3 @@ def differing(got, wanted):
     place = next(at for at, (one, other) in enumerate(zip(got, wanted)) if one != other)
     return hex(place), got[place:place + 16].hex(), wanted[place:place + 16].hex()
 
-
-def until(condition, limit=10):
-    """Returns whether the condition becomes true within this number of seconds."""
-    end = time.monotonic() + limit
-    while not condition() and time.monotonic() < end:
-        time.sleep(0.01)
-    return condition()

@@ -9,7 +9,8 @@ import struct
 import sys
 import tempfile
 
-from tests.as_client import PAGE, Client
+from tests.as_client import Client
+from tests.driver import PAGE
 
 LOOKUP, OPEN, INIT = 1, 14, 26
 # (nothing of a file is asked again for an hour)

@@ -14,23 +14,15 @@ import struct
 import sys
 import time
 
-PAGE = 4096
+from tests.driver import (
+    ASQ, BASE, CC, COMMAND, CSTS, HEAD, IDENTIFY, MASTER, NOWHERE, NO_INTERRUPT, PAGE, TAIL, TRANSFER_ERROR, Driver,
+    counter, memory_file)
+from tests.support import until
+
 MEMORY, ANSWER, CONFIG_WRITE, CONFIG_READ, BAR_WRITE, BAR_READ, INTERRUPT, RESET = range(8)
-CC, CSTS, AQA, ASQ, ACQ, TAIL, HEAD = 0x14, 0x1c, 0x24, 0x28, 0x30, 0x1000, 0x1004
-COMMAND, BASE = 4, 0x10
-ENABLED, MASTER, NO_INTERRUPT = 0x0046_0001, 6, 0x400
-IDENTIFY, INVALID_FIELD, INVALID_OFFSET, TRANSFER_ERROR = 6, 2, 0x13, 4
-NOWHERE = 0xffff_ffff_ffff_f000
 
 
-def memory(length):
-    """Returns a file of memory."""
-    file = os.memfd_create('ram')
-    os.ftruncate(file, length)
-    return file
-
-
-class Function:
+class Function(Driver):
     """A PCI function, as QEMU sees it."""
 
     def __init__(self, number):
@@ -67,53 +59,21 @@ class Function:
         columns = zip(*[*rows, *[(0, 0, 0)] * 8][:8])
         self.say(MEMORY, b''.join(struct.pack('=8Q', *column) for column in columns), files)
 
+    def at(self, address, length):
+        return memoryview(self.ram)[address:address + length]
+
     def begin(self, pages=64, command=MASTER, power=0):
         """Gives the function memory without holes, and enables the controller with queues of 16 slots."""
-        file = memory(pages * PAGE)
+        file = memory_file(pages * PAGE)
         self.sections([(0, pages * PAGE, 0)], [file])
         self.ram = mmap.mmap(file, pages * PAGE)
         os.close(file)
         self.set_config(COMMAND, command, 2)
         self.enable(power=power)
 
-    def enable(self, rings=None, power=0):
-        """Enables the controller with pages of 4,096 bytes, doubled `power` times. Two pages are the queues."""
-        self.page = PAGE << power
-        first, second = rings or (0, self.page)
-        for offset, value in (CC, 0), (AQA, 0x000f_000f), (ASQ, first), (ACQ, second), (CC, ENABLED | power << 7):
-            self.set_register(offset, value, 8 if offset in (ASQ, ACQ) else 4)
-        self.tail = self.head = 0
-
-    def put(self, opcode, first=0, second=0, nsid=0, dword10=0):
-        """Writes an entry, and rings the tail doorbell."""
-        entry = struct.pack('<BBHIQQQQ6I', opcode, 0, self.tail + 100, nsid, 0, 0, first, second, dword10, *[0] * 5)
-        self.ram[self.tail * 64:self.tail * 64 + 64] = entry
-        self.tail = (self.tail + 1) % 16
-        self.set_register(TAIL, self.tail)
-
-    def completion(self):
-        """Returns the place, command identifier and status of the next completion, without its phase tag."""
-        _, _, identifier, status = struct.unpack_from('<8xHHHH', self.ram, self.page + self.head * 16)
-        return identifier - 100, status >> 1 & 0x7ff
-
-    def status_of(self, *command, **more):
-        """Sends a command, and takes its completion."""
-        wanted = self.tail
-        self.put(*command, **more)
-        identifier, status = self.completion()
-        assert identifier == wanted, (identifier, wanted)
-        self.head = (self.head + 1) % 16
-        self.set_register(HEAD, self.head)
-        return status
-
-    def serial(self):
-        """Returns the serial number in the Identify Controller data, which is in the page after the queues."""
-        assert self.status_of(IDENTIFY, 2 * self.page, dword10=1) == 0
-        return self.ram[2 * self.page + 4:2 * self.page + 24].decode().strip()
-
     def listen(self):
         """Gives the function its event counters."""
-        self.interrupt, self.seen = [eventfd() for _ in range(2)]
+        self.interrupt, self.seen = counter(), counter()
         self.say(INTERRUPT, files=[self.interrupt, self.seen])
 
     def is_raised(self):
@@ -127,12 +87,6 @@ class Function:
     def acknowledge(self):
         os.write(self.seen, struct.pack('=Q', 1))
         time.sleep(0.1)
-
-
-def eventfd():
-    """Returns an event counter whose reads don't wait. (Python's `os` has `eventfd` from 3.10 on.)"""
-    import ctypes
-    return ctypes.CDLL(None).eventfd(0, os.O_NONBLOCK | os.O_CLOEXEC)
 
 
 def configuration(first, second):
@@ -243,7 +197,7 @@ def interrupts(first, second):
 def holes(first, second):
     """Where there is no memory, nothing is written, wherever an entry points."""
     first.begin()
-    file = memory(64 << 20)
+    file = memory_file(64 << 20)
     first.ram = mmap.mmap(file, 64 << 20)
     # a PC's windows are a hole, and there is memory above a second hole
     low, legacy, high = (0, 0xa0000, 0), (0xc0000, 0x240000, 0xc0000), (0x400000, 0x100000, 0x400000)
@@ -265,17 +219,9 @@ def holes(first, second):
         assert first.register(CSTS) & 2, rings
 
 
-def until(condition):
-    """Returns whether the condition becomes true within ten seconds."""
-    end = time.monotonic() + 10
-    while not condition() and time.monotonic() < end:
-        time.sleep(0.01)
-    return condition()
-
-
 def sections(first, second):
     """After sections that aren't memory, the function has no memory, and keeps none of the given files."""
-    plain, short = memory(1 << 20), memory(PAGE)
+    plain, short = memory_file(1 << 20), memory_file(PAGE)
     other = os.open('/dev/zero', os.O_RDWR)
     whole, top = (0, 1 << 20, 0), 1 << 63
     wrong = [
@@ -294,7 +240,7 @@ def sections(first, second):
         assert first.register(CSTS) & 2, (rows, files)
         assert until(lambda: kept() == before), (rows, kept(), before)
     # what lies apart is there, in any order
-    first.sections([(2 << 20, 1 << 20, 0), whole], [memory(1 << 20), plain])
+    first.sections([(2 << 20, 1 << 20, 0), whole], [memory_file(1 << 20), plain])
     first.ram = mmap.mmap(plain, 1 << 20)
     first.enable()
     assert first.status_of(IDENTIFY, 2 << 20, dword10=1) == 0
@@ -362,7 +308,7 @@ def random_messages(seed, count):
     """Returns a scenario of random messages, in which valid memory and random queues recur."""
     def scenario(first, second):
         lot = random.Random(seed)
-        files = [memory(64 * PAGE), memory(PAGE), eventfd(), os.open('/dev/null', os.O_RDWR)]
+        files = [memory_file(64 * PAGE), memory_file(PAGE), counter(), os.open('/dev/null', os.O_RDWR)]
         for turn in range(count):
             function = lot.choice((first, second))
             if turn % 50 == 0:

@@ -14,24 +14,17 @@ of the file with NEW in place of OLD. There may be more such pairs. `@"TEXT"` st
 texts, `(TEXT*N)` stands for N times TEXT.
 
     python3 -m unittest tests.test_rows
-    NVME_BENCH=path/of/the/program python3 -m unittest tests.test_rows.Rows.test_records_of_queues
 """
 
 import contextlib
 import json
-import os
 import re
 import struct
-import subprocess
-import unittest
-from pathlib import Path
 
 from tests.records import KINDS, decoded, encoded
+from tests.support import TOP, Case, Running, program, run
 
-TOP = Path(__file__).resolve().parent.parent
 PLACE = TOP / "tests" / "rows"
-PROGRAM = Path(os.environ.get("NVME_BENCH", TOP / "crates" / "nvme_bench" / "out" / "nvme_bench"))
-SECONDS = 300
 REPEATED = re.compile(r"\(([0-9a-f]{2})\*([0-9]+)\)")
 REPEATED_TEXT = re.compile(r"\(([^()]+)\*([0-9]+)\)")
 FILE = re.compile(r'@(?:([a-z_]+\.toml)(\[.*\])?|(".*"))')
@@ -138,15 +131,13 @@ def short(text):
 def answers_to(operations):
     """Returns the program's answers to these operations, in one session."""
     script = "".join(f"{operation}\n" for operation in operations)
-    run = subprocess.run(
-        [PROGRAM], input=script.encode(), capture_output=True, timeout=SECONDS, check=False
-    )
-    if (run.returncode, run.stderr) != (0, b""):
-        raise AssertionError(f"{PROGRAM} ended with status {run.returncode}: {run.stderr.decode()}")
-    return run.stdout.decode().splitlines()
+    ended = run(program("nvme_bench"), source=script.encode())
+    if (ended.status, ended.err) != (0, b""):
+        raise AssertionError(str(ended))
+    return ended.out.decode().splitlines()
 
 
-class Rows(unittest.TestCase):
+class Rows(Case):
     """A test for each file of rows."""
 
     def check(self, path):
@@ -213,7 +204,7 @@ def new_rings(depth):
     return [("memory 65536 5", "done"), (f"rings {depth} 0 0x40000", "done")]
 
 
-class Rings(unittest.TestCase):
+class Rings(Case):
     """Queues over many commands, past the wraps of both. Each test is a session of computed rows."""
 
     def check(self, rows):
@@ -242,53 +233,20 @@ class Rings(unittest.TestCase):
                 self.check(new_rings(depth) + rows)
 
 
-class Records(unittest.TestCase):
-    """Each record that a row writes is read back from its bytes."""
-
-    def test_are_read_back(self):
-        written = (with_repeats(path.read_text("utf-8")) for path in FILES)
-        for kind, fields in sorted({record for text in written for record in RECORD.findall(text)}):
-            with self.subTest(kind, fields=short(fields)):
-                record = encoded(kind, fields)
-                self.assertEqual(encoded(kind, decoded(kind, record)), record)
-
-
-class Pipes(unittest.TestCase):
-    """Talks to the program through two pipes, as a host does."""
-
-    def test_there_are_rows(self):
-        self.assertTrue(FILES, f"no file of rows in {PLACE}")
-
-    def test_the_program_is_there(self):
-        self.assertTrue(os.access(PROGRAM, os.X_OK), f"no program at {PROGRAM}")
+class Pipes(Case):
+    """Talks to the program through pipes, as a host does."""
 
     def test_each_answer_comes_before_the_next_operation(self):
-        with subprocess.Popen([PROGRAM], stdin=subprocess.PIPE, stdout=subprocess.PIPE) as bench:
-            for operation, wanted in [("store 0 c0ffee", "done"), ("load 0x0 4", "bytes=c0ffee00")]:
-                bench.stdin.write(f"{operation}\n".encode())
-                bench.stdin.flush()
-                self.assertEqual(bench.stdout.readline().decode(), f"{wanted}\n")
-            bench.stdin.close()
-            self.assertEqual(bench.stdout.read(), b"")
-            self.assertEqual(bench.wait(SECONDS), 0)
+        bench = Running(program("nvme_bench"))
+        for operation, wanted in (b"store 0 c0ffee", b"done"), (b"load 0x0 4", b"bytes=c0ffee00"):
+            bench.say(operation + b"\n")
+            bench.comes(wanted + b"\n")
+        self.ends(bench.end(), 0, b"done\nbytes=c0ffee00\n")
 
     def test_bytes_that_are_no_text(self):
-        run = subprocess.run(
-            [PROGRAM], input=b"load 0 1\xff\nload 0 1", capture_output=True, timeout=SECONDS, check=False
-        )
-        self.assertEqual(run.stdout, b"error: not UTF-8 text\nbytes=00\n")
+        ended = run(program("nvme_bench"), source=b"load 0 1\xff\nload 0 1")
+        self.ends(ended, 0, b"error: not UTF-8 text\nbytes=00\n", b"")
 
     def test_streams_that_fail(self):
-        folder = os.open(PLACE, os.O_RDONLY)
-        self.addCleanup(os.close, folder)
-        run = subprocess.run([PROGRAM], stdin=folder, capture_output=True, timeout=SECONDS, check=False)
-        self.assertEqual((run.returncode, run.stdout, run.stderr), (4, b"", b"nvme-bench: read fault\n"))
-        with open("/dev/full", "wb") as full:
-            run = subprocess.run(
-                [PROGRAM], input=b"sizes\n", stdout=full, stderr=subprocess.PIPE, timeout=SECONDS, check=False
-            )
-        self.assertEqual((run.returncode, run.stderr), (5, b"nvme-bench: write fault\n"))
-
-
-if __name__ == "__main__":
-    unittest.main()
+        self.ends(run(program("nvme_bench"), source=PLACE), 4, b"", b"nvme-bench: read fault\n")
+        self.ends(run(program("nvme_bench"), source=b"sizes\n", out="/dev/full"), 5, err=b"nvme-bench: write fault\n")

@@ -8,10 +8,10 @@ import struct
 import time
 
 from tests.as_client import (
-    BAR, BIND, BIND_UNMASK, CC, COMMAND, CONFIG, CSTS, DEVICE_INFO, DMA_MAP, DMA_UNMAP, HEAD, IRQ_INFO, MASK, PAGE,
-    REGION_INFO, REGION_READ, REGION_WRITE, RESET, SET_IRQS, TAIL, UNBIND, UNMASK, VERSION, WANTS_NONE, counter,
-    memory_file)
-from tests.served import ATTACH, CREATE, EINVAL, ENOENT, ENOTSUP, EVERY, GET_LOG, IDENTIFY, Served
+    BAR, BIND, BIND_UNMASK, CONFIG, DEVICE_INFO, DMA_MAP, DMA_UNMAP, IRQ_INFO, MASK, REGION_INFO, REGION_READ,
+    REGION_WRITE, RESET, SET_IRQS, UNBIND, UNMASK, VERSION, WANTS_NONE)
+from tests.driver import CC, COMMAND, CSTS, HEAD, IDENTIFY, PAGE, TAIL, counter, memory_file
+from tests.served import ATTACH, CREATE, EINVAL, ENOENT, ENOTSUP, EVERY, GET_LOG, Served
 from tests.support import DEMO, run
 from tests.test_qemu import SANITIZERS, program
 

@@ -8,9 +8,9 @@ import sys
 import time
 
 from tests.as_client import (
-    BIND, BIND_UNMASK, COMMAND, CSTS, HEAD, MASK, MASTER, MESSAGE_CONTROL, MESSAGES, NO_INTERRUPT, PAGE, PIN, SET_IRQS,
-    STATUS, TAIL, UNBIND, UNMASK, counter, is_raised, memory_file)
-from tests.served import EINVAL, IDENTIFY, Served
+    BIND, BIND_UNMASK, MASK, MESSAGES, MESSAGE_CONTROL, PIN, SET_IRQS, STATUS, UNBIND, UNMASK, is_raised)
+from tests.driver import COMMAND, CSTS, HEAD, IDENTIFY, MASTER, NO_INTERRUPT, PAGE, TAIL, counter, memory_file
+from tests.served import EINVAL, Served
 from tests.support import DEMO
 
 
@@ -54,10 +54,8 @@ class Processors:
         self.is_seen = False
         taken = 0
         while self.driver.completion():
-            self.driver.head += 1
+            self.driver.advance()
             taken += 1
-            if self.driver.head == self.driver.slots[1]:
-                self.driver.head, self.driver.phase = 0, 1 - self.driver.phase
         self.ended += taken
         self.access(HEAD, self.driver.head) if taken else None
 

@@ -2,9 +2,9 @@
 
 import os
 
-from tests.as_client import CSTS, PAGE, REACHED, READ, TAIL, Piece, counter, memory_file
-from tests.served import (
-    EACCES, EEXIST, EINVAL, ENOENT, ENOSPC, GIBIBYTE, IDENTIFY, INVALID_OFFSET, NOWHERE, TRANSFER_ERROR, Served)
+from tests.as_client import REACHED, READ, Piece
+from tests.driver import CSTS, IDENTIFY, INVALID_OFFSET, NOWHERE, PAGE, TAIL, TRANSFER_ERROR, counter, memory_file
+from tests.served import EACCES, EEXIST, EINVAL, ENOENT, ENOSPC, GIBIBYTE, Served
 
 
 class Memory(Served):

@@ -8,10 +8,12 @@ import threading
 import time
 
 from tests.as_client import (
-    ASQ, BAR, BASE, BIND, CC, COMMAND, CONFIG, CSTS, DEVICE_INFO, DMA_UNMAP, HEAD, IRQ_INFO, MASTER, PAGE, PIN, READ,
-    REGION_INFO, RESET, TAIL, UNBIND, WANTS_NONE, WRITE, counter, memory_file, until)
-from tests.served import (
-    EINVAL, EVERY, GET_LOG, GIBIBYTE, IDENTIFY, INVALID_OFFSET, NOWHERE, TRANSFER_ERROR, Served)
+    BAR, BIND, CONFIG, DEVICE_INFO, DMA_UNMAP, IRQ_INFO, PIN, READ, REGION_INFO, RESET, UNBIND, WANTS_NONE, WRITE)
+from tests.driver import (
+    ASQ, BASE, CC, COMMAND, CSTS, HEAD, IDENTIFY, INVALID_OFFSET, MASTER, NOWHERE, PAGE, TAIL, TRANSFER_ERROR, counter,
+    memory_file)
+from tests.served import EINVAL, EVERY, GET_LOG, GIBIBYTE, Served
+from tests.support import until
 from tests.test_qemu import COUNTS
 
 

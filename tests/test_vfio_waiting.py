@@ -14,10 +14,11 @@ import sys
 import threading
 import time
 
-from tests.as_client import BIND, CC, DMA_MAP, MESSAGES, PAGE, PIN, VERSION, counter, memory_file, until
+from tests.as_client import BIND, DMA_MAP, MESSAGES, PIN, VERSION
+from tests.driver import CC, PAGE, counter, memory_file
 from tests.modelled import works
 from tests.served import EINVAL, EMFILE, ENOENT, Served
-from tests.support import Running
+from tests.support import Running, until
 
 USERFAULTFD, UFFDIO_API, UFFDIO_REGISTER = 323, 0xc018_aa3f, 0xc020_aa00
 PTRACE_SEIZE, PTRACE_INTERRUPT = 0x4206, 0x4207
