@@ -29,9 +29,12 @@ pub fn fault_in(
     };
     let reason = match str::from_utf8(line) {
         _ if line.len() > LINE_LIMIT => {
-            format!(in alloc; "it has {} bytes, and at most {LINE_LIMIT} are read", line.len())?
+            format!(in alloc; "it has {} bytes, and the limit is {LINE_LIMIT}", line.len())?
         }
-        Err(error) => format!(in alloc; "byte {} is invalid", error.valid_up_to())?,
+        Err(error) => {
+            let byte = error.valid_up_to().saturating_add(1);
+            format!(in alloc; "byte {byte} is the first wrong one")?
+        }
         Ok(text) => reason_of(alloc, text, controllers, fault)?,
     };
     Ok(Some(format!(in alloc; "{fault}: {reason}")?))
@@ -58,7 +61,14 @@ fn reason_of(
     let command = clap_command(alloc, verb)?;
     match command.try_get_matches_from(words) {
         Err(error) if error.kind() == ErrorKind::OutOfMemory => Err(AllocError),
-        Err(error) => words_of_clap(alloc, &format!(in alloc; "{error}")?),
+        Err(error) => {
+            let text = format!(in alloc; "{error}")?;
+            let mut reason = words_of_clap(alloc, &text)?;
+            if error.kind() == ErrorKind::UnknownArgument {
+                push_options(&mut reason, verb)?;
+            }
+            Ok(reason)
+        }
         Ok(matches) => match fault {
             LineFault::Number(option) => wrong_value(alloc, verb, option, &matches),
             LineFault::Device => unknown_device(alloc, controllers, &matches),
@@ -67,7 +77,8 @@ fn reason_of(
     }
 }
 
-/// Returns the sentences of an error of `clap`, in one line and without the usage.
+/// Returns what an error of `clap` says in one line, without its usage, and of its tips only a name
+/// that is like the one that was given.
 fn words_of_clap(alloc: Global, text: &str) -> Result<String, AllocError> {
     let mut words = String::new(alloc);
     for line in text.lines() {
@@ -75,18 +86,31 @@ fn words_of_clap(alloc: Global, text: &str) -> Result<String, AllocError> {
         if line.starts_with("Usage:") {
             break;
         }
-        if line.is_empty() {
+        if line.is_empty() || line.starts_with("tip: to pass") {
             continue;
         }
-        if line.starts_with("tip:") {
-            words.push_str(";")?;
-        }
         if !words.is_empty() {
-            words.push_str(" ")?;
+            words.push_str(if line.starts_with("tip:") { "; " } else { " " })?;
         }
         words.push_str(line.strip_prefix("error: ").unwrap_or(line))?;
     }
     Ok(words)
+}
+
+/// Names the options of a command.
+fn push_options(text: &mut String, verb: Verb) -> Result<(), AllocError> {
+    let mut before = "; the options are --";
+    for option in verb.options() {
+        let name = match option {
+            CommandOption::Flag(flag) => flag.name,
+            CommandOption::Number(number) => number.name,
+            CommandOption::List(list) => list.name,
+            CommandOption::Format(format) => format.name,
+        };
+        write!(text, "{before}{name}")?;
+        before = ", --";
+    }
+    Ok(())
 }
 
 /// Names the command that is most like a word, if one is.
@@ -113,15 +137,15 @@ fn unknown_device(
 ) -> Result<String, AllocError> {
     let device = matches.get_str("device").unwrap_or("");
     let last = controllers.saturating_sub(1);
-    format!(in alloc; "'{device}' is no controller, /dev/nvme0 to /dev/nvme{last}, and no namespace of one, \
-        such as /dev/nvme0n1")
+    format!(in alloc; "'{device}' is neither a controller, /dev/nvme0 to /dev/nvme{last}, nor a namespace of \
+        one, such as /dev/nvme0n1")
 }
 
 /// Names what is wrong where `clap` finds nothing: the output format, or else that there is no NSID.
 fn missing_or_unknown(alloc: Global, matches: &ArgMatches<'_>) -> Result<String, AllocError> {
     match matches.get_str("output-format") {
         Some(format) if OutputFormat::of(format).is_none() => {
-            format!(in alloc; "'{format}' is no output format, which is 'normal' or 'json'")
+            format!(in alloc; "'{format}' is neither 'normal' nor 'json'")
         }
         _ => {
             let device = matches.get_str("device").unwrap_or("");
@@ -144,8 +168,8 @@ fn wrong_value(
             && number.name == option
         {
             let (least, most) = (number.least, number.most);
-            return format!(in alloc; "'{value}' is no number from {least} to {most}");
+            return format!(in alloc; "'{value}' isn't a number from {least} to {most}");
         }
     }
-    format!(in alloc; "'{value}' is no list of controller identifiers, such as 0,1")
+    format!(in alloc; "'{value}' isn't a list of controller identifiers, such as 0,1")
 }
