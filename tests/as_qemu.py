@@ -12,7 +12,6 @@ import signal
 import socket
 import struct
 import sys
-import time
 
 from tests.driver import (
     ASQ, BASE, CC, COMMAND, CSTS, HEAD, IDENTIFY, MASTER, NOWHERE, NO_INTERRUPT, PAGE, TAIL, TRANSFER_ERROR, Driver,
@@ -85,8 +84,9 @@ class Function(Driver):
         return False
 
     def acknowledge(self):
+        """Says that the interrupt was seen, after which the other process answers a message later than it sees that."""
         os.write(self.seen, struct.pack('=Q', 1))
-        time.sleep(0.1)
+        self.config(0)
 
 
 def configuration(first, second):

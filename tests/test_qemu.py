@@ -200,7 +200,6 @@ class Messages(Case):
         self.assertRegex(self.ended(b'echo "$*"', *words).out,
                          rb'-object \S+,share=on,size=2G( -device x-pci-proxy-dev,fd=\d+){2} -x y z\n')
         # (the sockets have no names, and yet can be reached)
-        folders = set(glob.glob('/tmp/nvme-model.*'))
         self.file('reach.py', REACH.encode())
         reach = b'echo "$*"; exec python3 "${0%/*}/reach.py" "$@"'
         said = self.ended(reach, *words, devices='vfio-user-pci').out.decode()
@@ -209,11 +208,13 @@ class Messages(Case):
         self.assertRegex(said, rf'-object \S+,share=on,size=2G {device % 0} {device % 1} -x y z\nTrue\nTrue\n$')
         # (nothing is left by a program that is killed)
         self.stand_in(b'echo runs >&2; exec sleep 1000', devices='vfio-user-pci')
-        running = Running(program(), env={'PATH': f'{self.folder}:{os.environ["PATH"]}'})
+        place = self.folder / 'temporary'
+        place.mkdir()
+        running = Running(program(), env={'PATH': f'{self.folder}:{os.environ["PATH"]}', 'TMPDIR': place})
         running.comes(b'runs\n')
         running.process.kill()
         running.end()
-        self.assertTrue(until(lambda: set(glob.glob('/tmp/nvme-model.*')) <= folders, 10))
+        self.assertEqual(list(place.iterdir()), [])
 
     def test_other_versions(self):
         # where it can't be done, one sentence says so

@@ -7,6 +7,7 @@ import fcntl
 import mmap
 import os
 import pathlib
+import select
 import signal
 import socket
 import struct
@@ -204,26 +205,23 @@ class Waiting(Served):
         for most in range(9, 15):
             self.stop(self.server)
             self.server = self.start(by=('sh', '-c', 'ulimit -n "$0"; exec "$@"', str(most)))
-            outcomes.add(count := self.mapped())
+            outcomes.add(self.mapped())
             before = self.spent()
             time.sleep(0.5)
             self.assertLess(self.spent() - before, 0.2)
-            if count == 0:
-                self.assertIn('nvme-model: a client waits', self.stop(self.server))
-                self.server = self.start()
         self.assertGreater(len(outcomes), 3, outcomes)
         self.assertIn(0, outcomes)
 
     def mapped(self):
-        """Returns how many pieces of memory a client could map, or 0 if it is never served. All of them are there."""
+        """Returns how many pieces of memory a client could map, or 0 if the server says that it takes nobody. All of them
+        are there."""
         guest = self.client()
-        guest.socket.settimeout(0.5)
-        try:
-            guest.greet()
-        except (socket.timeout, ConnectionError):
+        guest.say(VERSION, bytes(4))
+        ready = select.select([guest.socket, self.server.hears], [], [], 300)[0]
+        guest.close()
+        if self.server.hears in ready:
+            self.server.comes(b'nvme-model: a client waits, because the limit of open files or processes is too low\n')
             return 0
-        finally:
-            guest.close()
         guest = self.guest(layout=())
         answers = [guest.map(at * 64 * PAGE, 64 * PAGE, memory_file(64 * PAGE)) for at in range(8)]
         count = answers.count(0)

@@ -29,7 +29,10 @@ pub fn fault_in(
     };
     let reason = match str::from_utf8(line) {
         _ if line.len() > LINE_LIMIT => {
-            format!(in alloc; "it has {} bytes, and the limit is {LINE_LIMIT}", line.len())?
+            format!(in alloc;
+                "it has {} bytes, and the limit is {LINE_LIMIT}",
+                line.len()
+            )?
         }
         Err(error) => {
             let byte = error.valid_up_to().saturating_add(1);
@@ -64,7 +67,7 @@ fn reason_of(
         Err(error) => {
             let text = format!(in alloc; "{error}")?;
             let mut reason = words_of_clap(alloc, &text)?;
-            if error.kind() == ErrorKind::UnknownArgument {
+            if error.kind() == ErrorKind::UnknownArgument && !reason.contains("; tip:") {
                 push_options(&mut reason, verb)?;
             }
             Ok(reason)
@@ -99,7 +102,7 @@ fn words_of_clap(alloc: Global, text: &str) -> Result<String, AllocError> {
 
 /// Names the options of a command.
 fn push_options(text: &mut String, verb: Verb) -> Result<(), AllocError> {
-    let mut before = "; the options are --";
+    let mut before = "; its options: --";
     for option in verb.options() {
         let name = match option {
             CommandOption::Flag(flag) => flag.name,
@@ -137,8 +140,10 @@ fn unknown_device(
 ) -> Result<String, AllocError> {
     let device = matches.get_str("device").unwrap_or("");
     let last = controllers.saturating_sub(1);
-    format!(in alloc; "'{device}' is neither a controller, /dev/nvme0 to /dev/nvme{last}, nor a namespace of \
-        one, such as /dev/nvme0n1")
+    format!(in alloc;
+        "'{device}' is neither a controller, /dev/nvme0 to /dev/nvme{last}, nor a namespace of \
+        one, such as /dev/nvme0n1"
+    )
 }
 
 /// Names what is wrong where `clap` finds nothing: the output format, or else that there is no NSID.

@@ -86,7 +86,10 @@ impl File<'_> {
             None => Vec::new(self.alloc),
         };
         for key in keys {
-            let Some(value) = place.find(&mut document).and_then(|table| table.remove(key.as_str())) else {
+            let Some(value) = place
+                .find(&mut document)
+                .and_then(|table| table.remove(key.as_str()))
+            else {
                 continue;
             };
             let fault = self.fault_of(&document)?;
