@@ -47,6 +47,7 @@ uninstall:
 	@tools/install --remove "$(DESTDIR)$(PREFIX)"
 
 packages: build
+	@tools/build nvme_explain
 	@tools/build nvme_trace
 	@tools/build nvme_bench
 	@tools/library
@@ -71,6 +72,7 @@ stage:
 	        install -m 755 $(CLIENT)/lib/nvme-model/$$part $(STAGE)/lib/nvme-model || exit; \
 	done
 	install -m 755 crates/nvme_script/out/nvme_script $(STAGE)/lib/nvme-model
+	@! $(call is_current,nvme_explain) || install -m 755 crates/nvme_explain/out/nvme_explain $(STAGE)/lib/nvme-model
 	@for name in trace bench; do \
 	    ! $(call is_current,nvme_$$name) || \
 	        install -m 755 crates/nvme_$$name/out/nvme_$$name $(STAGE)/bin/nvme-$$name || exit; \

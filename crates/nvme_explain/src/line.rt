@@ -51,15 +51,17 @@ fn reason_of(
     fault: LineFault,
 ) -> Result<String, AllocError> {
     let words = split_words(alloc, text)?;
-    let words = match words.split_first() {
-        Some((first, rest)) if *first == "nvme" => rest,
-        _ => words.as_slice(),
+    let begin = if !words.is_empty() && words[0] == "nvme" {
+        1
+    } else {
+        0
     };
-    let Some(word) = words.first() else {
+    if words.len() <= begin {
         return String::from_str(alloc, "there is no command");
-    };
-    let Some(verb) = Verb::of(word) else {
-        return unknown_command(alloc, word);
+    }
+    let words = &words[begin..];
+    let Some(verb) = Verb::of(words[0]) else {
+        return unknown_command(alloc, words[0]);
     };
     let command = clap_command(alloc, verb)?;
     match command.try_get_matches_from(words) {
@@ -123,12 +125,15 @@ fn unknown_command(alloc: Global, word: &str) -> Result<String, AllocError> {
     for verb in VERBS {
         let likeness = jaro(alloc, word, verb.word())?;
         if likeness > most {
-            nearest = Some(verb.word());
+            nearest = Some(verb);
             most = likeness;
         }
     }
     match nearest {
-        Some(name) => format!(in alloc; "there is no command '{word}'; the nearest is '{name}'"),
+        Some(verb) => {
+            let name = verb.word();
+            format!(in alloc; "there is no command '{word}'; the nearest is '{name}'")
+        }
         None => format!(in alloc; "there is no command '{word}'"),
     }
 }
