@@ -21,8 +21,8 @@ static int is_server, has_summary; /* the values of the options */
 static const char *paths[MOST_FUNCTIONS], *memory = "128M";
 static unsigned path_count, function_count;
 static struct function functions[MOST_FUNCTIONS];
-static int ways[MOST_FUNCTIONS]; /* QEMU's ways to the sockets */
-static char *folder, *sockets;   /* for QEMU's sockets, and how the paths of all begin */
+static int ways[MOST_FUNCTIONS];     /* QEMU's ways to the sockets */
+static char folder[100], *sockets;   /* for QEMU's sockets, and how the paths of all begin */
 static pid_t qemu;
 static _Atomic int ending; /* the signal that ends this process */
 
@@ -222,9 +222,10 @@ static void make_functions(const char *path, const struct protocol *protocol) {
    are left if this process is killed. */
 static void make_sockets(void) {
     const char *place = getenv("TMPDIR");
-    if (!is_server && (asprintf(&folder, "%s/nvme-model.XXXXXX", place && *place ? place : "/tmp") < 0 ||
-                       !mkdtemp(folder) || asprintf(&sockets, "%s/", folder) < 0))
-        err(FAILED, "%s", folder ? folder : "no memory");
+    snprintf(folder, sizeof folder - 1, "%s/nvme-model.XXXXXX", place && *place ? place : "/tmp");
+    if (!is_server && !mkdtemp(folder))
+        err(FAILED, "%s", folder);
+    sockets = is_server ? sockets : strcat(folder, "/");
     for (unsigned number = 0; number < function_count; number++) {
         struct sockaddr_un at = address_of(sockets, number);
         const struct sockaddr *address = (const struct sockaddr *)&at;

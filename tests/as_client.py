@@ -30,11 +30,6 @@ class Refused(Exception):
     """The server refused a request with this number of an error."""
 
 
-def is_raised(number, seconds=0):
-    """Returns whether an event counter was raised since the last call, or is raised within some time."""
-    return bool(select.select([number], [], [], seconds)[0]) and os.read(number, 8) != b''
-
-
 class Client:
     """A connection to a function's socket, which answers within ten seconds."""
 

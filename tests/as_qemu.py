@@ -15,7 +15,7 @@ import sys
 
 from tests.driver import (
     ASQ, BASE, CC, COMMAND, CSTS, HEAD, IDENTIFY, MASTER, NOWHERE, NO_INTERRUPT, PAGE, TAIL, TRANSFER_ERROR, Driver,
-    counter, memory_file)
+    counter, is_raised, memory_file)
 from tests.support import until
 
 MEMORY, ANSWER, CONFIG_WRITE, CONFIG_READ, BAR_WRITE, BAR_READ, INTERRUPT, RESET = range(8)
@@ -75,18 +75,14 @@ class Function(Driver):
         self.interrupt, self.seen = counter(), counter()
         self.say(INTERRUPT, files=[self.interrupt, self.seen])
 
-    def is_raised(self):
+    def is_raised(self, seconds=0):
         """Returns whether the interrupt was raised since the last call, after waiting until earlier messages have been
-        handled."""
+        handled, or is raised within some time."""
         self.config(0)
-        with contextlib.suppress(BlockingIOError):
-            return os.read(self.interrupt, 8) != b''
-        return False
+        return is_raised(self.interrupt, seconds)
 
     def acknowledge(self):
-        """Says that the interrupt was seen, after which the other process answers a message later than it sees that."""
         os.write(self.seen, struct.pack('=Q', 1))
-        self.config(0)
 
 
 def configuration(first, second):
@@ -166,17 +162,17 @@ def interrupts(first, second):
     first.put(IDENTIFY, 2 * PAGE, dword10=1)
     assert first.is_raised() and not first.is_raised()
     first.acknowledge()
-    assert first.is_raised()
+    assert first.is_raised(10)
     first.set_register(HEAD, 1)
     first.acknowledge()
-    assert not first.is_raised()
+    assert not first.is_raised(0.1)
     first.set_config(COMMAND, MASTER | NO_INTERRUPT, 2)
     first.put(IDENTIFY, 2 * PAGE, dword10=1)
     assert not first.is_raised()
     first.set_register(CC, 0)
     first.set_config(COMMAND, MASTER, 2)
     first.acknowledge()
-    assert not first.is_raised()
+    assert not first.is_raised(0.1)
     # (other counters replace them, and the earlier ones are no longer written)
     first.enable()
     for files in [], [first.interrupt], [os.open('/dev/null', os.O_RDWR)] * 2, [first.interrupt] * 3:

@@ -3,6 +3,7 @@ have (tests/as_client.py, tests/as_qemu.py)."""
 
 import ctypes
 import os
+import select
 import struct
 
 PAGE = 4096
@@ -16,6 +17,11 @@ NOWHERE = 2 ** 64 - PAGE
 def counter():
     """Returns an event counter whose reads don't wait. (Python's `os` has `eventfd` from 3.10 on.)"""
     return ctypes.CDLL(None).eventfd(0, os.O_NONBLOCK | os.O_CLOEXEC)
+
+
+def is_raised(number, seconds=0):
+    """Returns whether an event counter was raised since the last call, or is raised within some time."""
+    return bool(select.select([number], [], [], seconds)[0]) and os.read(number, 8) != b''
 
 
 def memory_file(length):

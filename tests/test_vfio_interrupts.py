@@ -8,8 +8,8 @@ import sys
 import time
 
 from tests.as_client import (
-    BIND, BIND_UNMASK, MASK, MESSAGES, MESSAGE_CONTROL, PIN, SET_IRQS, STATUS, UNBIND, UNMASK, is_raised)
-from tests.driver import COMMAND, CSTS, HEAD, IDENTIFY, MASTER, NO_INTERRUPT, PAGE, TAIL, counter, memory_file
+    BIND, BIND_UNMASK, MASK, MESSAGES, MESSAGE_CONTROL, PIN, SET_IRQS, STATUS, UNBIND, UNMASK)
+from tests.driver import COMMAND, CSTS, HEAD, IDENTIFY, MASTER, NO_INTERRUPT, PAGE, TAIL, counter, is_raised, memory_file
 from tests.served import EINVAL, Served
 from tests.support import DEMO
 

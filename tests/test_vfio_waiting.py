@@ -177,7 +177,7 @@ class Waiting(Served):
         # a server that ends has read what its clients sent, so they find the end of a stream, and no reset
         client = self.greeted()
         with self.stopped():
-            for _ in range(100):
+            for _ in range(50):
                 client.set_register(CC, 0)
             self.server.process.send_signal(signal.SIGTERM)
         self.assertEqual(client.socket.recv(1), b'')
@@ -189,6 +189,7 @@ class Waiting(Served):
         number = self.server.process.pid
         for request in PTRACE_SEIZE, PTRACE_INTERRUPT:
             self.assertEqual(LIBC.ptrace(request, number, None, None), 0)
+        os.waitpid(number, 0)
         begun_at = time.monotonic()
         self.stop(self.server)
         self.assertLess(time.monotonic() - begun_at, 10)
