@@ -15,8 +15,8 @@ import sys
 import threading
 import time
 
-from tests.as_client import BIND, DMA_MAP, MESSAGES, PIN, VERSION
-from tests.driver import CC, PAGE, counter, memory_file
+from tests.as_client import BAR, BIND, DMA_MAP, MESSAGES, PIN, REGION_READ, VERSION
+from tests.driver import PAGE, counter, memory_file
 from tests.modelled import works
 from tests.served import EINVAL, EMFILE, ENOENT, Served
 from tests.support import Running, until
@@ -176,12 +176,14 @@ class Waiting(Served):
     def test_end_with_messages_left(self):
         # a server that ends has read what its clients sent, so they find the end of a stream, and no reset
         client = self.greeted()
-        with self.stopped():
-            for _ in range(50):
-                client.set_register(CC, 0)
-            self.server.process.send_signal(signal.SIGTERM)
-        self.assertEqual(client.socket.recv(1), b'')
-        self.assertEqual(self.server.end().status, -signal.SIGTERM)
+        client.socket.setblocking(False)
+        with contextlib.suppress(BlockingIOError):
+            while True:
+                client.say(REGION_READ, struct.pack('<QII', 0, BAR, 0x4000))
+        self.stop(self.server)
+        client.socket.settimeout(10)
+        while client.socket.recv(65536):
+            pass
         self.server = self.start()
 
     def test_turn_without_an_end(self):
