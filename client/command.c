@@ -58,12 +58,15 @@ __attribute__((noreturn)) static void become(char **arguments, const char *libra
     /* (the address sanitizer wants to be the first library, and udev that /sys is a file system of the kernel) */
     prepend("ASAN_OPTIONS", "verify_asan_link_order=0");
     setenv("SYSTEMD_DEVICE_VERIFY_SYSFS", "0", 1);
+    if (access(MODEL_FOLDER "/bin", F_OK) == 0 && getenv("PATH"))
+        prepend("PATH", MODEL_FOLDER "/bin");
     for (int file = 0; file <= STDERR_FILENO; file++)
         if (fcntl(file, F_GETFL) & O_PATH)
             fcntl(file, F_SETFD, FD_CLOEXEC);
     execvp(arguments[0], arguments);
-    int is_found = errno != ENOENT && errno != ENOTDIR;
-    fprintf(stderr, "nvme-model: %s: %s\n", arguments[0], strerror(errno));
+    int is_found = errno != ENOENT && errno != ENOTDIR, is_nvme = !is_found && strcmp(arguments[0], "nvme") == 0;
+    fprintf(stderr, "nvme-model: %s: %s%s\n", arguments[0], strerror(errno),
+            is_nvme ? ": install the package nvme-cli" : "");
     _exit(is_found ? NOT_EXECUTABLE : NOT_FOUND);
 }
 

@@ -282,7 +282,7 @@ static void begin_inside(const char *blocked, const char *here) {
 /* Makes the sandbox and runs the command there, or else, with --no-sandbox, without one if the machine has no NVMe
    device. */
 static int begin_outside(char **arguments, char **command_arguments) {
-    const struct sandbox sandbox = {options.limit, options.added, library, program};
+    const struct sandbox sandbox = {options.limit, options.added, library, program, options.is_root};
     const char *reason = why_no_sandbox(&sandbox), *node = a_real_node();
     if (!reason)
         go_inside(&sandbox, arguments);
@@ -292,7 +292,7 @@ static int begin_outside(char **arguments, char **command_arguments) {
     if (access("/sys/class/block", F_OK) < 0)
         fail("without /sys, nothing tells whether this machine has NVMe devices, and no sandbox can be made: %s",
              reason);
-    if (!options.may_lack_sandbox)
+    if (!options.may_lack_sandbox || options.is_root)
         fail("no sandbox can be made: %s; --no-sandbox runs the command without one", reason);
     fprintf(stderr,
             "nvme-model: the command runs without a sandbox (%s): nodes can be opened by their names in /dev but hold "

@@ -51,7 +51,7 @@ struct options {
     const char *subsystems[MOST_DEVICES], *added[MOST_ADDED + 1], *trace_file; /* (`added` ends with NULL) */
     char *device_words[NUMBERS + 4]; /* a device's program and options */
     unsigned subsystem_count, added_count, device_word_count;
-    int has_trace, may_lack_sandbox;
+    int has_trace, may_lack_sandbox, is_root;
     uint64_t limit; /* of the memory for data */
 };
 extern struct options options;
@@ -222,6 +222,7 @@ struct sandbox {
     uint64_t limit;             /* the size of /dev */
     const char *const *devices; /* nodes of the machine to add, up to NULL */
     const char *library, *device;
+    int is_root; /* whether the command is root, if only in the sandbox */
 };
 #define MODEL_FOLDER "/sys/fs/nvme-model"
 #define INSIDE "--inside"

@@ -49,7 +49,8 @@ static const char *set_device(const char *name, const char *text) {
 
 static const char *set_switch(const char *name, const char *text) {
     (void)text;
-    *(strcmp(name, "no-notice") == 0 ? &waits : &options.may_lack_sandbox) = 1;
+    int *chosen = strcmp(name, "root") == 0 ? &options.is_root : &options.may_lack_sandbox;
+    *(strcmp(name, "no-notice") == 0 ? &waits : chosen) = 1;
     return NULL;
 }
 
@@ -113,6 +114,7 @@ static const struct row {
     {"delay", "COMMAND[,SKIP[,TIMES]]=SECONDS", "delay a command, such as format=30, likewise", set_rule},
     {"no-notice", NULL, "let nodes come and go only at `nvme ns-rescan` or a reset", set_switch},
     {"device", "PATH", "add a character device of this machine, such as /dev/fuse, to the /dev of COMMAND", set_device},
+    {"root", NULL, "let COMMAND be root in the sandbox, with a sudo, though with no more rights to files", set_switch},
     {"no-sandbox", NULL, "without bubblewrap, if this machine has no NVMe device: make nodes that are only names",
      set_switch},
     {"depth", "N", "give each queue N entries; this option and those up to --pace are nvme-script's", set_layout},

@@ -6,6 +6,7 @@
 #include <glob.h>
 #include <sched.h>
 #include <stdarg.h>
+#include <sys/mman.h>
 #include <sys/mount.h>
 #include <sys/sysmacros.h>
 #include <sys/wait.h>
@@ -228,6 +229,29 @@ static void add_part(const char *path, unsigned permissions, const char *name) {
     add_words("--perms %04o --ro-bind-data %d %s", permissions, file, name);
 }
 
+/* What stands for sudo. */
+extern const char stand_in[], stand_in_end[];
+__asm__(".section .rodata\nstand_in: .incbin \"sudo.sh\"\nstand_in_end:\n.previous");
+
+static void add_stand_in(const char *name) {
+    const size_t size = (size_t)(stand_in_end - stand_in);
+    int file = memfd_create("sudo", 0);
+    if (file < 0 || write(file, stand_in, size) != (ssize_t)size || lseek(file, 0, SEEK_SET) < 0)
+        fail_by_errno("sudo");
+    add_words("--perms 0555 --ro-bind-data %d", file);
+    add(name);
+}
+
+/* Makes a user root in a namespace of its own, in which nobody else has a number, with a stand-in for sudo, whose files
+   have no owner there that it would accept. */
+static void add_root(void) {
+    const char *real = realpath("/usr/bin/sudo", NULL);
+    add_words("--unshare-user --uid 0 --gid 0");
+    add_stand_in(MODEL_FOLDER "/bin/sudo");
+    if (real)
+        add_stand_in(real);
+}
+
 static void compose(const struct sandbox *sandbox, const char *const *first, char *const *arguments) {
     add("bwrap");
     add_mounts();
@@ -236,8 +260,10 @@ static void compose(const struct sandbox *sandbox, const char *const *first, cha
     add_part("/proc/self/exe", 0555, MODEL_FOLDER "/launcher");
     add_part(sandbox->library, 0555, MODEL_FOLDER "/library.so");
     add_part(sandbox->device, 0555, MODEL_FOLDER "/device");
+    if (sandbox->is_root && geteuid() != 0)
+        add_root();
     add_words("--unshare-pid --as-pid-1 --unshare-ipc --chdir / %s --cap-add CAP_SYS_ADMIN --cap-add CAP_SETPCAP"
-              " -- " MODEL_FOLDER "/launcher", geteuid() == 0 ? rights : "");
+              " -- " MODEL_FOLDER "/launcher", sandbox->is_root || geteuid() == 0 ? rights : "");
     for (; *first; first++)
         add(*first);
     for (; *arguments; arguments++)

@@ -138,6 +138,11 @@ class Arguments(ModelCase):
         self.ends(self.shell('exit 7'), 7, b'', b'')
         self.ends(self.shell('kill -KILL $$'), 137, b'', b'')
         self.says(self.model(none), 127, f'nvme-model: {none}: ')
+        path = self.folder / 'path'
+        path.mkdir()
+        (path / 'bwrap').symlink_to(shutil.which('bwrap'))
+        self.ends(run(installed(), 'nvme', 'list', env={'PATH': path}), 127, b'',
+                  b'nvme-model: nvme: No such file or directory: install the package nvme-cli\n')
         self.says(self.model(text), 126, f'nvme-model: {text}: ')
         self.ends(self.model('cat', source=b'some\nlines\n'), 0, b'some\nlines\n', b'')
         self.ends(self.shell('echo "$@"', '--depth', '2', '--', '--trace'), 0, b'--depth 2 -- --trace\n', b'')
