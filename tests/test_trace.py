@@ -45,6 +45,17 @@ class Scripts(Case):
                 self.ends(run(TRACE, *options, source=script), 0, wanted, b'')
 
 
+    def test_each_of_sixteen_controllers(self):
+        # the most that a file can have; `list` sends two Identify commands to each
+        file = 'version = 1\nnn = 1\ntnvmcap = 512\nsubnqn = "n"\n[[format]]\nlbads = 9\n'
+        file += ''.join(f'[[controller]]\ncntlid = {ctrl}\nsn = "S"\nmn = "M"\nfr = "1"\n' for ctrl in range(16))
+        ended = run(TRACE, '--subsystem', self.file('sixteen.toml', file.encode()), source=b'list\n')
+        self.ends(ended, 0, err=b'')
+        for event in 'taken Identify', 'posted':
+            found = re.findall(rf'(?m)^nvme([0-9]+) {event} ', ended.out.decode())
+            self.assertEqual(found, [str(ctrl) for ctrl in range(16) for _ in range(2)], ended.line)
+
+
 class Geometry(Case):
     # the options, and lines of the first controller that are in a trace with them, and lines that aren't
     rows = [

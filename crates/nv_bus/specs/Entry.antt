@@ -6,7 +6,7 @@ use Rattle.nv_layout.specs.declared.cqe.Status.{Status}
 use Rattle.nv_prp.specs.Place.{written_at}
 use Rattle.nv_queue.specs.Numbers.{next, slot_of}
 use Rattle.nv_queue.specs.Rings.{fetched_one, posted_one}
-use Rattle.nv_queue.specs.Slots.{next_submission, with_completion}
+use Rattle.nv_queue.specs.Slots.{completion_place, next_submission, put_as, submission_place, with_completion}
 use Rattle.nv_command.specs.Logs.{without_phases}
 use Rattle.nv_command.specs.Refusal.{refusal_by}
 use Rattle.nv_command.specs.Reply.{data_of, dword0_of}
@@ -19,6 +19,7 @@ use Rattle.nv_model.specs.Step.{Step, refused, step, with_command}
 use Rattle.nv_register.specs.declared.rings.Rings.{Rings}
 use Rattle.nv_bus.specs.Call.{Call, call_of, command_in}
 use Rattle.nv_model.specs.Conditions.{limit_of}
+use Rattle.nv_bus.specs.declared.exchange.Exchange.{Exchange}
 use Rattle.nv_bus.specs.declared.told.Told.{Told}
 
 -- what an entry reads and changes: the subsystem, its controller's rings, and the host's memory
@@ -108,6 +109,18 @@ completion_in c x =
     let ring = x.rings.submission in
     completion_with (entry_in x).cid (slot_of ring.depth (next ring.depth ring.fetched))
     (next_step c x).answer
+
+-- the entry with its completion as it is posted, and the addresses of their slots
+abbrev pub exchange_in : ℕ → Scene → Exchange
+exchange_in c x =
+    let submission = x.rings.submission in
+    let completion = x.rings.completion in
+    record {
+      entry = entry_in x;
+      entry_address = submission_place submission.base submission.depth submission.fetched;
+      completion = put_as completion (completion_in c x);
+      completion_address = completion_place completion.base completion.depth completion.posted;
+    }
 
 -- one entry of controller c: its step, then its data, and then its completion; no other byte of the
 -- memory changes

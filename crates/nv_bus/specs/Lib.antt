@@ -1,4 +1,5 @@
 pub mod Bus
 pub mod Call
 pub mod Entry
+pub mod Shown
 pub mod Turn

@@ -7,7 +7,7 @@ use Rattle.nv_layout.specs.declared.sqe.Sqe.{Sqe}
 use Rattle.nv_layout.specs.declared.cqe.Status.{Status}
 use Rattle.nv_queue.specs.Numbers.{next, phase_of, slot_of}
 use Rattle.nv_queue.specs.Rings.{fetched_one, posted_one}
-use Rattle.nv_queue.specs.Slots.{with_completion}
+use Rattle.nv_queue.specs.Slots.{completion_place, submission_place, with_completion}
 use Rattle.nv_prp.specs.Place.{written_at}
 use Rattle.nv_command.specs.Logs.{without_phases}
 use Rattle.nv_command.specs.Reply.{FitsRecord, IsReplyTo, data_of}
@@ -24,7 +24,8 @@ use Rattle.nv_bus.specs.Call.{call_of}
 use Rattle.nv_model.specs.Conditions.{limit_of}
 use Rattle.nv_bus.proofs.TagLaws.{dword0_tagged, tagged}
 use Rattle.nv_bus.specs.Entry.{Moves, MovesBy, One, Scene, call_in, completion_in, completion_with, entry_in}
-use Rattle.nv_bus.specs.Entry.{next_step, step_unless, success, told_by}
+use Rattle.nv_bus.specs.Entry.{exchange_in, next_step, step_unless, success, told_by}
+use Rattle.nv_bus.specs.declared.exchange.Exchange.{Exchange}
 use Rattle.nv_controller.specs.Tags.{answered_unless, next_scene, settled_unless, untagged_scene}
 use Rattle.nv_subsystem.proofs.TaggedLaws.{refusal_untagged, reply_untagged, untagged_keeps}
 use Rattle.nv_subsystem.specs.Tagged.{untagged, untagged_log}
@@ -89,6 +90,36 @@ same_count old new after is same =
 
 -- ---- what taking one entry did, from its parts
 
+-- a completion with the parts that the definitions name is that of the entry
+pub completed : (c : ℕ) (x : Scene) (entry : Sqe) (size limit head : ℕ)
+    → entry ≡ entry_in x → size ≡ x.rings.page_size → limit ≡ limit_of x.state c
+    → (let ring = x.rings.submission in head ≡ slot_of ring.depth (next ring.depth ring.fetched))
+    → completion_with entry.cid head (step_unless (call_of size limit x.bytes entry) x.state c entry).answer
+    ≡ completion_in c x
+completed c x entry size limit head same page most slot =
+    λ i. completion_with (same i).cid (slot i)
+    (step_unless (call_of (page i) (most i) x.bytes (same i)) x.state c (same i)).answer
+
+-- an entry and its completion with its phase tag, and their places, are what the controller takes next
+pub exchanged : (c : ℕ) (x : Scene) (entry : Sqe) (from to : ℕ) (completion : Cqe) (phase : Bool)
+    → entry ≡ entry_in x → completion ≡ completion_in c x
+    → (let ring = x.rings.completion in phase ≡ phase_of ring.depth ring.posted)
+    → (let ring = x.rings.submission in from ≡ submission_place ring.base ring.depth ring.fetched)
+    → (let ring = x.rings.completion in to ≡ completion_place ring.base ring.depth ring.posted)
+    → record {
+      entry = entry;
+      entry_address = from;
+      completion = record completion { phase = phase };
+      completion_address = to;
+    } ≡ exchange_in c x
+exchanged c x entry from to completion phase same told due at there =
+    λ i. record {
+      entry = same i;
+      entry_address = at i;
+      completion = record (told i) { phase = due i };
+      completion_address = there i;
+    }
+
 -- if its parts did what the definitions say, one entry was taken
 pub taken_one : (c : ℕ) (old new : Scene) (entry : Sqe) (size head : ℕ) (posted : Cqe)
     → (moved : List ℕ) (limit : ℕ) → let call = call_of size limit old.bytes entry in
@@ -145,9 +176,7 @@ pub tagged_one : (c : ℕ) (old new : Scene) (entry : Sqe) (size head : ℕ) (ph
 unfolding next_scene
 tagged_one c old new entry size head phase posted moved limit same page most due state sent rings slot made bytes =
     let bare = untagged_scene old in
-    let completion : posted ≡ completion_in c bare =
-    made ∙ (λ i. completion_with (same i).cid (slot i)
-    (step_unless (call_of (page i) (most i) old.bytes (same i)) bare.state c (same i)).answer) in
+    let completion = made ∙ completed c bare entry size limit head same page most slot in
     let all : moved ≡ answered_unless (call_in c old) old.state c old.bytes =
     sent ∙ (λ i. answered_unless (call_of (page i) (limit_of old.state c) old.bytes (same i)) old.state c old.bytes) in
     let left = state

@@ -1,13 +1,17 @@
 -- Entries taken one after another.
-use Rattle.std.proofs.Common.{◌≡◌, ℕ, zero, suc, ◌+◌, ap, refl, subst, sym, add-one, Bool, false, length}
+use Rattle.std.proofs.Common.{◌≡◌, ℕ, zero, suc, ◌+◌, ap, refl, subst, sym, add-one, Bool, false}
+use Rattle.std.proofs.Common.{List, [], ◌∷◌, ◌++◌, length}
 use Rattle.nv_register.specs.declared.readiness.Readiness.{Readiness}
 use Rattle.nv_register.specs.declared.readiness.Readiness.TheVariants.{Ready}
 use Rattle.nv_register.specs.declared.rings.Rings.{Rings}
 use Rattle.nv_model.specs.State.{State}
 use Rattle.nv_model.specs.WellFormed.{IsWellFormed}
 use Rattle.nv_bus.specs.Entry.{Scene, scene}
+use Rattle.nv_bus.specs.Shown.{AreShown}
+use Rattle.nv_bus.specs.declared.exchange.Exchange.{Exchange}
 use Rattle.nv_bus.specs.Turn.{BankTurn, RingsTurn, Site, Taken, Takes, TakesCount, TurnBy, ready_bank, site}
 use Rattle.nv_bus.proofs.TurnLaws.{bank_turn_count}
+use Rattle.nv_controller.specs.Exchanges.{exchanges_by, exchanges}
 use Rattle.nv_controller.specs.Tags.{TaggedBy, scenes_after}
 
 -- this number of entries was taken, in a memory whose page size and length don't change; the
@@ -59,3 +63,19 @@ tagged_rings c count old rings last fatal ready is =
     let new = site last.state (ready_bank old.bank last.rings fatal) last.bytes in
     subst (λ (r : Readiness). TaggedBy r c count old new) (sym ready)
     (fatal, ap (λ x. site x.state (ready_bank old.bank x.rings fatal) x.bytes) is)
+
+-- an observer who was shown these, and then one more, was shown all of them
+pub shown_more : {O : Type 0} (was_shown : O → ℕ → Exchange → O → Type 0) (c : ℕ) (es : List Exchange) (e : Exchange)
+    (old mid new : O) → AreShown was_shown c es old mid → was_shown mid c e new
+    → AreShown was_shown c (es ++ e ∷ []) old new
+shown_more was_shown c [] e old mid new same one = (new, subst (λ o. was_shown o c e new) same one, refl)
+shown_more was_shown c (first ∷ es) e old mid new all one =
+    (all.0, all.1, shown_more was_shown c es e all.0 mid new all.2 one)
+
+-- what a ready controller took is what its rings took
+pub shown_rings : {O : Type 0} (was_shown : O → ℕ → Exchange → O → Type 0) (c count : ℕ) (x : Readiness) (rings : Rings)
+    (fatal : Bool) (s : State) (bytes : List ℕ) (old new : O) → x ≡ Ready rings fatal
+    → AreShown was_shown c (exchanges count c (scene s rings bytes)) old new
+    → AreShown was_shown c (exchanges_by x count c s bytes) old new
+shown_rings was_shown c count x rings fatal s bytes old new ready shown =
+    subst (λ (r : Readiness). AreShown was_shown c (exchanges_by r count c s bytes) old new) (sym ready) shown

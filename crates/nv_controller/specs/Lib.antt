@@ -1,3 +1,4 @@
+pub mod Exchanges
 pub mod Machine
 pub mod MachineCode
 pub mod Tags

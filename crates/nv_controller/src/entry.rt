@@ -13,7 +13,7 @@ ghost use Rattle.nv_model.specs.Step.{step};
 ghost use Rattle.nv_model.specs.WellFormed.{IsWellFormed};
 ghost use Rattle.nv_bus.specs.Call.{HasRoom, call_of, data_places, length_of, prp_status};
 ghost use Rattle.nv_bus.specs.Call.{sent_from};
-ghost use Rattle.nv_bus.specs.Entry.{Moves, MovesBy, One, scene};
+ghost use Rattle.nv_bus.specs.Entry.{Moves, MovesBy, One, exchange_in, scene};
 ghost use Rattle.nv_bus.specs.Entry.{step_unless, told_by};
 ghost use Rattle.nv_model.specs.Conditions.{limit_of};
 ghost use Rattle.nv_bus.specs.Turn.{can_take, reaches};
@@ -23,7 +23,7 @@ ghost use Rattle.nv_subsystem.specs.Tagged.{settled, untagged};
 use crate::log_part::LogPart;
 use crate::reply_page::ReplyPage;
 use crate::scratch::{EntryData, Scratch};
-use nv_bus::Told;
+use nv_bus::{Exchange, Told};
 use nv_command::{Command, Decoded, LogQuery, Refusal, StatusCode, Transfer};
 use nv_host::PagedMemory;
 use nv_layout::{Cqe, CtrlList, Sqe, Status};
@@ -325,14 +325,14 @@ fn answer_entry<M: PagedMemory>(
 
 /// Takes the next entry from a controller's submission queue. It executes the command or refuses
 /// the entry, writes the data of the reply, and then posts the completion. What is recorded has the
-/// phase tag of that completion.
+/// phase tag of that completion. Returns the entry and its completion.
 pub(crate) fn take_one<M: PagedMemory>(
     subsystem: &mut Subsystem,
     rings: &mut Rings,
     scratch: &mut Scratch,
     ctrl: u16,
     mem: &mut M,
-)
+) -> Exchange
     requires ctrl { ctrl < length subsystem.old.controllers }
     requires well_formed { IsWellFormed subsystem.old }
     requires can { can_take rings.old ≡ true }
@@ -341,21 +341,31 @@ pub(crate) fn take_one<M: PagedMemory>(
         (scene (untagged subsystem.new) rings.new (M.bytes mem.new)) }
     ensures tagged { scene subsystem.new rings.new (M.bytes mem.new)
         ≡ next_scene ctrl (scene subsystem.old rings.old (M.bytes mem.old)) }
+    ensures exchange { result
+        ≡ exchange_in ctrl (scene (untagged subsystem.old) rings.old (M.bytes mem.old)) }
     ensures well_formed { IsWellFormed subsystem.new }
     ensures controllers { length subsystem.new.controllers ≡ length subsystem.old.controllers }
     ensures len { length (M.bytes mem.new) ≡ length (M.bytes mem.old) }
     ensures page { M.page_len mem.new ≡ M.page_len mem.old }
 {
+    let entry_address = rings.submission.address(mem);
+    let completion_address = rings.completion.address(mem);
     let entry = rings.submission.next(mem).unwrap();
     let phase = rings.completion.phase();
     let told = answer_entry(subsystem, ctrl, mem, &entry, phase, scratch);
-    let posted = Cqe {
+    let completion = Cqe {
         command_specific: told.dword0,
         sq_head: rings.submission.head(),
         sq_identifier: 0,
         cid: entry.cid,
-        phase: false,
+        phase,
         status: told.status,
     };
-    rings.completion.put(mem, posted).unwrap();
+    rings.completion.put(mem, completion).unwrap();
+    Exchange {
+        entry,
+        entry_address,
+        completion,
+        completion_address,
+    }
 }

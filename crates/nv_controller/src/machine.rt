@@ -6,14 +6,16 @@ ghost use Rattle.nv_model.specs.Step.{reset};
 ghost use Rattle.nv_model.specs.WellFormed.{IsWellFormed};
 ghost use Rattle.nv_bus.specs.Bus.{IsBus, bank_at, state_written};
 ghost use Rattle.nv_bus.specs.Entry.{scene};
+ghost use Rattle.nv_bus.specs.Shown.{AreShown};
 ghost use Rattle.nv_bus.specs.Turn.{BankTurn, RingsTurn, TakesCount, Turn, site};
 ghost use Rattle.nv_subsystem.specs.Tagged.{untagged};
 ghost use Rattle.nv_controller.specs.Machine.{bus_of, machine_written};
+ghost use Rattle.nv_controller.specs.Exchanges.{exchanges, exchanges_by, turn_exchanges};
 ghost use Rattle.nv_controller.specs.Tags.{TaggedBy, TaggedTurn, scenes_after};
 
 use crate::entry::take_one;
 use crate::scratch::Scratch;
-use nv_bus::Bus;
+use nv_bus::{Bus, Observer, Unobserved};
 use nv_host::{Memory, PagedMemory};
 use nv_register::{Readiness, RegisterBank, Rings};
 use nv_subsystem::Subsystem;
@@ -81,30 +83,40 @@ fn write_bank(
     bank.write32(offset, dword);
 }
 
-/// Takes at most `most` entries, as long as one is waiting and there is a free slot for its
-/// completion. Returns how many it took, and whether it stopped because the memory has another page
-/// size than that with which the controller was enabled, or doesn't hold a slot that it needs.
-fn take_entries<M: PagedMemory>(
+/// A turn of a controller, in which it takes at most `most` entries.
+#[derive(Clone, Copy)]
+struct GivenTurn {
+    ctrl: u16,
+    most: u16,
+}
+
+/// Takes entries, as long as one is waiting and there is a free slot for its completion, and shows
+/// each to the observer. Returns how many it took, and whether it stopped because the memory has
+/// another page size than that with which the controller was enabled, or doesn't hold a slot that
+/// it needs.
+fn take_entries<M: PagedMemory, O: Observer>(
     subsystem: &mut Subsystem,
     rings: &mut Rings,
     scratch: &mut Scratch,
-    ctrl: u16,
+    given: GivenTurn,
     mem: &mut M,
-    most: u16,
+    observer: &mut O,
 ) -> (u16, bool)
-    requires ctrl { ctrl < length subsystem.old.controllers }
+    requires ctrl { given.ctrl < length subsystem.old.controllers }
     requires well_formed { IsWellFormed subsystem.old }
-    ensures turn { RingsTurn (M.page_len mem.old) ctrl most result.0
+    ensures turn { RingsTurn (M.page_len mem.old) given.ctrl given.most result.0
         (scene (untagged subsystem.old) rings.old (M.bytes mem.old))
         (scene (untagged subsystem.new) rings.new (M.bytes mem.new)) result.1 }
     ensures tagged { scene subsystem.new rings.new (M.bytes mem.new)
-        ≡ scenes_after result.0 ctrl (scene subsystem.old rings.old (M.bytes mem.old)) }
+        ≡ scenes_after result.0 given.ctrl (scene subsystem.old rings.old (M.bytes mem.old)) }
+    ensures shown { AreShown O.was_shown given.ctrl (exchanges result.0 given.ctrl
+        (scene subsystem.old rings.old (M.bytes mem.old))) observer.old observer.new }
     ensures well_formed { IsWellFormed subsystem.new }
     ensures controllers { length subsystem.new.controllers ≡ length subsystem.old.controllers }
     ensures len { length (M.bytes mem.new) ≡ length (M.bytes mem.old) }
     ensures page { M.page_len mem.new ≡ M.page_len mem.old }
 {
-    for count in 0..most {
+    for count in 0..given.most {
         if rings.submission.is_empty() || rings.completion.is_full() {
             return (count, false);
         }
@@ -114,29 +126,32 @@ fn take_entries<M: PagedMemory>(
         {
             return (count, true);
         }
-        take_one(subsystem, rings, scratch, ctrl, mem);
+        let exchange = take_one(subsystem, rings, scratch, given.ctrl, mem);
+        observer.show(given.ctrl, &exchange);
     }
-    (most, false)
+    (given.most, false)
 }
 
 /// Performs a turn of one controller, over its registers and rings.
-fn turn_bank<M: PagedMemory>(
+fn turn_bank<M: PagedMemory, O: Observer>(
     subsystem: &mut Subsystem,
     bank: &mut RegisterBank,
     scratch: &mut Scratch,
-    ctrl: u16,
+    given: GivenTurn,
     mem: &mut M,
-    most: u16,
+    observer: &mut O,
 ) -> u16
-    requires ctrl { ctrl < length subsystem.old.controllers }
+    requires ctrl { given.ctrl < length subsystem.old.controllers }
     requires well_formed { IsWellFormed subsystem.old }
-    ensures turn { BankTurn (M.page_len mem.old) ctrl most result
+    ensures turn { BankTurn (M.page_len mem.old) given.ctrl given.most result
         (site (untagged subsystem.old) bank.old (M.bytes mem.old))
         (site (untagged subsystem.new) bank.new (M.bytes mem.new)) }
-    ensures tagged { TaggedBy bank.old.readiness ctrl result
+    ensures tagged { TaggedBy bank.old.readiness given.ctrl result
         (site subsystem.old bank.old (M.bytes mem.old))
         (site subsystem.new bank.new (M.bytes mem.new)) }
-    ensures count { TakesCount (M.page_len mem.old) (length (M.bytes mem.old)) most
+    ensures shown { AreShown O.was_shown given.ctrl (exchanges_by bank.old.readiness result given.ctrl
+        subsystem.old (M.bytes mem.old)) observer.old observer.new }
+    ensures count { TakesCount (M.page_len mem.old) (length (M.bytes mem.old)) given.most
         bank.old result bank.new }
     ensures well_formed { IsWellFormed subsystem.new }
     ensures controllers { length subsystem.new.controllers ≡ length subsystem.old.controllers }
@@ -145,7 +160,7 @@ fn turn_bank<M: PagedMemory>(
 {
     match &mut bank.readiness {
         Readiness::Ready { rings, fatal } if !*fatal => {
-            let (count, stopped) = take_entries(subsystem, rings, scratch, ctrl, mem, most);
+            let (count, stopped) = take_entries(subsystem, rings, scratch, given, mem, observer);
             *fatal = stopped;
             count
         }
@@ -176,6 +191,41 @@ impl Machine {
         ensures { result.now ≡ self.now.state }
     {
         &self.subsystem
+    }
+
+    /// Does what `turn` does, and shows the observer each entry that was taken, in order. An
+    /// observer can't change what the turn does.
+    pub fn turn_with<M: PagedMemory, O: Observer>(
+        &mut self,
+        ctrl: u16,
+        mem: &mut M,
+        most: u16,
+        observer: &mut O,
+    ) -> u16
+        requires ctrl { ctrl < length self.old.banks }
+        requires bus { IsBus (bus_of self.old) }
+        ensures turn { Turn (M.page_len mem.old) ctrl most result
+            (bus_of self.old) (M.bytes mem.old) (bus_of self.new) (M.bytes mem.new) }
+        ensures count { TakesCount (M.page_len mem.old) (length (M.bytes mem.old)) most
+            (bank_at self.old.banks ctrl) result (bank_at self.new.banks ctrl) }
+        ensures bus { IsBus (bus_of self.new) }
+        ensures len { length (M.bytes mem.new) ≡ length (M.bytes mem.old) }
+        ensures page { M.page_len mem.new ≡ M.page_len mem.old }
+        ensures tags { TaggedTurn ctrl result
+            self.old (M.bytes mem.old) self.new (M.bytes mem.new) }
+        ensures shown { AreShown O.was_shown ctrl
+            (turn_exchanges result ctrl self.old (M.bytes mem.old)) observer.old observer.new }
+    {
+        let bank = &mut self.banks[ctrl as usize];
+        let given = GivenTurn { ctrl, most };
+        turn_bank(
+            &mut self.subsystem,
+            bank,
+            &mut self.scratch,
+            given,
+            mem,
+            observer,
+        )
     }
 }
 
@@ -216,14 +266,6 @@ impl Bus for Machine {
         ensures tags { TaggedTurn ctrl result
             self.old (M.bytes mem.old) self.new (M.bytes mem.new) }
     {
-        let bank = &mut self.banks[ctrl as usize];
-        turn_bank(
-            &mut self.subsystem,
-            bank,
-            &mut self.scratch,
-            ctrl,
-            mem,
-            most,
-        )
+        self.turn_with(ctrl, mem, most, &mut Unobserved)
     }
 }

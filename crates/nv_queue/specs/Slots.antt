@@ -35,10 +35,6 @@ posted_as depth n completion = record completion { phase = phase_of depth n }
 abbrev pub next_submission : List ℕ → FetchNumbers → Sqe
 next_submission bytes ring = submission_at bytes ring.base (slot_of ring.depth ring.fetched)
 
--- the completion in the slot of the next one that the device posts
-abbrev pub next_completion : List ℕ → PostNumbers → Cqe
-next_completion bytes ring = completion_at bytes ring.base (slot_of ring.depth ring.posted)
-
 -- the completion in the awaited slot
 abbrev pub awaited_completion : List ℕ → CollectNumbers → Cqe
 awaited_completion bytes ring = completion_at bytes ring.base (slot_of ring.depth ring.collected)

@@ -8,7 +8,7 @@ ghost use Rattle.nv_queue.specs.Rings.{IsCollectRing, IsPostFull, IsPostRing, co
 ghost use Rattle.nv_queue.specs.Rings.{renewed_collect, renewed_post, told_all, told_to};
 ghost use Rattle.nv_queue.specs.Slots.{CollectsPosted, FindsByTags, HoldsOneMore, HoldsTags};
 ghost use Rattle.nv_queue.specs.Slots.{IsAwaitedThere, KeepsTags, awaited_completion, completion_place};
-ghost use Rattle.nv_queue.specs.Slots.{next_completion, with_completion};
+ghost use Rattle.nv_queue.specs.Slots.{with_completion};
 
 use crate::ring::Ring;
 use nv_host::{PagedMemory, size_of_memory};
@@ -219,6 +219,17 @@ impl Post {
         self.ring.fits(mem, 16)
     }
 
+    /// Returns the address of the next completion's slot, which must lie in the memory, as `fits`
+    /// checks.
+    #[tactic(auto, using(crate::proofs::PlaceLaws::places))]
+    pub fn address<M: PagedMemory>(&self, mem: &M) -> u64
+        requires { completion_place self.now.base self.now.depth self.now.posted + 16
+            ≤ length (M.bytes mem.now) }
+        ensures { result ≡ completion_place self.now.base self.now.depth self.now.posted }
+    {
+        self.ring.address(mem, 16)
+    }
+
     /// Posts a completion with the phase tag that is due, whatever its own is. Only the bytes of
     /// its slot change, which must lie in the memory, as `fits` checks. If the ring is full,
     /// nothing changes.
@@ -254,25 +265,5 @@ impl Post {
         let _ = mem.store(addr, &bytes);
         self.ring.own = next;
         Ok(())
-    }
-
-    /// Returns the completion in the slot of the next one, and counts it as posted: so a ring
-    /// follows another with the same numbers, to which it was posted. The ring must not be full,
-    /// and the slot must lie in the memory, as `fits` checks.
-    #[tactic(auto, using(crate::proofs::PlaceLaws::rings))]
-    pub fn follow<M: PagedMemory>(&mut self, mem: &M) -> Cqe
-        requires free { ¬ IsPostFull self.old }
-        requires place { completion_place self.old.base self.old.depth self.old.posted + 16
-            ≤ length (M.bytes mem.now) }
-        ensures value { result ≡ next_completion (M.bytes mem.now) self.old }
-        ensures posted { self.new ≡ posted_one self.old }
-    {
-        let mut bytes = [0; 16];
-        let addr = self.ring.address(mem, 16);
-        // The slot lies in the memory.
-        let _ = mem.load(addr, &mut bytes);
-        let depth = self.ring.depth;
-        self.ring.own = self.ring.own.step(depth);
-        Cqe::get(&bytes)
     }
 }

@@ -192,6 +192,17 @@ impl Fetch {
         self.ring.fits(mem, 64)
     }
 
+    /// Returns the address of the next submission's slot, which must lie in the memory, as `fits`
+    /// checks.
+    #[tactic(auto, using(crate::proofs::PlaceLaws::places))]
+    pub fn address<M: PagedMemory>(&self, mem: &M) -> u64
+        requires { submission_place self.now.base self.now.depth self.now.fetched + 64
+            ≤ length (M.bytes mem.now) }
+        ensures { result ≡ submission_place self.now.base self.now.depth self.now.fetched }
+    {
+        self.ring.address(mem, 64)
+    }
+
     /// Takes the next submission, or returns none if the ring is empty. The slot must lie in the
     /// memory, as `fits` checks.
     #[tactic(auto, using(crate::proofs::PlaceLaws::rings))]

@@ -1,4 +1,3 @@
-pub mod FollowedLaws
 pub mod HexLaws
 pub mod LineLaws
 pub mod SaidLaws

@@ -1,9 +1,9 @@
 -- Lines of the entries that a sink's voice was shown.
 use Rattle.std.proofs.Common.{ℕ, List, [], ◌∷◌, ap, subst}
+use Rattle.nv_bus.specs.Shown.{AreShown}
+use Rattle.nv_bus.specs.declared.exchange.Exchange.{Exchange}
 use Rattle.nv_stream.specs.Streams.{SinkState}
 use Rattle.nv_trace.specs.Said.{SaysAll, exchange_texts}
-use Rattle.nv_trace.specs.Shown.{AreShown}
-use Rattle.nv_trace.specs.declared.exchange.Exchange.{Exchange}
 
 -- if each entry that was shown got its lines, the sink has the lines of all
 pub said_all : {V S : Type 0} (sink : V → S) (state : S → SinkState) (c : ℕ) (es : List Exchange) (old new : V)

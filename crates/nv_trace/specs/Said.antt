@@ -1,8 +1,8 @@
 -- The lines of a trace that a sink takes.
 use Rattle.std.specs.Prelude.{◌≡◌, ℕ, true, false, not, List, [], ◌∷◌, ◌++◌, take}
+use Rattle.nv_bus.specs.declared.exchange.Exchange.{Exchange}
 use Rattle.nv_stream.specs.Streams.{SinkState, WritesAll}
 use Rattle.nv_trace.specs.Lines.{posted_text, taken_text, written_text}
-use Rattle.nv_trace.specs.declared.exchange.Exchange.{Exchange}
 
 -- a sink took the line of a text, which has its first 319 bytes and a newline, or a beginning of it up to its failure
 abbrev pub IsSaid : List ℕ → SinkState → SinkState → Type 0

@@ -1,3 +1,2 @@
 -- What no public contract reaches. Contracts of private functions use it, in other crates too.
-pub mod Followed
 pub mod Marked

@@ -1,6 +1,6 @@
 //! Lines with a mark before each.
 
-ghost use Rattle.std.specs.Prelude.{◌≡◌, ◌<◌, ◌≤◌, IfSome, None, false, length, not};
+ghost use Rattle.std.specs.Prelude.{◌≡◌, ◌<◌, ◌≤◌, IfSome, None, false, length, not, true};
 ghost use Rattle.nv_stream.specs.Streams.{Takes, WritesAll, is_failure};
 ghost use Rattle.nv_trace.specs.inner.Marked.{IsMarked, IsOfOneLine, mark_at};
 
@@ -43,6 +43,8 @@ pub struct Marked<S: Sink> {
 
 impl<S: Sink> Marked<S> {
     pub fn new(sink: S) -> Marked<S>
+        ensures sink { result.sink ≡ sink }
+        ensures begins { result.is_at_beginning ≡ true }
         ensures taken { (⟦<Marked<S> as Sink>⟧.state result).taken ≡ None }
         ensures fresh { (⟦<Marked<S> as Sink>⟧.state result).has_failed
             ≡ (S.state sink).has_failed }

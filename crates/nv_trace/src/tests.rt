@@ -1,16 +1,25 @@
-//! Tests the texts of lines, and sinks that take few bytes or fail.
+//! Tests the texts of lines, sinks that take few bytes or fail, and a trace that begins while a
+//! controller is enabled.
 
-ghost use Rattle.std.specs.Prelude.{◌≡◌, ◌≤◌, None, false};
+ghost use Rattle.std.specs.Prelude.{◌≡◌, ◌<◌, ◌≤◌, None, false, length};
+ghost use Rattle.nv_bus.specs.Bus.{IsBus};
+ghost use Rattle.nv_controller.specs.Machine.{bus_of};
 
 use crate::event::Event;
 use crate::line_text::LineText;
 use crate::marked::Marked;
 use crate::posted::Posted;
 use crate::taken::TakenEntry;
+use crate::traced::Traced;
 use crate::voice::Voice;
 use crate::written::Written;
+use nv_bus::Bus;
+use nv_controller::Machine;
+use nv_host::{FlatMemory, PagedMemory};
 use nv_layout::{Cqe, Sqe};
-use nv_stream::{Sink, write_all};
+use nv_register::offset;
+use nv_stream::{OverWrite, Sink, write_all};
+use nv_subsystem::{DEMO, Subsystem};
 use std::cmp;
 
 /// Takes at most `most` bytes a write and 32 in all, and fails from then on.
@@ -129,6 +138,49 @@ fn says_completions(rt: HostRuntime) {
             text
         )
     );
+}
+
+/// Enables controller 0 with queues of two entries, at 0h and 1000h.
+fn enable(machine: &mut Machine)
+    requires bus { IsBus (bus_of machine.old) }
+    requires ctrl { 0 < length machine.old.banks }
+    ensures bus { IsBus (bus_of machine.new) }
+    ensures ctrl { 0 < length machine.new.banks }
+{
+    machine.write32(0, offset::AQA, 0x0001_0001);
+    machine.write32(0, offset::ACQ_LOW, 0x1000);
+    machine.write32(0, offset::CC, 0x0046_0001);
+}
+
+#[test]
+#[tactic(auto, unfolding(nv_host::specs::Pages::IsPageSize))]
+fn says_an_entry_as_it_was_before_its_data_overwrote_it(rt: HostRuntime) {
+    let alloc = rt.alloc();
+    let subsystem = Subsystem::from_toml(alloc, DEMO.as_bytes()).expect(&rt, "no subsystem");
+    let mut machine = Machine::new(alloc, subsystem).expect(&rt, "no machine");
+    assert!(rt; 0 < machine.controllers());
+    enable(&mut machine);
+    // Identify with CNS 02h, whose list goes to 0h, where the entry is
+    let entry = Sqe {
+        opcode: 0x06,
+        cid: 7,
+        cdw10: 0x02,
+        ..Sqe::default()
+    };
+    let mut bytes = [0; 64];
+    entry.put(&mut bytes);
+    let mut mem = FlatMemory::new(alloc, 4096, 2).expect(&rt, "no memory");
+    assert!(rt; mem.store(0, &bytes).is_ok());
+    let mut bus = Traced::new(machine, OverWrite::new(Vec::new(alloc)));
+    bus.write32(0, offset::TAIL_DOORBELL, 1);
+    assert!(rt; bus.turn(0, &mut mem, 2) == 1);
+    assert!(rt; mem.load(0, &mut bytes).is_ok());
+    assert!(rt; bytes[0] == 1);
+    let Traced { voice, .. } = bus;
+    let text = "nvme0 write SQ0TDBL=0x1\n\
+        nvme0 taken Identify (0x06) cid=0x7 nsid=0x0 prp1=0x0 prp2=0x0 cdw10=0x2\n\
+        nvme0 posted cid=0x7 status=0x0 success dword0=0x0 sqhd=0x1\n";
+    assert!(rt; voice.sink.into_inner().as_slice() == text.as_bytes());
 }
 
 #[test]

@@ -1,34 +1,35 @@
-//! A bus with a trace.
+//! Controllers with a trace.
 
 ghost use Rattle.std.specs.Prelude.{◌≡◌, false};
+ghost use Rattle.nv_controller.specs.Machine.{bus_of};
 
-use crate::followed::Followed;
 use crate::voice::Voice;
 use crate::written::Written;
 use nv_bus::Bus;
+use nv_controller::Machine;
 use nv_host::PagedMemory;
 use nv_stream::Sink;
 
-/// A bus that writes lines to a sink: one for each register write, for each entry that a turn took
-/// and for each completion that it posted. It behaves as the bus inside does: neither the lines nor
-/// a failure of the sink change what that bus returns. After the sink has failed, nothing more is
-/// written.
+/// The controllers of a subsystem, as a bus that writes lines to a sink: one for each register
+/// write, for each entry that a turn took and for each completion that it posted. Neither the lines
+/// nor a failure of the sink change what the controllers do. After the sink has failed, nothing
+/// more is written.
 #[derive(Drop)]
-pub struct Traced<B: Bus, S: Sink> {
-    followed: Followed<B>,
-    voice: Voice<S>,
+pub struct Traced<S: Sink> {
+    machine: Machine,
+    pub(crate) voice: Voice<S>,
 }
 
-impl<B: Bus, S: Sink> Traced<B, S> {
-    /// Creates a trace of a bus. If a controller is enabled already, its entries and completions
-    /// are traced only once it is enabled again.
-    pub fn new(bus: B, sink: S) -> Traced<B, S>
+impl<S: Sink> Traced<S> {
+    /// Creates a trace of what controllers do from now on.
+    pub fn new(machine: Machine, sink: S) -> Traced<S>
         requires { (S.state sink).has_failed ≡ false }
-        ensures bus { ⟦<Traced<B, S> as Bus>⟧.meaning result ≡ B.meaning bus }
+        ensures machine { result.machine ≡ machine }
+        ensures bus { ⟦<Traced<S> as Bus>⟧.meaning result ≡ bus_of machine }
         ensures sink { result.voice.sink ≡ sink }
     {
         Traced {
-            followed: Followed::new(bus),
+            machine,
             voice: Voice::new(sink),
         }
     }
@@ -41,40 +42,32 @@ impl<B: Bus, S: Sink> Traced<B, S> {
     }
 }
 
-impl<B: Bus, S: Sink> Bus for Traced<B, S> {
-    ghost use Rattle.std.specs.Prelude.{ℕ, None, slice_index_or};
-    ghost use Rattle.nv_bus.specs.Bus.{bank_at};
-    ghost use Rattle.nv_trace.specs.Followed.{Begins, IsKept};
+impl<S: Sink> Bus for Traced<S> {
+    ghost use Rattle.nv_controller.specs.Exchanges.{turn_exchanges};
+    ghost use Rattle.nv_controller.specs.Machine.{bus_of};
     ghost use Rattle.nv_trace.specs.Said.{Says, SaysAll, exchange_texts, write_text};
-    ghost use Rattle.nv_trace.specs.Shown.{turn_exchanges};
 
-    ghost meaning = { λ t. B.meaning t.followed.bus };
+    ghost meaning = { λ t. bus_of t.machine };
 
-    // The line of the write is in the sink, and the controller is traced if it took no entries.
-    ghost was_written = { λ t ctrl offset dword u. B.was_written t.followed.bus ctrl offset dword u.followed.bus
-        × Says S.state (write_text ctrl offset dword) t.voice.sink u.voice.sink
-        × Begins ctrl (B.meaning t.followed.bus).banks t.followed.kept.banks u.followed.kept.banks };
+    // The line of the write is in the sink.
+    ghost was_written = { λ t ctrl offset dword u.
+        Says S.state (write_text ctrl offset dword) t.voice.sink u.voice.sink };
 
-    ghost was_read = { λ t ctrl offset dword. B.was_read t.followed.bus ctrl offset dword };
-
-    // The lines of the entries that were taken and of their completions are in the sink, if the
-    // controller is traced.
+    // The lines of the entries that were taken and of their completions are in the sink.
     ghost was_turned = { λ t bytes ctrl most count u bytes'.
-        B.was_turned t.followed.bus bytes ctrl most count u.followed.bus bytes'
-        × SaysAll S.state (exchange_texts ctrl (turn_exchanges bytes' count
-        (slice_index_or t.followed.kept.banks ctrl None))) t.voice.sink u.voice.sink
-        × ((c : ℕ) → IsKept t.followed.kept.banks c → IsKept u.followed.kept.banks c) };
+        SaysAll S.state (exchange_texts ctrl (turn_exchanges count ctrl t.machine bytes))
+        t.voice.sink u.voice.sink };
 
     fn controllers(&self) -> u16 {
-        self.followed.bus().controllers()
+        self.machine.controllers()
     }
 
     fn read32(&self, ctrl: u16, offset: u32) -> u32 {
-        self.followed.bus().read32(ctrl, offset)
+        self.machine.read32(ctrl, offset)
     }
 
     fn write32(&mut self, ctrl: u16, offset: u32, dword: u32) {
-        self.followed.write32(ctrl, offset, dword);
+        self.machine.write32(ctrl, offset, dword);
         let written = Written {
             ctrl,
             offset,
@@ -84,6 +77,6 @@ impl<B: Bus, S: Sink> Bus for Traced<B, S> {
     }
 
     fn turn<M: PagedMemory>(&mut self, ctrl: u16, mem: &mut M, most: u16) -> u16 {
-        self.followed.turn(ctrl, mem, most, &mut self.voice)
+        self.machine.turn_with(ctrl, mem, most, &mut self.voice)
     }
 }

@@ -4,11 +4,10 @@ ghost use Rattle.std.specs.Prelude.{◌≡◌, false, true};
 ghost use Rattle.nv_trace.specs.Said.{IsSaid};
 
 use crate::event::Event;
-use crate::exchange::Exchange;
 use crate::line_text::LineText;
-use crate::observer::Observer;
 use crate::posted::Posted;
 use crate::taken::TakenEntry;
+use nv_bus::{Exchange, Observer};
 use nv_stream::{Sink, write_all};
 
 /// Writes lines to a sink. After the sink has failed, it writes nothing.
@@ -60,9 +59,10 @@ impl<S: Sink> Observer for Voice<S> {
     ghost was_shown = { λ v ctrl exchange w. SaysAll S.state (exchange_texts ctrl (exchange ∷ [])) v.sink w.sink };
 
     /// Writes a line of the entry and one of its completion.
-    fn show(&mut self, ctrl: u16, exchange: Exchange) {
-        let Exchange { entry, completion } = exchange;
+    fn show(&mut self, ctrl: u16, exchange: &Exchange) {
+        let entry = exchange.entry;
         self.say(&TakenEntry { ctrl, entry });
+        let completion = exchange.completion;
         self.say(&Posted { ctrl, completion });
     }
 }

@@ -36,7 +36,7 @@ impl Model for DrivenDevice {
 
     ghost view = { λ _. tt };
 
-    ghost invariant = { λ d. IsDevice d.bus.followed.bus d.driver };
+    ghost invariant = { λ d. IsDevice d.bus.machine d.driver };
 }
 
 /// Returns the entry that the arguments describe.
@@ -65,8 +65,8 @@ fn pass_through(
     given: &OperationArguments,
 ) -> Answered
     requires ctrl { ctrl < length driver.old.pairs }
-    requires device { IsDevice bus.old.followed.bus (Some driver.old) }
-    ensures { IsDevice bus.new.followed.bus (Some driver.new) }
+    requires device { IsDevice bus.old.machine (Some driver.old) }
+    ensures { IsDevice bus.new.machine (Some driver.new) }
 {
     let mut came = vec![in alloc; 0u8; given.qword("room") as usize]?;
     let data = given.bytes("data");
@@ -88,10 +88,10 @@ fn send_command(
     command: &Command,
 ) -> Answered
     requires ctrl { ctrl < length driver.old.pairs }
-    requires device { IsDevice bus.old.followed.bus (Some driver.old) }
+    requires device { IsDevice bus.old.machine (Some driver.old) }
     requires sends { IsSendable command.now }
     requires fits { CommandFits command.now }
-    ensures { IsDevice bus.new.followed.bus (Some driver.new) }
+    ensures { IsDevice bus.new.machine (Some driver.new) }
 {
     let mut slot = AnswerSlot::new();
     let told = driver.admin(bus, ctrl, command, &mut slot);
@@ -108,10 +108,10 @@ fn send_commands(
     commands: &[Command],
 ) -> Answered
     requires ctrl { ctrl < length driver.old.pairs }
-    requires device { IsDevice bus.old.followed.bus (Some driver.old) }
+    requires device { IsDevice bus.old.machine (Some driver.old) }
     requires sends { All IsSendable commands.now }
     requires fits { All CommandFits commands.now }
-    ensures { IsDevice bus.new.followed.bus (Some driver.new) }
+    ensures { IsDevice bus.new.machine (Some driver.new) }
 {
     let mut slots = Vec::new(alloc);
     slots.resize_with(commands.len(), AnswerSlot::new)?;

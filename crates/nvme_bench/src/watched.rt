@@ -5,10 +5,10 @@ ghost use Rattle.nv_controller.specs.Machine.{bus_of};
 
 use crate::answer::{Answer, Answered};
 use crate::error::OperationError;
+use nv_bus::{Exchange, Observer};
 use nv_controller::{Bus, Machine};
 use nv_host::PagedMemory;
 use nv_layout::Sqe;
-use nv_trace::{Exchange, Followed, Observer};
 use std::alloc::{AllocError, Global};
 
 /// The bytes of entries that controllers took, with only the offsets in a page of PRP1 and PRP2,
@@ -54,7 +54,7 @@ impl Entries {
 }
 
 impl Observer for Entries {
-    fn show(&mut self, _ctrl: u16, exchange: Exchange) {
+    fn show(&mut self, _ctrl: u16, exchange: &Exchange) {
         let added = self.add(exchange.entry);
         self.is_whole &= added.is_ok();
     }
@@ -64,7 +64,7 @@ impl Observer for Entries {
 /// turns, and the entries that they took.
 #[derive(Drop)]
 pub(crate) struct Watched {
-    followed: Followed<Machine>,
+    machine: Machine,
     writes: Vec<u64>,
     turns: Vec<u64>,
     entries: Entries,
@@ -75,10 +75,10 @@ pub(crate) struct Watched {
 impl Watched {
     /// Creates a bus of which nothing was seen yet.
     pub(crate) fn new(alloc: Global, machine: Machine) -> Watched
-        ensures { result.followed.bus ≡ machine }
+        ensures { result.machine ≡ machine }
     {
         Watched {
-            followed: Followed::new(machine),
+            machine,
             writes: Vec::new(alloc),
             turns: Vec::new(alloc),
             entries: Entries::new(alloc),
@@ -87,14 +87,14 @@ impl Watched {
     }
 
     pub(crate) fn machine(&self) -> &Machine
-        ensures { result.now ≡ self.now.followed.bus }
+        ensures { result.now ≡ self.now.machine }
     {
-        self.followed.bus()
+        &self.machine
     }
 
     /// Forgets what was seen.
     pub(crate) fn forget(&mut self)
-        ensures { self.new.followed.bus ≡ self.old.followed.bus }
+        ensures { self.new.machine ≡ self.old.machine }
     {
         self.writes.clear();
         self.turns.clear();
@@ -104,7 +104,7 @@ impl Watched {
 
     /// Answers what was seen, and forgets it.
     pub(crate) fn tell(&mut self, alloc: Global) -> Answered
-        ensures { self.new.followed.bus ≡ self.old.followed.bus }
+        ensures { self.new.machine ≡ self.old.machine }
     {
         if !self.is_whole || !self.entries.is_whole {
             return Err(OperationError::Memory);
@@ -120,18 +120,18 @@ impl Watched {
 }
 
 impl Bus for Watched {
-    ghost meaning = { λ w. bus_of w.followed.bus };
+    ghost meaning = { λ w. bus_of w.machine };
 
     fn controllers(&self) -> u16 {
-        self.machine().controllers()
+        self.machine.controllers()
     }
 
     fn read32(&self, ctrl: u16, offset: u32) -> u32 {
-        self.machine().read32(ctrl, offset)
+        self.machine.read32(ctrl, offset)
     }
 
     fn write32(&mut self, ctrl: u16, offset: u32, dword: u32) {
-        self.followed.write32(ctrl, offset, dword);
+        self.machine.write32(ctrl, offset, dword);
         let numbers = [u64::from(ctrl), u64::from(offset), u64::from(dword)];
         self.is_whole &= self.writes.extend_from_slice(&numbers).is_ok();
     }
@@ -139,7 +139,7 @@ impl Bus for Watched {
     #[tactic(auto, using(nv_host::proofs::PageLaws::page_size_bounds))]
     fn turn<M: PagedMemory>(&mut self, ctrl: u16, mem: &mut M, most: u16) -> u16 {
         self.entries.page_size = u64::from(mem.page_size());
-        let count = self.followed.turn(ctrl, mem, most, &mut self.entries);
+        let count = self.machine.turn_with(ctrl, mem, most, &mut self.entries);
         let numbers = [u64::from(ctrl), u64::from(most), u64::from(count)];
         self.is_whole &= self.turns.extend_from_slice(&numbers).is_ok();
         count

@@ -1,8 +1,8 @@
-use Rattle.std.proofs.Common.{ap, rules, sym}
+use Rattle.std.proofs.Common.{◌∙◌, ap, rules, sym}
 use Rattle.nv_bus.specs.Entry.{completion_of, scene}
 use Rattle.nv_subsystem.proofs.TaggedLaws.{limit_untagged}
 use Rattle.nv_subsystem.specs.Tagged.{untagged}
-use Rattle.nv_controller.proofs.EntryLaws.{tagged_one, taken_one}
+use Rattle.nv_controller.proofs.EntryLaws.{completed, exchanged, tagged_one, taken_one}
 use Rattle.nv_controller.proofs.entry.take_one.Goals as goal
 
 pub returns-clause-one : goal.returns-clause-one
@@ -30,3 +30,14 @@ returns-clause-tagged g c =
     (search rules) (search rules)
     (ap (completion_of _ _) c.answer_entry-told.ensures.told)
     (search rules)
+
+pub returns-clause-exchange : goal.returns-clause-exchange
+returns-clause-exchange g c =
+    let x = scene (untagged c.args.subsystem.now) c.args.rings.now (g.M.PagedMemory.bytes c.args.mem.now) in
+    exchanged c.args.ctrl x c.unwrap-entry.result c.address-entry_address.result c.address-completion_address.result
+    (completion_of c.unwrap-entry.result.cid c.head.result c.answer_entry-told.result) c.phase-phase.result
+    (search rules)
+    (ap (completion_of _ _) c.answer_entry-told.ensures.told
+    ∙ completed c.args.ctrl x c.unwrap-entry.result (g.M.PagedMemory.page_len c.args.mem.now) _ c.head.result
+    (search rules) (search rules) (sym (limit_untagged c.args.subsystem.now c.args.ctrl)) (search rules))
+    (search rules) (search rules) (search rules)

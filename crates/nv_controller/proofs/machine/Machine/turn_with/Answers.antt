@@ -1,7 +1,7 @@
 use Rattle.std.proofs.Common.{ap, rules}
 use Rattle.nv_controller.specs.Machine.{MachineValue}
 use Rattle.nv_controller.proofs.BusLaws.{is_bus, well_formed_bus}
-use Rattle.nv_controller.proofs.machine.MachineBus.turn.Goals as goal
+use Rattle.nv_controller.proofs.machine.Machine.turn_with.Goals as goal
 
 pub turn_bank-requires-clause-well_formed : goal.turn_bank-requires-clause-well_formed
 turn_bank-requires-clause-well_formed g c =
