@@ -14,6 +14,7 @@ use Rattle.nv_command.specs.Reply.{FitsRecord, IsReplyTo, data_of}
 use Rattle.nv_command.specs.declared.command.Command.{Command}
 use Rattle.nv_command.specs.declared.refusal.Refusal.{Refusal}
 use Rattle.nv_command.specs.declared.reply.Reply.{Reply}
+use Rattle.nv_model.specs.Answer.{answer_to}
 use Rattle.nv_model.specs.Meaning.{refusal_of}
 use Rattle.nv_model.specs.Meaning.{reply_of}
 use Rattle.nv_model.proofs.ReplyLaws.{reply_fits}
@@ -27,37 +28,43 @@ use Rattle.nv_bus.specs.Entry.{Moves, MovesBy, One, Scene, call_in, completion_i
 use Rattle.nv_bus.specs.Entry.{exchange_in, next_step, step_unless, success, told_by}
 use Rattle.nv_bus.specs.declared.exchange.Exchange.{Exchange}
 use Rattle.nv_controller.specs.Tags.{answered_unless, next_scene, settled_unless, untagged_scene}
+use Rattle.nv_subsystem.proofs.AnswerLaws.{accepted_answer}
 use Rattle.nv_subsystem.proofs.TaggedLaws.{refusal_untagged, reply_untagged, untagged_keeps}
 use Rattle.nv_subsystem.specs.Tagged.{untagged, untagged_log}
 
 -- ---- answers
 
--- what follows if a command is accepted: its reply is that of the step, except for phase tags
-pub record IsAnswered (s : State) (c : ℕ) (k : Command) (cid : ℕ) : Type 0 where
-  pub is_reply : IsReplyTo k (reply_of s c k)
-  pub fits : FitsRecord (reply_of s c k)
-  pub answer : Ok (without_phases (reply_of s c k)) ≡ (step (untagged s) c k cid).answer
-  pub told : told_by (Ok (reply_of s c k)) ≡ told_by (step (untagged s) c k cid).answer
+-- what follows if a command is answered by a reply: it is that of the step, except for phase tags
+pub record IsAnswered (s : State) (c : ℕ) (k : Command) (cid : ℕ) (r : Reply) : Type 0 where
+  pub accepted : refusal_of s c k ≡ None
+  pub reply : reply_of s c k ≡ r
+  pub is_reply : IsReplyTo k r
+  pub fits : FitsRecord r
+  pub answer : Ok (without_phases r) ≡ (step (untagged s) c k cid).answer
+  pub told : told_by (Ok r) ≡ told_by (step (untagged s) c k cid).answer
 
--- a command that isn't refused in a well-formed subsystem is answered as IsAnswered says
-pub answered : (s : State) (c : ℕ) (k : Command) (cid : ℕ) → IsWellFormed s → refusal_of s c k ≡ None
-    → IsAnswered s c k cid
-answered s c k cid w none =
+-- the answer of a well-formed subsystem is as IsAnswered says if it is a reply
+pub answered : (s : State) (c : ℕ) (k : Command) (cid : ℕ) (r : Reply) → IsWellFormed s → answer_to s c k ≡ Ok r
+    → IsAnswered s c k cid r
+answered s c k cid r w is =
     let bare = untagged s in
     let law = reply_fits bare c k (untagged_keeps s w) in
     let own = tagged k (reply_of s c k) (reply_of bare c k) (reply_untagged s c k) (law.is_reply, law.fits) in
+    let accepted = accepted_answer (refusal_of s c k) (reply_of s c k) r is in
     let answer : Ok (without_phases (reply_of s c k)) ≡ (step bare c k cid).answer =
     ap Ok (reply_untagged s c k)
-    ∙ ap (λ (o : Option Refusal). (step_by o bare c k cid).answer) (sym (refusal_untagged s c k ∙ none)) in
-    record {
+    ∙ ap (λ (o : Option Refusal). (step_by o bare c k cid).answer) (sym (refusal_untagged s c k ∙ accepted.0)) in
+    subst (IsAnswered s c k cid) accepted.1 (record {
+      accepted = accepted.0;
+      reply = refl;
       is_reply = own.0;
       fits = own.1;
       answer = answer;
       told = ap (λ d. record { dword0 = d; status = success }) (sym (dword0_tagged (reply_of s c k)))
           ∙ ap told_by answer;
-    }
+    })
 
--- the answer to a command that is refused is the status of the refusal
+-- the answer of a step is the status of the refusal if there is one
 pub refused_by : (s : State) (c : ℕ) (k : Command) (cid : ℕ) (refusal : Refusal) → refusal_of s c k ≡ Some refusal
     → Err refusal.status ≡ (step (untagged s) c k cid).answer
 refused_by s c k cid refusal some =

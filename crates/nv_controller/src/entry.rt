@@ -1,38 +1,28 @@
 //! Takes one entry: reads its command, finds its data, and executes it.
 
-ghost use Rattle.std.specs.Prelude.{◌≡◌, ◌*◌, ◌<◌, ◌≤◌, Ok, Err, IfOk, MatchResult, OnOk, length, true};
-ghost use Rattle.nv_layout.specs.Parts.{part};
+ghost use Rattle.std.specs.Prelude.{◌≡◌, ◌<◌, ◌≤◌, Ok, Err, IfOk, MatchResult, OnOk, length, true};
 ghost use Rattle.nv_command.specs.Command.{transfer_by};
-ghost use Rattle.nv_command.specs.Reply.{FitsRecord, IsReplyTo, data_of, log_of, page_of};
-ghost use Rattle.nv_prp.specs.Place.{LieIn, places, written_at};
+ghost use Rattle.nv_prp.specs.Place.{LieIn, places};
 ghost use Rattle.nv_prp.specs.Transfer.{most_bytes};
-ghost use Rattle.nv_command.specs.LogPage.{log_asked};
-ghost use Rattle.nv_model.specs.Logs.{log_reply};
-ghost use Rattle.nv_model.specs.Meaning.{refusal_of, reply_of};
-ghost use Rattle.nv_model.specs.Step.{step};
 ghost use Rattle.nv_model.specs.WellFormed.{IsWellFormed};
 ghost use Rattle.nv_bus.specs.Call.{HasRoom, call_of, data_places, length_of, prp_status};
 ghost use Rattle.nv_bus.specs.Call.{sent_from};
-ghost use Rattle.nv_bus.specs.Entry.{Moves, MovesBy, One, exchange_in, scene};
+ghost use Rattle.nv_bus.specs.Entry.{MovesBy, One, exchange_in, scene};
 ghost use Rattle.nv_bus.specs.Entry.{step_unless, told_by};
 ghost use Rattle.nv_model.specs.Conditions.{limit_of};
 ghost use Rattle.nv_bus.specs.Turn.{can_take, reaches};
-ghost use Rattle.nv_controller.specs.Tags.{answered_unless, answered_with, next_scene, settled_unless};
-ghost use Rattle.nv_subsystem.specs.Tagged.{settled, untagged};
+ghost use Rattle.nv_controller.specs.Tags.{answered_unless, next_scene, settled_unless};
+ghost use Rattle.nv_subsystem.specs.Tagged.{untagged};
 
-use crate::log_part::LogPart;
-use crate::reply_page::ReplyPage;
+use crate::deliver::execute;
 use crate::scratch::{EntryData, Scratch};
 use nv_bus::{Exchange, Told};
-use nv_command::{Command, Decoded, LogQuery, Refusal, StatusCode, Transfer};
+use nv_command::{Command, Decoded, Refusal, StatusCode, Transfer};
 use nv_host::PagedMemory;
-use nv_layout::{Cqe, CtrlList, Sqe, Status};
-use nv_prp::{PrpError, Spans, copy_out, view_in, walk, write_out};
+use nv_layout::{Cqe, CtrlList, Sqe};
+use nv_prp::{PrpError, Spans, view_in, walk};
 use nv_register::Rings;
 use nv_subsystem::{Origin, Subsystem};
-
-/// The greatest length of a log in bytes: 256 entries of 64 bytes.
-const LONGEST_LOG: u64 = 16_384;
 
 /// Returns the status of a faulty data pointer. Section "Generic Command Status Definition".
 fn prp_status(fault: PrpError) -> StatusCode
@@ -122,152 +112,6 @@ fn read_call<'a, M: PagedMemory>(
     find_data(mem, entry, moves, &mut entry_data.spans)?;
     let sent = read_sent(mem, moves, &entry_data.spans, &mut entry_data.page);
     asked.command(sent, listed)
-}
-
-/// Writes the part of a log that is asked for to the spans, span by span.
-fn deliver_log<M: PagedMemory>(
-    subsystem: &Subsystem,
-    ctrl: u16,
-    mem: &mut M,
-    asked: LogQuery,
-    spans: &Spans,
-)
-    requires ctrl { ctrl < length subsystem.now.controllers }
-    requires inside { LieIn (length (M.bytes mem.old)) spans.now }
-    requires len { length (places spans.now) ≡ 4 * asked.dwords }
-    requires short { length (log_of (log_reply subsystem.now ctrl (log_asked asked.lid))) ≤ 16384 }
-    requires few { length (places spans.now) ≤ most_bytes }
-    ensures bytes { M.bytes mem.new ≡ written_at (M.bytes mem.old) (places spans.now)
-        (part (log_of (log_reply subsystem.now ctrl (log_asked asked.lid))) asked.offset (4 * asked.dwords)) }
-    ensures len { length (M.bytes mem.new) ≡ length (M.bytes mem.old) }
-    ensures page_len { M.page_len mem.new ≡ M.page_len mem.old }
-{
-    // There are zeros past the log's end, wherever the part begins.
-    let from = asked.offset.min(LONGEST_LOG) as usize;
-    let part = LogPart {
-        subsystem,
-        ctrl,
-        lid: asked.lid,
-        from,
-        len: asked.dwords.bytes() as usize,
-    };
-    write_out(mem, spans, &part);
-}
-
-/// Writes the page of the reply to an accepted command to several spans, if it has one. The page is
-/// made beside them, so that it is made once. This isn't inlined, because a function clears its
-/// local values when it begins, and most pages are made where they belong.
-#[inline(never)]
-fn deliver_in_parts<M: PagedMemory>(
-    subsystem: &Subsystem,
-    ctrl: u16,
-    mem: &mut M,
-    command: &Command,
-    spans: &Spans,
-)
-    requires ctrl { ctrl < length subsystem.now.controllers }
-    requires inside { LieIn (length (M.bytes mem.old)) spans.now }
-    requires len { length (places spans.now)
-        ≡ length (page_of (reply_of subsystem.now ctrl command.now)) }
-    ensures bytes { M.bytes mem.new ≡ written_at (M.bytes mem.old) (places spans.now)
-        (page_of (reply_of subsystem.now ctrl command.now)) }
-    ensures len { length (M.bytes mem.new) ≡ length (M.bytes mem.old) }
-    ensures page_len { M.page_len mem.new ≡ M.page_len mem.old }
-{
-    let mut page = [0; 4096];
-    if subsystem.put_page(ctrl, command, &mut page) {
-        copy_out(mem, spans, &page);
-    }
-}
-
-/// Writes the data of the reply to an accepted command to where the entry's data lies, if it has
-/// any.
-fn deliver<M: PagedMemory>(
-    subsystem: &Subsystem,
-    ctrl: u16,
-    mem: &mut M,
-    command: &Command,
-    entry_data: &EntryData,
-)
-    requires ctrl { ctrl < length subsystem.now.controllers }
-    requires transfer { entry_data.now.transfer ≡ transfer_by command.now }
-    requires inside { LieIn (length (M.bytes mem.old)) entry_data.now.spans }
-    requires len { length (places entry_data.now.spans) ≡ length_of (transfer_by command.now) }
-    requires few { length (places entry_data.now.spans) ≤ most_bytes }
-    requires is_reply { IsReplyTo command.now (reply_of subsystem.now ctrl command.now) }
-    requires fits { FitsRecord (reply_of subsystem.now ctrl command.now) }
-    ensures bytes { M.bytes mem.new ≡ written_at (M.bytes mem.old) (places entry_data.now.spans)
-        (data_of command.now (reply_of subsystem.now ctrl command.now)) }
-    ensures len { length (M.bytes mem.new) ≡ length (M.bytes mem.old) }
-    ensures page_len { M.page_len mem.new ≡ M.page_len mem.old }
-{
-    let spans = &entry_data.spans;
-    if let Command::GetLog(asked) = command {
-        deliver_log(subsystem, ctrl, mem, *asked, spans);
-        return;
-    }
-    let Transfer::ToHost(_) = entry_data.transfer else {
-        return;
-    };
-    if spans.as_slice().len() == 1 {
-        let page = ReplyPage {
-            subsystem,
-            ctrl,
-            command,
-        };
-        write_out(mem, spans, &page);
-        return;
-    }
-
-    deliver_in_parts(subsystem, ctrl, mem, command, spans);
-}
-
-/// Executes a command: writes the data of its reply, and then makes its changes.
-fn execute<M: PagedMemory>(
-    subsystem: &mut Subsystem,
-    ctrl: u16,
-    mem: &mut M,
-    command: &Command,
-    origin: Origin,
-    entry_data: &EntryData,
-) -> Told
-    requires ctrl { ctrl < length subsystem.old.controllers }
-    requires well_formed { IsWellFormed subsystem.old }
-    requires transfer { entry_data.now.transfer ≡ transfer_by command.now }
-    requires inside { LieIn (length (M.bytes mem.old)) entry_data.now.spans }
-    requires len { length (places entry_data.now.spans) ≡ length_of (transfer_by command.now) }
-    requires few { length (places entry_data.now.spans) ≤ most_bytes }
-    ensures told { result
-        ≡ told_by (step (untagged subsystem.old) ctrl command.now origin.cid).answer }
-    ensures state { untagged subsystem.new
-        ≡ (step (untagged subsystem.old) ctrl command.now origin.cid).state }
-    ensures tagged { subsystem.new ≡ settled subsystem.old ctrl command.now origin
-        (refusal_of subsystem.old ctrl command.now) }
-    ensures bytes { M.bytes mem.new ≡ answered_with (refusal_of subsystem.old ctrl command.now)
-        subsystem.old ctrl command.now (places entry_data.now.spans) (M.bytes mem.old) }
-    ensures moved { Moves command.now (places entry_data.now.spans)
-        (step (untagged subsystem.old) ctrl command.now origin.cid).answer
-        (M.bytes mem.old) (M.bytes mem.new) }
-    ensures well_formed { IsWellFormed subsystem.new }
-    ensures len { length (M.bytes mem.new) ≡ length (M.bytes mem.old) }
-    ensures page_len { M.page_len mem.new ≡ M.page_len mem.old }
-{
-    let refusal = subsystem.refusal(ctrl, command);
-    let told = match &refusal {
-        None => {
-            deliver(subsystem, ctrl, mem, command, entry_data);
-            Told {
-                dword0: subsystem.dword0(ctrl, command),
-                status: Status::SUCCESS,
-            }
-        }
-        Some(refusal) => Told {
-            dword0: 0,
-            status: refusal.status,
-        },
-    };
-    subsystem.settle(ctrl, command, origin, refusal);
-    told
 }
 
 /// Executes the command of an entry and writes the data of its reply, or refuses the entry. `phase`

@@ -46,6 +46,7 @@
 //! Sections are named as in the NVM Express Base Specification, revision 1.4.
 #![tactic(auto)]
 
+mod deliver;
 mod entry;
 mod log_part;
 mod machine;

@@ -1,10 +1,9 @@
 //! Buffers for an entry while it is executed.
 
-ghost use Rattle.std.specs.Prelude.{length};
-
 use nv_command::Transfer;
 use nv_layout::CtrlList;
 use nv_prp::Spans;
+use nv_subsystem::ReplyPlace;
 
 /// The data of an entry.
 #[derive(Drop)]
@@ -15,6 +14,8 @@ pub struct EntryData {
     pub spans: Spans,
     /// A page of the data from the host.
     pub page: [u8; 4096],
+    /// What the reply borrows.
+    pub place: ReplyPlace,
 }
 
 /// Buffers for one entry at a time, allocated once. What they hold before doesn't matter.
@@ -33,6 +34,7 @@ impl Scratch {
                 transfer: Transfer::NoData,
                 spans: Spans::new(),
                 page: [0; 4096],
+                place: ReplyPlace::new(),
             },
             listed: CtrlList::new(),
         }

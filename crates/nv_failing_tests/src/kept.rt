@@ -2,7 +2,7 @@
 
 use nv_controller::Machine;
 use nv_layout::ThreeBits;
-use nv_subsystem::{Command, FeatureQuery, Subsystem};
+use nv_subsystem::{Command, FeatureQuery, ReplyPlace, Subsystem, dword0};
 
 /// How many refusals and commands the controller has counted, and the current value of its write
 /// cache, if there is one.
@@ -23,9 +23,10 @@ fn cache_of(subsystem: &Subsystem) -> Option<u32> {
     if subsystem.controllers() == 0 {
         return None;
     }
-    match subsystem.refusal(0, &get) {
-        None => Some(subsystem.dword0(0, &get)),
-        Some(_) => None,
+    let mut place = ReplyPlace::new();
+    match subsystem.answer(0, &get, &mut place) {
+        Ok(reply) => Some(dword0(&reply)),
+        Err(_) => None,
     }
 }
 

@@ -6,7 +6,7 @@ ghost use Rattle.nv_controller.specs.Machine.{bus_of};
 use nv_controller::Machine;
 use nv_layout::ThreeBits;
 use nv_script::{Geometry, GeometryField, OverRead, OverWrite, RunEnd, run};
-use nv_subsystem::{Command, DEMO, FeatureQuery, Subsystem};
+use nv_subsystem::{Command, DEMO, FeatureQuery, ReplyPlace, Subsystem, dword0};
 use std::alloc::Global;
 use std::process::Abort;
 use std::test::Fail;
@@ -94,8 +94,11 @@ fn expect_cache_off(rt: &impl Abort, machine: &Machine) {
     });
     let subsystem = machine.subsystem();
     assert!(rt; subsystem.controllers() == 2);
-    assert!(rt; subsystem.refusal(0, &get).is_none());
-    assert!(rt; subsystem.dword0(0, &get) == 0);
+    let mut place = ReplyPlace::new();
+    match subsystem.answer(0, &get, &mut place) {
+        Ok(reply) => assert!(rt; dword0(&reply) == 0),
+        Err(_) => panic!(rt; "no value"),
+    }
 }
 
 /// If the geometry is out of its limits, no controller is touched.

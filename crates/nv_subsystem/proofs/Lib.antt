@@ -1,4 +1,5 @@
 pub mod TaggedLaws
+pub mod AnswerLaws
 pub mod Filling
 pub mod WithController
 pub mod Capacities

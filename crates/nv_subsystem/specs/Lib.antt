@@ -5,5 +5,6 @@ pub mod ValueTable
 pub mod StateCode
 pub mod Sound
 pub mod FromFile
+pub mod Answer
 pub mod Tagged
 pub mod inner

@@ -1,58 +1,87 @@
-//! Commands that a program without a bus has a subsystem execute.
+//! What a command is answered, and commands that a program without a bus has a subsystem execute.
 
 ghost use Rattle.std.specs.Prelude.{◌≡◌, ◌<◌, length};
+ghost use Rattle.nv_command.specs.Reply.{dword0_of};
 ghost use Rattle.nv_model.specs.Answer.{answer_to, answer_without_phases};
-ghost use Rattle.nv_model.specs.Meaning.{refusal_of, reply_of};
+ghost use Rattle.nv_model.specs.Meaning.{refusal_of};
 ghost use Rattle.nv_model.specs.Step.{step};
 ghost use Rattle.nv_model.specs.WellFormed.{IsWellFormed};
 ghost use Rattle.nv_subsystem.specs.Tagged.{settled, untagged};
 
+use crate::identify::check_list;
 use crate::nsid_lists::list_above;
+use crate::reply_place::ReplyPlace;
 use crate::subsystem::Subsystem;
-use nv_command::{Borrowed, Command, LogPage, Refusal, Reply, ReplyRoom};
-use nv_layout::NsList;
+use nv_command::{Command, LogPage, Refusal, Reply, ReplyRoom};
 use nv_model::Origin;
 
+/// Returns dword 0 of the completion with a reply.
+pub fn dword0(reply: &Reply) -> u32
+    ensures { result ≡ dword0_of reply.now }
+{
+    match reply {
+        Reply::Number(number) => *number,
+        _ => 0,
+    }
+}
+
 impl Subsystem {
-    /// Stores the reply to a command that isn't refused.
-    fn keep_reply(&self, ctrl: u16, command: &Command, room: &mut ReplyRoom)
+    /// Answers a command of a controller: returns its reply, or the first refusal. `place` receives
+    /// what the reply borrows.
+    pub fn answer<'a>(
+        &'a self,
+        ctrl: u16,
+        command: &Command,
+        place: &'a mut ReplyPlace,
+    ) -> Result<Reply<'a>, Refusal>
         requires { ctrl < length self.now.controllers }
-        ensures { room.new ≡ reply_of self.now ctrl command.now }
+        ensures { result ≡ answer_to self.now ctrl command.now }
     {
-        let controller = &self.controllers[ctrl as usize];
         match command {
-            Command::IdentifyController => {
-                room.keep(&Reply::Controller(Borrowed::new(&self.id_ctrl(controller))));
-            }
+            Command::IdentifyController => Ok(self.controller_reply(ctrl, place)),
             Command::IdentifyNamespace { nsid } => {
-                room.keep(&Reply::Namespace(Borrowed::new(&self.active_data(ctrl, *nsid))));
+                self.check_active(*nsid)?;
+                Ok(self.active_reply(ctrl, *nsid, place))
             }
             Command::AllocatedNamespace { nsid } => {
-                room.keep(&Reply::Namespace(Borrowed::new(&self.allocated(*nsid))));
+                self.check_allocated(*nsid)?;
+                Ok(self.allocated_reply(*nsid, place))
             }
             Command::ActiveList { after } => {
-                let mut list = NsList::new();
-                list_above(&controller.attached, *after, &mut list);
-                room.keep(&Reply::List(list.ids()));
+                check_list(*after)?;
+                self.list_active(ctrl, *after, &mut place.list);
+                Ok(Reply::List(place.list.ids()))
             }
             Command::AllocatedList { after } => {
-                let mut list = NsList::new();
-                list_above(&self.slots, *after, &mut list);
-                room.keep(&Reply::List(list.ids()));
+                check_list(*after)?;
+                list_above(&self.slots, *after, &mut place.list);
+                Ok(Reply::List(place.list.ids()))
             }
-            Command::Create(_) | Command::GetFeature(_) => {
-                room.keep(&Reply::Number(self.dword0(ctrl, command)));
+            Command::Create(wanted) => Ok(Reply::Number(self.check_create(wanted)?)),
+            Command::Delete { nsid } => {
+                self.check_delete(*nsid)?;
+                Ok(Reply::Done)
             }
-            Command::Delete { .. }
-            | Command::Attachment { .. }
-            | Command::Format(_)
-            | Command::SetFeature(_) => room.keep(&Reply::Done),
-            Command::GetLog(asked) => match LogPage::asked(asked.lid) {
-                LogPage::ErrorInformation => room.keep(&Reply::Errors(controller.errors())),
-                LogPage::Health => {
-                    room.keep(&Reply::Smart(Borrowed::new(&controller.health())));
-                }
-            },
+            Command::Attachment { nsid, detach, list } => {
+                self.check_attachment(*nsid, *detach, list.as_slice())?;
+                Ok(Reply::Done)
+            }
+            Command::Format(asked) => {
+                self.check_format(ctrl, asked, &mut place.list)?;
+                Ok(Reply::Done)
+            }
+            Command::GetFeature(asked) => {
+                self.check_get_feature(ctrl, *asked)?;
+                Ok(Reply::Number(self.feature_number(ctrl, *asked)))
+            }
+            Command::SetFeature(asked) => {
+                self.check_set_feature(ctrl, *asked)?;
+                Ok(Reply::Done)
+            }
+            Command::GetLog(asked) => {
+                self.check_log(ctrl, *asked)?;
+                Ok(self.log_reply(ctrl, LogPage::asked(asked.lid), place))
+            }
         }
     }
 
@@ -76,14 +105,18 @@ impl Subsystem {
             ≡ (step (untagged self.old) ctrl command.now origin.cid).state }
         ensures well_formed { IsWellFormed self.old → IsWellFormed self.new }
     {
-        let refusal = self.refusal(ctrl, command);
-        if refusal.is_none() {
-            self.keep_reply(ctrl, command, room);
-        }
-        self.settle(ctrl, command, origin, refusal);
-        match refusal {
-            None => Ok(room.reply()),
-            Some(refusal) => Err(refusal),
+        let mut place = ReplyPlace::new();
+        match self.answer(ctrl, command, &mut place) {
+            Ok(reply) => {
+                room.keep(&reply);
+                let number = dword0(&reply);
+                self.settle(ctrl, command, origin, Ok(number), &mut place);
+                Ok(room.reply())
+            }
+            Err(refusal) => {
+                self.settle(ctrl, command, origin, Err(refusal), &mut place);
+                Err(refusal)
+            }
         }
     }
 }

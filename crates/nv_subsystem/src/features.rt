@@ -20,7 +20,7 @@ use crate::feature_value::{default_of, is_supported};
 use crate::feature_values::FeatureValues;
 use crate::subsystem::Subsystem;
 use nv_command::{BROADCAST_NSID, FeatureQuery, FeatureSetting, Refusal, StatusCode};
-use nv_layout::{Feature, ThreeBits};
+use nv_layout::{Feature, NsList, ThreeBits};
 use nv_model::{FeatureRule, FeatureValue};
 
 /// Returns what can be done with a feature: save it (bit 0), give each namespace a value of its own
@@ -222,8 +222,8 @@ impl Subsystem {
     }
 
     /// Sets a feature. If each namespace has a value of its own, it sets that of the namespace, or
-    /// of all active ones.
-    pub(crate) fn set_feature(&mut self, ctrl: u16, asked: FeatureSetting)
+    /// of all active ones. `list` is used on the way.
+    pub(crate) fn set_feature(&mut self, ctrl: u16, asked: FeatureSetting, list: &mut NsList)
         requires { ctrl < length self.old.controllers }
         ensures { self.new ≡ with_feature self.old ctrl asked }
     {
@@ -231,8 +231,8 @@ impl Subsystem {
             return;
         };
         if feature.is_per_namespace() {
-            let concerned = self.concerned(ctrl, asked.nsid);
-            self.write_values(ctrl, feature, asked, concerned.as_slice());
+            self.concerned(ctrl, asked.nsid, list);
+            self.write_values(ctrl, feature, asked, list.as_slice());
         } else {
             self.write_values(ctrl, feature, asked, &[0]);
         }

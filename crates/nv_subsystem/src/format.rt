@@ -11,7 +11,7 @@ ghost use Rattle.nv_model.specs.inner.Format.{with_format};
 
 use crate::subsystem::Subsystem;
 use nv_command::{BROADCAST_NSID, NewFormat, Refusal, StatusCode};
-use nv_layout::FourBits;
+use nv_layout::{FourBits, NsList};
 use nv_model::Namespace;
 
 impl Subsystem {
@@ -43,12 +43,12 @@ impl Subsystem {
     }
 
     /// Returns whether any of the namespaces that are concerned has no room for a logical block.
-    fn leaves_one_below(&self, ctrl: u16, nsid: u32, lbaf: FourBits) -> bool
+    fn leaves_one_below(&self, ctrl: u16, nsid: u32, lbaf: FourBits, list: &mut NsList) -> bool
         requires { ctrl < length self.now.controllers }
         ensures { result ≡ has_one_below self.now lbaf (concerned self.now ctrl nsid) }
     {
-        let concerned = self.concerned(ctrl, nsid);
-        self.has_one_below(lbaf, concerned.as_slice())
+        self.concerned(ctrl, nsid, list);
+        self.has_one_below(lbaf, list.as_slice())
     }
 
     /// Returns whether a controller can erase by destroying a key (FNA bit 2).
@@ -59,8 +59,14 @@ impl Subsystem {
         self.controllers[ctrl as usize].identity.crypto_erase
     }
 
-    /// Why a format is refused. The conditions go in the order of the rows.
-    pub(crate) fn check_format(&self, ctrl: u16, asked: &NewFormat) -> Result<(), Refusal>
+    /// Why a format is refused. The conditions go in the order of the rows. `list` is used on the
+    /// way.
+    pub(crate) fn check_format(
+        &self,
+        ctrl: u16,
+        asked: &NewFormat,
+        list: &mut NsList,
+    ) -> Result<(), Refusal>
         requires { ctrl < length self.now.controllers }
         ensures { Checks (format_rows self.now ctrl asked.now) result }
     {
@@ -75,7 +81,7 @@ impl Subsystem {
             Err(Refusal::from(StatusCode::InvalidFormat))
         } else if asked.pi.get() != 0 || asked.pil {
             Err(Refusal::from(StatusCode::InvalidFormat))
-        } else if self.leaves_one_below(ctrl, nsid, asked.lbaf) {
+        } else if self.leaves_one_below(ctrl, nsid, asked.lbaf, list) {
             Err(Refusal::from(StatusCode::InvalidFormat))
         } else if ses > 2 || (ses == 2 && !self.can_erase_by_key(ctrl)) {
             Err(Refusal::from(StatusCode::InvalidFieldInCommand))
@@ -111,8 +117,9 @@ impl Subsystem {
         }
     }
 
-    /// Formats a namespace, and all that are active on the controller for the broadcast NSID.
-    pub(crate) fn format(&mut self, ctrl: u16, asked: &NewFormat)
+    /// Formats a namespace, and all that are active on the controller for the broadcast NSID. `list`
+    /// is used on the way.
+    pub(crate) fn format(&mut self, ctrl: u16, asked: &NewFormat, list: &mut NsList)
         requires { ctrl < length self.old.controllers }
         ensures { self.new ≡ formatted self.old ctrl asked.now }
     {
@@ -122,7 +129,7 @@ impl Subsystem {
             mset,
             ..
         } = *asked;
-        let concerned = self.concerned(ctrl, nsid);
-        self.format_each(concerned.as_slice(), lbaf, mset);
+        self.concerned(ctrl, nsid, list);
+        self.format_each(list.as_slice(), lbaf, mset);
     }
 }

@@ -1,19 +1,19 @@
 //! The Identify commands: when they are refused, and what they return. Section "Identify command".
 
 ghost use Rattle.std.specs.Prelude.{◌≡◌, ◌≤◌, ◌<◌, ◌∷◌, [], length, All};
-ghost use Rattle.nv_command.specs.Reply.{page_of};
 ghost use Rattle.nv_command.specs.declared.reply.Reply.TheVariants as reply;
 ghost use Rattle.nv_model.specs.WellFormed.{blocks};
 ghost use Rattle.nv_model.specs.Identify.{active_namespace, active_reply};
-ghost use Rattle.nv_model.specs.Identify.{active_rows, allocated_namespace, allocated_rows};
+ghost use Rattle.nv_model.specs.Identify.{active_rows, allocated_namespace, allocated_reply, allocated_rows};
 ghost use Rattle.nv_model.specs.Identify.{blank, common_of, flbas_of, id_ns_of, lbaf_of};
 ghost use Rattle.nv_model.specs.Identify.{lbafs_of, list_rows};
 ghost use Rattle.nv_model.specs.Conditions.{is_active, row};
 ghost use Rattle.nv_command.specs.declared.status_code.StatusCode.TheVariants.{InvalidNamespaceOrFormat};
 ghost use Rattle.nv_model.specs.inner.Conditions.{Checks};
 
+use crate::reply_place::ReplyPlace;
 use crate::subsystem::Subsystem;
-use nv_command::{BROADCAST_NSID, Refusal, StatusCode};
+use nv_command::{BROADCAST_NSID, Borrowed, Refusal, Reply, StatusCode};
 use nv_layout::{IdNs, Lbaf};
 use nv_model::{Format, Namespace};
 
@@ -54,7 +54,7 @@ impl Subsystem {
     }
 
     /// Returns the data of an allocated namespace, or zeros if there is none.
-    pub(crate) fn allocated(&self, nsid: u32) -> IdNs
+    fn allocated(&self, nsid: u32) -> IdNs
         ensures { result ≡ allocated_namespace self.now nsid }
     {
         match self.slots.get(nsid) {
@@ -84,7 +84,7 @@ impl Subsystem {
     }
 
     /// Returns the data for an active namespace, or for the broadcast NSID what all have in common.
-    pub(crate) fn active_data(&self, ctrl: u16, nsid: u32) -> IdNs
+    fn active_data(&self, ctrl: u16, nsid: u32) -> IdNs
         requires { ctrl < length self.now.controllers }
         ensures { active_reply self.now ctrl nsid ≡ reply.Namespace result }
     {
@@ -95,14 +95,29 @@ impl Subsystem {
         }
     }
 
-    /// Writes the bytes of the data for an active namespace. It isn't inlined, so that only this
+    /// Returns the reply with the data for an active namespace. It isn't inlined, so that only this
     /// reply needs room for it.
     #[inline(never)]
-    pub(crate) fn put_active(&self, ctrl: u16, nsid: u32, page: &mut [u8; 4096])
+    pub(crate) fn active_reply<'a>(
+        &self,
+        ctrl: u16,
+        nsid: u32,
+        place: &'a mut ReplyPlace,
+    ) -> Reply<'a>
         requires { ctrl < length self.now.controllers }
-        ensures { page.new ≡ page_of (active_reply self.now ctrl nsid) }
+        ensures { result ≡ active_reply self.now ctrl nsid }
     {
-        self.active_data(ctrl, nsid).put(page);
+        let data = place.namespace.insert(self.active_data(ctrl, nsid));
+        Reply::Namespace(Borrowed::new(data))
+    }
+
+    /// Returns the reply with the data of an allocated namespace.
+    #[inline(never)]
+    pub(crate) fn allocated_reply<'a>(&self, nsid: u32, place: &'a mut ReplyPlace) -> Reply<'a>
+        ensures { result ≡ allocated_reply self.now nsid }
+    {
+        let data = place.namespace.insert(self.allocated(nsid));
+        Reply::Namespace(Borrowed::new(data))
     }
 }
 

@@ -1,13 +1,14 @@
 //! The Identify data of a controller. Section "Identify Controller data structure (CNS 01h)".
 
-ghost use Rattle.std.specs.Prelude.{◌≡◌};
-ghost use Rattle.nv_layout.specs.IdCtrl.{bytes_of_id_ctrl};
+ghost use Rattle.std.specs.Prelude.{◌≡◌, ◌<◌, length};
 ghost use Rattle.nv_subsystem.specs.inner.ControllerView.{controller_view};
 ghost use Rattle.nv_model.specs.IdentifyController.{cmic_of, fna_of};
-ghost use Rattle.nv_model.specs.IdentifyController.{id_ctrl_of, padded};
+ghost use Rattle.nv_model.specs.IdentifyController.{controller_reply, id_ctrl_of, padded};
 
 use crate::controller::Controller;
+use crate::reply_place::ReplyPlace;
 use crate::subsystem::Subsystem;
+use nv_command::{Borrowed, Reply};
 use nv_layout::IdCtrl;
 
 /// Returns a text with padding after it.
@@ -41,7 +42,7 @@ impl Subsystem {
     /// Returns the data of a controller: version 1.4, with Format NVM and Namespace Management
     /// (OACS), one firmware slot (FRMW), offsets into logs (LPA), entries of 64 and of 16 bytes
     /// (SQES, CQES), and feature values that can be saved (ONCS).
-    pub(crate) fn id_ctrl(&self, controller: &Controller) -> IdCtrl
+    fn id_ctrl(&self, controller: &Controller) -> IdCtrl
         ensures { result ≡ id_ctrl_of self.now (controller_view controller.now) }
     {
         let identity = &controller.identity;
@@ -77,13 +78,15 @@ impl Subsystem {
         }
     }
 
-    /// Writes the bytes of the data of a controller. It isn't inlined, so that only this reply
+    /// Returns the reply with the data of a controller. It isn't inlined, so that only this reply
     /// needs room for it.
     #[inline(never)]
-    pub(crate) fn put_id_ctrl(&self, controller: &Controller, page: &mut [u8; 4096])
-        ensures { page.new
-            ≡ bytes_of_id_ctrl (id_ctrl_of self.now (controller_view controller.now)) }
+    pub(crate) fn controller_reply<'a>(&self, ctrl: u16, place: &'a mut ReplyPlace) -> Reply<'a>
+        requires { ctrl < length self.now.controllers }
+        ensures { result ≡ controller_reply self.now ctrl }
     {
-        self.id_ctrl(controller).put(page);
+        let controller = &self.controllers[ctrl as usize];
+        let data = place.controller.insert(self.id_ctrl(controller));
+        Reply::Controller(Borrowed::new(data))
     }
 }

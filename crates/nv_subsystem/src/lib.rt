@@ -35,9 +35,11 @@ mod identify_controller;
 mod logs;
 mod management;
 mod nsid_lists;
+mod reply_place;
 mod reset;
 mod subsystem;
 
+pub use execute::dword0;
 pub use nv_command::{
     BROADCAST_NSID, Borrowed, Command, DwordCount, ERROR_INFORMATION, FeatureQuery, FeatureSetting,
     HEALTH, LogPage, LogQuery, NewFormat, NewNamespace, Refusal, Reply, ReplyRoom, StatusCode,
@@ -48,4 +50,5 @@ pub use nv_model::{
     CID_COUNT, Counters, Defaults, FeatureRule, Format, Identity, IdentityNumbers, Namespace,
     Origin, SmartBase,
 };
+pub use reply_place::ReplyPlace;
 pub use subsystem::Subsystem;

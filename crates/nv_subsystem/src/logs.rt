@@ -2,21 +2,21 @@
 //! Page command".
 
 ghost use Rattle.std.specs.Prelude.{◌≡◌, ◌+◌, ◌<◌, ◌≤◌, length};
-ghost use Rattle.nv_layout.specs.Parts.{part};
-ghost use Rattle.nv_command.specs.Reply.{log_of};
+ghost use Rattle.nv_command.specs.declared.reply.Reply.TheVariants as reply;
 ghost use Rattle.nv_subsystem.specs.inner.ControllerView.{controller_view};
 ghost use Rattle.nv_model.specs.Logs.{entry_count, errors_of, log_length, log_reply, log_rows};
 ghost use Rattle.nv_model.specs.Logs.{smart_of};
 ghost use Rattle.nv_model.specs.inner.Conditions.{Checks};
 
 use crate::controller::Controller;
+use crate::reply_place::ReplyPlace;
 use crate::subsystem::Subsystem;
 use nv_command::{BROADCAST_NSID, Borrowed, LogPage, LogQuery, Refusal, Reply, StatusCode};
 use nv_layout::{ErrorEntries, Smart};
 
 impl Controller {
     /// Returns the error log, newest first, with entries without an error up to ELPE + 1.
-    pub(crate) fn errors(&self) -> ErrorEntries<'_>
+    fn errors(&self) -> ErrorEntries<'_>
         requires { self.now.log.most ≡ self.now.identity.numbers.elpe + 1 }
         ensures { result ≡ errors_of (controller_view self.now) }
     {
@@ -24,7 +24,7 @@ impl Controller {
     }
 
     /// Returns the health log: what the file says, and how many commands were refused.
-    pub(crate) fn health(&self) -> Smart
+    fn health(&self) -> Smart
         ensures { result ≡ smart_of (controller_view self.now) }
     {
         let smart = self.smart;
@@ -50,6 +50,16 @@ impl Controller {
             critical_comp_time: smart.critical_comp_time,
             sensors,
         }
+    }
+
+    /// Returns the reply with the health log. It isn't inlined, so that only this reply needs room
+    /// for it.
+    #[inline(never)]
+    fn health_reply<'a>(&self, place: &'a mut ReplyPlace) -> Reply<'a>
+        ensures { result ≡ reply.Smart (smart_of (controller_view self.now)) }
+    {
+        let data = place.smart.insert(self.health());
+        Reply::Smart(Borrowed::new(data))
     }
 }
 
@@ -94,18 +104,20 @@ impl Subsystem {
         }
     }
 
-    /// Fills `out` with the bytes of a log of a controller from `from` on, and with zeros past its end.
-    pub fn fill_log(&self, ctrl: u16, page: LogPage, from: usize, out: &mut [u8])
+    /// Returns the reply with a log of a controller.
+    pub(crate) fn log_reply<'a>(
+        &'a self,
+        ctrl: u16,
+        page: LogPage,
+        place: &'a mut ReplyPlace,
+    ) -> Reply<'a>
         requires { ctrl < length self.now.controllers }
-        ensures { out.new ≡ part (log_of (log_reply self.now ctrl page)) from (length out.old) }
+        ensures { result ≡ log_reply self.now ctrl page }
     {
         let controller = &self.controllers[ctrl as usize];
         match page {
-            LogPage::ErrorInformation => controller.errors().fill(from, out),
-            LogPage::Health => {
-                let health = controller.health();
-                Reply::Smart(Borrowed::new(&health)).fill(from, out);
-            }
+            LogPage::ErrorInformation => Reply::Errors(controller.errors()),
+            LogPage::Health => controller.health_reply(place),
         }
     }
 }

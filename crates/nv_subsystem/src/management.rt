@@ -1,10 +1,10 @@
 //! Namespace Management: when a create or a delete is refused, what it returns, and what it
 //! changes. Section "Namespace Management command".
 
-ghost use Rattle.std.specs.Prelude.{◌≡◌, ◌≤◌, None, IfSome};
+ghost use Rattle.std.specs.Prelude.{◌≡◌, ◌≤◌, None, Some, IfOk, IfSome};
 ghost use Rattle.std.specs.FinMap as map_of;
 ghost use Rattle.nv_model.specs.Management.{bytes_needed, create_rows};
-ghost use Rattle.nv_model.specs.Management.{created, delete_rows, deleted};
+ghost use Rattle.nv_model.specs.Management.{created, created_nsid, delete_rows, deleted};
 ghost use Rattle.nv_model.specs.Management.{without_all, without_one};
 ghost use Rattle.nv_model.specs.Conditions.{can_have, first_refusal, format_at, free_nsid};
 ghost use Rattle.nv_model.specs.inner.Conditions.{Checks};
@@ -52,11 +52,12 @@ impl Subsystem {
         self.slots.lowest_free()
     }
 
-    /// Refuses a create by the first condition that holds. The conditions are in the order of the
-    /// rows. If capacity is missing, the refusal reports how many bytes the create needs, or the
-    /// greatest number of 64 bits.
-    pub(crate) fn check_create(&self, wanted: &NewNamespace) -> Result<(), Refusal>
-        ensures { Checks (create_rows self.now wanted.now) result }
+    /// Refuses a create by the first condition that holds, and otherwise returns the NSID of the
+    /// namespace. The conditions are in the order of the rows. If capacity is missing, the refusal
+    /// reports how many bytes the create needs, or the greatest number of 64 bits.
+    pub(crate) fn check_create(&self, wanted: &NewNamespace) -> Result<u32, Refusal>
+        ensures checks { Checks (create_rows self.now wanted.now) result }
+        ensures nsid { IfOk result (λ n. n ≡ created_nsid self.now) }
     {
         let NewNamespace {
             nsze,
@@ -78,21 +79,22 @@ impl Subsystem {
             Err(Refusal::from(StatusCode::InvalidFieldInCommand))
         } else if nmic > 1 {
             Err(Refusal::from(StatusCode::InvalidFieldInCommand))
-        } else if self.free_nsid().is_none() {
-            Err(Refusal::from(StatusCode::NamespaceIdentifierUnavailable))
-        } else if bytes > u128::from(self.unallocated) {
-            Err(Refusal {
-                status: StatusCode::NamespaceInsufficientCapacity.status(),
-                specific: bytes.min(u128::from(u64::MAX)) as u64,
-            })
         } else {
-            Ok(())
+            match self.free_nsid() {
+                None => Err(Refusal::from(StatusCode::NamespaceIdentifierUnavailable)),
+                Some(_) if bytes > u128::from(self.unallocated) => Err(Refusal {
+                    status: StatusCode::NamespaceInsufficientCapacity.status(),
+                    specific: bytes.min(u128::from(u64::MAX)) as u64,
+                }),
+                Some(nsid) => Ok(nsid),
+            }
         }
     }
 
     /// Creates a namespace with the least free NSID. It is attached to no controller.
-    pub(crate) fn create(&mut self, wanted: &NewNamespace)
-        requires { first_refusal (create_rows self.old wanted.now) ≡ None }
+    pub(crate) fn create(&mut self, wanted: &NewNamespace, nsid: u32)
+        requires accepted { first_refusal (create_rows self.old wanted.now) ≡ None }
+        requires free { free_nsid self.old ≡ Some nsid }
         ensures { self.new ≡ created self.old wanted.now }
     {
         let bytes = self.bytes_needed(wanted);
@@ -105,10 +107,8 @@ impl Subsystem {
             extended: flbas & 0x10 != 0,
             shared: nmic & 1 == 1,
         };
-        if let Some(nsid) = self.free_nsid() {
-            self.slots.insert(nsid, namespace);
-            self.unallocated -= namespace.capacity;
-        }
+        self.slots.insert(nsid, namespace);
+        self.unallocated -= namespace.capacity;
     }
 
     /// Refuses a delete by the first condition that holds.

@@ -3,15 +3,14 @@
 ghost use Rattle.std.specs.Prelude.{◌≡◌, ◌≤◌, ◌<◌, ◌∷◌, [], List, MatchOption, ℕ, length};
 ghost use Rattle.std.specs.FinMap as map_of;
 ghost use Rattle.nv_bits.specs.Above.{above};
-ghost use Rattle.nv_model.specs.Conditions.{concerned};
+ghost use Rattle.nv_model.specs.Conditions.{active_nsids, concerned};
 ghost use Rattle.nv_model.specs.State.{ascending};
 ghost use Rattle.nv_layout.specs.Limits.{most_nsids};
-ghost use Rattle.nv_layout.specs.NsList.{bytes_of_ns_list};
 
 use crate::subsystem::Subsystem;
 use nv_bits::{BitSet, Slots};
 use nv_command::BROADCAST_NSID;
-use nv_layout::{NamespaceIds, NsList, add_nsid};
+use nv_layout::NsList;
 use nv_model::Namespace;
 
 /// Numbers that can be listed in ascending order.
@@ -77,35 +76,26 @@ pub(crate) fn list_above<A: Ascending>(numbers: &A, after: u32, list: &mut NsLis
     }
 }
 
-/// Writes the bytes of the list of the numbers above `after`.
-pub(crate) fn put_above<A: Ascending>(numbers: &A, after: u32, page: &mut [u8; 4096])
-    requires { A.most numbers.now ≤ most_nsids }
-    ensures { page.new ≡ bytes_of_ns_list (above after (A.listed numbers.now)) }
-{
-    NamespaceIds::new(&[]).put(page);
-    let mut last = after;
-    for count in 0..numbers.len() {
-        let Some(nsid) = numbers.next_above(last) else {
-            break;
-        };
-        add_nsid(page, count as usize, nsid);
-        last = nsid;
-    }
-}
-
 impl Subsystem {
-    /// Returns the NSIDs that a command concerns. For the broadcast NSID these are all that are
-    /// active on the controller.
-    pub(crate) fn concerned(&self, ctrl: u16, nsid: u32) -> NsList
+    /// Writes the NSIDs above `after` that are active on a controller to `list`.
+    pub(crate) fn list_active(&self, ctrl: u16, after: u32, list: &mut NsList)
         requires { ctrl < length self.now.controllers }
-        ensures { result ≡ concerned self.now ctrl nsid }
+        ensures { list.new ≡ above after (active_nsids self.now ctrl) }
     {
-        let mut list = NsList::new();
+        list_above(&self.controllers[ctrl as usize].attached, after, list);
+    }
+
+    /// Writes the NSIDs that a command concerns to `list`. For the broadcast NSID these are all that
+    /// are active on the controller.
+    pub(crate) fn concerned(&self, ctrl: u16, nsid: u32, list: &mut NsList)
+        requires { ctrl < length self.now.controllers }
+        ensures { list.new ≡ concerned self.now ctrl nsid }
+    {
         if nsid == BROADCAST_NSID {
-            list_above(&self.controllers[ctrl as usize].attached, 0, &mut list);
+            self.list_active(ctrl, 0, list);
         } else {
+            list.clear();
             list.push(nsid);
         }
-        list
     }
 }

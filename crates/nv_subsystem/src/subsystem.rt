@@ -1,13 +1,14 @@
 //! A subsystem, and what its commands do.
 
-ghost use Rattle.std.specs.Prelude.{◌≡◌, ◌<◌, ◌≤◌, ◌^◌, [], length, None, IfOk, IfErr, false};
-ghost use Rattle.std.specs.Bool.{MatchBool};
-ghost use Rattle.nv_command.specs.Reply.{dword0_of, page_of};
+ghost use Rattle.std.specs.Prelude.{◌≡◌, ◌<◌, ◌≤◌, ◌^◌, length, None, IfOk, IfErr, false};
+ghost use Rattle.nv_command.specs.Reply.{dword0_of};
 ghost use Rattle.std.specs.Str.{is_utf8};
+ghost use Rattle.nv_model.specs.Answer.{answer_to};
 ghost use Rattle.nv_model.specs.LogEntry.{counts_of, log_entry_of};
 ghost use Rattle.nv_layout.specs.UnlessMemory.{IsUnlessMemory};
 ghost use Rattle.nv_file.specs.File.{IsBlankText, no_version};
 ghost use Rattle.nv_file.specs.FileValue.{file_view};
+ghost use Rattle.nv_subsystem.specs.Answer.{dword0_in};
 ghost use Rattle.nv_subsystem.specs.FromFile.{state_of, subsystem};
 ghost use Rattle.nv_subsystem.specs.Tagged.{booked, settled, untagged};
 ghost use Rattle.nv_file.specs.IsFile.{IsFile};
@@ -22,12 +23,11 @@ ghost use Rattle.nv_command.specs.Refusal.{IsRefusal};
 
 use crate::controller::Controller;
 use crate::from_file::{controllers, slots, unallocated};
-use crate::identify::check_list;
-use crate::nsid_lists::put_above;
+use crate::reply_place::ReplyPlace;
 use nv_bits::Slots;
 use nv_command::{Command, Refusal};
 use nv_file::{File, SubsystemError};
-use nv_layout::ErrorEntry;
+use nv_layout::{ErrorEntry, NsList};
 use nv_model::{Format, Namespace, Origin};
 use std::alloc::Global;
 use std::marker::Model;
@@ -164,67 +164,12 @@ impl Subsystem {
         1 <= nsid && nsid <= self.slots.count()
     }
 
-    /// Returns the first refusal of a command of a controller, or none if it is accepted.
-    pub fn refusal(&self, ctrl: u16, command: &Command) -> Option<Refusal>
-        requires { ctrl < length self.now.controllers }
-        ensures { result ≡ refusal_of self.now ctrl command.now }
-    {
-        match command {
-            Command::IdentifyController => None,
-            Command::IdentifyNamespace { nsid } => self.check_active(*nsid).err(),
-            Command::AllocatedNamespace { nsid } => self.check_allocated(*nsid).err(),
-            Command::ActiveList { after } => check_list(*after).err(),
-            Command::AllocatedList { after } => check_list(*after).err(),
-            Command::Create(wanted) => self.check_create(wanted).err(),
-            Command::Delete { nsid } => self.check_delete(*nsid).err(),
-            Command::Attachment { nsid, detach, list } => {
-                self.check_attachment(*nsid, *detach, list.as_slice()).err()
-            }
-            Command::Format(asked) => self.check_format(ctrl, asked).err(),
-            Command::GetFeature(asked) => self.check_get_feature(ctrl, *asked).err(),
-            Command::SetFeature(asked) => self.check_set_feature(ctrl, *asked).err(),
-            Command::GetLog(asked) => self.check_log(ctrl, *asked).err(),
-        }
-    }
-
-    /// Returns dword 0 of the reply to an accepted command.
-    pub fn dword0(&self, ctrl: u16, command: &Command) -> u32
-        requires { ctrl < length self.now.controllers }
-        ensures { result ≡ dword0_of (reply_of self.now ctrl command.now) }
-    {
-        match command {
-            Command::Create(_) => self.free_nsid().unwrap_or(0),
-            Command::GetFeature(asked) => self.feature_number(ctrl, *asked),
-            _ => 0,
-        }
-    }
-
-    /// Writes the page of the reply to an accepted command, and returns whether it has one. If it
-    /// has none, the contents of `page` don't matter afterwards.
-    pub fn put_page(&self, ctrl: u16, command: &Command, page: &mut [u8; 4096]) -> bool
-        requires { ctrl < length self.now.controllers }
-        ensures { let bytes = page_of (reply_of self.now ctrl command.now) in
-            MatchBool result (page.new ≡ bytes) (bytes ≡ []) }
-    {
-        match command {
-            Command::IdentifyController => {
-                self.put_id_ctrl(&self.controllers[ctrl as usize], page);
-            }
-            Command::IdentifyNamespace { nsid } => self.put_active(ctrl, *nsid, page),
-            Command::AllocatedNamespace { nsid } => self.allocated(*nsid).put(page),
-            Command::ActiveList { after } => {
-                put_above(&self.controllers[ctrl as usize].attached, *after, page);
-            }
-            Command::AllocatedList { after } => put_above(&self.slots, *after, page),
-            _ => return false,
-        }
-        true
-    }
-
-    /// Makes the changes of a command that isn't refused.
-    fn apply(&mut self, ctrl: u16, command: &Command)
+    /// Makes the changes of a command that isn't refused. `number` is dword 0 of its reply, and
+    /// `list` is used on the way.
+    fn apply(&mut self, ctrl: u16, command: &Command, number: u32, list: &mut NsList)
         requires ctrl { ctrl < length self.old.controllers }
         requires accepted { refusal_of self.old ctrl command.now ≡ None }
+        requires number { number ≡ dword0_of (reply_of self.old ctrl command.now) }
         ensures { self.new ≡ effect_of self.old ctrl command.now }
     {
         match command {
@@ -233,14 +178,14 @@ impl Subsystem {
             Command::AllocatedNamespace { nsid: _ } => {}
             Command::ActiveList { after: _ } => {}
             Command::AllocatedList { after: _ } => {}
-            Command::Create(wanted) => self.create(wanted),
+            Command::Create(wanted) => self.create(wanted, number),
             Command::Delete { nsid } => self.delete(*nsid),
             Command::Attachment { nsid, detach, list } => {
                 self.change_attachment(*nsid, *detach, list.as_slice());
             }
-            Command::Format(asked) => self.format(ctrl, asked),
+            Command::Format(asked) => self.format(ctrl, asked, list),
             Command::GetFeature(_) => {}
-            Command::SetFeature(asked) => self.set_feature(ctrl, *asked),
+            Command::SetFeature(asked) => self.set_feature(ctrl, *asked, list),
             Command::GetLog(_) => {}
         }
     }
@@ -279,20 +224,30 @@ impl Subsystem {
     }
 
     /// Completes a command that was answered: makes its changes, or records its refusal in the
-    /// error log of the controller. The controller counts the command in both cases.
-    pub fn settle(&mut self, ctrl: u16, command: &Command, origin: Origin, refusal: Option<Refusal>)
+    /// error log of the controller. The controller counts the command in both cases. `told` is what
+    /// `answer` returned, with dword 0 in place of the reply. `place` is used on the way.
+    pub fn settle(
+        &mut self,
+        ctrl: u16,
+        command: &Command,
+        origin: Origin,
+        told: Result<u32, Refusal>,
+        place: &mut ReplyPlace,
+    )
         requires ctrl { ctrl < length self.old.controllers }
-        requires answered { refusal ≡ refusal_of self.old ctrl command.now }
-        ensures state { self.new ≡ settled self.old ctrl command.now origin refusal }
+        requires answered { told ≡ dword0_in (answer_to self.old ctrl command.now) }
+        ensures state { self.new
+            ≡ settled self.old ctrl command.now origin (refusal_of self.old ctrl command.now) }
         ensures without_tags { untagged self.new
             ≡ (step (untagged self.old) ctrl command.now origin.cid).state }
         ensures well_formed { IsWellFormed self.old → IsWellFormed self.new }
     {
-        if let Some(refusal) = refusal {
-            self.refuse(ctrl, origin, command.nsid(), refusal);
-        } else {
-            self.apply(ctrl, command);
-            self.count(ctrl);
+        match told {
+            Ok(number) => {
+                self.apply(ctrl, command, number, &mut place.list);
+                self.count(ctrl);
+            }
+            Err(refusal) => self.refuse(ctrl, origin, command.nsid(), refusal),
         }
     }
 }

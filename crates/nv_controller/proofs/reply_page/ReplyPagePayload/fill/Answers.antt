@@ -5,5 +5,5 @@ use Rattle.nv_controller.proofs.reply_page.ReplyPagePayload.fill.Goals as goal
 pub returns-in-Some : goal.returns-in-Some
 returns-in-Some c =
     let long = c.in-Some.ensures.variant in
-    whole_page c.put_page.result c.put_page.new.page _ c.args.at _ c.put_page.ensures
+    whole_page c.put.result c.put.new.page _ c.args.at _ c.put.ensures
     (grind (arith, long)) (grind (arith, long)) c.requires

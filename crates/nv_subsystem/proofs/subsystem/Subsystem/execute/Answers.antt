@@ -1,20 +1,14 @@
-use Rattle.std.proofs.Common.{◌∙◌, ap, rules}
+use Rattle.std.proofs.Common.{Ok, ◌∙◌, ap}
 use Rattle.nv_model.specs.Answer.{answer_without_phases}
 use Rattle.nv_subsystem.proofs.TaggedLaws.{answer_untagged}
 use Rattle.nv_subsystem.proofs.subsystem.Subsystem.execute.Goals as goal
 
-pub returns-in-None-clause-answer : goal.returns-in-None-clause-answer
-returns-in-None-clause-answer c = search rules
-
-pub returns-in-Some-clause-answer : goal.returns-in-Some-clause-answer
-returns-in-Some-clause-answer c = search rules
-
-pub returns-in-None-clause-answer_without_tags : goal.returns-in-None-clause-answer_without_tags
-returns-in-None-clause-answer_without_tags c =
-    ap answer_without_phases (returns-in-None-clause-answer c)
+pub returns-in-Ok-clause-answer_without_tags : goal.returns-in-Ok-clause-answer_without_tags
+returns-in-Ok-clause-answer_without_tags c =
+    ap answer_without_phases (ap Ok (c.reply.ensures ∙ c.keep.ensures) ∙ c.in-Ok.ensures)
     ∙ answer_untagged c.args.self.now c.args.ctrl c.args.command.now
 
-pub returns-in-Some-clause-answer_without_tags : goal.returns-in-Some-clause-answer_without_tags
-returns-in-Some-clause-answer_without_tags c =
-    ap answer_without_phases (returns-in-Some-clause-answer c)
+pub returns-in-Err-clause-answer_without_tags : goal.returns-in-Err-clause-answer_without_tags
+returns-in-Err-clause-answer_without_tags c =
+    ap answer_without_phases c.in-Err.ensures
     ∙ answer_untagged c.args.self.now c.args.ctrl c.args.command.now
