@@ -1,6 +1,6 @@
 -- Commands and resets of a driver, over the queue pairs of its controllers.
 use Rattle.std.proofs.Common.{◌≡◌, ◌≢◌, ◌∙◌, ◌⊎◌, ℕ, ◌+◌, ◌-◌, ◌*◌, ◌<◌, ◌≤◌, List, ap, arith, get_or, inl, inr, length}
-use Rattle.std.proofs.Common.{map, refl, subst, sym}
+use Rattle.std.proofs.Common.{[], map, refl, subst, sym}
 use Rattle.std.proofs.Math.ListN.{length-set}
 use Rattle.std.proofs.lemmas.List.{get_or-set_other, map-set}
 use Rattle.std.proofs.lemmas.List.Elements.{All-set}
@@ -11,13 +11,13 @@ use Rattle.nv_driver.proofs.Words.{IsQuiet, IsReady, KeepsBelow, PagedBytes, Que
 use Rattle.nv_driver.proofs.Words.{bank_at, cases_eq, cases_lt, driver_value, end_of, get_or-map, get_or-set_same}
 use Rattle.nv_driver.proofs.Words.{get_or_default, idle_bank, length-map, mps_of, mul-le-mul_right, new_bank}
 use Rattle.nv_driver.proofs.Words.{pair_value, side, slice_set}
-use Rattle.nv_driver.specs.BringingUp.{Write}
+use Rattle.nv_driver.specs.BringingUp.{BusTurn, TailWrite, Write}
 use Rattle.nv_driver.specs.Driver.{IsPlaced, after_commands, pair_at, no_pair}
-use Rattle.nv_driver.specs.Passing.{BusTurn, TailWrite}
+use Rattle.nv_driver.specs.Passing.{GoesAlone, Passes}
 use Rattle.nv_driver.specs.Sending.{Sends, SendsAll}
-use Rattle.nv_driver.proofs.Words.{Command, World, run_of}
+use Rattle.nv_driver.proofs.Words.{Command, Sqe, World, run_of}
 use Rattle.nv_driver.specs.Linked.{IsLinked}
-use Rattle.nv_driver.specs.Layout.{pages_of_command, set_pages}
+use Rattle.nv_driver.specs.Layout.{pages_of, pages_of_command, set_pages}
 use Rattle.nv_driver.specs.Registers.{banks_of}
 use Rattle.nv_driver.specs.Settled.{IsSettled}
 use Rattle.nv_driver.specs.inner.Exchange.{Side}
@@ -78,6 +78,23 @@ module _ {g : Geometry} {mem : PagedBytes} {ls : List QueuePairFields} {d : Driv
     own = sym pair_is;
     steps = subst (λ q. SendsAll wrote rang turned (run_of q c b l bytes commands) old new last)
         (shape_at ∙ ap (λ (v : DriverValue). v.geometry) value) steps;
+  }
+
+  -- an entry that went over the queue pair on its own was passed through by the driver
+  pub passes_by : {B : Type 0} {wrote : Write B} {rang : TailWrite B} {turned : BusTurn B} {b : BusValue}
+      {bytes : List ℕ} {e : Sqe} {given : List ℕ} {first : ℕ} {old new : B} → IsQuiet l
+      → first ≡ pages_of d.geometry (length d.pairs)
+      → (last : World) × GoesAlone wrote rang turned (run_of l.geometry c b l bytes []) e given first old new last
+      → Passes wrote rang turned d c e given b old new
+  passes_by {wrote = wrote} {rang} {turned} {b} {bytes} {e} {given} {first} {old} {new} quiet begin went = record {
+    pair = l;
+    bytes = bytes;
+    last = went.0;
+    quiet = quiet;
+    own = sym pair_is;
+    steps = subst (λ n. GoesAlone wrote rang turned (run_of d.geometry c b l bytes []) e given n old new went.0) begin
+        (subst (λ q. GoesAlone wrote rang turned (run_of q c b l bytes []) e given first old new went.0)
+        (shape_at ∙ ap (λ (v : DriverValue). v.geometry) value) went.1);
   }
 
   -- what a call leaves by the queue pair's geometry is left by the driver's

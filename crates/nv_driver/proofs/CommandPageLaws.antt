@@ -11,7 +11,7 @@ use Rattle.nv_driver.specs.CommandPages.{all_pages}
 use Rattle.nv_driver.specs.declared.command_pages.CommandPages.{CommandPages}
 use Rattle.nv_driver.specs.Layout.{data_count}
 use Rattle.nv_driver.specs.Submitting.{place_in}
-use Rattle.nv_driver.specs.UnderWay.{IsKept, Run}
+use Rattle.nv_driver.specs.UnderWay.{LiesInPages, Run}
 use Rattle.nv_driver.proofs.ShareLaws.{data_fits}
 use Rattle.nv_driver.proofs.SubmittingLaws.{AreFrom}
 
@@ -27,7 +27,7 @@ first_two (a ∷ []) h = absurd (omega arith)
 first_two (a ∷ b ∷ rest) h = refl
 
 -- the pages of a command that was sent
-pub own_is : {r : Run} {x : Sent} (k : IsKept r x) → own_pages x ≡ k.pages
+pub own_is : {r : Run} {x : Sent} (k : LiesInPages r x) → own_pages x ≡ k.pages
 own_is k = ap own_pages k.sent ∙ first_two k.pages (omega (arith, k.many))
 
 -- a page of a set lies in a memory that has all pages of the set

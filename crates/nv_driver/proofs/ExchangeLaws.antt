@@ -16,14 +16,14 @@ use Rattle.nv_driver.proofs.Words.{pages_of_entry, pair_value, place_in, places,
 use Rattle.nv_driver.proofs.Words.{sent_for, setting_of, side, slice_set, step_of, transfer_for, way, with_register_at}
 use Rattle.nv_queue.specs.Numbers.{next, slot_of}
 use Rattle.nv_queue.specs.Slots.{submission_at}
-use Rattle.nv_driver.specs.BringingUp.{Write}
-use Rattle.nv_driver.specs.Passing.{BusTurn, HoldsEntry, Passes, TailWrite}
-use Rattle.nv_driver.specs.inner.Alone.{IsAlone, IsExchanged, came_with, entry_pages, request_in}
+use Rattle.nv_driver.specs.BringingUp.{BusTurn, TailWrite, Write}
+use Rattle.nv_driver.specs.Passing.{GoesAlone, entry_pages}
+use Rattle.nv_driver.specs.inner.Alone.{IsExchanged, came_with}
 use Rattle.nv_driver.specs.Alone.{Comes, IsReceived, asked_in, entry_step}
 use Rattle.nv_driver.specs.Layout.{data_count}
 use Rattle.nv_driver.specs.Request.{request_for}
-use Rattle.nv_driver.specs.Schedule.{Doing, bytes_read}
-use Rattle.nv_driver.specs.UnderWay.{Course, world_of}
+use Rattle.nv_driver.specs.Schedule.{Doing, World, bytes_read}
+use Rattle.nv_driver.specs.UnderWay.{Calls, Course, world_of}
 use Rattle.nv_driver.proofs.Words.{Bell, Collect, Submit, Tell, Turn}
 use Rattle.nv_driver.specs.HostData.{sent_by}
 use Rattle.nv_driver.specs.inner.Submitting.{request_as}
@@ -33,7 +33,7 @@ use Rattle.nv_driver.proofs.RequestLaws.{every_entry}
 use Rattle.nv_driver.proofs.KeptLaws.{number_zero}
 use Rattle.nv_driver.proofs.PointerLaws.{entry_places}
 use Rattle.nv_driver.proofs.OnWayLaws.{answer_next, begins, collects_on, completion_is, held, left_after}
-use Rattle.nv_driver.proofs.OnWayLaws.{rings, submits_on, tells_on, turned}
+use Rattle.nv_driver.proofs.OnWayLaws.{submits_on, tells_on}
 use Rattle.nv_driver.proofs.PaddingLaws.{length-padded}
 use Rattle.nv_driver.proofs.CommandPageLaws.{from_first, place_of_range}
 use Rattle.nv_driver.proofs.ShareLaws.{data_fits}
@@ -60,10 +60,6 @@ comes_by (Ok k) (Err refused) status bytes is sound delivered = rw (is, sound.1)
 comes_by (Err code) (Ok reply) status bytes is sound delivered = absurd sound
 comes_by (Err code) (Err refused) status bytes is sound delivered = rw (is, sound.1) refl
 
--- nothing is said of an event
-abbrev pub ever : Doing (Unit {0})
-ever e w w' old new = Unit {0}
-
 -- an entry was submitted over a queue pair without outstanding commands, with its data in pages after the queue
 -- pair, from this one on
 pub record IsBegun (g : Geometry) (bus : BusValue) (c : ℕ) (l : QueuePairFields) (bytes : List ℕ) (e : Sqe)
@@ -76,7 +72,8 @@ pub record IsBegun (g : Geometry) (bus : BusValue) (c : ℕ) (l : QueuePairField
   pub sub : IsSubmittedAt g.page_size (place_in g (entry_pages g lowest e)) (request_for (limit_of bus.state c) e given)
       l l' bytes mem now1 tail
 
-module _ {g : Geometry} {bus : BusValue} {c : ℕ} {l : QueuePairFields} {bytes : List ℕ} {e : Sqe} {given : List ℕ}
+module _ {B : Type 0} (wrote : Write B) (rang : TailWrite B) (turned : BusTurn B) (start : B) {g : Geometry}
+    {bus : BusValue} {c : ℕ} {l : QueuePairFields} {bytes : List ℕ} {e : Sqe} {given : List ℕ}
     {lowest now now1 tail : ℕ} {l' : QueuePairFields} {mem : List ℕ}
     (b : IsBegun g bus c l bytes e given lowest now l' mem now1 tail) where
   -- the controller is ready, with no command outstanding
@@ -108,93 +105,49 @@ module _ {g : Geometry} {bus : BusValue} {c : ℕ} {l : QueuePairFields} {bytes 
   can = every_entry (limit_of bus.state c) e given (limit_bounds bus.state c ready.bus.state
       (omega (arith, ready.controller, ready.bus.banks))).1 b.fits
 
+  -- an event of it is done by its calls
+  abbrev pub doing : Doing B
+  doing before = Calls wrote rang turned t
+
   -- the request was submitted, the tail doorbell was rung, and the controller had a turn
   abbrev pub one_sent : Course
   one_sent = record { sent = sent ∷ []; answers = []; events = Turn 1 ∷ Bell ∷ Submit sent ∷ [] }
 
   -- the request was submitted
-  submitted : IsOnWay ever tt (way run (record { sent = sent ∷ []; answers = []; events = Submit sent ∷ [] }) 0 0 0) bus
-      tt l' now1 mem
-  submitted = submits_on (begins {doing = ever} {start = tt} [] ready) b.sub can b.place no_lower
-      (omega (arith, b.last)) (omega (arith, ready.laid.deep.0)) (λ n d from below. absurd (omega arith)) tt
+  submitted : IsOnWay doing start (way run (record { sent = sent ∷ []; answers = []; events = Submit sent ∷ [] }) 0 0 0)
+      bus start l' now1 mem
+  submitted = submits_on (begins {doing = doing} {start = start} [] ready) b.sub can b.place no_lower
+      (omega (arith, b.last)) (omega (arith, ready.laid.deep.0)) (λ n d from below. absurd (omega arith)) refl
 
   -- the tail doorbell was rung for it, and the controller had a turn, which took it
-  pub took : {now2 count : ℕ} {one two : BusValue} {mem2 : List ℕ} → one.state ≡ bus.state
+  pub took : {now2 count : ℕ} {one two : BusValue} {rung taken : B} {mem2 : List ℕ} → one.state ≡ bus.state
       → one.banks ≡ slice_set bus.banks c (with_register_at (bank_at bus.banks c) 0x1000 tail)
-      → (IsBus bus → IsBus one) → T.Turn now1 c 1 count one mem two mem2 → IsBus two → length mem2 ≡ length mem
-      → now2 ≡ now1 → IsOnWay ever tt (way run one_sent 1 1 0) two tt l' now2 mem2 × (count ≡ 1)
-  took {now2} {count = count} {two = two} {mem2 = mem2} state banks rung turn lawful size page =
-      let begin = begins {doing = ever} {start = tt} [] ready in
-      let next = turned (rings submitted {on' = tt} refl (W.tail_after begin b.sub.tail) state banks rung tt)
-      {on' = tt} refl refl turn lawful size page tt in
+      → (IsBus bus → IsBus one) → wrote start c 0x1000 tail rung → rang start mem rung
+      → T.Turn now1 c 1 count one mem two mem2 → turned rung mem c 1 count taken mem2 → IsBus two
+      → length mem2 ≡ length mem → now2 ≡ now1 → IsOnWay doing start (way run one_sent 1 1 0) two taken l' now2 mem2
+  took {now2} {count = count} {two = two} {rung = rung} {taken} {mem2 = mem2} state banks lawful its_write its_ring turn
+      its_turn lawful_then size page =
+      let put = W.tail_after (begins {doing = doing} {start = start} [] ready) b.sub.tail in
+      let next = W.turned (W.rings submitted {on' = rung} refl put state banks lawful
+      (subst (λ n. wrote start c 0x1000 n rung) put its_write, its_ring))
+      {on' = taken} refl refl turn lawful_then size page (count, refl, its_turn) in
       let deep = ready.laid.deep in
       let one : count ≡ 1 = omega (arith, next.1, deep.0) in
-      (subst (λ n. IsOnWay ever tt (way run one_sent 1 n 0) two tt l' now2 mem2) (omega (arith, one)) next.0, one)
-
-  -- ---- its calls
-
-  -- the memory holds the entry in the ring's next slot, and its data where its data pointer says
-  holds_entry : HoldsEntry l.geometry.page_size (pair_value l) e given mem
-  holds_entry =
-      let k = submitted.keeps in
-      let here = subst (λ n. submission_at mem l.submission.base (slot_of l.submission.depth n) ≡ entry sent)
-      (sym (number_zero t ready.laid.number)) (k.waiting 0 sent (omega arith) (omega arith)) in
-      subst (λ n. HoldsEntry n (pair_value l) e given mem) (ap (λ (q : Geometry). q.page_size) (sym ready.shape))
-      (record {
-        prp1 = b.sub.prp1;
-        prp2 = b.sub.prp2;
-        places = places g.page_size sent;
-        entry = here;
-        named = subst (λ q. data_places g.page_size mem q (transfer_for e) ≡ Ok (places g.page_size sent)) (sym here)
-            (entry_places t sent mem can (k.named 0 sent (omega arith) (omega arith)));
-        sent = k.to_send 0 sent (omega arith) (omega arith);
-      })
-
-  -- the head that the host writes is the slot of the next number
-  head_next : (q : ℕ) {l1 : QueuePairFields}
-      → l1 ≡ record l' { submission = known_to l'.submission q; completion = collected_one l'.completion }
-      → slot_of l1.completion.depth l1.completion.collected
-      ≡ slot_of l.submission.depth (next l.submission.depth l.submission.submitted)
-  head_next q first =
-      let quiet = ready.quiet in
-      ap (λ (o : QueuePairFields). slot_of o.completion.depth o.completion.collected) first
-      ∙ ap (λ (o : QueuePairFields). slot_of o.completion.depth (next o.completion.depth o.completion.collected))
-      b.sub.pair
-      ∙ ap (λ n. slot_of n (next n l.completion.collected)) quiet.depth
-      ∙ ap (λ n. slot_of l.submission.depth (next l.submission.depth n)) quiet.collected
-
-  -- the entry was passed through call by call
-  pub passes : {B : Type 0} (wrote : Write B) (rang : TailWrite B) (took_turn : BusTurn B) (q : ℕ)
-      {old rung taken new : B} {count : ℕ} {mem2 : List ℕ} {l1 : QueuePairFields} → wrote old c 0x1000 tail rung
-      → rang old mem rung → count ≡ 1 → took_turn rung mem c 1 count taken mem2
-      → l1 ≡ record l' { submission = known_to l'.submission q; completion = collected_one l'.completion }
-      → (l1.completion.untold ≡ true → wrote taken c 0x1004 (slot_of l1.completion.depth l1.completion.collected) new)
-      → Passes wrote rang took_turn c (pair_value l) e given old new
-  passes wrote rang took_turn q {old} {rung} {taken} {new} {mem2 = mem2} told_tail rang_tail one turn first
-      told_head = (
-        rung,
-        taken,
-        mem,
-        mem2,
-        subst (λ n. wrote old c 0x1000 n rung) b.sub.tail told_tail,
-        rang_tail,
-        holds_entry,
-        subst (λ n. took_turn rung mem c 1 n taken mem2) one turn,
-        subst (λ n. wrote taken c 0x1004 n new) (head_next q first)
-            (told_head (ap (λ (o : QueuePairFields). o.completion.untold) first)),
-      )
+      subst (λ n. IsOnWay doing start (way run one_sent 1 n 0) two taken l' now2 mem2) (omega (arith, one)) next.0
 
   -- ---- the end
 
   -- its completion was collected and reported
-  module _ {now2 : ℕ} {two bus' : BusValue} {mem2 : List ℕ} {l1 q' : QueuePairFields} {completion : Cqe}
-      (u : IsOnWay ever tt (way run one_sent 1 1 0) two tt l' now2 mem2)
+  module _ {now2 : ℕ} {two bus' : BusValue} {taken : B} {mem2 : List ℕ} {l1 q' : QueuePairFields} {completion : Cqe}
+      (u : IsOnWay doing start (way run one_sent 1 1 0) two taken l' now2 mem2)
       (awaited : completion ≡ awaited_completion mem2 l'.completion)
       (first : l1 ≡ record l' {
         submission = known_to l'.submission completion.sq_head;
         completion = collected_one l'.completion;
       })
-      (reported : IsTold c l1 two q' bus') where
+      (reported : IsTold c l1 two q' bus') {after : B}
+      (its_write : l1.completion.untold ≡ true
+      → wrote taken c 0x1004 (slot_of l1.completion.depth l1.completion.collected) after) where
     -- one request is more than none
     one : 0 < 1
     one = omega arith
@@ -205,18 +158,25 @@ module _ {g : Geometry} {bus : BusValue} {c : ℕ} {l : QueuePairFields} {bytes 
         record { sent = sent ∷ []; answers = answer_next u one ∷ []; events = Tell ∷ Collect ∷ one_sent.events }
 
     -- the request is on its way with its answer collected and reported
-    on_way : IsOnWay ever tt (way run one_collected 1 1 1) bus' tt q' now2 mem2
-    on_way = tells_on (collects_on u one awaited first tt) refl (omega arith) reported tt
+    on_way : IsOnWay doing start (way run one_collected 1 1 1) bus' after q' now2 mem2
+    on_way =
+        let v = collects_on u one awaited first refl in
+        tells_on v {on' = after} refl (omega arith) reported
+        (subst (λ n. wrote taken c 0x1004 n after) (W.head_at v) (its_write (W.untold_is v (omega arith))))
 
-    -- these events ran from the memory before the request to the one after it, over this controller alone
-    alone : IsAlone g c (request_in g c e given lowest (side bus l now bytes) b.sub.prp1 b.sub.prp2)
-        (side bus l now bytes) (side bus' q' now2 mem2)
-    alone = record {
-      points = record { list = λ m. b.sub.list; none = b.sub.pointer };
-      last = world_of (way run one_collected 1 1 1) bus' mem2;
-      ran = on_way.ran;
-      seen = record { mem = refl; state = refl; bank = refl };
-    }
+    -- the entry went on its own, from the bus and the memory before it to those after it
+    pub goes_alone : (last : World) × GoesAlone wrote rang turned run e given lowest start after last
+    goes_alone = (
+      world_of (way run one_collected 1 1 1) bus' mem2,
+      record {
+        prp1 = b.sub.prp1;
+        prp2 = b.sub.prp2;
+        points = record { list = λ m. b.sub.list; none = b.sub.pointer };
+        ran = on_way.ran;
+        collected = refl;
+        told = refl;
+      },
+    )
 
     -- its completion and its data hold the answer of its step
     answer : IsAnswered g.page_size sent mem2 completion (step_of c bus.state (numbered sent)).answer
@@ -265,30 +225,29 @@ module _ {g : Geometry} {bus : BusValue} {c : ℕ} {l : QueuePairFields} {bytes 
         (buffer_places now2 at.pages at.offset (length_of (transfer_for e)))))
         → IsExchanged g c e given lowest (side bus l now bytes) (side bus' q' now2 mem2)
         (told completion.command_specific completion.status) out
-    exchanged n filled =
-        record {
-          answer = told_is;
-          received = received_by n on_way.page_size filled;
-          state = on_way.keeps.state;
-          prp1 = b.sub.prp1;
-          prp2 = b.sub.prp2;
-          alone = alone;
-          left = left_after 1 on_way refl refl refl refl refl pages_stay ready.page_size others_stay;
-        }
+    exchanged n filled = record {
+      answer = told_is;
+      received = received_by n on_way.page_size filled;
+      state = on_way.keeps.state;
+      left = left_after 1 on_way refl refl refl refl refl pages_stay ready.page_size others_stay;
+    }
 
 -- an entry was submitted at its place, and a turn took it
-pub record IsTaken (at : RequestPlace) (g : Geometry) (bus : BusValue) (c : ℕ) (l : QueuePairFields) (bytes : List ℕ)
-    (e : Sqe) (given : List ℕ) (lowest now : ℕ) (l' : QueuePairFields) (mem : List ℕ) (now1 tail count : ℕ)
+pub record IsTaken {B : Type 0} (wrote : Write B) (rang : TailWrite B) (turned : BusTurn B) (start taken : B)
+    (at : RequestPlace) (g : Geometry) (bus : BusValue) (c : ℕ) (l : QueuePairFields) (bytes : List ℕ)
+    (e : Sqe) (given : List ℕ) (lowest now : ℕ) (l' : QueuePairFields) (mem : List ℕ) (now1 tail : ℕ)
     (two : BusValue) (now2 : ℕ) (mem2 : List ℕ) : Type 0 where
   pub there : at ≡ place_in g (entry_pages g lowest e)
   pub begun : IsBegun g bus c l bytes e given lowest now l' mem now1 tail
-  pub on_way : IsOnWay ever tt (way (run begun) (one_sent begun) 1 1 0) two tt l' now2 mem2
-  pub one : count ≡ 1
+  pub on_way : IsOnWay (doing wrote rang turned start begun) start
+      (way (run wrote rang turned start begun) (one_sent wrote rang turned start begun) 1 1 0) two taken l' now2 mem2
 
 -- a queue pair without outstanding commands has a free slot
 pub has_slot : {g : Geometry} {bus : BusValue} {c : ℕ} {l : QueuePairFields} {bytes : List ℕ} {now : ℕ}
     → IsReady g bus c l now bytes → HasFreeSlot l bytes
-has_slot ready = W.free_slot (W.begins {doing = ever} {start = tt} [] ready) (omega (arith, ready.laid.deep.0))
+has_slot ready =
+    let nothing : Doing (Unit {0}) = λ before e w w' old new. Unit {0} in
+    W.free_slot (W.begins {doing = nothing} {start = tt} [] ready) (omega (arith, ready.laid.deep.0))
 
 -- ---- the place of its data
 
@@ -300,7 +259,7 @@ module _ {g : Geometry} {c lowest len count : ℕ} {e : Sqe} {bus : BusValue} {l
     {p : Geometry} (shape : p ≡ g) (many : count ≡ data_count p len + 2)
     (numbers : pages ≡ range_with_len lowest count) (place : at ≡ place_in p pages) where
   -- the place is the place of the entry's data
-  pub there : at ≡ place_in g (entry_pages g lowest e)
+  there : at ≡ place_in g (entry_pages g lowest e)
   there = place ∙ ap (λ o. place_in o pages) shape
       ∙ ap (place_in g) (numbers ∙ ap (range_with_len lowest) (many ∙ ap (λ o. data_count o len + 2) shape
       ∙ ap (λ n. data_count g n + 2) (long ∙ ap length_of moves)))
@@ -322,12 +281,15 @@ module _ {g : Geometry} {c lowest len count : ℕ} {e : Sqe} {bus : BusValue} {l
   pub begun_by : {given mem : List ℕ} {now1 tail : ℕ} {l' : QueuePairFields}
       → sent_by q.sends ≡ sent_for (transfer_for e) given
       → ((asked : Asked) → IsSubmittedAt now at (request_as q asked) l l' bytes mem now1 tail)
-      → IsBegun g bus c l bytes e given lowest now l' mem now1 tail
-  begun_by {given = given} sends sub = record {
-    ready = ready;
-    fits = fits;
-    place = fits_there;
-    last = last;
-    sub = submitted_as ready.page_size there (requests_same entry moves sends)
-        (sub (asked_by (limit_of bus.state c) e (sent_for (transfer_for e) given)));
-  }
+      → (at ≡ place_in g (entry_pages g lowest e)) × IsBegun g bus c l bytes e given lowest now l' mem now1 tail
+  begun_by {given = given} sends sub = (
+    there,
+    record {
+      ready = ready;
+      fits = fits;
+      place = fits_there;
+      last = last;
+      sub = submitted_as ready.page_size there (requests_same entry moves sends)
+          (sub (asked_by (limit_of bus.state c) e (sent_for (transfer_for e) given)));
+    },
+  )

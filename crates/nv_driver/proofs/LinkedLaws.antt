@@ -50,15 +50,15 @@ all_enabled b d is = ap enabled_in is.left ∙ each d.pairs ∙ ap (λ n. replic
     each (l ∷ ls) = ap (λ xs. true ∷ xs) (each ls)
 
 -- a queue pair's next command identifier is that of its controller
-pub cid_at : (d : DriverValue) (c : ℕ) → c < length d.pairs
+pub next_cid_is : (d : DriverValue) (c : ℕ) → c < length d.pairs
     → (pair_at d.pairs c).next_cid ≡ get_or (next_cids_of d) c 0
-cid_at d c below = sym (get_or-map next_cid d.pairs c no_pair 0 below)
+next_cid_is d c below = sym (get_or-map next_cid d.pairs c no_pair 0 below)
 
 -- the command identifiers after a command: the controller's next one is due
 pub cids_after : (d after : DriverValue) (c : ℕ) → c < length d.pairs → after ≡ after_command d c
     → next_cids_of after ≡ set (next_cids_of d) c (cid_after (get_or (next_cids_of d) c 0))
 cids_after d after c below is = ap next_cids_of is ∙ map-set next_cid d.pairs c (after_one (pair_at d.pairs c))
-    ∙ ap (λ n. set (next_cids_of d) c (cid_after n)) (cid_at d c below)
+    ∙ ap (λ n. set (next_cids_of d) c (cid_after n)) (next_cid_is d c below)
 
 -- a reset doesn't change the next command identifiers
 pub cids_reset : (d after : DriverValue) (c : ℕ) → after ≡ after_reset d c → next_cids_of after ≡ next_cids_of d

@@ -148,7 +148,7 @@ module _ {B : Type 0} {doing : Doing B} {start on : B} {w : Way} {bus : BusValue
       → length w.course.sent + 1 < length w.course.answers + t.depth
       → ((n : ℕ) (d : Sent) → length w.course.answers ≤ n → n < length w.course.sent
       → AreApart (get_or w.course.sent n d) (sent_at at q l.next_cid sub.prp1 sub.prp2))
-      → doing (Submit (sent_at at q l.next_cid sub.prp1 sub.prp2)) world (world_of (more_sent
+      → doing w.course.events (Submit (sent_at at q l.next_cid sub.prp1 sub.prp2)) world (world_of (more_sent
       (sent_at at q l.next_cid sub.prp1 sub.prp2)) bus mem) on on
       → IsOnWay doing start (more_sent (sent_at at q l.next_cid sub.prp1 sub.prp2)) bus on l' now' mem
   submits_on {first = first} {at} {q} {mem = mem} {s} sub can its_place from behind free apart its_time =
@@ -221,7 +221,7 @@ module _ {B : Type 0} {doing : Doing B} {start on : B} {w : Way} {bus : BusValue
   pub rings : {bus' : BusValue} {on' : B} {c value : ℕ} → c ≡ w.run.controller → value ≡ slot t (length w.course.sent)
       → bus'.state ≡ bus.state
       → bus'.banks ≡ slice_set bus.banks c (with_register_at (bank_at bus.banks c) 0x1000 value)
-      → (IsBus bus → IsBus bus') → doing Bell world (world_of rung_way bus' bytes) on on'
+      → (IsBus bus → IsBus bus') → doing w.course.events Bell world (world_of rung_way bus' bytes) on on'
       → IsOnWay doing start rung_way bus' on' l now bytes
   rings {bus'} {on'} same put state banks lawful its_time =
       let v = rung_way in
@@ -260,7 +260,8 @@ module _ {B : Type 0} {doing : Doing B} {start on : B} {w : Way} {bus : BusValue
   -- the head doorbell was rung for all collected answers
   pub tells_on : {bus' : BusValue} {on' : B} {l' : QueuePairFields} {c : ℕ} → c ≡ w.run.controller
       → w.told < length w.course.answers → IsTold c l bus l' bus'
-      → doing Tell world (world_of told_way bus' bytes) on on' → IsOnWay doing start told_way bus' on' l' now bytes
+      → doing w.course.events Tell world (world_of told_way bus' bytes) on on'
+      → IsOnWay doing start told_way bus' on' l' now bytes
   tells_on {bus'} {on'} same some h its_time =
       let n = length w.course.answers in
       let v = told_way in
@@ -283,7 +284,7 @@ module _ {B : Type 0} {doing : Doing B} {start on : B} {w : Way} {bus : BusValue
   -- the controller had a turn, which took as many entries as it could
   pub turned : {bus' : BusValue} {on' : B} {now' asked most count c : ℕ} {mem : List ℕ} → c ≡ w.run.controller
       → asked ≡ most → T.Turn now c asked count bus bytes bus' mem → IsBus bus' → length mem ≡ length bytes → now' ≡ now
-      → doing (Turn most) world (world_of (turned_way most count) bus' mem) on on'
+      → doing w.course.events (Turn most) world (world_of (turned_way most count) bus' mem) on on'
       → IsOnWay doing start (turned_way most count) bus' on' l now' mem
       × (count ≡ min most (min (w.rung - w.done) (w.run.pair.submission.depth - 1 - (w.done - w.told))))
   turned {bus'} {on'} {now'} {asked} {most} {count} {c} {mem} same pace turn lawful size page its_time =
@@ -362,7 +363,7 @@ module _ {B : Type 0} {doing : Doing B} {start on : B} {w : Way} {bus : BusValue
           completion = collected_one l.completion;
           pages = s;
         }
-        → doing Collect world (world_of collected_way bus bytes) on on
+        → doing w.course.events Collect world (world_of collected_way bus bytes) on on
         → IsOnWay doing start collected_way bus on l' now bytes
     collects_on {l'} {q} {s} is first its_time =
         let m = length w.course.sent in

@@ -20,6 +20,11 @@ module _ {g : Geometry} {mem : PagedBytes} {ls : List QueuePairFields} {d : Driv
   after_all = begin
       ∙ ap (pages_of g) (many ∙ ap (λ (v : DriverValue). length v.pairs) (sym value) ∙ length-map ls pair_value)
 
+  -- the driver's value says where they begin
+  pub first_is : first ≡ pages_of d.geometry (length d.pairs)
+  first_is = begin ∙ ap (pages_of g) many
+      ∙ ap (λ (v : DriverValue). pages_of v.geometry (length d.pairs)) value
+
   -- the pages of a queue pair end before those after all queue pairs
   pub behind_last : {c : ℕ} {l : QueuePairFields} → c < length d.pairs → l ≡ get_or ls c l
       → l.pages.first + l.pages.count ≤ first

@@ -11,11 +11,10 @@ use Rattle.nv_driver.proofs.Words.{received_from, request_of, run_of, setting_of
 use Rattle.nv_driver.proofs.Words.{way, with_register_at, Bell, Collect, Tell, Turn}
 use Rattle.nv_driver.specs.Schedule.{places as places_of, Event, Numbered, answer_from, answer_read, answer_to}
 use Rattle.nv_driver.specs.Batch.{state_after, answers_of, from_cid}
-use Rattle.nv_driver.specs.BringingUp.{Write}
-use Rattle.nv_driver.specs.Passing.{BusTurn, TailWrite}
+use Rattle.nv_driver.specs.BringingUp.{BusTurn, TailWrite, Write}
 use Rattle.nv_queue.specs.Numbers.{slot_of}
-use Rattle.nv_driver.specs.UnderWay.{DoesNext, IsDue, RunOn, run_on, IsHeld, IsKept, IsToReport, free_pages, held_pages}
-use Rattle.nv_driver.specs.UnderWay.{pages_of_all}
+use Rattle.nv_driver.specs.UnderWay.{DoesNext, IsDue, RunOn, run_on, IsHeld, LiesInPages, IsToReport, free_pages}
+use Rattle.nv_driver.specs.UnderWay.{held_pages, TookNothing, pages_of_all, world_of}
 use Rattle.nv_driver.specs.CommandPages.{AreTaken, all_pages, without}
 use Rattle.nv_driver.specs.inner.CommandPages.{with_pages}
 use Rattle.nv_driver.specs.Layout.{data_count}
@@ -48,14 +47,16 @@ module _ {B : Type 0} {wrote : Write B} {rang : TailWrite B} {turned : BusTurn B
     {places : List CommandPages}
     (u : IsUnderWay wrote rang turned start r bells turns b bus on l now bytes places) where
   -- the commands stay, while other things change
-  goes_on : {bells' turns' told' now' : ℕ} {bus' : BusValue} {on' : B} {l' : QueuePairFields} {mem : List ℕ} (e : Event)
-      → l'.pages ≡ l.pages
-      → IsOnWay (DoesNext wrote rang turned r) start (way r (W.more_events u.on_way e) bells' turns' told') bus' on' l'
-      now' mem
+  goes_on : {bells' turns' told' now' : ℕ} {bus' : BusValue} {on' : B} {l' : QueuePairFields} {mem : List ℕ}
+      (es : List Event) → l'.pages ≡ l.pages
+      → IsOnWay (DoesNext wrote rang turned r) start (way r (record u.course { events = es }) bells' turns' told') bus'
+      on' l' now' mem
+      → ¬ TookNothing es (world_of (way r (record u.course { events = es }) bells' turns' told') bus' mem)
       → IsUnderWay wrote rang turned start r bells' turns' (record b { told = told' }) bus' on' l' now' mem places
-  goes_on e same next = record {
-    course = W.more_events u.on_way e;
+  goes_on es same next awake = record {
+    course = record u.course { events = es };
     on_way = next;
+    awake = awake;
     can = u.can;
     controller = u.controller;
     has = u.has;
@@ -74,53 +75,86 @@ module _ {B : Type 0} {wrote : Write B} {rang : TailWrite B} {turned : BusTurn B
       → b.sent ≡ min (b.collected + r.geometry.window) (length r.commands) → bells < b.sent
       → IsUnderWay wrote rang turned start r b.sent turns b bus' on' l now bytes places
   rings {bus'} {on'} {value} sent state banks lawful its_write its_ring all near full more =
-      let its_time : IsDue r (world u) Bell = (has_collected u all near, is_full u full, omega (arith, more, u.sent)) in
+      let its_time : IsDue r u.course.events (world u) Bell = (
+        has_collected u all near,
+        is_full u full,
+        omega (arith, more, u.sent),
+      ) in
       let put = sent ∙ ap (slot (setting_of r)) (sym u.sent) in
       let its_call = subst (λ n. wrote on r.controller 0x1000 n on') put
       (subst (λ c. wrote on c 0x1000 value on') u.controller its_write) in
-      goes_on Bell refl (subst (λ n. IsOnWay (DoesNext wrote rang turned r) start
+      goes_on (Bell ∷ u.course.events) refl (subst (λ n. IsOnWay (DoesNext wrote rang turned r) start
       (way r (W.more_events u.on_way Bell) n turns b.told) bus' on' l now bytes) u.sent
-      (W.rings u.on_way {on' = on'} u.controller put state banks lawful (its_time, (its_call, its_ring))))
+      (W.rings u.on_way {on' = on'} u.controller put state banks lawful (its_time, (its_call, its_ring)))) (λ h. h)
 
   -- the head doorbell was rung for all collected answers
   pub tells_on : {bus' : BusValue} {on' : B} {l' : QueuePairFields} → IsTold b.ctrl l bus l' bus'
       → (l.completion.untold ≡ true
       → wrote on b.ctrl 0x1004 (slot_of l.completion.depth l.completion.collected) on')
-      → b.told < b.collected → IsToReport r (world u)
+      → b.told < b.collected → IsToReport r u.course.events (world u)
       → IsUnderWay wrote rang turned start r bells turns (record b { told = b.collected }) bus' on' l' now bytes places
   tells_on {bus'} {on'} {l'} t its_write some to_report =
       let more : b.told < length u.course.answers = omega (arith, some, u.collected) in
       let its_call = subst (λ n. wrote on r.controller 0x1004 n on') (W.head_at u.on_way)
       (subst (λ c. wrote on c 0x1004 (slot_of l.completion.depth l.completion.collected) on') u.controller
       (its_write (W.untold_is u.on_way more))) in
-      goes_on Tell (ap (λ (o : QueuePairFields). o.pages) t.pair)
+      goes_on (Tell ∷ u.course.events) (ap (λ (o : QueuePairFields). o.pages) t.pair)
       (subst (λ n. IsOnWay (DoesNext wrote rang turned r) start (way r (W.more_events u.on_way Tell) bells turns n)
       bus' on' l' now bytes) u.collected
-      (W.tells_on u.on_way {on' = on'} u.controller more t ((more, to_report), its_call)))
+      (W.tells_on u.on_way {on' = on'} u.controller more t ((more, to_report), its_call))) (λ h. h)
 
-  -- the controller had a turn, which took as many commands as the counts allow
-  pub turns_on : {bus' : BusValue} {on' : B} {now' asked most count : ℕ} {mem : List ℕ}
-      → T.Turn now b.ctrl asked count bus bytes bus' mem → turned on bytes b.ctrl asked count on' mem → asked ≡ most
-      → IsBus bus' → length mem ≡ length bytes
-      → now' ≡ now → turns ≡ b.collected → IsToldInTime r b
-      → b.sent ≡ min (b.collected + r.geometry.window) (length r.commands) → bells ≡ b.sent
-      → b.collected < length r.commands → most ≡ r.geometry.pace
-      → IsUnderWay wrote rang turned start r bells (turns + count) b bus' on' l now' mem places
-      × (count ≡ min most (min (bells - turns) (r.pair.submission.depth - 1 - (turns - b.told))))
-  turns_on {on' = on'} {asked = asked} {most} {count} {mem} turn its_turn pace lawful size page all near full rung some
-      its_pace =
-      let its_time : IsDue r (world u) (Turn most) = (
-        has_collected u all near,
-        is_full u full,
-        rung ∙ sym u.sent,
-        omega (arith, some, u.collected),
-        its_pace,
-      ) in
-      let its_call = subst (λ n. turned on bytes r.controller n count on' mem) pace
-      (subst (λ c. turned on bytes c asked count on' mem) u.controller its_turn) in
-      let next = W.turned u.on_way {on' = on'} u.controller pace turn lawful size page
-      (its_time, (count, refl, its_call)) in
-      (goes_on (Turn most) refl next.0, next.1)
+  -- the controller had a turn
+  module _ {bus' : BusValue} {on' : B} {now' asked most count : ℕ} {mem : List ℕ}
+      (turn : T.Turn now b.ctrl asked count bus bytes bus' mem) (its_turn : turned on bytes b.ctrl asked count on' mem)
+      (pace : asked ≡ most) (lawful : IsBus bus') (size : length mem ≡ length bytes) (page : now' ≡ now)
+      (all : turns ≡ b.collected) (near : IsToldInTime r b)
+      (full : b.sent ≡ min (b.collected + r.geometry.window) (length r.commands)) (rung : bells ≡ b.sent)
+      (some : b.collected < length r.commands) (its_pace : most ≡ r.geometry.pace) where
+    turn_on : IsOnWay (DoesNext wrote rang turned r) start
+        (way r (W.more_events u.on_way (Turn most)) bells (turns + count) b.told) bus' on' l now' mem
+        × (count ≡ min most (min (bells - turns) (r.pair.submission.depth - 1 - (turns - b.told))))
+    turn_on =
+        let its_time : IsDue r u.course.events (world u) (Turn most) = (
+          has_collected u all near,
+          is_full u full,
+          rung ∙ sym u.sent,
+          omega (arith, some, u.collected),
+          its_pace,
+          u.awake,
+        ) in
+        let its_call = subst (λ n. turned on bytes r.controller n count on' mem) pace
+        (subst (λ c. turned on bytes c asked count on' mem) u.controller its_turn) in
+        W.turned u.on_way {on' = on'} u.controller pace turn lawful size page (its_time, (count, refl, its_call))
+
+    -- it took as many commands as the counts allow
+    pub takes : count ≡ min most (min (bells - turns) (r.pair.submission.depth - 1 - (turns - b.told)))
+    takes = turn_on.1
+
+    -- it took some
+    pub turns_on : 0 < count → IsUnderWay wrote rang turned start r bells (turns + count) b bus' on' l now' mem places
+    turns_on took =
+        goes_on (Turn most ∷ u.course.events) refl turn_on.0 (λ none. omega (arith, took, none, all, u.collected))
+
+    -- it took none, and the head doorbell was rung for all collected answers
+    pub turns_idly : {bus2 : BusValue} {on2 : B} {l2 : QueuePairFields} → count ≡ 0
+        → IsTold b.ctrl l bus' l2 bus2
+        → (l.completion.untold ≡ true
+        → wrote on' b.ctrl 0x1004 (slot_of l.completion.depth l.completion.collected) on2)
+        → b.told < b.collected
+        → IsUnderWay wrote rang turned start r bells turns (record b { told = b.collected }) bus2 on2 l2 now' mem places
+    turns_idly {bus2} {on2} {l2} none t its_write more_told =
+        let v = subst (λ n. IsOnWay (DoesNext wrote rang turned r) start
+        (way r (W.more_events u.on_way (Turn most)) bells n b.told) bus' on' l now' mem)
+        (let same : turns + count ≡ turns = omega (arith, none) in same) turn_on.0 in
+        let more : b.told < length u.course.answers = omega (arith, more_told, u.collected) in
+        let its_call = subst (λ n. wrote on' r.controller 0x1004 n on2) (W.head_at v)
+        (subst (λ c. wrote on' c 0x1004 (slot_of l.completion.depth l.completion.collected) on2) u.controller
+        (its_write (W.untold_is v more))) in
+        goes_on (Tell ∷ Turn most ∷ u.course.events) (ap (λ (o : QueuePairFields). o.pages) t.pair)
+        (subst (λ n. IsOnWay (DoesNext wrote rang turned r) start
+        (way r (record u.course { events = Tell ∷ Turn most ∷ u.course.events }) bells turns n) bus2 on2 l2 now' mem)
+        u.collected
+        (W.tells_on v {on' = on2} u.controller more t ((more, inr (inl (u.collected ∙ sym all))), its_call))) (λ h. h)
 
   -- the state is the one after the commands that turns took
   pub state_on : bus.state ≡ state_after r.controller r.bus.state r.pair.next_cid (take turns r.commands)
@@ -177,7 +211,7 @@ module _ {B : Type 0} {wrote : Write B} {rang : TailWrite B} {turned : BusTurn B
     held_here = u.keeps.held b.collected no_command (omega (arith, u.collected)) more
 
     -- the command whose answer is awaited was sent with its data in its pages
-    kept_here : IsKept r next_one
+    kept_here : LiesInPages r next_one
     kept_here = u.kept b.collected no_command (omega (arith, no_more, more))
 
     -- its pages are in its slot
@@ -238,6 +272,7 @@ module _ {B : Type 0} {wrote : Write B} {rang : TailWrite B} {turned : BusTurn B
               events = Collect ∷ u.course.events;
             };
             on_way = W.collects_on u.on_way awaits is all ((awaits, omega (arith, near, u.collected)), refl);
+            awake = λ h. h;
             can = u.can;
             controller = u.controller;
             has = record {
@@ -367,6 +402,7 @@ begins_all wrote rang turned start {g} {c} {bus} {l} {now} {bytes} {commands} {a
       record {
         course = record { sent = []; answers = []; events = [] };
         on_way = begins commands ready;
+        awake = λ h. h;
         can = can;
         controller = refl;
         has = record {
@@ -450,7 +486,7 @@ all_told : {B : Type 0} (meaning : B → BusValue) {wrote : Write B} {rang : Tai
 all_told {B = B} meaning {wrote} {rang} {turned} {start} {on} {on'} {r} {b} {l} {l'} {now} {mem} {places} u many t
     its_write silent =
     elim (cases_lt b.told b.collected) [
-      | inl some ↦ tells_on u t its_write some (inr (u.collected, inr (u.collected ∙ many)))
+      | inl some ↦ tells_on u t its_write some (inr (inr (u.collected ∙ many)))
       | inr none ↦
           let told : b.told ≡ b.collected = let c = counts u in omega (arith, c.told) in
           let quiet = W.silent_is u.on_way (told ∙ sym u.collected) in

@@ -10,9 +10,8 @@ use Rattle.nv_driver.proofs.Words.{Submit, Transfer, request_of, sent_at, settin
 use Rattle.nv_driver.specs.Batch.{numbered_command}
 use Rattle.nv_driver.specs.Keeping.{AreInOrder}
 use Rattle.nv_driver.specs.Layout.{most_bytes, pages_of_command}
-use Rattle.nv_driver.specs.BringingUp.{Write}
-use Rattle.nv_driver.specs.Passing.{BusTurn, TailWrite}
-use Rattle.nv_driver.specs.UnderWay.{Course, DoesNext, HasCollected, IsDue, IsKept, numbered_of, sent_in_window}
+use Rattle.nv_driver.specs.BringingUp.{BusTurn, TailWrite, Write}
+use Rattle.nv_driver.specs.UnderWay.{Course, DoesNext, HasCollected, IsDue, LiesInPages, numbered_of, sent_in_window}
 use Rattle.nv_driver.specs.UnderWay.{cid_at, world_of}
 use Rattle.nv_driver.specs.inner.Pace.{IsToldInTime}
 use Rattle.nv_driver.proofs.BatchLaws.{command_at, length-from_cid}
@@ -164,7 +163,7 @@ module _ {B : Type 0} {wrote : Write B} {rang : TailWrite B} {turned : BusTurn B
       (subst (λ s. AreTaken s (all_pages o)) u.left sub.taken)
 
   -- it was sent with its data in its pages
-  kept_new : IsKept r new_one
+  kept_new : LiesInPages r new_one
   kept_new = record {
     command = k;
     pages = all_pages o;
@@ -199,7 +198,7 @@ module _ {B : Type 0} {wrote : Write B} {rang : TailWrite B} {turned : BusTurn B
       ∙ fresh r.pair.pages (held u) (own_pages new_one) taken_new j f low) there
 
   -- the requests with this one are on their way
-  on_way_more : IsDue r (world u) (Submit new_one)
+  on_way_more : IsDue r u.course.events (world u) (Submit new_one)
       → IsOnWay (DoesNext wrote rang turned r) start (way r course_more bells turns b.told) bus on l' now' mem
   on_way_more its_time =
       W.submits_on u.on_way sub.one
@@ -251,7 +250,7 @@ module _ {B : Type 0} {wrote : Write B} {rang : TailWrite B} {turned : BusTurn B
 
   -- and its turn has come
   is_due : turns ≡ b.collected → IsToldInTime r b → b.sent < length r.commands
-      → ((d : Command) → k ≡ get_or r.commands b.sent d) → IsDue r (world u) (Submit new_one)
+      → ((d : Command) → k ≡ get_or r.commands b.sent d) → IsDue r u.course.events (world u) (Submit new_one)
   is_due all near below is = (
     has_collected u all near,
     omega (arith, u.sent, u.collected, more, below),
@@ -275,6 +274,7 @@ module _ {B : Type 0} {wrote : Write B} {rang : TailWrite B} {turned : BusTurn B
       record {
         course = course_more;
         on_way = on_way_more (is_due all near below is);
+        awake = λ h. h;
         can = u.can;
         controller = u.controller;
         has = record {
@@ -285,7 +285,7 @@ module _ {B : Type 0} {wrote : Write B} {rang : TailWrite B} {turned : BusTurn B
               ∙ ap (λ y. take b.sent (numbered_of r) ++ y ∷ []) (next_numbered below is)
               ∙ sym (take_more (numbered_of r) b.sent (numbered new_one)
               (omega (arith, below, length-from_cid r.pair.next_cid r.commands)));
-          kept = λ n d h. each_more (λ i y. IsKept r y) 0 xs new_one
+          kept = λ n d h. each_more (λ i y. LiesInPages r y) 0 xs new_one
               (λ i e from low. u.kept i e (omega (arith, u.sent))) kept_new n d (omega arith)
               (omega (arith, h, u.sent, more_sent));
           own = λ n d h. each_more (λ i y. All (λ p. IsOf r.pair.pages.first r.pair.pages.count p) (own_pages y)) 0 xs

@@ -16,6 +16,15 @@ Write B = B → ℕ → ℕ → ℕ → B → Type 0
 abbrev pub Read : Type 0 → Type 1
 Read B = B → ℕ → ℕ → ℕ → B → Type 0
 
+-- a turn: the bus and the memory's bytes before it, the controller, the greatest number of entries,
+-- how many were taken, and the bus and the memory's bytes after it
+abbrev pub BusTurn : Type 0 → Type 1
+BusTurn B = B → List ℕ → ℕ → ℕ → ℕ → B → List ℕ → Type 0
+
+-- the write of a tail doorbell: the bus before it, the memory's bytes, and the bus after it
+abbrev pub TailWrite : Type 0 → Type 1
+TailWrite B = B → List ℕ → B → Type 0
+
 -- a read that leaves the bus as it was
 abbrev pub Still : {B : Type 0} → (B → ℕ → ℕ → ℕ → Type 0) → Read B
 Still read old c offset x new = read old c offset x × (new ≡ old)

@@ -1,41 +1,59 @@
 -- What passing an entry through does on a bus, call by call.
-use Rattle.std.specs.Prelude.{◌≡◌, ℕ, List, Ok}
+use Rattle.std.specs.List.{range_with_len}
+use Rattle.std.specs.Prelude.{◌≡◌, ℕ, ◌+◌, List, [], ◌∷◌, length}
 use Rattle.nv_layout.specs.declared.sqe.Sqe.{Sqe}
-use Rattle.nv_queue.specs.Numbers.{next, slot_of}
-use Rattle.nv_queue.specs.Slots.{submission_at}
-use Rattle.nv_bus.specs.Call.{data_places, sent_from}
-use Rattle.nv_driver.specs.BringingUp.{Write}
-use Rattle.nv_driver.specs.QueuePair.{QueuePair}
-use Rattle.nv_driver.specs.Request.{sent_for, transfer_for}
+use Rattle.nv_bus.specs.Bus.{BusValue}
+use Rattle.nv_bus.specs.Call.{length_of}
+use Rattle.nv_model.specs.Conditions.{limit_of}
+use Rattle.nv_driver.specs.BringingUp.{BusTurn, TailWrite, Write}
+use Rattle.nv_driver.specs.Driver.{pair_at}
+use Rattle.nv_driver.specs.Layout.{data_count, pages_of}
+use Rattle.nv_driver.specs.Pointer.{IsPointedFrom}
+use Rattle.nv_driver.specs.Quiet.{IsQuiet, pair_value}
+use Rattle.nv_driver.specs.Request.{request_for, transfer_for}
+use Rattle.nv_driver.specs.Schedule.{Event, Follows, Sent, World}
+use Rattle.nv_driver.specs.Schedule.{Bell, Collect, Submit, Tell, Turn}
+use Rattle.nv_driver.specs.Settled.{DriverValue}
+use Rattle.nv_driver.specs.Submitting.{place_in, sent_at}
+use Rattle.nv_driver.specs.UnderWay.{Calls, Run, first_world, run_of, setting_of}
+use Rattle.nv_driver.specs.declared.geometry.Geometry.{Geometry}
+use Rattle.nv_driver.specs.declared.queue_pair.QueuePair.{QueuePair as QueuePairFields}
 
--- a turn: the bus and the memory's bytes before it, the controller, the greatest number of entries,
--- how many were taken, and the bus and the memory's bytes after it
-abbrev pub BusTurn : Type 0 → Type 1
-BusTurn B = B → List ℕ → ℕ → ℕ → ℕ → B → List ℕ → Type 0
+-- the pages of an entry from this one on: two for a list, and then those of its data
+abbrev pub entry_pages : Geometry → (first_page : ℕ) → Sqe → List ℕ
+entry_pages g first_page e = range_with_len first_page (data_count g (length_of (transfer_for e)) + 2)
 
--- the write of a tail doorbell: the bus before it, the memory's bytes, and the bus after it
-abbrev pub TailWrite : Type 0 → Type 1
-TailWrite B = B → List ℕ → B → Type 0
+-- the entry with the host's bytes as a run sends it, with its data in pages from this one on
+abbrev pub entry_sent : Run → Sqe → List ℕ → (first_page : ℕ) → (prp1 prp2 : ℕ) → Sent
+entry_sent r e given first_page prp1 prp2 =
+    sent_at (place_in r.geometry (entry_pages r.geometry first_page e))
+    (request_for (limit_of r.bus.state r.controller) e given) r.pair.next_cid prp1 prp2
 
--- the entry in the next slot of a queue pair's submission ring
-abbrev pub next_entry : QueuePair → List ℕ → Sqe
-next_entry l mem = submission_at mem l.sq (slot_of l.depth l.number)
+-- the events of a request on its own, the last one first
+abbrev pub events_alone : Sent → List Event
+events_alone x = Tell ∷ Collect ∷ Turn 1 ∷ Bell ∷ Submit x ∷ []
 
--- the next slot holds this entry, but under the queue pair's command identifier, and with a data
--- pointer that names where the host's bytes for it are
-pub record HoldsEntry (page_size : ℕ) (l : QueuePair) (e : Sqe) (given mem : List ℕ) : Type 0 where
+-- An entry goes over a run's queue pair on its own. It is submitted as it was given, except for its
+-- command identifier and its data pointer, and with the host's bytes. Then the tail doorbell is
+-- written, a turn takes it, its answer is collected, and the head doorbell is written.
+pub record GoesAlone {B : Type 0} (wrote : Write B) (rang : TailWrite B) (turned : BusTurn B) (r : Run) (e : Sqe)
+    (given : List ℕ) (first_page : ℕ) (old new : B) (last : World) : Type 0 where
   pub prp1 : ℕ
   pub prp2 : ℕ
-  pub places : List ℕ
-  pub entry : next_entry l mem ≡ record e { cid = l.next_cid; prp1 = prp1; prp2 = prp2 }
-  pub named : data_places page_size mem (next_entry l mem) (transfer_for e) ≡ Ok places
-  pub sent : sent_from (transfer_for e) mem places ≡ sent_for (transfer_for e) given
+  pub points : IsPointedFrom r.geometry.page_size (entry_sent r e given first_page prp1 prp2)
+  pub ran : Follows (λ before. Calls wrote rang turned (setting_of r)) (setting_of r)
+      (events_alone (entry_sent r e given first_page prp1 prp2)) (first_world r) old last new
+  pub collected : length last.answers ≡ 1
+  pub told : last.told ≡ 1
 
--- the tail doorbell is written once the memory holds the entry, a turn of one entry takes it there,
--- and the head doorbell is written, and nothing else is written
-abbrev pub Passes : {B : Type 0} → Write B → TailWrite B → BusTurn B → ℕ → QueuePair → Sqe → List ℕ → B → B → Type 0
-Passes wrote rang turned c l e given old new =
-    (rung : _) × (taken : _) × (mem : List ℕ) × (mem' : List ℕ)
-    × wrote old c 0x1000 (slot_of l.depth (next l.depth l.number)) rung × rang old mem rung
-    × HoldsEntry l.geometry.page_size l e given mem × turned rung mem c 1 1 taken mem'
-    × wrote taken c 0x1004 (slot_of l.depth (next l.depth l.number)) new
+-- an entry goes to controller c over its queue pair of a driver, which has none outstanding, and its
+-- memory, with its data in the pages after those of all controllers
+pub record Passes {B : Type 0} (wrote : Write B) (rang : TailWrite B) (turned : BusTurn B) (d : DriverValue) (c : ℕ)
+    (e : Sqe) (given : List ℕ) (b : BusValue) (old new : B) : Type 0 where
+  pub pair : QueuePairFields
+  pub bytes : List ℕ
+  pub last : World
+  pub quiet : IsQuiet pair
+  pub own : pair_value pair ≡ pair_at d.pairs c
+  pub steps : GoesAlone wrote rang turned (run_of d.geometry c b pair bytes []) e given
+      (pages_of d.geometry (length d.pairs)) old new last

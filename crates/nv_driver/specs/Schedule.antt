@@ -350,15 +350,15 @@ abbrev pub Runs : Setting → List Event → World → World → Type 0
 Runs t [] w w' = w' ≡ w
 Runs t (e ∷ es) w w' = (mid : World) × Happens t e w mid × Runs t es mid w'
 
--- what is said of an event, with the states and the buses before and after it
+-- what is said of an event, with the events before it, and the states and the buses before and after it
 abbrev pub Doing : Type 0 → Type 1
-Doing B = Event → World → World → B → B → Type 0
+Doing B = List Event → Event → World → World → B → B → Type 0
 
 -- events, the last one first, of each of which this is said, lead from one state and bus to others
 abbrev pub Follows : {B : Type 0} → Doing B → Setting → List Event → World → B → World → B → Type 0
 Follows doing t [] w b w' b' = (w' ≡ w) × (b' ≡ b)
 Follows doing t (e ∷ before) w b w' b' =
-    (mid : World) × (on : _) × Follows doing t before w b mid on × doing e mid w' on b'
+    (mid : World) × (on : _) × Follows doing t before w b mid on × doing before e mid w' on b'
     × Happens t e mid w'
 
 -- ---- the law

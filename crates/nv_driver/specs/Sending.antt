@@ -2,9 +2,8 @@
 use Rattle.std.specs.Prelude.{◌≡◌, ℕ, List, length}
 use Rattle.nv_command.specs.declared.command.Command.{Command}
 use Rattle.nv_bus.specs.Bus.{BusValue}
-use Rattle.nv_driver.specs.BringingUp.{Write}
+use Rattle.nv_driver.specs.BringingUp.{BusTurn, TailWrite, Write}
 use Rattle.nv_driver.specs.Driver.{pair_at}
-use Rattle.nv_driver.specs.Passing.{BusTurn, TailWrite}
 use Rattle.nv_driver.specs.Quiet.{IsQuiet, pair_value}
 use Rattle.nv_driver.specs.Schedule.{Event, Follows, World}
 use Rattle.nv_driver.specs.Settled.{DriverValue}

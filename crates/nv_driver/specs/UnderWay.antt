@@ -11,7 +11,7 @@ use Rattle.nv_model.specs.State.{State}
 use Rattle.nv_bus.specs.Bus.{BusValue, IsBus, bank_at}
 use Rattle.nv_bus.specs.Call.{length_of}
 use Rattle.nv_driver.specs.Batch.{from_cid}
-use Rattle.nv_driver.specs.BringingUp.{Write}
+use Rattle.nv_driver.specs.BringingUp.{BusTurn, TailWrite, Write}
 use Rattle.nv_driver.specs.Exchange.{IsReady}
 use Rattle.nv_driver.specs.Layout.{data_count, pages_of_command}
 use Rattle.nv_driver.specs.Keeping.{Keeps, OthersStay}
@@ -25,7 +25,6 @@ use Rattle.nv_driver.specs.Schedule.{collect_ring, numbered, own_pages, slot, su
 use Rattle.nv_driver.specs.Schedule.{Bell, Collect, Elsewhere, Submit, Tell, Turn}
 use Rattle.nv_driver.specs.CommandPages.{AreLowest, AreTaken, all_pages, without}
 use Rattle.nv_driver.specs.Submitting.{place_in, sent_at}
-use Rattle.nv_driver.specs.Passing.{BusTurn, TailWrite}
 use Rattle.nv_driver.specs.Pointer.{IsPointedFrom}
 use Rattle.nv_driver.specs.declared.batch.Batch.{Batch}
 use Rattle.nv_driver.specs.declared.geometry.Geometry.{Geometry}
@@ -170,7 +169,7 @@ pages_of_all [] = []
 pages_of_all (x ∷ xs) = own_pages x ++ pages_of_all xs
 
 -- a command was sent with its data and a list at their places in these pages
-pub record IsKept (r : Run) (x : Sent) : Type 0 where
+pub record LiesInPages (r : Run) (x : Sent) : Type 0 where
   pub command : Command
   pub pages : List ℕ
   pub sent : x ≡ sent_at (place_in r.geometry pages) (request_of command) x.cid x.prp1 x.prp2
@@ -198,35 +197,41 @@ pub record HasCollected (r : Run) (w : World) : Type 0 where
 
 -- the next command of the run, in the lowest pages that no outstanding command has
 pub record IsNext (r : Run) (w : World) (x : Sent) : Type 0 where
-  pub kept : IsKept r x
+  pub kept : LiesInPages r x
   pub lowest : AreLowest (free_pages r (length w.answers) w.sent) (own_pages x)
   pub numbered : numbered x ≡ slice_index_or (numbered_of r) (length w.sent) (numbered x)
 
--- as many answers as the pace are to be reported, or there is no slot for another completion, or all
--- were collected
-abbrev pub IsToReport : Run → World → Type 0
-IsToReport r w =
-    (length w.answers ≡ w.told + r.geometry.pace)
-    ⊎ ((length w.answers ≡ w.done)
-    × ((w.told + r.pair.submission.depth ≤ w.done + 1) ⊎ (length w.answers ≡ length r.commands)))
+-- the last event was a turn, and it took nothing
+abbrev pub TookNothing : List Event → World → Type 0
+TookNothing (Turn most ∷ before) w = length w.answers ≡ w.done
+TookNothing before w = ⊥
 
--- What the driver does next: it collects the answers of a turn, and reports them at its pace. Then
--- it submits commands as long as the window has room, rings the tail doorbell once for all of them,
--- and asks for a turn of at most the pace.
-abbrev pub IsDue : Run → World → Event → Type 0
-IsDue r w (Submit x) = HasCollected r w × (length w.sent < sent_in_window r w) × IsNext r w x
-IsDue r w Bell =
+-- as many answers as the pace are to be reported, or the last turn took nothing, or all were collected
+abbrev pub IsToReport : Run → List Event → World → Type 0
+IsToReport r before w =
+    (length w.answers ≡ w.told + r.geometry.pace)
+    ⊎ (TookNothing before w ⊎ (length w.answers ≡ length r.commands))
+
+-- What the driver does next: it collects the answers of a turn, and reports them at its pace, and
+-- after a turn that took nothing. Then it submits commands as long as the window has room, rings the
+-- tail doorbell once for all of them, and asks for a turn of at most the pace.
+abbrev pub IsDue : Run → List Event → World → Event → Type 0
+IsDue r before w (Submit x) =
+    HasCollected r w × (length w.sent < sent_in_window r w) × IsNext r w x
+IsDue r before w Bell =
     HasCollected r w × (length w.sent ≡ sent_in_window r w) × (w.rung < length w.sent)
-IsDue r w (Turn most) =
+IsDue r before w (Turn most) =
     HasCollected r w × (length w.sent ≡ sent_in_window r w) × (w.rung ≡ length w.sent)
-    × (length w.answers < length r.commands) × (most ≡ r.geometry.pace)
-IsDue r w Collect = (length w.answers < w.done) × (length w.answers < w.told + r.geometry.pace)
-IsDue r w Tell = (w.told < length w.answers) × IsToReport r w
-IsDue r w Elsewhere = ⊥
+    × (length w.answers < length r.commands) × (most ≡ r.geometry.pace) × ¬ TookNothing before w
+IsDue r before w Collect =
+    (length w.answers < w.done) × (length w.answers < w.told + r.geometry.pace)
+IsDue r before w Tell = (w.told < length w.answers) × IsToReport r before w
+IsDue r before w Elsewhere = ⊥
 
 -- The calls of the bus for each event: a doorbell is written, that of the tail over the memory with
 -- what was submitted, or the controller has a turn. There are no others.
-abbrev pub Calls : {B : Type 0} → Write B → TailWrite B → BusTurn B → Setting → Doing B
+abbrev pub Calls : {B : Type 0} → Write B → TailWrite B → BusTurn B → Setting
+    → Event → World → World → B → B → Type 0
 Calls wrote rang turned t Bell w w' old new =
     wrote old t.controller 0x1000 (slot t (length w.sent)) new × rang old w.mem new
 Calls wrote rang turned t (Turn most) w w' old new =
@@ -237,8 +242,8 @@ Calls wrote rang turned t e w w' old new = new ≡ old
 
 -- an event of a run is due, and is done by its calls
 abbrev pub DoesNext : {B : Type 0} → Write B → TailWrite B → BusTurn B → Run → Doing B
-DoesNext wrote rang turned r e w w' old new =
-    IsDue r w e × Calls wrote rang turned (setting_of r) e w w' old new
+DoesNext wrote rang turned r before e w w' old new =
+    IsDue r before w e × Calls wrote rang turned (setting_of r) e w w' old new
 
 -- the run's first m commands were sent, of which those from k on are outstanding
 pub record HasSent (r : Run) (m k : ℕ) (xs : List Sent) : Type 0 where
@@ -246,7 +251,7 @@ pub record HasSent (r : Run) (m k : ℕ) (xs : List Sent) : Type 0 where
   pub some : m ≤ length r.commands
   pub sent : length xs ≡ m
   pub commands : map numbered xs ≡ take m (numbered_of r)
-  pub kept : (n : ℕ) (d : Sent) → n < m → IsKept r (slice_index_or xs n d)
+  pub kept : (n : ℕ) (d : Sent) → n < m → LiesInPages r (slice_index_or xs n d)
   pub own : (n : ℕ) (d : Sent) → n < m
       → All (λ p. IsOf r.pair.pages.first r.pair.pages.count p) (own_pages (slice_index_or xs n d))
   pub taken : AreTaken r.pair.pages (held_pages k xs)
@@ -265,6 +270,7 @@ pub record IsUnderWay {B : Type 0} (wrote : Write B) (rang : TailWrite B) (turne
   pub on_way : IsOnWay (DoesNext wrote rang turned r) start (way r course bells turns b.told) bus on l
       now bytes
   pub open on_way use *
+  pub awake : ¬ TookNothing course.events (world_of (way r course bells turns b.told) bus bytes)
   pub can : All CanBeSent r.commands
   pub controller : b.ctrl ≡ r.controller
   pub has : HasSent r b.sent b.collected course.sent

@@ -251,8 +251,8 @@ impl Driver {
         ensures driver { self.new ≡ after_command self.old ctrl }
         ensures entries { HasEntryPages self.new }
         ensures linked { IsLinked (B.meaning bus.new) self.new }
-        ensures steps { Passes B.was_written B.was_rung B.was_turned ctrl (pair_at self.old.pairs ctrl)
-            entry.now bytes.now bus.old bus.new }
+        ensures steps { Passes B.was_written B.was_rung B.was_turned self.old ctrl entry.now bytes.now
+            (B.meaning bus.old) bus.old bus.new }
     {
         let passed = Passed {
             entry,

@@ -1,14 +1,15 @@
 //! Sends an entry unchanged.
 
 ghost use Rattle.std.specs.List.{range_with_len};
-ghost use Rattle.std.specs.Prelude.{◌≡◌, ◌+◌, ◌*◌, ◌<◌, ◌≤◌, ◌^◌, length};
+ghost use Rattle.std.specs.Prelude.{◌≡◌, ◌+◌, ◌*◌, ◌<◌, ◌≤◌, ◌^◌, [], length};
 ghost use Rattle.nv_layout.specs.Sqe.{SqeFits};
 ghost use Rattle.nv_driver.specs.inner.Alone.{IsExchanged};
 ghost use Rattle.nv_driver.specs.Exchange.{IsReady};
 ghost use Rattle.nv_driver.specs.inner.Exchange.{side};
 ghost use Rattle.nv_driver.specs.Layout.{pages_of_entry};
-ghost use Rattle.nv_driver.specs.Passing.{Passes};
-ghost use Rattle.nv_driver.specs.Quiet.{pair_value};
+ghost use Rattle.nv_driver.specs.Passing.{GoesAlone};
+ghost use Rattle.nv_driver.specs.Schedule.{World};
+ghost use Rattle.nv_driver.specs.UnderWay.{run_of};
 
 use crate::entry_data::receive;
 use crate::host_side::{HostSide, MOST_ENTRY_PAGES};
@@ -64,8 +65,9 @@ pub(crate) fn exchange_entry<B: Bus + Ringing, M: HostMemory>(
         (side (B.meaning bus.old) pair.old (M.page_len host.old.mem) (M.bytes host.old.mem))
         (side (B.meaning bus.new) pair.new (M.page_len host.new.mem) (M.bytes host.new.mem))
         result out.new }
-    ensures steps { Passes B.was_written B.was_rung B.was_turned ctrl (pair_value pair.old)
-        passed.now.entry.now passed.now.bytes.now bus.old bus.new }
+    ensures steps { (last : World) × GoesAlone B.was_written B.was_rung B.was_turned
+        (run_of pair.old.geometry ctrl (B.meaning bus.old) pair.old (M.bytes host.old.mem) [])
+        passed.now.entry.now passed.now.bytes.now passed.now.first_page bus.old bus.new last }
 {
     let geometry = pair.geometry();
     let HostSide {

@@ -1,5 +1,5 @@
 -- What the words of a command line ask for.
-use Rattle.std.specs.Prelude.{ℕ, ◌<◌, List as ListOf, [], ◌∷◌, codes, true, false}
+use Rattle.std.specs.Prelude.{ℕ, ◌<◌, List as ListOf, [], codes, true, false}
 use Rattle.std.specs.Prelude.{Result, Ok, Err, unwrap_or}
 use Rattle.std.specs.Option.{ok_or}
 use Rattle.clap.specs.Words.{Row, Text, first_of}
@@ -15,7 +15,6 @@ use Rattle.nv_line.specs.Commands.{error_log_of, smart_log_of}
 use Rattle.nv_line.specs.Commands.{attachment_of, create_ns_of, delete_ns_of}
 use Rattle.nv_line.specs.Values.{format_in}
 use Rattle.nv_line.specs.Options.{output_format_option}
-use Rattle.nv_line.specs.Verb.{verb_of}
 use Rattle.nv_line.specs.declared.device.Device.{Device}
 use Rattle.nv_line.specs.declared.fault.LineFault.{LineFault}
 use Rattle.nv_line.specs.declared.fault.LineFault.TheVariants as fault
@@ -61,13 +60,11 @@ query_of controllers (Of verb) rows = do
   Ok (query.One device.controller asked)
 query_of controllers List rows = Ok query.List
 
--- the words after `nvme`: usage faults come first, by the command word, by clap and by the output
--- format, and then those of the request
-abbrev pub request_of : ℕ → ListOf Text → Result Request LineFault
-request_of controllers [] = Err fault.Usage
-request_of controllers (word ∷ rest) = do
-  verb ← ok_or (verb_of word) fault.Usage
-  rows ← rows_of_words verb (word ∷ rest)
+-- the words of a line with this command: usage faults come first, by clap and by the output format,
+-- and then those of the request
+abbrev pub request_of : ℕ → Verb → ListOf Text → Result Request LineFault
+request_of controllers verb words = do
+  rows ← rows_of_words verb words
   format ← format_in rows output_format_option
   asked ← query_of controllers verb rows
   Ok (record { query = asked; format = format })

@@ -1,5 +1,5 @@
 -- The command words.
-use Rattle.std.specs.Prelude.{List as ListOf, [], ◌∷◌, Option, codes, find}
+use Rattle.std.specs.Prelude.{List as ListOf, [], ◌∷◌, Option, None, codes, find}
 use Rattle.std.specs.Str.{bytes_eq}
 use Rattle.clap.specs.Words.{Text}
 use Rattle.nv_line.specs.declared.verb.DeviceVerb.{DeviceVerb}
@@ -53,3 +53,8 @@ verbs =
 -- the command with this word
 abbrev pub verb_of : Text → Option Verb
 verb_of word = find (λ v. bytes_eq word (word_of v)) verbs
+
+-- the command of the first word
+abbrev pub verb_in : ListOf Text → Option Verb
+verb_in [] = None
+verb_in (word ∷ rest) = verb_of word

@@ -1,13 +1,15 @@
 //! Reading lines: their words, and what they ask for.
 
-ghost use Rattle.std.specs.Prelude.{◌≡◌, IfOk, map};
+ghost use Rattle.std.specs.Prelude.{◌≡◌, IfOk, map, option_map, slice_get};
 ghost use Rattle.nv_layout.specs.UnlessMemory.{IsUnlessMemory};
-ghost use Rattle.nv_line.specs.Line.{IsKnown, reading};
+ghost use Rattle.nv_line.specs.Line.{IsKnown, NeedsNoMemory, begun, reading};
+ghost use Rattle.nv_line.specs.Verb.{verb_in};
 ghost use Rattle.nv_line.specs.Word.{is_skipped, without_nvme, words_of};
 
 use crate::clap_rule::MadeCommands;
 use crate::fault::LineFault;
 use crate::request::{Request, read_request};
+use crate::verb::Verb;
 use bumpalo::Bump;
 use bumpalo::collections::into_bump_slice;
 use nv_layout::CtrlList;
@@ -45,6 +47,32 @@ pub fn split_words<'a, A: Allocator>(alloc: A, text: &'a str) -> Result<Vec<&'a 
         .collect(alloc)
 }
 
+/// Returns the word of a text at an index.
+fn word_at(text: &str, index: usize) -> Option<&str>
+    ensures { option_map (λ w. w.now) result ≡ slice_get (words_of text.now) index }
+{
+    text.split(' ')
+        .flat_map(|part| part.split('\t'))
+        .filter(|word| !word.is_empty())
+        .nth(index)
+}
+
+/// Returns the command of the first word of a text that isn't a first word `nvme`.
+fn verb_in(text: &str) -> Option<Verb>
+    ensures { result ≡ verb_in (without_nvme (words_of text.now)) }
+{
+    let Some(first) = word_at(text, 0) else {
+        return None;
+    };
+    if first != "nvme" {
+        return Verb::of(first);
+    }
+    let Some(second) = word_at(text, 1) else {
+        return None;
+    };
+    Verb::of(second)
+}
+
 /// Returns the words without a first word `nvme`.
 pub(crate) fn without_program<'a>(words: &'a [&'a str]) -> &'a [&'a str]
     ensures { map (λ w. w.now) result.now ≡ without_nvme (map (λ w. w.now) words.now) }
@@ -80,6 +108,7 @@ impl<'a> LineReader<'a> {
         place: &'b mut CtrlList,
     ) -> Result<Line<'b>, LineFault>
         ensures exact { IsUnlessMemory LineFault.Memory (λ l. l) result (reading line.now controllers) }
+        ensures plain { NeedsNoMemory (begun line.now) → result ≡ reading line.now controllers }
         ensures known { IfOk result (IsKnown controllers) }
     {
         if line.len() > LINE_LIMIT {
@@ -91,10 +120,13 @@ impl<'a> LineReader<'a> {
         let Ok(text) = str::from_utf8(line) else {
             return Err(LineFault::NotText);
         };
+        let Some(verb) = verb_in(text) else {
+            return Err(LineFault::Usage);
+        };
         let text = self.room.try_alloc_str(text)?;
         let words = into_bump_slice(split_words(self.room, text)?);
         let words = without_program(words);
-        let request = read_request(&mut self.commands, words, controllers, place)?;
+        let request = read_request(&mut self.commands, verb, words, controllers, place)?;
         Ok(Line::Request(request))
     }
 }
@@ -110,6 +142,7 @@ pub fn read_line<'a>(
     place: &'a mut CtrlList,
 ) -> Result<Line<'a>, LineFault>
     ensures exact { IsUnlessMemory LineFault.Memory (λ l. l) result (reading line.now controllers) }
+    ensures plain { NeedsNoMemory (begun line.now) → result ≡ reading line.now controllers }
     ensures known { IfOk result (IsKnown controllers) }
 {
     let room = Bump::new(alloc);

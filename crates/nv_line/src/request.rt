@@ -78,22 +78,19 @@ fn read_ask<'a>(
     }
 }
 
-/// Reads what the words of a command line ask for. Listed controllers are written to `place`, whose
+/// Reads what the words of a line with this command ask for. Listed controllers are written to `place`, whose
 /// contents don't matter before.
 pub(crate) fn read_request<'w, 'a>(
     commands: &mut MadeCommands<'w>,
+    verb: Verb,
     words: &'w [&'w str],
     controllers: u16,
     place: &'a mut CtrlList,
 ) -> Result<Request<'a>, LineFault>
     ensures value { IsUnlessMemory LineFault.Memory (λ r. r) result
-        (request_of controllers (map (λ w. w.now) words.now)) }
+        (request_of controllers verb (map (λ w. w.now) words.now)) }
     ensures known { IfOk result (λ r. IsQueryKnown controllers r.query) }
 {
-    if words.is_empty() {
-        return Err(LineFault::Usage);
-    }
-    let verb = Verb::of(words[0]).ok_or(LineFault::Usage)?;
     let matches = commands.matches(verb, words)?;
     let format = read_format(&matches, OUTPUT_FORMAT)?;
     let query = match verb {

@@ -15,8 +15,8 @@ use Rattle.nv_subsystem.specs.FromFile.{subsystem}
 
 -- the arguments can't be read: `refused` says that reading them failed with this kind of error, which is
 -- reported as lack of memory or as a refusal of the arguments
-abbrev pub IsRefusal : (ErrorKind → Type 0) → Stop → Type 0
-IsRefusal refused why = (kind : ErrorKind) × refused kind × (why ≡ unless_memory kind stop.Arguments)
+abbrev pub IsUnread : (ErrorKind → Type 0) → Stop → Type 0
+IsUnread refused why = (kind : ErrorKind) × refused kind × (why ≡ unless_memory kind stop.Arguments)
 
 -- the greatest length of a subsystem file in bytes
 abbrev pub most_bytes : ℕ

@@ -4,7 +4,7 @@ ghost use Rattle.std.specs.Prelude.{IfErr, IfOk, map, option_map};
 ghost use Rattle.std.specs.String.{string_bytes};
 ghost use Rattle.nv_arguments.specs.Arguments.{arguments_of};
 ghost use Rattle.nv_model.specs.WellFormed.{IsWellFormed};
-ghost use Rattle.nv_program.specs.Asked.{IsAsked, IsRefusal, IsSubsystemAt, IsSubsystemOf};
+ghost use Rattle.nv_program.specs.Asked.{IsAsked, IsUnread, IsSubsystemAt, IsSubsystemOf};
 
 use crate::files::NamedFiles;
 use crate::stop::Stop;
@@ -52,7 +52,7 @@ fn subsystem_at<F: NamedFiles>(
 /// Returns the arguments of the program, of which the first is its name.
 pub fn words_given<R: GivenWords + AllocGlobal>(rt: &R) -> Result<Vec<String>, Stop>
     ensures words { IfOk result (λ words. R.gave rt.now (map string_bytes words.items)) }
-    ensures failure { IfErr result (λ why. IsRefusal (R.refused rt.now) why) }
+    ensures failure { IfErr result (λ why. IsUnread (R.refused rt.now) why) }
 {
     rt.words(rt.alloc())
         .map_err(|error| Stop::of_fault(error, Stop::Arguments))

@@ -117,8 +117,8 @@ module _ (c : ℕ) where
 -- ---- the driver's batch
 
 -- the command identifier that is due at a queue pair
-abbrev cid_at : QueuePair → ℕ
-cid_at l = l.next_cid
+abbrev pair_cid : QueuePair → ℕ
+pair_cid l = l.next_cid
 
 -- there are as many answers as commands
 length_answers : (c : ℕ) (s : State) (next_cid : ℕ) (ks : List Command)
@@ -135,11 +135,11 @@ module _ (w : Standing) (c : ℕ) (s : State) (d : DriverValue) (listing : Listi
 
   -- the queue pair and the standing agree on the command identifier that is due
   is_due : now_due ≡ due c w
-  is_due = sym (get_or-map cid_at d.pairs c no_pair 0 below) ∙ ap (λ xs. get_or xs c 0) is.next
+  is_due = sym (get_or-map pair_cid d.pairs c no_pair 0 below) ∙ ap (λ xs. get_or xs c 0) is.next
 
   -- controller c is one of the subsystem
   known : c < length w.next_cids
-  known = omega (arith, ap length is.next, length-map d.pairs cid_at)
+  known = omega (arith, ap length is.next, length-map d.pairs pair_cid)
 
   -- there are as many commands as NSIDs
   many : length ks ≡ length ns
@@ -162,7 +162,7 @@ module _ (w : Standing) (c : ℕ) (s : State) (d : DriverValue) (listing : Listi
   pub batch_cids : (after : DriverValue) → 0 < length ns → after ≡ after_commands d c (length ks)
       → next_cids_of after ≡ (all_after c w ns).next_cids
   batch_cids after some e =
-      ap next_cids_of e ∙ map-set cid_at d.pairs c (after_some (length ks) (pair_at d.pairs c))
+      ap next_cids_of e ∙ map-set pair_cid d.pairs c (after_some (length ks) (pair_at d.pairs c))
       ∙ ap (λ xs. set xs c ((now_due + length ks) % cid_count)) is.next
       ∙ ap (λ x. set w.next_cids c ((x + length ks) % cid_count)) is_due
       ∙ ap (λ x. set w.next_cids c ((due c w + x) % cid_count)) many

@@ -16,7 +16,7 @@ use Rattle.nv_driver.specs.inner.Linked.{next_cids_of}
 use Rattle.nv_driver.specs.QueuePair.{QueuePair}
 use Rattle.nv_driver.specs.Settled.{DriverValue}
 use Rattle.nv_driver.specs.declared.geometry.Geometry.{Geometry}
-use Rattle.nv_driver.proofs.LinkedLaws.{first_cids, pair_count, same_pairs, cid_at, cids_after, cids_reset}
+use Rattle.nv_driver.proofs.LinkedLaws.{first_cids, pair_count, same_pairs, next_cid_is, cids_after, cids_reset}
 use Rattle.nv_script.specs.Outcomes.{Reset}
 use Rattle.nv_script.specs.Outcomes.{exchange_of, exchange_with, order_of}
 use Rattle.nv_script.specs.inner.Link.{IsFirst}
@@ -45,7 +45,7 @@ pub sent : (b new : BusValue) (d after : DriverValue) (c : ℕ) (k : Command) (a
     → new.state ≡ (step b.state c k (pair_at d.pairs c).next_cid).state → after ≡ after_command d c
     → exchange_with answer new.state (next_cids_of after) ≡ exchange_of b.state (next_cids_of d) (order_of c k)
 sent b new d after c k answer below a s is =
-    let at = cid_at d c below in
+    let at = next_cid_is d c below in
     let same = a ∙ ap (λ n. answer_received k (step b.state c k n).answer) at in
     let reached = s ∙ ap (λ n. (step b.state c k n).state) at in
     let next = cids_after d after c below is in

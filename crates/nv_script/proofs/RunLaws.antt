@@ -205,10 +205,10 @@ without (Some field) e end same gives = gives.0 field same
 without None e end same gives = gives.1 same
 
 -- a run from the subsystem that bringing up a driver leaves is a run
-pub with_driver : (g : DriverGeometry) (reads : ℕ) (end : RunEnd) (old new : RunState) (s : State)
-    (enabled : List Bool) → fault_of g ≡ None → s ≡ begun old
+pub with_driver : (g : DriverGeometry) (reads : ℕ) (end : RunEnd) {B : Type 0} {before after : B}
+    (old new : RunState) (s : State) (enabled : List Bool) → fault_of g ≡ None → s ≡ begun old
     → RunsFrom s reads end (record old { subsystem = s; enabled = enabled }) new → AllEnabled new
-    → Runs g reads end old new
+    → Runs g reads end before after old new
 with_driver g reads end old new s enabled is same runs all =
     inr (
       is,
@@ -230,7 +230,8 @@ headline_without None old new status e = absurd (cc)
 headline_without (Some field) old new status e = absurd (cc)
 
 -- each run leaves what the headline says
-runs_headline : (g : DriverGeometry) (reads : ℕ) (end : RunEnd) (old new : RunState) → Runs g reads end old new
+runs_headline : (g : DriverGeometry) (reads : ℕ) (end : RunEnd) {B : Type 0} {before after : B} (old new : RunState)
+    → Runs g reads end before after old new
     → Headline end old new
 runs_headline g reads end old new (inl h) =
     subst (λ x. Headline x old new) (sym h.0) (headline_without (fault_of g) old new)
@@ -247,8 +248,8 @@ geometry_without (Some f) field =
     (λ e. let same : f ≡ field = cc in ap Some same, λ e. let same : f ≡ field = cc in ap Geometry same)
 
 -- a run ends with a field of the geometry if and only if that is the first one outside its limits
-runs_geometry : (g : DriverGeometry) (reads : ℕ) (end : RunEnd) (old new : RunState) (field : GeometryField)
-    → Runs g reads end old new → (end ≡ Geometry field) ↔ (fault_of g ≡ Some field)
+runs_geometry : (g : DriverGeometry) (reads : ℕ) (end : RunEnd) {B : Type 0} {before after : B} (old new : RunState)
+    (field : GeometryField) → Runs g reads end before after old new → (end ≡ Geometry field) ↔ (fault_of g ≡ Some field)
 runs_geometry g reads end old new field (inl h) =
     subst (λ x. (x ≡ Geometry field) ↔ (fault_of g ≡ Some field)) (sym h.0) (geometry_without (fault_of g) field)
 runs_geometry g reads end old new field (inr h) = (
@@ -344,18 +345,18 @@ faults_without (Some field) reads now well =
 faults_without None reads now well = faults_with reads Memory now (well.out, well.messages)
 
 -- each run has the faults of AreFaults, if the streams were well before it
-faults : (g : DriverGeometry) (reads : ℕ) (end : RunEnd) (old new : RunState) → IsWell reads old
-    → Runs g reads end old new → AreFaults reads end new
+faults : (g : DriverGeometry) (reads : ℕ) (end : RunEnd) {B : Type 0} {before after : B} (old new : RunState)
+    → IsWell reads old → Runs g reads end before after old new → AreFaults reads end new
 faults g reads end old new well (inl h) =
     subst (λ x. AreFaults reads x new) (sym h.0)
-    (faults_without (fault_of g) reads new (subst (IsWell reads) (sym h.1) well))
+    (faults_without (fault_of g) reads new (subst (IsWell reads) (sym h.2) well))
 faults g reads end old new well (inr h) =
     faults_with reads end new h.2.end_of
 
 -- all that a run promises follows from how it ends
-pub is_run : (g : DriverGeometry) (reads : ℕ) (end : RunEnd) (old new : RunState) → IsWell reads old
-    → Runs g reads end old new
-    → IsRun g reads end old new
+pub is_run : (g : DriverGeometry) (reads : ℕ) (end : RunEnd) {B : Type 0} {before after : B} (old new : RunState)
+    → IsWell reads old → Runs g reads end before after old new
+    → IsRun g reads end before after old new
 is_run g reads end old new well h = record {
   headline = runs_headline g reads end old new h;
   ends = h;

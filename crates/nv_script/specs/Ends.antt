@@ -90,11 +90,11 @@ abbrev pub end_without : Option GeometryField → RunEnd
 end_without (Some field) = Geometry field
 end_without None = Memory
 
--- A run without a driver changes nothing. A run with a driver has a geometry within its limits,
--- which has no other effect, and leaves each controller enabled.
-abbrev pub Runs : DriverGeometry → ℕ → RunEnd → RunState → RunState → Type 0
-Runs g reads end old new =
-    ((end ≡ end_without (fault_of g)) × (new ≡ old))
+-- A run without a driver changes nothing, and the bus is the one from before. A run with a driver
+-- has a geometry within its limits, which has no other effect, and leaves each controller enabled.
+abbrev pub Runs : {B : Type 0} → DriverGeometry → ℕ → RunEnd → B → B → RunState → RunState → Type 0
+Runs g reads end before after old new =
+    ((end ≡ end_without (fault_of g)) × (after ≡ before) × (new ≡ old))
     ⊎ ((fault_of g ≡ None) × AllEnabled new × RunsFrom (begun old) reads end old new)
 
 -- the headline: a script whose bytes are known and that was read to its end leaves what the fold
@@ -115,12 +115,13 @@ pub record AreFaults (reads : ℕ) (end : RunEnd) (now : RunState) : Type 0 wher
       ↔ ((has_stopped reads now.script ≡ true) × (now.out.has_failed ≡ false)
       × (now.messages.has_failed ≡ false) × (end ≢ Memory))
 
--- What a run of at most so many reads promises.
-pub record IsRun (g : DriverGeometry) (reads : ℕ) (end : RunEnd) (old new : RunState) : Type 0 where
+-- What a run of at most so many reads promises, with the bus before and after it.
+pub record IsRun {B : Type 0} (g : DriverGeometry) (reads : ℕ) (end : RunEnd) (before after : B)
+    (old new : RunState) : Type 0 where
   -- what a script whose bytes are known leaves if it was read to its end
   pub headline : Headline end old new
   -- what each end leaves, and how many reads there were
-  pub ends : Runs g reads end old new
+  pub ends : Runs g reads end before after old new
   -- when each fault occurs
   pub geometry : (field : GeometryField) → (end ≡ Geometry field) ↔ (fault_of g ≡ Some field)
   pub faults : AreFaults reads end new

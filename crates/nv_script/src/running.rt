@@ -172,7 +172,7 @@ pub fn run_within<B: Bus, R: Source, O: Sink, M: Sink>(
     requires fresh_messages { (M.state messages.old).has_failed ≡ false }
     requires some_read { 0 < reads }
     // The main promise: how the run ends, what each end leaves behind, and when each fault comes.
-    ensures run { IsRun geometry reads result
+    ensures run { IsRun geometry reads result bus.old bus.new
         (run_state (B.meaning bus.old) (R.state script.old) (O.state out.old)
         (M.state messages.old))
         (run_state (B.meaning bus.new) (R.state script.new) (O.state out.new)
@@ -205,7 +205,7 @@ pub fn run<B: Bus, R: Source, O: Sink, M: Sink>(
     requires fresh_out { (O.state out.old).has_failed ≡ false }
     requires fresh_messages { (M.state messages.old).has_failed ≡ false }
     // The main promise: how the run ends, what each end leaves behind, and when each fault comes.
-    ensures run { IsRun geometry read_limit result
+    ensures run { IsRun geometry read_limit result bus.old bus.new
         (run_state (B.meaning bus.old) (R.state script.old) (O.state out.old)
         (M.state messages.old))
         (run_state (B.meaning bus.new) (R.state script.new) (O.state out.new)

@@ -51,11 +51,12 @@ impl Session {
         requires bus { IsBus (B.meaning bus.old) }
         ensures state { IfOk result (λ _. (B.meaning bus.new).state
             ≡ reset_where (enabled_in (B.meaning bus.old).banks) (B.meaning bus.old).state) }
-        ensures untouched { OnErr result (B.meaning bus.new ≡ B.meaning bus.old) }
+        ensures untouched { OnErr result (bus.new ≡ bus.old) }
         ensures bus { IsBus (B.meaning bus.new) }
         ensures fault { MatchResult result (λ _. fault_of geometry ≡ None)
             (λ end. end ≡ end_without (fault_of geometry)) }
         ensures first { IfOk result (λ s. IsFirst (B.meaning bus.new).state s) }
+        ensures geometry { IfOk result (λ s. s.driver.geometry ≡ geometry) }
         ensures linked { IfOk result (λ s. IsLinked (B.meaning bus.new) s.driver) }
     {
         if let Err(field) = geometry.check() {

@@ -14,10 +14,12 @@ use Rattle.nv_serve.specs.Header.{sends_data, sent_by_kind}
 use Rattle.nv_serve.specs.declared.header.Header.{Header}
 use Rattle.nv_serve.specs.declared.header.Kind.{Kind}
 use Rattle.nv_serve.specs.declared.header.Kind.TheVariants.{Entry, Reset, List as ListKind, Unknown}
+use Rattle.nv_serve.specs.Handling.{Calls, Does, DoesAll}
 use Rattle.nv_serve.specs.Reading.{HasEnded, HasFailed}
 use Rattle.nv_serve.specs.inner.Reading.{IsReady, Reads, request}
 use Rattle.nv_serve.specs.Served.{HasTaken, HasTakenPart, IsEnd, IsOpen, IsRest, IsServed, Streams, begun, end_without}
 use Rattle.nv_serve.specs.Served.{request_limit, texts}
+use Rattle.nv_model.specs.State.{State}
 use Rattle.nv_model.specs.Step.{reset_where}
 use Rattle.nv_bus.specs.Bus.{BusValue, enabled_in}
 use Rattle.nv_driver.specs.Driver.{driver_with}
@@ -128,6 +130,22 @@ request_few {r} whole =
     sent_few ListKind h = search arith
     sent_few Unknown h = search arith
 
+-- ---- the calls
+
+-- a driver that did what several requests say does what one more says
+pub does_more : {B : Type 0} {k : Calls B} (d : DriverValue) {now next : DriverValue} {old mid new : B}
+    (requests : List Request) (r : Request) → DoesAll k d requests old now mid
+    → Does k now (header_of r.header) r.payload mid next new → DoesAll k d (requests ++ r ∷ []) old next new
+does_more {k = k} d {now} {next} {old} {mid} {new} [] r done does =
+    let h = header_of r.header in (
+      next,
+      new,
+      subst (λ x. Does k x h r.payload old next new) done.0
+          (subst (λ y. Does k now h r.payload y next new) done.1 does),
+      (refl, refl),
+    )
+does_more d (q ∷ qs) r done does = (done.0, done.1, done.2, does_more done.0 qs r done.3 does)
+
 -- ---- the ends
 
 -- reading an empty request leaves the source unchanged
@@ -139,16 +157,18 @@ pub still_open : {source : SourceState} → IsReady source → IsOpen source
 still_open ready = record { not_failed = ready.not_failed; not_ended = ready.not_ended }
 
 module _ (p : Point) {now : Point} {old mid : SourceState} {requests : List Request} {answers : List Answer}
-    (stands : Stands p now old mid requests answers) (before after : Streams) (same : before.source ≡ old) where
+    (stands : Stands p now old mid requests answers) {did : List Request → Type 0} (done : did requests)
+    (before after : Streams) (same : before.source ≡ old) where
   -- what was served and a rest with its answer are right for the end that was reached
   pub ends_at : (end : RequestsEnd) (rest : Request) (last : List Answer) → Reads rest mid after.source
       → IsRest rest last → IsEnd end rest requests (answers ++ last) before after
-      → IsServed p end now.subsystem before after
+      → IsServed p did end now.subsystem before after
   ends_at end rest last read rest_is end_is = record {
     requests = requests;
     answers = answers;
     rest = rest;
     last = last;
+    done = done;
     answered = stands.answered;
     reached = ap (λ (q : Point). q.subsystem) stands.reached;
     was_read = rw same (Consumes-join old.to_come mid.to_come after.source.to_come (flat_map bytes_of requests)
@@ -170,33 +190,51 @@ module _ (p : Point) {now : Point} {old mid : SourceState} {requests : List Requ
 
     -- the end is Done if the source ended between two requests
     pub ends_done : Reads (request [] []) mid after.source → HasEnded after.source
-        → IsServed p Done now.subsystem before after
+        → IsServed p did Done now.subsystem before after
     ends_done read ended = ends_at Done (request [] []) [] read (IsRest.none refl refl) (refl, ended, all)
 
     -- the end is Short if the source ended inside a request
     pub ends_short : {rest : Request} → IsCutShort rest → bytes_of rest ≢ [] → Reads rest mid after.source
-        → HasEnded after.source → IsServed p Short now.subsystem before after
+        → HasEnded after.source → IsServed p did Short now.subsystem before after
     ends_short {rest} cut some read ended =
         ends_at Short rest [] read (IsRest.cut cut refl) (cut, some, ended, all)
 
     -- the end is Read if the source failed between two requests or inside one
     pub ends_failed : {rest : Request} → IsCutShort rest → Reads rest mid after.source
-        → HasFailed after.source → IsServed p Read now.subsystem before after
+        → HasFailed after.source → IsServed p did Read now.subsystem before after
     ends_failed {rest} cut read failed = ends_at Read rest [] read (IsRest.cut cut refl)
         (inl (cut, failed), all)
 
     -- the end is Read if the greatest number of requests was reached
     pub ends_full : after.source ≡ mid → IsOpen after.source → length requests ≡ request_limit
-        → IsServed p Read now.subsystem before after
+        → IsServed p did Read now.subsystem before after
     ends_full here ready many = ends_at Read (request [] []) [] (rw here (nothing mid)) (IsRest.none refl refl)
         (inr (refl, ready, many), all)
 
   -- the end is Write if the last answer wasn't written, and nothing more was read
   pub ends_unwritten : after.source ≡ mid → IsOpen after.source → HasTakenPart before.out after.out answers
-      → IsServed p Write now.subsystem before after
+      → IsServed p did Write now.subsystem before after
   ends_unwritten here ready part =
       ends_at Write (request [] []) [] (rw here (nothing mid)) (IsRest.none refl refl)
       (inr refl, ready, subst (HasTakenPart before.out after.out) (sym (append-nil answers)) part)
+
+-- what was served stays served if its calls are described otherwise
+pub served_by : {p : Point} {did : List Request → Type 0} {end : RequestsEnd} {s : State} {old new : Streams}
+    (other : List Request → Type 0) → ((requests : List Request) → did requests → other requests)
+    → IsServed p did end s old new → IsServed p other end s old new
+served_by other follows h = record {
+  requests = h.requests;
+  answers = h.answers;
+  rest = h.rest;
+  last = h.last;
+  done = follows h.requests h.done;
+  answered = h.answered;
+  reached = h.reached;
+  was_read = h.was_read;
+  count = h.count;
+  rest_is = h.rest_is;
+  end_is = h.end_is;
+}
 
 -- ---- with or without a driver
 

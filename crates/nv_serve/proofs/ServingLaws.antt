@@ -1,5 +1,5 @@
 -- What requests leave, one after another.
-use Rattle.std.proofs.Common.{◌≡◌, ◌∙◌, ℕ, ◌<◌, List, ap, arith, length, refl, subst, sym, true}
+use Rattle.std.proofs.Common.{◌≡◌, ◌∙◌, ℕ, ◌<◌, ◌≤◌, List, ap, arith, length, refl, subst, sym, true}
 use Rattle.nv_layout.specs.declared.sqe.Sqe.{Sqe}
 use Rattle.nv_model.specs.Step.{reset}
 use Rattle.nv_bus.specs.Bus.{BusValue}
@@ -8,11 +8,14 @@ use Rattle.nv_bus.specs.declared.told.Told.{Told}
 use Rattle.nv_driver.specs.Alone.{IsReceived, asked_in, entry_step}
 use Rattle.nv_driver.specs.Driver.{after_command, after_reset as driver_reset, pair_at}
 use Rattle.nv_driver.specs.Settled.{DriverValue}
-use Rattle.nv_driver.proofs.LinkedLaws.{cid_at, cids_after, cids_reset}
+use Rattle.nv_driver.proofs.LinkedLaws.{next_cid_is, cids_after, cids_reset}
 use Rattle.nv_serve.specs.Answer.{Answer}
 use Rattle.nv_serve.specs.Serving.{IsAnswerByKind, IsAnswerIf, IsAnswerToHeader, IsReturned, Point, after_entry}
 use Rattle.nv_serve.specs.Serving.{after_header, after_if, after_kind, after_reset, has_controller, point}
+use Rattle.nv_serve.specs.Handling.{Calls, Does, DoesKind, kind_done}
 use Rattle.nv_serve.specs.declared.header.Header.{Header}
+use Rattle.nv_serve.specs.declared.header.Kind.{Kind}
+use Rattle.nv_serve.specs.declared.header.Kind.TheVariants.{Unknown}
 use Rattle.nv_serve.specs.inner.Serving.{point_of}
 
 -- an entry that the driver sent leaves the point after that entry
@@ -21,7 +24,7 @@ pub sent_on : (b b' : BusValue) (d : DriverValue) {d' : DriverValue} (c : ℕ) (
     → b'.state ≡ (entry_step b.state c e bytes (pair_at d.pairs c).next_cid).state → d' ≡ after_command d c
     → point_of b' d' ≡ after_entry (point_of b d) c e bytes
 sent_on b b' d {d'} c e bytes below state driver =
-    let reached = state ∙ ap (λ n. (entry_step b.state c e bytes n).state) (cid_at d c below) in
+    let reached = state ∙ ap (λ n. (entry_step b.state c e bytes n).state) (next_cid_is d c below) in
     let next = cids_after d d' c below driver in
     λ i. point (reached i) (next i)
 
@@ -49,10 +52,25 @@ pub returned_by : (b : BusValue) (d : DriverValue) (c : ℕ) (e : Sqe) (bytes : 
     → IsReceived (asked_in b.state c e bytes) (entry_step b.state c e bytes (pair_at d.pairs c).next_cid).answer out
     → IsReturned (point_of b d) c e bytes (length out) told out
 returned_by b d c e bytes out below answer received =
-    let at = cid_at d c below in
+    let at = next_cid_is d c below in
     record {
       told_is = answer ∙ ap (λ n. told_by (entry_step b.state c e bytes n).answer) at;
       received =
           subst (λ n. IsReceived (asked_in b.state c e bytes) (entry_step b.state c e bytes n).answer out) at received;
       room = refl;
     }
+
+-- a driver does what a request of this kind says if its controller exists
+pub does_kind : {B : Type 0} {k : Calls B} (d : DriverValue) (h : Header) (bytes : List ℕ) {old new : B}
+    {d' : DriverValue} (kind : Kind) → h.controller < length d.pairs → h.kind ≡ kind
+    → DoesKind k kind d h bytes old d' new → Does k d h bytes old d' new
+does_kind {k = k} d h bytes {old} {new} {d'} kind below is done =
+    let there : kind_done d h ≡ h.kind = grind arith in
+    subst (λ x. DoesKind k x d h bytes old d' new) (sym (there ∙ is)) done
+
+-- and nothing if it doesn't
+pub does_nothing : {B : Type 0} {k : Calls B} (d : DriverValue) (h : Header) (bytes : List ℕ) {old new : B}
+    {d' : DriverValue} → length d.pairs ≤ h.controller → d' ≡ d → new ≡ old → Does k d h bytes old d' new
+does_nothing {k = k} d h bytes {old} {new} {d'} above driver bus =
+    let none : kind_done d h ≡ Unknown = grind arith in
+    subst (λ x. DoesKind k x d h bytes old d' new) (sym none) (driver, bus)

@@ -1,6 +1,7 @@
 pub mod Header
 pub mod Answer
 pub mod Serving
+pub mod Handling
 pub mod Reading
 pub mod Served
 pub mod inner

@@ -12,6 +12,7 @@ use Rattle.nv_driver.specs.declared.geometry_field.GeometryField.{GeometryField}
 use Rattle.nv_stream.specs.Streams.{IsBeginning, SinkState, SourceState}
 use Rattle.nv_serve.specs.Answer.{Answer, bare, bytes_of as answer_bytes}
 use Rattle.nv_serve.specs.Header.{IsCutShort, IsTooLong, Request, bytes_of}
+use Rattle.nv_serve.specs.Handling.{Calls, Handles}
 use Rattle.nv_serve.specs.Reading.{HasEnded, HasFailed}
 use Rattle.nv_serve.specs.Serving.{AreAnswered, Point, after_all, point}
 use Rattle.nv_serve.specs.declared.answer.Outcome.TheVariants as outcome
@@ -84,13 +85,16 @@ IsEnd Write rest requests said old new =
     (IsTooLong rest ⊎ (bytes_of rest ≡ [])) × IsOpen new.source × HasTakenPart old.out new.out said
 IsEnd NoReady rest requests said old new = ⊥
 
--- Requests were served from p on: those that were read completely are answered in order, and the
--- subsystem is in the state after them. Nothing of what was read further was executed.
-pub record IsServed (p : Point) (end : RequestsEnd) (s : State) (old new : Streams) : Type 0 where
+-- Requests were served from p on: those that were read completely were done, as `did` says, and are
+-- answered in order, and the subsystem is in the state after them. Nothing of what was read further
+-- was executed.
+pub record IsServed (p : Point) (did : List Request → Type 0) (end : RequestsEnd) (s : State)
+    (old new : Streams) : Type 0 where
   pub requests : List Request
   pub answers : List Answer
   pub rest : Request
   pub last : List Answer
+  pub done : did requests
   pub answered : AreAnswered p requests answers
   pub reached : s ≡ (after_all p requests).subsystem
   pub was_read : Consumes old.source.to_come new.source.to_come
@@ -110,9 +114,11 @@ end_without None = Memory
 abbrev pub begun : BusValue → Point
 begun b = point (reset_where (enabled_in b.banks) b.state) (replicate (length b.banks) 0)
 
--- Without a driver nothing changes. With a driver, the geometry has no effect on the result.
-abbrev pub Serves : DriverGeometry → ServeEnd → BusValue → BusValue → Streams → Streams → Type 0
-Serves g end b b' old new =
-    ((end ≡ end_without (fault_of g)) × (b' ≡ b) × (new ≡ old))
+-- Without a driver nothing changes. With a driver, the geometry changes only the calls of the bus.
+abbrev pub Serves : {B : Type 0} → Calls B → DriverGeometry → ServeEnd → B → B
+    → BusValue → BusValue → Streams → Streams → Type 0
+Serves k g end before after b b' old new =
+    ((end ≡ end_without (fault_of g)) × (after ≡ before) × (b' ≡ b) × (new ≡ old))
     ⊎ ((fault_of g ≡ None)
-    × ((e : RequestsEnd) × (end ≡ Requests e) × IsServed (begun b) e b'.state old new))
+    × ((e : RequestsEnd) × (end ≡ Requests e)
+    × IsServed (begun b) (Handles k g (length b.banks) before after) e b'.state old new))

@@ -28,17 +28,17 @@ abbrev pub point : State → List ℕ → Point
 point subsystem next_cids = record { subsystem = subsystem; next_cids = next_cids }
 
 -- the next command identifier of controller c
-abbrev pub cid_at : Point → ℕ → ℕ
-cid_at p c = slice_index_or p.next_cids c 0
+abbrev pub next_cid_of : Point → ℕ → ℕ
+next_cid_of p c = slice_index_or p.next_cids c 0
 
 -- an entry on controller c, with the host's bytes
 abbrev pub step_at : Point → ℕ → Sqe → List ℕ → Step
-step_at p c e bytes = entry_step p.subsystem c e bytes (cid_at p c)
+step_at p c e bytes = entry_step p.subsystem c e bytes (next_cid_of p c)
 
 -- the point after an entry on controller c: its step is done, and its command identifier is used up
 abbrev pub after_entry : Point → ℕ → Sqe → List ℕ → Point
 after_entry p c e bytes =
-    point (step_at p c e bytes).state (slice_set p.next_cids c (cid_after (cid_at p c)))
+    point (step_at p c e bytes).state (slice_set p.next_cids c (cid_after (next_cid_of p c)))
 
 -- a reset of a controller
 abbrev pub after_reset : Point → ℕ → Point

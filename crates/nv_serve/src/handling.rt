@@ -2,8 +2,10 @@
 
 ghost use Rattle.std.specs.Prelude.{◌≡◌, ◌<◌, ◌≤◌, IfOk, IsOk, length, take};
 ghost use Rattle.nv_layout.specs.Sqe.{SqeFits};
+ghost use Rattle.nv_driver.specs.BringingUp.{Still};
 ghost use Rattle.nv_driver.specs.Driver.{HasEntryPages};
 ghost use Rattle.nv_driver.specs.Linked.{IsLinked};
+ghost use Rattle.nv_serve.specs.Handling.{Does, calls};
 ghost use Rattle.nv_serve.specs.Header.{most_data};
 ghost use Rattle.nv_serve.specs.Serving.{IsAnswerToHeader, after_header, list_entry};
 ghost use Rattle.nv_serve.specs.inner.Serving.{point_of};
@@ -12,7 +14,7 @@ use crate::answer::{AnswerHeader, Outcome};
 use crate::header::{Header, Kind};
 use nv_bus::Bus;
 use nv_command::Command;
-use nv_driver::{Driver, DriverError};
+use nv_driver::{Driver, DriverError, Ringing, Zeroing};
 use nv_layout::Sqe;
 
 /// Returns the entry that asks for the list of a controller's active namespaces.
@@ -25,7 +27,7 @@ fn list_entry() -> Sqe
 
 /// Does what a request's header says, with the data that the host sent. The data for the host is at
 /// the front of a buffer. The only error is `NoReady`, which no bus that keeps its contract returns.
-pub(crate) fn handle<B: Bus>(
+pub(crate) fn handle<B: Bus + Zeroing + Ringing>(
     bus: &mut B,
     driver: &mut Driver,
     header: &Header,
@@ -43,6 +45,9 @@ pub(crate) fn handle<B: Bus>(
     ensures reached { point_of (B.meaning bus.new) driver.new ≡ after_header
         (point_of (B.meaning bus.old) driver.old) header.now sent.now }
     ensures linked { IsLinked (B.meaning bus.new) driver.new }
+    ensures steps { Does
+        (calls B.meaning B.was_written (Still B.was_read) B.was_zeroed B.was_rung B.was_turned)
+        driver.old header.now sent.now bus.old driver.new bus.new }
     ensures room { HasEntryPages driver.new }
     ensures few { IfOk result (λ answer. answer.length ≤ most_data) }
     ensures long { length received.new ≡ most_data }

@@ -2,10 +2,12 @@
 
 ghost use Rattle.std.specs.Prelude.{◌≡◌, IfOk, false, length, not};
 ghost use Rattle.nv_bus.specs.Bus.{IsBus};
+ghost use Rattle.nv_driver.specs.BringingUp.{Still};
 ghost use Rattle.nv_driver.specs.Driver.{HasEntryPages};
 ghost use Rattle.nv_driver.specs.Linked.{IsLinked};
 ghost use Rattle.nv_stream.specs.Streams.{IsFresh, WritesAll};
 ghost use Rattle.nv_serve.specs.Answer.{bytes_of};
+ghost use Rattle.nv_serve.specs.Handling.{DoesAll, calls};
 ghost use Rattle.nv_serve.specs.Header.{most_data};
 ghost use Rattle.nv_serve.specs.Served.{IsServed, Serves, streams};
 ghost use Rattle.nv_serve.specs.inner.Serving.{point_of};
@@ -16,7 +18,7 @@ use crate::handling::handle;
 use crate::header::{HEADER_SIZE, MOST_DATA};
 use crate::reading::{ReadRequest, take_request};
 use nv_bus::Bus;
-use nv_driver::{Driver, Geometry};
+use nv_driver::{Driver, Geometry, Ringing, Zeroing};
 use nv_stream::{Sink, Source, write_all};
 use std::alloc::{AllocError, Global};
 
@@ -36,7 +38,7 @@ fn respond<S: Sink>(out: &mut S, header: &AnswerHeader, payload: &[u8]) -> bool
 }
 
 /// Answers requests until they end. `sent` holds their data, and `received` that of the answers.
-fn serve_all<B: Bus, R: Source, O: Sink>(
+fn serve_all<B: Bus + Zeroing + Ringing, R: Source, O: Sink>(
     bus: &mut B,
     driver: &mut Driver,
     source: &mut R,
@@ -50,7 +52,10 @@ fn serve_all<B: Bus, R: Source, O: Sink>(
     requires fresh_out { (O.state out.old).has_failed ≡ false }
     requires sent_long { length sent.old ≡ most_data }
     requires received_long { length received.old ≡ most_data }
-    ensures served { IsServed (point_of (B.meaning bus.old) driver.old) result
+    ensures served { IsServed (point_of (B.meaning bus.old) driver.old)
+        (λ requests. DoesAll
+        (calls B.meaning B.was_written (Still B.was_read) B.was_zeroed B.was_rung B.was_turned)
+        driver.old requests bus.old driver.new bus.new) result
         (B.meaning bus.new).state
         (streams (R.state source.old) (O.state out.old))
         (streams (R.state source.new) (O.state out.new)) }
@@ -95,7 +100,7 @@ fn room(alloc: Global, len: usize) -> Result<Vec<u8>, AllocError>
 /// completely, before more is read. At most 4,294,967,295 requests are served. If the geometry is
 /// outside its limits or memory is refused, nothing is read or written, and the subsystem doesn't
 /// change.
-pub fn serve<B: Bus, R: Source, O: Sink>(
+pub fn serve<B: Bus + Zeroing + Ringing, R: Source, O: Sink>(
     alloc: Global,
     bus: &mut B,
     geometry: Geometry,
@@ -105,7 +110,9 @@ pub fn serve<B: Bus, R: Source, O: Sink>(
     requires bus { IsBus (B.meaning bus.old) }
     requires fresh_source { IsFresh (R.state source.old) }
     requires fresh_out { (O.state out.old).has_failed ≡ false }
-    ensures serves { Serves geometry result (B.meaning bus.old) (B.meaning bus.new)
+    ensures serves { Serves
+        (calls B.meaning B.was_written (Still B.was_read) B.was_zeroed B.was_rung B.was_turned)
+        geometry result bus.old bus.new (B.meaning bus.old) (B.meaning bus.new)
         (streams (R.state source.old) (O.state out.old))
         (streams (R.state source.new) (O.state out.new)) }
     // The bus can be used to serve again.

@@ -4,8 +4,7 @@
 ghost use Rattle.std.specs.Prelude.{◌≡◌, ◌≤◌, [], List, ℕ, IfSome, None, false, length};
 ghost use Rattle.std.specs.Bool.{OnTrue};
 ghost use Rattle.std.specs.Io.KnownBytes.{Keeps};
-ghost use Rattle.nv_stream.specs.inner.Streams.{IsWritten};
-ghost use Rattle.nv_stream.specs.Streams.{IsPutOut, Takes, is_failure};
+ghost use Rattle.nv_stream.specs.Streams.{IsPutOut, IsWritten, Takes, is_failure};
 
 use crate::streams::{Sink, Source};
 use std::cell::{Cell, RefCell};

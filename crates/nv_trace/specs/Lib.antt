@@ -1,3 +1,3 @@
 pub mod Lines
+pub mod Marked
 pub mod Said
-pub mod inner

@@ -2,7 +2,7 @@
 
 ghost use Rattle.std.specs.Prelude.{◌≡◌, ◌<◌, ◌≤◌, IfSome, None, false, length, not, true};
 ghost use Rattle.nv_stream.specs.Streams.{Takes, WritesAll, is_failure};
-ghost use Rattle.nv_trace.specs.inner.Marked.{IsMarked, IsOfOneLine, mark_at};
+ghost use Rattle.nv_trace.specs.Marked.{IsMarked, IsOfOneLine, mark_at};
 
 use nv_stream::{Sink, write_all};
 

@@ -4,8 +4,7 @@ use Rattle.nv_queue.specs.Numbers.{slot_of}
 use Rattle.nv_queue.specs.Rings.{told_all}
 use Rattle.nv_register.specs.RegisterBank.{with_register_at}
 use Rattle.nv_bus.specs.Bus.{BusValue, IsBus, bank_at}
-use Rattle.nv_driver.specs.BringingUp.{Write}
-use Rattle.nv_driver.specs.Passing.{BusTurn, TailWrite}
+use Rattle.nv_driver.specs.BringingUp.{BusTurn, TailWrite, Write}
 use Rattle.nv_driver.specs.Schedule.{World}
 use Rattle.nv_driver.specs.Sending.{SendsAll}
 use Rattle.nv_driver.specs.UnderWay.{Run}

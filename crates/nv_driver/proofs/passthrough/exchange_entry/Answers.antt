@@ -5,7 +5,7 @@ use Rattle.nv_driver.proofs.Words.{Geometry, IsPlaceFor, RequestPlace, bytes_fro
 use Rattle.nv_driver.proofs.Words.{pages_of_entry, received_from, transfer_for}
 use Rattle.nv_driver.specs.inner.Alone.{came_with}
 use Rattle.nv_driver.specs.inner.Submitting.{request_place}
-use Rattle.nv_driver.proofs.ExchangeLaws.{IsTaken, begun_by, exchanged, has_slot, its_place, passes, there, took}
+use Rattle.nv_driver.proofs.ExchangeLaws.{IsTaken, begun_by, exchanged, goes_alone, has_slot, its_place, took}
 use Rattle.nv_driver.proofs.OnWayLaws.{can_collect}
 use Rattle.nv_driver.proofs.PaddingLaws.{length-padded}
 use Rattle.nv_driver.proofs.SubmittingLaws.{buffer_later}
@@ -41,29 +41,26 @@ pub submit-tail-requires-clause-slot : goal.submit-tail-requires-clause-slot
 submit-tail-requires-clause-slot g c = has_slot c.requires.ready
 
 -- the entry was submitted at its place, and the turn took it
-taken : (g : given.Over) (c : After-turn g) → IsTaken (request_place c.within-place.result)
+taken : (g : given.Over) (c : After-turn g) → IsTaken g.B.Bus.was_written g.B.Ringing.was_rung g.B.Bus.was_turned
+    c.args.bus.now c.turn.new.self (request_place c.within-place.result)
     c.args.pair.now.geometry (g.B.Bus.meaning c.args.bus.now) c.args.ctrl c.args.pair.now
     (g.M.PagedMemory.bytes c.args.host.now.mem) c.args.passed.now.entry.now c.args.passed.now.bytes.now
     c.args.passed.now.first_page (g.M.PagedMemory.page_len c.args.host.now.mem) c.submit-tail.new.pair
     (g.M.PagedMemory.bytes c.submit-tail.new.mem) (g.M.PagedMemory.page_len c.submit-tail.new.mem) c.submit-tail.result
-    c.turn.result (g.B.Bus.meaning c.turn.new.self) (g.M.PagedMemory.page_len c.turn.new.mem)
+    (g.B.Bus.meaning c.turn.new.self) (g.M.PagedMemory.page_len c.turn.new.mem)
     (g.M.PagedMemory.bytes c.turn.new.mem)
 taken g c =
     let q = c.of_entry-request.ensures in
     let w = c.ring.ensures in
     let t = c.turn.ensures in
-    let many = ap (λ n. n + 2) c.data_count.ensures.pages in
     let begun = begun_by c.of_entry-request.result c.requires.ready c.requires.fits c.requires.inside c.requires.behind
-    q.entry q.transfer q.few c.bytes-len.ensures c.geometry-geometry.ensures many
-    c.consecutive.ensures c.within-place.ensures q.sends c.submit-tail.ensures in
-    let took_it = took begun w.state w.banks w.bus t.turn t.bus t.len t.page in
+    q.entry q.transfer q.few c.bytes-len.ensures c.geometry-geometry.ensures
+    (ap (λ n. n + 2) c.data_count.ensures.pages) c.consecutive.ensures c.within-place.ensures q.sends c.submit-tail.ensures in
     record {
-      there = there c.of_entry-request.result c.requires.ready c.requires.fits c.requires.inside c.requires.behind
-          q.entry q.transfer q.few c.bytes-len.ensures c.geometry-geometry.ensures many c.consecutive.ensures
-          c.within-place.ensures;
-      begun = begun;
-      on_way = took_it.0;
-      one = took_it.1;
+      there = begun.0;
+      begun = begun.1;
+      on_way = took g.B.Bus.was_written g.B.Ringing.was_rung g.B.Bus.was_turned c.args.bus.now begun.1
+          w.state w.banks w.bus w.written w.rung t.turn t.turned t.bus t.len t.page;
     }
 
 pub next_completion-completion-requires : goal.next_completion-completion-requires
@@ -87,7 +84,8 @@ returns-clause-exchanged g c =
     let size = g.M.PagedMemory.page_len c.turn.new.mem in
     let buffer = c.within-place.result.buffer in
     let e = c.next_completion-completion.ensures in
-    exchanged x.begun x.on_way e.value e.pair c.tell.ensures.told n (c.receive.ensures
+    exchanged g.B.Bus.was_written g.B.Ringing.was_rung g.B.Bus.was_turned c.args.bus.now x.begun x.on_way e.value e.pair
+    c.tell.ensures.told c.tell.ensures.written n (c.receive.ensures
     ∙ ap (λ m. padded n (came_with status (received_from m after
     (buffer_places size buffer.pages.now buffer.offset (length_of m))))) c.of_entry-request.ensures.transfer
     ∙ ap (λ (at : RequestPlace). padded n (came_with status (received_from
@@ -97,6 +95,6 @@ returns-clause-exchanged g c =
 pub returns-clause-steps : goal.returns-clause-steps
 returns-clause-steps g c =
     let x = taken g (goal.at.returns-clause-steps g c).After-turn in
-    passes x.begun g.B.Bus.was_written g.B.Ringing.was_rung g.B.Bus.was_turned
-    c.next_completion-completion.result.sq_head c.ring.ensures.written c.ring.ensures.rung x.one c.turn.ensures.turned
-    c.next_completion-completion.ensures.pair c.tell.ensures.written
+    let e = c.next_completion-completion.ensures in
+    goes_alone g.B.Bus.was_written g.B.Ringing.was_rung g.B.Bus.was_turned c.args.bus.now x.begun x.on_way e.value
+    e.pair c.tell.ensures.told c.tell.ensures.written

@@ -22,7 +22,8 @@ returns-in-Err-clause-run g c =
     let old : RunState = run_state (g.B.Bus.meaning c.args.bus.now) (g.R.Source.state c.args.script.now)
     (g.O.Sink.state c.args.out.now) (g.M.Sink.state c.args.messages.now) in
     let same = ap (λ (b : BusValue). run_state b (g.R.Source.state c.args.script.now) (g.O.Sink.state c.args.out.now)
-    (g.M.Sink.state c.args.messages.now)) c.in-Err.ensures.untouched in
+    (g.M.Sink.state c.args.messages.now)) (ap g.B.Bus.meaning c.in-Err.ensures.untouched) in
     let well = fresh_well c.args.reads old c.requires.fresh_script c.requires.some_read c.requires.fresh_out
     c.requires.fresh_messages in
-    is_run c.args.geometry c.args.reads c.in-Err.end old _ well (inl (c.in-Err.ensures.fault, same))
+    is_run c.args.geometry c.args.reads c.in-Err.end old _ well
+    (inl (c.in-Err.ensures.fault, c.in-Err.ensures.untouched, same))

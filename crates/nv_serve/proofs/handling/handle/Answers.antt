@@ -1,11 +1,12 @@
-use Rattle.std.proofs.Common.{◌≡◌, ◌∙◌, ◌++◌, ◌<◌, ◌≤◌, [], ap, arith, drop, length, subst, sym, take}
+use Rattle.std.proofs.Common.{◌≡◌, ◌∙◌, ◌++◌, ◌<◌, ◌≤◌, [], ap, arith, drop, length, refl, subst, sym, take}
 use Rattle.std.proofs.Math.Seq.{take-append_seam}
 use Rattle.std.proofs.lemmas.List.{length-map, length-take-le}
 use Rattle.nv_serve.specs.Header.{wanted_length}
 use Rattle.nv_serve.specs.Serving.{IsAnswerByKind, IsReturned, after_entry, returned}
 use Rattle.nv_serve.specs.declared.answer.AnswerHeader.{AnswerHeader}
-use Rattle.nv_serve.specs.declared.header.Kind.TheVariants.{Entry}
+use Rattle.nv_serve.specs.declared.header.Kind.TheVariants.{Entry, Reset, List as ListKind, Unknown}
 use Rattle.nv_serve.specs.inner.Serving.{point_of}
+use Rattle.nv_serve.proofs.ServingLaws.{does_kind, does_nothing}
 use Rattle.nv_serve.proofs.ServingLaws.{answered_by, left_by, reset_on, returned_by, sent_on}
 use Rattle.nv_serve.proofs.handling.handle.Goals as goal
 
@@ -77,3 +78,46 @@ returns-in-List-clause-reached g c =
     left_by (point_of b d) h c.args.sent.now (rw (length-map d.pairs _) below)
     (rw c.in-List.is (subst (λ e. point_of b' d' ≡ after_entry (point_of b d) h.controller e [])
     c.list_entry.ensures.value (sent_on b b' d h.controller c.list_entry.result [] below sent.state sent.driver)))
+
+pub returns-in-Entry-clause-steps : goal.returns-in-Entry-clause-steps
+returns-in-Entry-clause-steps g c =
+    let d = c.args.driver.now in
+    let h = c.args.header.now in
+    let below : h.controller < length d.pairs =
+    omega (arith, c.if-from-controllers.false, c.from.ensures, c.controllers-controllers.ensures) in
+    does_kind d h c.args.sent.now Entry below c.in-Entry.is
+    (c.passthrough-told.ensures.driver, c.passthrough-told.ensures.steps)
+
+pub returns-in_ok-reset-in-Reset-clause-steps : goal.returns-in_ok-reset-in-Reset-clause-steps
+returns-in_ok-reset-in-Reset-clause-steps g c =
+    let d = c.args.driver.now in
+    let h = c.args.header.now in
+    let below : h.controller < length d.pairs =
+    omega (arith, c.if-from-controllers.false, c.from.ensures, c.controllers-controllers.ensures) in
+    does_kind d h c.args.sent.now Reset below c.in-Reset.is
+    (c.reset.ensures.driver, c.reset.ensures.steps.0, c.reset.ensures.steps.1, c.reset.ensures.steps.2)
+
+pub returns-in-List-clause-steps : goal.returns-in-List-clause-steps
+returns-in-List-clause-steps g c =
+    let d = c.args.driver.now in
+    let h = c.args.header.now in
+    let below : h.controller < length d.pairs =
+    omega (arith, c.if-from-controllers.false, c.from.ensures, c.controllers-controllers.ensures) in
+    let steps = c.passthrough-told-in-List.ensures.steps in
+    does_kind d h c.args.sent.now ListKind below c.in-List.is (
+      c.passthrough-told-in-List.ensures.driver,
+      rw c.list_entry.ensures.value at steps,
+    )
+
+pub returns-in-Unknown-clause-steps : goal.returns-in-Unknown-clause-steps
+returns-in-Unknown-clause-steps g c =
+    let d = c.args.driver.now in
+    let h = c.args.header.now in
+    let below : h.controller < length d.pairs =
+    omega (arith, c.if-from-controllers.false, c.from.ensures, c.controllers-controllers.ensures) in
+    does_kind d h c.args.sent.now Unknown below c.in-Unknown.is (refl, refl)
+
+pub returns-then-from-controllers-clause-steps : goal.returns-then-from-controllers-clause-steps
+returns-then-from-controllers-clause-steps g c =
+    does_nothing c.args.driver.now c.args.header.now c.args.sent.now
+    (omega (arith, c.if-from-controllers.true, c.from.ensures, c.controllers-controllers.ensures)) refl refl

@@ -6,6 +6,7 @@ use Rattle.nv_serve.specs.inner.Reading.{request}
 use Rattle.nv_serve.specs.Served.{IsRest, streams, too_long}
 use Rattle.nv_serve.specs.inner.Serving.{point_of}
 use Rattle.nv_serve.specs.declared.ends.RequestsEnd.TheVariants.{TooLong, Write}
+use Rattle.nv_serve.proofs.ServedLaws.{does_more}
 use Rattle.nv_serve.proofs.ServedLaws.{Stands, ends_at, ends_done, ends_failed, ends_full, ends_short, ends_unwritten}
 use Rattle.nv_serve.proofs.ServedLaws.{still_open, request_few, stands_first, stands_more, taken_first, taken_more}
 use Rattle.nv_serve.proofs.ServedLaws.{taken_part}
@@ -24,7 +25,7 @@ loop-init g c = record {
   received_long = c.requires.received_long;
   linked = c.requires.linked;
   room = c.requires.room;
-  stands = ([], [], stands_first _ _, taken_first c.requires.fresh_out, refl);
+  stands = ([], [], stands_first _ _, taken_first c.requires.fresh_out, refl, (refl, refl));
 }
 
 pub returns-in-Nothing-clause-served : goal.returns-in-Nothing-clause-served
@@ -33,7 +34,7 @@ returns-in-Nothing-clause-served g c =
     let before = streams (g.R.Source.state c.args.source.now) (g.O.Sink.state c.args.out.now) in
     let s = c.loop.invariant.stands in
     let t = c.in-Nothing.ensures.taken in
-    ends_done p s.2 before
+    ends_done p s.2 s.5 before
     (streams (g.R.Source.state c.take_request.new.source) (g.O.Sink.state c.loop.out)) refl s.3 t.0 t.1
 
 pub returns-in-Short-clause-served : goal.returns-in-Short-clause-served
@@ -42,7 +43,7 @@ returns-in-Short-clause-served g c =
     let before = streams (g.R.Source.state c.args.source.now) (g.O.Sink.state c.args.out.now) in
     let s = c.loop.invariant.stands in
     let t = c.in-Short.ensures.taken in
-    ends_short p s.2 before
+    ends_short p s.2 s.5 before
     (streams (g.R.Source.state c.take_request.new.source) (g.O.Sink.state c.loop.out)) refl s.3 t.1 t.2 t.3 t.4
 
 pub returns-in-Failed-clause-served : goal.returns-in-Failed-clause-served
@@ -51,7 +52,7 @@ returns-in-Failed-clause-served g c =
     let before = streams (g.R.Source.state c.args.source.now) (g.O.Sink.state c.args.out.now) in
     let s = c.loop.invariant.stands in
     let t = c.in-Failed.ensures.taken in
-    ends_failed p s.2 before
+    ends_failed p s.2 s.5 before
     (streams (g.R.Source.state c.take_request.new.source) (g.O.Sink.state c.loop.out)) refl s.3 t.1 t.2 t.3
 
 pub returns-clause-served : goal.returns-clause-served
@@ -59,7 +60,7 @@ returns-clause-served g c =
     let p = point_of (g.B.Bus.meaning c.args.bus.now) c.args.driver.now in
     let before = streams (g.R.Source.state c.args.source.now) (g.O.Sink.state c.args.out.now) in
     let s = c.loop.invariant.stands in
-    ends_full p s.2 before (streams (g.R.Source.state c.loop.source) (g.O.Sink.state c.loop.out)) refl s.3 refl
+    ends_full p s.2 s.5 before (streams (g.R.Source.state c.loop.source) (g.O.Sink.state c.loop.out)) refl s.3 refl
     (still_open c.loop.invariant.ready) (omega (arith, s.4, c.loop-test.false, c.loop.auto.counter-end))
 
 pub returns-then-respond-clause-served : goal.returns-then-respond-clause-served
@@ -72,7 +73,7 @@ returns-then-respond-clause-served g c =
     let taken = taken_more (g.O.Sink.state c.args.out.now) (g.O.Sink.state c.loop.out)
     (g.O.Sink.state c.respond.new.out) s.1 too_long s.3 (rw c.bare-refusal.ensures at c.if-respond.ensures.text)
     c.if-respond.ensures.failure in
-    ends_at p s.2 before after refl TooLong (request c.take_request.new.header []) (too_long ∷ []) t.1
+    ends_at p s.2 s.5 before after refl TooLong (request c.take_request.new.header []) (too_long ∷ []) t.1
     (IsRest.long t.0 refl) (t.0, still_open t.2, taken)
 
 pub returns-else-respond-clause-served : goal.returns-else-respond-clause-served
@@ -85,7 +86,7 @@ returns-else-respond-clause-served g c =
     let part = taken_part (g.O.Sink.state c.args.out.now) (g.O.Sink.state c.loop.out)
     (g.O.Sink.state c.respond.new.out) s.1 too_long s.3 (rw c.bare-refusal.ensures at c.if-respond.ensures.text)
     c.if-respond.ensures.failure in
-    ends_at p s.2 before after refl Write (request c.take_request.new.header []) (too_long ∷ []) t.1
+    ends_at p s.2 s.5 before after refl Write (request c.take_request.new.header []) (too_long ∷ []) t.1
     (IsRest.long t.0 refl) (inl t.0, still_open t.2, part)
 
 pub returns-then-not-respond-clause-served : goal.returns-then-not-respond-clause-served
@@ -108,7 +109,8 @@ returns-then-not-respond-clause-served g c =
     (g.R.Source.state c.take_request.new.source) (s.0 ++ r ∷ []) (s.1 ++ a ∷ []) =
     stands_more p now r a s.2 t.2 t.3 (rw (← t.0) (rw len at done.ensures.answer))
     (rw (← t.0) (rw len at done.ensures.reached)) in
-    ends_unwritten p more before after refl refl (still_open t.4) part
+    ends_unwritten p more (does_more c.args.driver.now s.0 r s.5 (rw (← t.0) (rw len at done.ensures.steps)))
+    before after refl refl (still_open t.4) part
 
 pub loop-preserved : goal.loop-preserved
 loop-preserved g c =
@@ -139,5 +141,6 @@ loop-preserved g c =
             (g.O.Sink.state c.respond-in-loop.new.out) s.1 a s.3 c.if-not-respond.ensures.text
             c.if-not-respond.ensures.failure,
         length-append s.0 (r ∷ []) ∙ omega (arith, s.4),
+        does_more c.args.driver.now s.0 r s.5 (rw (← t.0) (rw len at done.ensures.steps)),
       );
     }

@@ -1,7 +1,9 @@
 use Rattle.std.proofs.Common.{◌≡◌, ◌≤◌, ◌*◌, ◌+◌, false, length, List}
+use Rattle.nv_driver.specs.BringingUp.{Still}
 use Rattle.nv_driver.specs.Driver.{HasEntryPages}
 use Rattle.nv_driver.specs.Linked.{IsLinked}
 use Rattle.nv_serve.specs.Answer.{Answer}
+use Rattle.nv_serve.specs.Handling.{DoesAll, calls}
 use Rattle.nv_serve.specs.Header.{Request, most_data}
 use Rattle.nv_serve.specs.inner.Reading.{IsReady}
 use Rattle.nv_serve.specs.Served.{HasTaken}
@@ -23,5 +25,7 @@ invariant-loop g l = record {
       (point_of (g.B.Bus.meaning l.bus) l.driver)
       (g.R.Source.state l.initial.source) (g.R.Source.state l.source) requests answers
       × HasTaken (g.O.Sink.state l.initial.out) (g.O.Sink.state l.out) answers
-      × (length requests ≡ l.counter);
+      × (length requests ≡ l.counter)
+      × DoesAll (calls g.B.Bus.meaning g.B.Bus.was_written (Still g.B.Bus.was_read) g.B.Zeroing.was_zeroed
+      g.B.Ringing.was_rung g.B.Bus.was_turned) l.initial.driver requests l.initial.bus l.driver l.bus;
 }

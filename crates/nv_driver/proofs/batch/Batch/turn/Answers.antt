@@ -5,12 +5,12 @@ use Rattle.nv_host.specs.PageSets.{Pages}
 use Rattle.nv_driver.proofs.Words.{Batch, Geometry, QueuePairFields, Sent, mod_below}
 use Rattle.nv_driver.specs.CommandPages.{all_pages}
 use Rattle.nv_driver.specs.Submitting.{place_in}
-use Rattle.nv_driver.specs.UnderWay.{IsHeld, IsToReport}
+use Rattle.nv_driver.specs.UnderWay.{IsHeld}
 use Rattle.nv_driver.specs.declared.command_pages.CommandPages.{CommandPages}
 use Rattle.nv_driver.specs.inner.Pace.{IsToldByPace}
 use Rattle.nv_driver.proofs.OnWayLaws.{can_collect}
 use Rattle.nv_driver.proofs.RoundLaws.{answer_buffer, answer_sends, answers_more, awaits, can_give, collects}
-use Rattle.nv_driver.proofs.RoundLaws.{held_one, number_inside, tells_on, turns_on}
+use Rattle.nv_driver.proofs.RoundLaws.{held_one, number_inside, takes, tells_on, turns_idly, turns_on}
 use Rattle.nv_driver.proofs.UnderWayLaws.{geometry_is, world}
 use Rattle.nv_driver.proofs.batch.Batch.turn.Goals.{then-self-pace, else-self-pace}
 use Rattle.nv_driver.proofs.batch.Batch.turn.Goals as goal
@@ -52,18 +52,17 @@ returns-then-posted-eq0 g c =
     let e = c.turn-posted.ensures in
     let pace = ap (λ (q : Geometry). q.pace) (c.geometry.view_is ∙ c.geometry-geometry.ensures ∙ geometry_is u) in
     let some = u.begun.geometry.pace in
-    let h = turns_on u e.turn e.turned pace e.bus e.len e.page refl rest.1.1.1 rest.1.1.0 refl rest.1.0 refl in
     let deep = u.begun.laid.deep in
     let none : c.turn-posted.result ≡ 0 = omega arith in
-    let same : c.args.self.now.collected + c.turn-posted.result ≡ c.args.self.now.collected = omega (arith, none) in
-    let free = none_free _ _ _ _ _ _ h.1 none (omega (arith, some))
+    let count = takes u e.turn e.turned pace e.bus e.len e.page refl rest.1.1.1 rest.1.1.0 refl rest.1.0 refl in
+    let free = none_free _ _ _ _ _ _ count none (omega (arith, some))
     (omega (arith, rest.1.0, rest.1.1.0, u.begun.geometry.window.0)) deep.0 in
-    let due : IsToReport g.begun.run (world h.0) = inr (h.0.collected ∙ sym same, inl (omega (arith, free.1, none))) in
     record {
-      under_way = rw same at (tells_on h.0 c.tell.ensures.told c.tell.ensures.written free.0 due);
+      under_way = turns_idly u e.turn e.turned pace e.bus e.len e.page refl rest.1.1.1 rest.1.1.0 refl rest.1.0 refl
+          none c.tell.ensures.told c.tell.ensures.written free.0;
       answers = rest.0;
       near = omega (arith, some);
-      count = omega (arith, h.1, none);
+      count = omega (arith, count, none);
       paced = λ more. absurd (omega arith);
       none = λ _. (free.0, refl);
     }
@@ -74,15 +73,16 @@ loop-init g c =
     let rest = c.requires.1.1.1.1 in
     let e = c.turn-posted.ensures in
     let pace = ap (λ (q : Geometry). q.pace) (c.geometry.view_is ∙ c.geometry-geometry.ensures ∙ geometry_is u) in
-    let h = turns_on u e.turn e.turned pace e.bus e.len e.page refl rest.1.1.1 rest.1.1.0 refl rest.1.0 refl in
+    let h = turns_on u e.turn e.turned pace e.bus e.len e.page refl rest.1.1.1 rest.1.1.0 refl rest.1.0 refl
+    (omega arith) in
     record {
-      under_way = h.0;
+      under_way = h;
       answers = rest.0;
       batch = refl;
       collected = omega arith;
       near = rest.1.1.1;
       paced = (0, omega arith);
-      count = h.1;
+      count = takes u e.turn e.turned pace e.bus e.len e.page refl rest.1.1.1 rest.1.1.0 refl rest.1.0 refl;
     }
 
 pub next_completion-completion-requires : goal.next_completion-completion-requires

@@ -1,10 +1,9 @@
 use Rattle.std.proofs.Common.{◌∙◌, refl, subst, sym}
 use Rattle.nv_driver.proofs.Words.{HasEntryPages, after_some}
 use Rattle.nv_driver.specs.Alone.{IsReceived, asked_in, entry_step}
-use Rattle.nv_driver.specs.Passing.{Passes}
-use Rattle.nv_driver.proofs.AdminLaws.{after_first, driver_after, left_at, linked_after, pair_is, ready_by, cid_is}
+use Rattle.nv_driver.proofs.AdminLaws.{after_first, driver_after, left_at, linked_after, passes_by, ready_by, cid_is}
 use Rattle.nv_driver.proofs.AdminLaws.{value_after}
-use Rattle.nv_driver.proofs.PassthroughLaws.{behind_last, ends_before, has_room, room_stays}
+use Rattle.nv_driver.proofs.PassthroughLaws.{behind_last, ends_before, first_is, has_room, room_stays}
 use Rattle.nv_driver.proofs.driver.Driver.passthrough.Goals as goal
 
 pub exchange_entry-requires-clause-ready : goal.exchange_entry-requires-clause-ready
@@ -56,10 +55,9 @@ returns-clause-linked g c =
 
 pub returns-clause-steps : goal.returns-clause-steps
 returns-clause-steps g c =
-    subst (λ l. Passes g.B.Bus.was_written g.B.Ringing.was_rung g.B.Bus.was_turned c.args.ctrl l c.args.entry.now
-    c.args.bytes.now
-    c.args.bus.now c.exchange_entry.new.bus)
-    (sym (pair_is c.self.invariant c.self.view_is c.requires.ctrl c.index_mut-pair.ensures.value))
+    passes_by c.self.invariant c.self.view_is c.requires.ctrl c.index_mut-pair.ensures.value
+    (ready_by c.self.invariant c.self.view_is c.requires.ctrl c.index_mut-pair.ensures.value c.requires.linked).quiet
+    (first_is c.self.invariant c.self.view_is c.controllers.ensures c.pages.ensures.pages)
     c.exchange_entry.ensures.steps
 
 pub returns-clause-entries : goal.returns-clause-entries

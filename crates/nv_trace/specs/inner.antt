@@ -1,2 +1,0 @@
--- What no public contract reaches. Contracts of private functions use it, in other crates too.
-pub mod Marked
