@@ -1,9 +1,9 @@
 """Checks the pages of the repository, as far as a program can. The target of each link exists, and so do its heading
 and each named file or folder. The words in the last column of a table of clauses, or of where to look, occur in the
 sources of the crates. A block of code that is said to be from a file occurs in it. No line is wider than 140 columns
-outside of tables and code, and none names a folder of a machine. Lists of definitions, crates, files in C, examples and
-messages are those of the sources, the pictures show names that are there, and scripts write what pages show. codespell
-finds no misspelled word. Must-fail edits are as CONTRIBUTING says. What the sentences claim isn't checked."""
+outside of tables and code, and none names a folder of a machine. Counts of definitions, and lists of crates, files in
+C, examples and messages are those of the sources, the pictures show names that are there, and scripts write what pages
+show. codespell finds no misspelled word. Must-fail edits are as CONTRIBUTING says. What the sentences claim isn't checked."""
 
 import re
 import runpy
@@ -249,11 +249,10 @@ class Copies(Case):
             for piece in message.split('..'):
                 self.assertIn(piece.strip(), sources, message)
 
-    def test_lists_of_definitions(self):
-        said = subprocess.run([TOP / 'tools/believed', '--page'], capture_output=True, check=True, text=True).stdout
-        for table in said.rstrip('\n').split('\n\n'):
-            is_there = f'\n{table}\n' in text_of('docs/dev/PROOFS.md')
-            self.assertTrue(is_there, f'docs/dev/PROOFS.md: tools/believed --page prints\n{table}')
+    def test_counts_of_definitions(self):
+        table = subprocess.run([TOP / 'tools/believed', '--page'], capture_output=True, check=True, text=True).stdout
+        is_there = f'\n{table}\n' in text_of('docs/dev/PROOFS.md')
+        self.assertTrue(is_there, f'docs/dev/PROOFS.md: tools/believed --page prints\n{table}')
 
     def test_no_public_contract_reaches_inner_definitions(self):
         said = subprocess.run([TOP / 'tools/believed', '--inner'], capture_output=True, check=True, text=True).stdout
