@@ -20,8 +20,8 @@ from tests.test_installed import LOOK
 
 DIST = TOP / 'tools/dist'
 ARCHIVE = f'nvme-script-{VERSION}-linux-x86_64'
-PROGRAMS = {'nvme_script': 'lib/nvme-model/nvme_script', 'nvme_trace': 'bin/nvme-trace', 'nvme_bench': 'bin/nvme-bench',
-            'nvme_device': 'lib/nvme-model/nvme_device'}
+PROGRAMS = {'nvme_script': 'lib/nvme-model/nvme_script', 'nvme_explain': 'lib/nvme-model/nvme_explain',
+            'nvme_device': 'lib/nvme-model/nvme_device', 'nvme_trace': 'bin/nvme-trace', 'nvme_bench': 'bin/nvme-bench'}
 LIBRARIES = 'usr/lib/x86_64-linux-gnu'
 # What each package must have.
 WANTED = {
@@ -430,8 +430,8 @@ class Part(Case):
         self.ends(ended, 0)
         self.assertEqual(ended.err.decode().splitlines(), [
             f'dist: there is no proved {name} of these sources: {command} makes it' for name, command in (
-                ('nvme_trace', 'tools/build nvme_trace'), ('nvme_bench', 'tools/build nvme_bench'),
-                ('nvme_controller', 'make library'))])
+                ('nvme_explain', './nvme-script --explain --build'), ('nvme_trace', 'tools/build nvme_trace'),
+                ('nvme_bench', 'tools/build nvme_bench'), ('nvme_controller', 'make library'))])
         self.assertEqual({path.name for path in (clone / 'out/dist').iterdir()},
                          {'SHA256SUMS', f'{ARCHIVE}.tar.xz', f'nvme-script_{VERSION}_amd64.deb'})
         self.ends(run('tar', 'xf', clone / f'out/dist/{ARCHIVE}.tar.xz', cwd=self.folder), 0)
