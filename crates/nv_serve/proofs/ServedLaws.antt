@@ -133,10 +133,10 @@ request_few {r} whole =
 -- ---- the calls
 
 -- a driver that did what several requests say does what one more says
-pub does_more : {B : Type 0} {k : Calls B} (d : DriverValue) {now next : DriverValue} {old mid new : B}
-    (requests : List Request) (r : Request) → DoesAll k d requests old now mid
-    → Does k now (header_of r.header) r.payload mid next new → DoesAll k d (requests ++ r ∷ []) old next new
-does_more {k = k} d {now} {next} {old} {mid} {new} [] r done does =
+pub does_more : {B : Type 0} (k : Calls B) (d now next : DriverValue) (old mid new : B) (requests : List Request)
+    (r : Request) → DoesAll k d requests old now mid → Does k now (header_of r.header) r.payload mid next new
+    → DoesAll k d (requests ++ r ∷ []) old next new
+does_more k d now next old mid new [] r done does =
     let h = header_of r.header in (
       next,
       new,
@@ -144,7 +144,8 @@ does_more {k = k} d {now} {next} {old} {mid} {new} [] r done does =
           (subst (λ y. Does k now h r.payload y next new) done.1 does),
       (refl, refl),
     )
-does_more d (q ∷ qs) r done does = (done.0, done.1, done.2, does_more done.0 qs r done.3 does)
+does_more k d now next old mid new (q ∷ qs) r done does =
+    (done.0, done.1, done.2, does_more k done.0 now next done.1 mid new qs r done.3 does)
 
 -- ---- the ends
 
@@ -157,7 +158,7 @@ pub still_open : {source : SourceState} → IsReady source → IsOpen source
 still_open ready = record { not_failed = ready.not_failed; not_ended = ready.not_ended }
 
 module _ (p : Point) {now : Point} {old mid : SourceState} {requests : List Request} {answers : List Answer}
-    (stands : Stands p now old mid requests answers) {did : List Request → Type 0} (done : did requests)
+    (stands : Stands p now old mid requests answers) (did : List Request → Type 0) (done : did requests)
     (before after : Streams) (same : before.source ≡ old) where
   -- what was served and a rest with its answer are right for the end that was reached
   pub ends_at : (end : RequestsEnd) (rest : Request) (last : List Answer) → Reads rest mid after.source

@@ -61,16 +61,16 @@ returned_by b d c e bytes out below answer received =
     }
 
 -- a driver does what a request of this kind says if its controller exists
-pub does_kind : {B : Type 0} {k : Calls B} (d : DriverValue) (h : Header) (bytes : List ℕ) {old new : B}
-    {d' : DriverValue} (kind : Kind) → h.controller < length d.pairs → h.kind ≡ kind
+pub does_kind : {B : Type 0} (k : Calls B) (d : DriverValue) (h : Header) (bytes : List ℕ) (old : B)
+    (d' : DriverValue) (new : B) (kind : Kind) → h.controller < length d.pairs → h.kind ≡ kind
     → DoesKind k kind d h bytes old d' new → Does k d h bytes old d' new
-does_kind {k = k} d h bytes {old} {new} {d'} kind below is done =
+does_kind k d h bytes old d' new kind below is done =
     let there : kind_done d h ≡ h.kind = grind arith in
     subst (λ x. DoesKind k x d h bytes old d' new) (sym (there ∙ is)) done
 
 -- and nothing if it doesn't
-pub does_nothing : {B : Type 0} {k : Calls B} (d : DriverValue) (h : Header) (bytes : List ℕ) {old new : B}
-    {d' : DriverValue} → length d.pairs ≤ h.controller → d' ≡ d → new ≡ old → Does k d h bytes old d' new
-does_nothing {k = k} d h bytes {old} {new} {d'} above driver bus =
+pub does_nothing : {B : Type 0} (k : Calls B) (d : DriverValue) (h : Header) (bytes : List ℕ) (old : B)
+    → length d.pairs ≤ h.controller → Does k d h bytes old d old
+does_nothing k d h bytes old above =
     let none : kind_done d h ≡ Unknown = grind arith in
-    subst (λ x. DoesKind k x d h bytes old d' new) (sym none) (driver, bus)
+    subst (λ x. DoesKind k x d h bytes old d old) (sym none) (refl, refl)

@@ -1,8 +1,10 @@
 use Rattle.std.proofs.Common.{◌≡◌, ◌∙◌, ◌++◌, ◌<◌, ◌≤◌, [], ap, arith, drop, length, refl, subst, sym, take}
 use Rattle.std.proofs.Math.Seq.{take-append_seam}
 use Rattle.std.proofs.lemmas.List.{length-map, length-take-le}
+use Rattle.nv_driver.specs.BringingUp.{Still}
+use Rattle.nv_serve.specs.Handling.{calls}
 use Rattle.nv_serve.specs.Header.{wanted_length}
-use Rattle.nv_serve.specs.Serving.{IsAnswerByKind, IsReturned, after_entry, returned}
+use Rattle.nv_serve.specs.Serving.{IsAnswerByKind, IsReturned, after_entry, list_entry, returned}
 use Rattle.nv_serve.specs.declared.answer.AnswerHeader.{AnswerHeader}
 use Rattle.nv_serve.specs.declared.header.Kind.TheVariants.{Entry, Reset, List as ListKind, Unknown}
 use Rattle.nv_serve.specs.inner.Serving.{point_of}
@@ -65,6 +67,43 @@ returns-in_ok-reset-in-Reset-clause-reached g c =
     (rw c.in-Reset.is (reset_on b (g.B.Bus.meaning c.reset.new.bus) d h.controller c.reset.ensures.state
     c.reset.ensures.driver))
 
+pub returns-in-List-clause-answer : goal.returns-in-List-clause-answer
+returns-in-List-clause-answer g c =
+    let b = g.B.Bus.meaning c.args.bus.now in
+    let d = c.args.driver.now in
+    let h = c.args.header.now in
+    let below : h.controller < length d.pairs =
+    omega (arith, c.if-from-controllers.false, c.from.ensures, c.controllers-controllers.ensures) in
+    let sent = c.passthrough-told-in-List.ensures in
+    let told = c.passthrough-told-in-List.result in
+    let out = c.passthrough-told-in-List.new.out in
+    let rest = drop c.wanted_length-wanted.result c.args.received.now in
+    let wanted = c.wanted_length-wanted in
+    let within : wanted.result ≤ length c.args.received.now =
+    omega (arith, wanted.ensures.few, c.requires.few, c.requires.long) in
+    let full : length out ≡ wanted_length h =
+    sent.room ∙ length-take-le wanted.result c.args.received.now within ∙ wanted.ensures.length in
+    let header = c.returned-in-List.ensures in
+    let many : c.returned-in-List.result.length ≡ length out =
+    ap (λ (a : AnswerHeader). a.length) header ∙ wanted.ensures.length ∙ sym full in
+    let came = ap (λ n. take n (out ++ rest)) many ∙ take-append_seam out rest in
+    let is = subst (λ e. IsReturned (point_of b d) h.controller e [] (length out) told out) c.list_entry.ensures.value
+    (returned_by b d h.controller c.list_entry.result [] out below sent.answer sent.out) in
+    let controllers : c.controllers-controllers.result ≡ length (point_of b d).next_cids =
+    c.controllers-controllers.ensures ∙ sym (length-map d.pairs _) in
+    let by : IsAnswerByKind ListKind (point_of b d) h c.args.sent.now
+    (record { header = c.returned-in-List.result; payload = out }) = (
+      told,
+      subst (λ n. IsReturned (point_of b d) h.controller list_entry [] n told out) full is,
+      header ∙ ap (λ n. returned n told.status wanted.result) controllers
+          ∙ ap (returned (length (point_of b d).next_cids) told.status) wanted.ensures.length,
+    ) in
+    answered_by (point_of b d) h c.args.sent.now _ (rw (length-map d.pairs _) below)
+    (subst (λ k. IsAnswerByKind k (point_of b d) h c.args.sent.now (record {
+      header = c.returned-in-List.result;
+      payload = take c.returned-in-List.result.length (out ++ rest);
+    })) (sym c.in-List.is) (rw came by))
+
 pub returns-in-List-clause-reached : goal.returns-in-List-clause-reached
 returns-in-List-clause-reached g c =
     let b = g.B.Bus.meaning c.args.bus.now in
@@ -81,43 +120,54 @@ returns-in-List-clause-reached g c =
 
 pub returns-in-Entry-clause-steps : goal.returns-in-Entry-clause-steps
 returns-in-Entry-clause-steps g c =
+    let all = calls g.B.Bus.meaning g.B.Bus.was_written (Still g.B.Bus.was_read) g.B.Zeroing.was_zeroed
+    g.B.Ringing.was_rung g.B.Bus.was_turned in
     let d = c.args.driver.now in
     let h = c.args.header.now in
     let below : h.controller < length d.pairs =
     omega (arith, c.if-from-controllers.false, c.from.ensures, c.controllers-controllers.ensures) in
-    does_kind d h c.args.sent.now Entry below c.in-Entry.is
-    (c.passthrough-told.ensures.driver, c.passthrough-told.ensures.steps)
+    let sent = c.passthrough-told in
+    does_kind all d h c.args.sent.now c.args.bus.now sent.new.self sent.new.bus Entry below c.in-Entry.is
+    (sent.ensures.driver, sent.ensures.steps)
 
 pub returns-in_ok-reset-in-Reset-clause-steps : goal.returns-in_ok-reset-in-Reset-clause-steps
 returns-in_ok-reset-in-Reset-clause-steps g c =
+    let all = calls g.B.Bus.meaning g.B.Bus.was_written (Still g.B.Bus.was_read) g.B.Zeroing.was_zeroed
+    g.B.Ringing.was_rung g.B.Bus.was_turned in
     let d = c.args.driver.now in
     let h = c.args.header.now in
     let below : h.controller < length d.pairs =
     omega (arith, c.if-from-controllers.false, c.from.ensures, c.controllers-controllers.ensures) in
-    does_kind d h c.args.sent.now Reset below c.in-Reset.is
-    (c.reset.ensures.driver, c.reset.ensures.steps.0, c.reset.ensures.steps.1, c.reset.ensures.steps.2)
+    let e = c.reset.ensures in
+    does_kind all d h c.args.sent.now c.args.bus.now c.reset.new.self c.reset.new.bus Reset below c.in-Reset.is
+    (e.driver, e.steps.0, e.steps.1, e.steps.2)
 
 pub returns-in-List-clause-steps : goal.returns-in-List-clause-steps
 returns-in-List-clause-steps g c =
+    let all = calls g.B.Bus.meaning g.B.Bus.was_written (Still g.B.Bus.was_read) g.B.Zeroing.was_zeroed
+    g.B.Ringing.was_rung g.B.Bus.was_turned in
     let d = c.args.driver.now in
     let h = c.args.header.now in
     let below : h.controller < length d.pairs =
     omega (arith, c.if-from-controllers.false, c.from.ensures, c.controllers-controllers.ensures) in
-    let steps = c.passthrough-told-in-List.ensures.steps in
-    does_kind d h c.args.sent.now ListKind below c.in-List.is (
-      c.passthrough-told-in-List.ensures.driver,
-      rw c.list_entry.ensures.value at steps,
-    )
+    let sent = c.passthrough-told-in-List in
+    let steps = sent.ensures.steps in
+    does_kind all d h c.args.sent.now c.args.bus.now sent.new.self sent.new.bus ListKind below c.in-List.is
+    (sent.ensures.driver, rw c.list_entry.ensures.value at steps)
 
 pub returns-in-Unknown-clause-steps : goal.returns-in-Unknown-clause-steps
 returns-in-Unknown-clause-steps g c =
+    let all = calls g.B.Bus.meaning g.B.Bus.was_written (Still g.B.Bus.was_read) g.B.Zeroing.was_zeroed
+    g.B.Ringing.was_rung g.B.Bus.was_turned in
     let d = c.args.driver.now in
     let h = c.args.header.now in
     let below : h.controller < length d.pairs =
     omega (arith, c.if-from-controllers.false, c.from.ensures, c.controllers-controllers.ensures) in
-    does_kind d h c.args.sent.now Unknown below c.in-Unknown.is (refl, refl)
+    does_kind all d h c.args.sent.now c.args.bus.now d c.args.bus.now Unknown below c.in-Unknown.is (refl, refl)
 
 pub returns-then-from-controllers-clause-steps : goal.returns-then-from-controllers-clause-steps
 returns-then-from-controllers-clause-steps g c =
-    does_nothing c.args.driver.now c.args.header.now c.args.sent.now
-    (omega (arith, c.if-from-controllers.true, c.from.ensures, c.controllers-controllers.ensures)) refl refl
+    let all = calls g.B.Bus.meaning g.B.Bus.was_written (Still g.B.Bus.was_read) g.B.Zeroing.was_zeroed
+    g.B.Ringing.was_rung g.B.Bus.was_turned in
+    does_nothing all c.args.driver.now c.args.header.now c.args.sent.now c.args.bus.now
+    (omega (arith, c.if-from-controllers.true, c.from.ensures, c.controllers-controllers.ensures))
