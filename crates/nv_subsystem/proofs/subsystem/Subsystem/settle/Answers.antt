@@ -1,6 +1,5 @@
 use Rattle.std.proofs.Common.{◌∙◌, ℕ, ap, sym, subst, length, arith, refl}
 use Rattle.nv_model.proofs.StepLaws.{effect_controllers, effect_keeps, refusal_fits, with_command_keeps}
-use Rattle.nv_model.specs.Meaning.{refusal_of, reply_of}
 use Rattle.nv_model.specs.Step.{with_command}
 use Rattle.nv_model.specs.WellFormed.{IsWellFormed}
 use Rattle.nv_subsystem.proofs.AnswerLaws.{accepted_told, refused_told}
@@ -9,12 +8,10 @@ use Rattle.nv_subsystem.specs.Tagged.{booked, settled, untagged}
 use Rattle.nv_subsystem.proofs.subsystem.Subsystem.settle.Goals as goal
 
 pub apply-requires-clause-accepted : goal.apply-requires-clause-accepted
-apply-requires-clause-accepted c =
-    (accepted_told _ _ c.in-Ok.number (sym c.requires.answered ∙ c.in-Ok.is)).0
+apply-requires-clause-accepted c = (accepted_told _ _ _ (sym c.requires.answered ∙ c.in-Ok.is)).0
 
 pub apply-requires-clause-number : goal.apply-requires-clause-number
-apply-requires-clause-number c =
-    (accepted_told _ _ c.in-Ok.number (sym c.requires.answered ∙ c.in-Ok.is)).1
+apply-requires-clause-number c = (accepted_told _ _ _ (sym c.requires.answered ∙ c.in-Ok.is)).1
 
 pub count-requires : goal.count-requires
 count-requires c = omega (
@@ -25,23 +22,17 @@ count-requires c = omega (
 
 pub returns-in-Ok-clause-state : goal.returns-in-Ok-clause-state
 returns-in-Ok-clause-state c =
-    let s = c.args.self.now in
-    let k = c.args.command.now in
-    let accepted = (accepted_told (refusal_of s c.args.ctrl k) (reply_of s c.args.ctrl k) c.in-Ok.number
-    (sym c.requires.answered ∙ c.in-Ok.is)).0 in
     c.count.ensures ∙ ap (λ t. with_command t c.args.ctrl) c.apply.ensures
-    ∙ ap (settled s c.args.ctrl k c.args.origin) (sym accepted)
+    ∙ ap (settled c.args.self.now c.args.ctrl c.args.command.now c.args.origin)
+    (sym (accepted_told _ _ _ (sym c.requires.answered ∙ c.in-Ok.is)).0)
 
 pub returns-in-Err-clause-state : goal.returns-in-Err-clause-state
 returns-in-Err-clause-state c =
-    let s = c.args.self.now in
-    let k = c.args.command.now in
-    let refused = refused_told (refusal_of s c.args.ctrl k) (reply_of s c.args.ctrl k) c.in-Err.refusal
-    (sym c.requires.answered ∙ c.in-Err.is) in
-    c.refuse.ensures.state
-    ∙ ap (λ (nsid : ℕ). with_command (booked s c.args.ctrl nsid c.args.origin c.in-Err.refusal) c.args.ctrl)
-    c.nsid.ensures
-    ∙ ap (settled s c.args.ctrl k c.args.origin) (sym refused)
+    let refusing = λ (nsid : ℕ). with_command (booked c.args.self.now c.args.ctrl nsid c.args.origin c.in-Err.refusal)
+    c.args.ctrl in
+    c.refuse.ensures.state ∙ ap refusing c.nsid.ensures
+    ∙ ap (settled c.args.self.now c.args.ctrl c.args.command.now c.args.origin)
+    (sym (refused_told _ _ _ (sym c.requires.answered ∙ c.in-Err.is)))
 
 pub returns-in-Ok-clause-without_tags : goal.returns-in-Ok-clause-without_tags
 returns-in-Ok-clause-without_tags c =
@@ -55,17 +46,11 @@ returns-in-Err-clause-without_tags c =
 
 pub returns-in-Ok-clause-well_formed : goal.returns-in-Ok-clause-well_formed
 returns-in-Ok-clause-well_formed c w =
-    let s = c.args.self.now in
-    let k = c.args.command.now in
-    let accepted = (accepted_told (refusal_of s c.args.ctrl k) (reply_of s c.args.ctrl k) c.in-Ok.number
-    (sym c.requires.answered ∙ c.in-Ok.is)).0 in
     subst IsWellFormed (sym (c.count.ensures ∙ ap (λ t. with_command t c.args.ctrl) c.apply.ensures))
-    (with_command_keeps _ c.args.ctrl (effect_keeps s c.args.ctrl k accepted w))
+    (with_command_keeps _ c.args.ctrl (effect_keeps c.args.self.now c.args.ctrl c.args.command.now
+    (accepted_told _ _ _ (sym c.requires.answered ∙ c.in-Ok.is)).0 w))
 
 pub returns-in-Err-clause-well_formed : goal.returns-in-Err-clause-well_formed
 returns-in-Err-clause-well_formed c w =
-    let s = c.args.self.now in
-    let k = c.args.command.now in
-    let refused = refused_told (refusal_of s c.args.ctrl k) (reply_of s c.args.ctrl k) c.in-Err.refusal
-    (sym c.requires.answered ∙ c.in-Err.is) in
-    c.refuse.ensures.well_formed w (refusal_fits s c.args.ctrl k c.in-Err.refusal refused)
+    c.refuse.ensures.well_formed w (refusal_fits c.args.self.now c.args.ctrl c.args.command.now c.in-Err.refusal
+    (refused_told _ _ _ (sym c.requires.answered ∙ c.in-Err.is)))
