@@ -1,8 +1,7 @@
-/* The process that made a call, as a helper sees it: its memory, its identity, its process group, and what its paths
-   lead to. All of this may take as long as that process lets it. None of this is proved. */
+/* The process that made a call, as a helper sees it: its identity, its memory, and what its paths lead to. All of this may take as long as that process lets it. None of this is proved. */
 #include "launcher.h"
-#include <dirent.h>
 #include <grp.h>
+#include <linux/capability.h>
 #include <linux/magic.h>
 #include <linux/openat2.h>
 #include <sys/statfs.h>
@@ -11,13 +10,14 @@
 
 /* ---- its identity */
 
-enum { NOBODY = 65534, MOST_GROUPS = 256, NO_USER = -1 };
+enum { NOBODY = 65534, MOST_GROUPS = 65536, NO_USER = -1 };
 
 /* What a process may do with files. */
 struct identity {
     uid_t user;
     gid_t group, groups[MOST_GROUPS];
     size_t count;
+    uint64_t rights; /* its capabilities, unless these are those of another user namespace */
 };
 
 static struct identity taken = {.user = NO_USER}; /* the identity that this helper has taken */
@@ -29,8 +29,7 @@ static int open_about(pid_t process, const char *name, int flags) {
     return open(path, flags | O_CLOEXEC);
 }
 
-/* Reads the beginning of a file about a process. */
-static const char *read_about(pid_t process, const char *name, char *text, size_t room) {
+const char *read_about(pid_t process, const char *name, char *text, size_t room) {
     int file = open_about(process, name, O_RDONLY);
     ssize_t length = file < 0 ? -1 : read(file, text, room - 1);
     if (file >= 0)
@@ -39,13 +38,23 @@ static const char *read_about(pid_t process, const char *name, char *text, size_
     return text;
 }
 
+static int has_own_users(pid_t process) {
+    char path[64];
+    struct stat its, own;
+    snprintf(path, sizeof path, "/proc/%d/ns/user", process);
+    return stat(path, &its) == 0 && stat("/proc/self/ns/user", &own) == 0 && its.st_ino == own.st_ino;
+}
+
 /* (the owner of a process's folder in /proc is root if the process changed its user) */
 static int read_identity(pid_t process, struct identity *identity) {
-    char text[8192], *end;
+    static char text[1 << 20];
+    char *end;
     read_about(process, "status", text, sizeof text);
-    const char *users = strstr(text, "\nUid:"), *groups = strstr(text, "\nGroups:");
-    *identity = (struct identity){.user = NOBODY};
-    if (!users || !groups ||
+    const char *users = strstr(text, "\nUid:"), *groups = strstr(text, "\nGroups:"),
+               *rights = strstr(text, "\nCapEff:");
+    identity->user = NOBODY;
+    identity->count = 0;
+    if (!users || !groups || !rights ||
         sscanf(users, " Uid: %*u %*u %*u %u Gid: %*u %*u %*u %u", &identity->user, &identity->group) != 2)
         return 0;
     for (const char *at = groups + strlen("\nGroups:"); identity->count < MOST_GROUPS; at = end) {
@@ -55,50 +64,78 @@ static int read_identity(pid_t process, struct identity *identity) {
             break;
         identity->groups[identity->count++] = (gid_t)number;
     }
+    identity->rights = strtoull(rights + strlen("\nCapEff:"), NULL, 16);
+    if (identity->rights != 0 && !has_own_users(process))
+        identity->rights = 0;
     return 1;
 }
 
 /* (A group without a number here gives no rights here. Where no process may change its groups, this one has them; and
    if it doesn't have the group itself, the kernel lets it read nothing of the caller's.) */
-static int take_groups(struct identity *identity) {
+static int take_groups(const struct identity *identity) {
+    static gid_t known[MOST_GROUPS];
     size_t count = 0;
     int is_taken = setgroups(identity->count, identity->groups) == 0 || errno == EPERM;
     for (size_t at = 0; at < identity->count && !is_taken; at++)
         if (identity->groups[at] != NOBODY)
-            identity->groups[count++] = identity->groups[at];
-    if (!is_taken && setgroups(count, identity->groups) < 0)
+            known[count++] = identity->groups[at];
+    if (!is_taken && setgroups(count, known) < 0)
         return -1;
     return setresgid(identity->group, identity->group, NO_USER) == 0 || identity->group == NOBODY ? 0 : -1;
 }
 
+/* Has these rights in effect, as far as the sandbox gives them, and the one to look at each process. */
+static int use_rights(uint64_t wanted) {
+    struct __user_cap_header_struct version = {_LINUX_CAPABILITY_VERSION_3, 0};
+    struct __user_cap_data_struct rights[2];
+    if (syscall(SYS_capget, &version, rights) < 0)
+        return -1;
+    wanted |= 1ULL << CAP_SYS_PTRACE;
+    for (unsigned at = 0; at < 2; at++)
+        rights[at].effective = rights[at].permitted & (uint32_t)(wanted >> 32 * at);
+    return (int)syscall(SYS_capset, &version, rights);
+}
+
+static int be_root(void) { return use_rights(UINT64_MAX) < 0 || setresuid(NO_USER, 0, NO_USER) < 0 ? -1 : 0; }
+
+/* (the kernel takes the rights of whoever is no longer root) */
+static int be_taken(uid_t real) {
+    return setresuid(real, taken.user, NO_USER) < 0 || use_rights(taken.rights) < 0 ? -1 : 0;
+}
+
 int act_as_caller(const struct call *call) {
     static int is_root = -1;
-    struct identity wanted;
+    static struct identity wanted;
     if (is_root < 0)
         is_root = geteuid() == 0;
     if (!is_root)
         return 1;
     if (!read_identity(call->process, &wanted))
         return 0;
-    if (taken.user == wanted.user && taken.group == wanted.group && taken.count == wanted.count &&
-        memcmp(taken.groups, wanted.groups, wanted.count * sizeof *wanted.groups) == 0)
+    if (taken.user == wanted.user && taken.group == wanted.group && taken.rights == wanted.rights &&
+        taken.count == wanted.count && memcmp(taken.groups, wanted.groups, wanted.count * sizeof *wanted.groups) == 0)
         return 1;
+    taken.user = NO_USER;
+    if (be_root() < 0 || take_groups(&wanted) < 0)
+        return 0;
     taken = wanted;
-    if (setresuid(NO_USER, 0, NO_USER) == 0 && take_groups(&wanted) == 0 &&
-        setresuid(wanted.user, wanted.user, NO_USER) == 0)
+    if (be_taken(wanted.user) == 0)
         return 1;
     taken.user = NO_USER;
     return 0;
 }
 
-int is_administrator(void) { return taken.user == (uid_t)NO_USER || taken.user == 0; }
+/* (a root without rights isn't it) */
+int is_administrator(void) {
+    return taken.user == (uid_t)NO_USER || (taken.user == 0 && taken.rights != 0);
+}
 
 int open_own_data(const struct call *call) {
-    int is_other = !is_administrator();
-    if (is_other && setresuid(NO_USER, 0, NO_USER) < 0)
+    int is_other = taken.user != (uid_t)NO_USER;
+    if (is_other && be_root() < 0)
         return -1;
     int file = open_data(&call->node);
-    if (is_other && setresuid(NO_USER, taken.user, NO_USER) < 0)
+    if (is_other && be_taken(NO_USER) < 0)
         _exit(FAILED);
     return file;
 }
@@ -130,40 +167,24 @@ int copy_text(const struct call *call, uint64_t from, char into[PATH_MAX]) {
     return result == 0 && memchr(into, '\0', PATH_MAX) ? 0 : -EFAULT;
 }
 
-/* ---- its process group */
-
-/* Returns the group of a process, which is 0 if the group began outside of the sandbox, or -1 if this can't be told. */
-static int group_of(pid_t process) {
-    char text[512];
-    int group = -1;
-    const char *behind = strrchr(read_about(process, "stat", text, sizeof text), ')');
-    return behind && sscanf(behind, ") %*c %*d %d", &group) == 1 ? group : -1;
-}
-
-int signal_group(const struct call *call, int number) {
-    int group = group_of(call->process), result = -ESRCH;
-    DIR *entries = group == 0 ? opendir("/proc") : NULL;
-    struct dirent *entry;
-    if (!entries)
-        return group > 0 ? NOT_OURS : -EPERM;
-    while ((entry = readdir(entries))) {
-        pid_t process = atoi(entry->d_name);
-        if (process <= 1 || group_of(process) != 0)
-            continue;
-        int error = kill(process, number) < 0 ? -errno : 0;
-        result = result == 0 ? 0 : error;
-    }
-    closedir(entries);
-    return result;
-}
-
 /* ---- its paths */
 
 enum { MOST_LINKS = 40, TOP_OF_PROC = 1, ROOM = 2 * PATH_MAX };
 
+/* Opens what /proc/self or /proc/thread-self is for a process, by its numbers in the command's namespace. */
+static int open_self(const struct call *call, int proc, int is_thread) {
+    char text[8192], path[64], group[16], thread[16];
+    read_about(call->process, "status", text, sizeof text);
+    const char *groups = strstr(text, "\nNStgid:"), *threads = strstr(text, "\nNSpid:");
+    if (!groups || !threads || sscanf(groups, " NStgid: %*u %15s", group) != 1 ||
+        sscanf(threads, " NSpid: %*u %15s", thread) != 1)
+        return -1;
+    snprintf(path, sizeof path, is_thread ? "%s/task/%s" : "%s", group, thread);
+    return openat(proc, path, O_PATH | O_CLOEXEC);
+}
+
 /* Follows a link of the folder `at`, and returns what it leads to, or puts its text before what is left of the path
-   and returns the folder where this begins. Links of /proc other than those at its top can't be read as texts, and of
-   these `self` is the caller, by its number in the command's namespace. */
+   and returns the folder where this begins. Links of /proc other than those at its top can't be read as texts. */
 static int follow(const struct call *call, int at, const char *name, int link, uint64_t resolve, char left[ROOM]) {
     char text[ROOM];
     struct statfs system;
@@ -171,11 +192,8 @@ static int follow(const struct call *call, int at, const char *name, int link, u
     if (fstatfs(at, &system) < 0 || fstat(at, &about) < 0)
         return -1;
     int is_proc = system.f_type == PROC_SUPER_MAGIC, is_top = is_proc && about.st_ino == TOP_OF_PROC;
-    if (is_top && (strcmp(name, "self") == 0 || strcmp(name, "thread-self") == 0)) {
-        const char *numbers = strstr(read_about(call->process, "status", text, sizeof text), "\nNSpid:");
-        char own[16];
-        return numbers && sscanf(numbers, " NSpid: %*u %15s", own) == 1 ? openat(at, own, O_PATH | O_CLOEXEC) : -1;
-    }
+    if (is_top && (strcmp(name, "self") == 0 || strcmp(name, "thread-self") == 0))
+        return open_self(call, at, *name == 't');
     if (is_proc && !is_top)
         return resolve & ~(uint64_t)RESOLVE_CACHED ? -1 : openat(at, name, O_PATH | O_CLOEXEC);
     ssize_t length = readlinkat(link, "", text, PATH_MAX - 1);
@@ -185,6 +203,29 @@ static int follow(const struct call *call, int at, const char *name, int link, u
     return *left == '/' ? open_about(call->process, "root", O_PATH) : fcntl(at, F_DUPFD_CLOEXEC, 0);
 }
 
+/* A folder, by its mount and number. */
+struct place {
+    uint64_t mount, number;
+};
+
+static int find_place(int from, const char *path, int flags, struct place *place) {
+    struct statx about;
+    if (statx(from, path, flags | AT_STATX_DONT_SYNC, STATX_INO | STATX_MNT_ID, &about) < 0)
+        return -1;
+    *place = (struct place){about.stx_mnt_id, about.stx_ino};
+    return 0;
+}
+
+static int find_root(pid_t process, struct place *place) {
+    char path[64];
+    snprintf(path, sizeof path, "/proc/%d/root", process);
+    return find_place(AT_FDCWD, path, 0, place);
+}
+
+static int is_same(const struct place *one, const struct place *other) {
+    return one->mount == other->mount && one->number == other->number;
+}
+
 /* Returns the type of a file. (A server isn't asked again, because what it tells may change what the caller may do.) */
 static mode_t type_of(int file) {
     struct statx about;
@@ -192,9 +233,11 @@ static mode_t type_of(int file) {
 }
 
 /* Follows a path, part by part, as the caller would: another process can't have the kernel do so, because nothing is at
-   /proc/self for it. */
-static int walk(const struct call *call, int at, const char *path, const struct open_how *how) {
+   /proc/self for it, and because it has another root if the caller has one of its own. */
+static int walk(const struct call *call, int at, const char *path, const struct open_how *how,
+                const struct place *root) {
     char left[ROOM], name[NAME_MAX + 1];
+    struct place place;
     unsigned links = 0;
     strcpy(left, path);
     while (at >= 0 && left[strspn(left, "/")]) {
@@ -204,7 +247,9 @@ static int walk(const struct call *call, int at, const char *path, const struct 
             break;
         snprintf(name, sizeof name, "%.*s", (int)length, left + skipped);
         memmove(left, left + skipped + length, strlen(left + skipped + length) + 1);
-        at = openat(before, name, O_PATH | O_NOFOLLOW | O_CLOEXEC);
+        int is_top = strcmp(name, "..") == 0 && find_place(before, "", AT_EMPTY_PATH, &place) == 0 &&
+                     is_same(&place, root);
+        at = openat(before, is_top ? "." : name, O_PATH | O_NOFOLLOW | O_CLOEXEC);
         if (at >= 0 && !(is_last && how->flags & O_NOFOLLOW) && type_of(at) == S_IFLNK) {
             int link = at;
             at = links++ < MOST_LINKS ? follow(call, before, name, link, how->resolve, left) : -1;
@@ -219,17 +264,23 @@ static int walk(const struct call *call, int at, const char *path, const struct 
 }
 
 int look_up(const struct call *call, int directory, const char *path, const struct open_how *given) {
+    static struct place of_command;
     struct open_how how = {.flags = O_PATH | O_CLOEXEC | (given->flags & (O_NOFOLLOW | O_DIRECTORY)),
                            .resolve = given->resolve | RESOLVE_NO_MAGICLINKS};
-    char place[32];
-    int is_below = given->resolve & (RESOLVE_BENEATH | RESOLVE_IN_ROOT) && *path == '/';
-    snprintf(place, sizeof place, directory == AT_FDCWD ? "cwd" : "fd/%d", directory);
-    int from = open_about(call->process, *path == '/' && !is_below ? "root" : place, O_PATH);
+    struct place root;
+    char folder[32];
+    int is_below = given->resolve & (RESOLVE_BENEATH | RESOLVE_IN_ROOT) && *path == '/', file = -1;
+    snprintf(folder, sizeof folder, directory == AT_FDCWD ? "cwd" : "fd/%d", directory);
+    int from = open_about(call->process, *path == '/' && !is_below ? "root" : folder, O_PATH);
     const char *rest = is_below ? path : path + strspn(path, "/");
-    int file = from < 0 || !*path ? -1 : (int)syscall(SYS_openat2, from, *rest ? rest : ".", &how, sizeof how);
-    if (file < 0 && from >= 0 && (errno == ENOENT || (errno == ELOOP && given->resolve == 0)))
-        return walk(call, from, rest, given);
-    if (from >= 0)
-        close(from);
+    if (from < 0 || !*path || (of_command.number == 0 && find_root(first, &of_command) < 0) ||
+        find_root(call->process, &root) < 0)
+        return from < 0 ? -1 : (close(from), -1);
+    int has_other = !is_same(&root, &of_command);
+    if (!has_other)
+        file = (int)syscall(SYS_openat2, from, *rest ? rest : ".", &how, sizeof how);
+    if (file < 0 && (has_other || errno == ENOENT || (errno == ELOOP && given->resolve == 0)))
+        return walk(call, from, rest, given, &root);
+    close(from);
     return file;
 }

@@ -1,44 +1,19 @@
-/* The calls on nodes. A filter that the command's processes inherit (filter.c) hands the ioctls of NVMe and of block
-   devices to the launcher, and in a sandbox also calls that open files for writing or change their lengths. Its helpers
-   (helpers.c) answer those on nodes and on files of /sys from the memory of the process, as Linux does, and let the
-   kernel carry out all others. So static programs, and those that make system calls themselves, are answered too. A
-   result is that of the call, or an error's number as a negative one. None of this is proved. */
+/* The ioctls of nodes, and what helpers (helpers.c) do with a call that a filter handed over (filter.c). Programs inherit
+   this filter, and helpers answer from the memory of the process, as Linux does, so static programs, and those that
+   make system calls themselves, are answered too. A result is that of the call, or an error's number as a negative one.
+   None of this is proved. */
 #include "launcher.h"
 #include <linux/audit.h>
 #include <linux/blkzoned.h>
 #include <linux/fs.h>
 #include <linux/hdreg.h>
 #include <linux/nvme_ioctl.h>
-#include <linux/openat2.h>
 #include <sys/syscall.h>
 
 /* The two lowest bits of an opcode give the direction of its data. */
 enum { TO_DEVICE = 1, FROM_DEVICE = 2 };
 
-/* The calls that are handed over, by their numbers for programs of 64 and of 32 bits (-1 for none): those that open a
-   file or change its length, by the arguments that say where it is (-1 for none) and by which flags (which must ask for
-   a change, if the filter can see them), with the error that Linux has for a node if it can't be done; those that are
-   refused for a node, by the argument that is its descriptor, with that error; and `kill` of the own group. */
-const struct handed_call handed_calls[HANDED_CALLS] = {
-    {SYS_open, 5, -1, 0, 1, 0},
-    {SYS_openat, 295, 0, 1, 2, 0},
-    {SYS_openat2, 437, 0, 1, -1, 0},
-    {SYS_creat, 8, -1, 0, -1, 0},
-    {SYS_truncate, 92, -1, 0, -1, -EINVAL},
-    {-1, 193, -1, 0, -1, -EINVAL},
-    {SYS_ftruncate, 93, 0, -1, -1, -EINVAL},
-    {-1, 194, 0, -1, -1, -EINVAL},
-    {SYS_sendfile, 187, 0, -1, -1, -EINVAL},
-    {-1, 239, 0, -1, -1, -EINVAL},
-    {SYS_splice, 313, 2, -1, -1, -EINVAL},
-    {SYS_fallocate, 324, 0, -1, -1, -ENODEV},
-    {SYS_copy_file_range, 377, 2, -1, -1, -EXDEV},
-    {SYS_kill, 37, -1, -1, -1, 0}};
-
-enum { OF_DEV, OF_SYS };
-
-/* Returns the number of the file system in which nodes, or the model's files of /sys, are. */
-static dev_t number_of(int is_sys) {
+dev_t number_of(int is_sys) {
     static dev_t numbers[2];
     struct stat about;
     if (numbers[is_sys] == 0 && stat(is_sys ? "/sys" : "/dev", &about) == 0)
@@ -46,15 +21,13 @@ static dev_t number_of(int is_sys) {
     return numbers[is_sys];
 }
 
-/* Reads by which name a file was opened, with links followed. */
-static void read_link(const char *link, char name[PATH_MAX]) {
+void read_link(const char *link, char name[PATH_MAX]) {
     ssize_t length = readlink(link, name, PATH_MAX - 1);
     name[length < 0 ? 0 : length] = '\0';
 }
 
-/* Whether the file of a call is a node, which is stored. Without a sandbox, its only mark is its name. (The mode of a
-   link to an open file says how it was opened.) */
-static int find_node(struct call *call) {
+/* (the mode of a link to an open file says how it was opened; without a sandbox, a node's only mark is its name) */
+int find_node(struct call *call) {
     const char *before = has_sandbox ? "/dev/" : "/memfd:";
     char link[64], name[PATH_MAX];
     struct stat about, how;
@@ -64,6 +37,7 @@ static int find_node(struct call *call) {
         lstat(link, &how) < 0 || (has_sandbox && about.st_dev != number_of(OF_DEV)))
         return 0;
     call->is_writable = (how.st_mode & S_IWUSR) != 0;
+    call->is_path = (how.st_mode & (S_IRUSR | S_IWUSR)) == 0;
     return read_name(name + strlen(before), &call->node);
 }
 
@@ -74,7 +48,7 @@ int put_result(const struct call *call, int is_wide, uint64_t result, int status
     return copy_out(call, call->argument + place, &result, is_wide ? 8 : 4) < 0 ? -EFAULT : status;
 }
 
-static int ask(const struct call *call, uint16_t kind) {
+int ask_controller(const struct call *call, uint16_t kind) {
     const struct request_header header = {.controller = (uint16_t)call->node.controller,
                                           .kind = kind,
                                           .length = kind == KIND_SHOW ? call->node.nsid : kind == KIND_SCAN};
@@ -125,9 +99,9 @@ static int lock(int file, int command, short type, off_t place) {
     return fcntl(file, command, &byte) < 0 ? -1 : byte.l_type;
 }
 
-/* Claims a block device for a file that is opened with O_EXCL, which then has a lock as long as it is open, unless
-   another one has it or just gets it (and so has the first lock). */
-static int claim(const struct call *call, int file) {
+/* (the file then has a lock as long as it is open, unless another one has it or just gets it, and so has the first lock)
+ */
+int claim(const struct call *call, int file) {
     short type = (fcntl(file, F_GETFL) & O_ACCMODE) == O_RDONLY ? F_RDLCK : F_WRLCK;
     off_t place = 1 + call->node.controller;
     int own = open_own_data(call);
@@ -178,7 +152,7 @@ static int change(const struct call *call, uint32_t request, uint64_t block) {
         volume->is_read_only = number != 0;
     if (request == BLKRASET || request == BLKFRASET)
         volume->read_ahead = call->argument / 8 * 8;
-    return request == BLKROSET || request == BLKRASET || request == BLKFRASET ? ask(call, KIND_SHOW) : 0;
+    return request == BLKROSET || request == BLKRASET || request == BLKFRASET ? ask_controller(call, KIND_SHOW) : 0;
 }
 
 /* Reports numbers about a block device, in their sizes, as Linux does for a device with one queue, or changes it. */
@@ -225,6 +199,8 @@ static int of_block_device(const struct call *call) {
 static int carry_out_ioctl(struct call *call) {
     char kind = call->node.kind;
     struct device *device = device_of(call->node.controller);
+    if (call->is_path && call->request != NODE_REQUEST)
+        return -EBADF;
     if (device->is_lost)
         return -ENXIO;
     switch (call->request) {
@@ -242,7 +218,7 @@ static int carry_out_ioctl(struct call *call) {
             return -EACCES;
         if (kind != 'c' || call->request == NVME_IOCTL_SUBSYS_RESET)
             return -ENOTTY;
-        return ask(call, call->request == NVME_IOCTL_RESET ? KIND_RESET : KIND_SCAN);
+        return ask_controller(call, call->request == NVME_IOCTL_RESET ? KIND_RESET : KIND_SCAN);
     case NVME_IOCTL_IO_CMD:
         return io(call);
     case NVME_IOCTL_SUBMIT_IO:
@@ -254,95 +230,15 @@ static int carry_out_ioctl(struct call *call) {
 }
 
 /* (the library asks by name where nodes aren't files) */
-static int answer_ioctl(struct call *call) {
+int answer_ioctl(struct call *call, const __u64 *words) {
     struct node asked;
+    call->file = (int)words[0];
+    call->request = (uint32_t)words[1];
+    call->argument = words[2];
     int is_name = call->request == NODE_REQUEST && call->file == -1 && !has_sandbox;
     if (is_name && (copy_in(call, call->argument, &asked, sizeof asked) < 0 || !read_name(asked.name, &call->node)))
         return -ENOENT;
     return is_name || find_node(call) ? carry_out_ioctl(call) : NOT_OURS;
-}
-
-/* ---- calls that open a file */
-
-/* Does what a file of /sys is there for that was opened to be written. Returns whether it is such a file. */
-static int control(const char *name) {
-    struct call call = {.process = 0};
-    char controller[24], what[24];
-    int is_all = strcmp(name, "/sys/bus/pci/rescan") == 0;
-    for (struct device *device = devices; is_all && device < devices + device_count; device++) {
-        const struct request_header header = {
-            .controller = (uint16_t)device->first, .kind = KIND_SCAN, .length = device->count};
-        ask_keeper(&header, &(struct answer_header){0});
-    }
-    if (is_all || sscanf(name, "/sys/devices/%*[^/]/%*[^/]/nvme/%23[^/]/%23s", controller, what) != 2 ||
-        !read_name(controller, &call.node) || strcmp(controller, call.node.name) != 0 || call.node.kind != 'c')
-        return is_all;
-    int is_reset = strcmp(what, "reset_controller") == 0, is_scan = strcmp(what, "rescan_controller") == 0;
-    if (is_reset || is_scan)
-        ask(&call, is_reset ? KIND_RESET : KIND_SCAN);
-    return is_reset || is_scan;
-}
-
-/* Answers a call that opens a file that was found, or that changes its length: a file of /sys that isn't there for
-   writing can't be opened for it, even by root, and a node isn't truncated. Others are opened as the caller could.
-   (Linux 6.6 and later open files in memory for direct access. The library tells by this flag which writes fail.) */
-static int open_found(struct call *call, int file, uint64_t flags, int is_length) {
-    const int left_out = O_CREAT | O_EXCL | O_TRUNC | O_NOFOLLOW;
-    char place[64], name[PATH_MAX];
-    struct stat about;
-    if (fstat(file, &about) < 0 || !S_ISREG(about.st_mode) ||
-        (about.st_dev != number_of(OF_DEV) && about.st_dev != number_of(OF_SYS)))
-        return NOT_OURS;
-    if (about.st_dev == number_of(OF_SYS) && !(about.st_mode & 0222))
-        return -EACCES;
-    snprintf(place, sizeof place, "/proc/self/fd/%d", file);
-    read_link(place, name);
-    int is_node = strncmp(name, "/dev/", 5) == 0 && read_name(name + 5, &call->node);
-    if (is_node && is_length)
-        return -EINVAL;
-    if (is_length || (is_node ? !(flags & (O_TRUNC | O_DIRECT | O_EXCL)) : strncmp(name, "/sys/", 5) != 0))
-        return NOT_OURS;
-    int again = open(place, ((int)flags & ~left_out) | O_CLOEXEC);
-    if (again < 0 && errno == EINVAL && flags & O_DIRECT)
-        again = open(place, ((int)flags & ~(left_out | O_DIRECT)) | O_CLOEXEC);
-    if (again < 0)
-        return -errno;
-    int result = is_node && flags & O_EXCL && call->node.kind == 'b' ? claim(call, again) : 0;
-    if (result == 0 && (is_node || control(name)))
-        return again;
-    close(again);
-    return result == 0 ? NOT_OURS : result;
-}
-
-/* Reads how a call opens a file, with the size that it tells. Returns 0 if Linux refuses this, whatever the path. */
-static int read_how(const struct call *call, uint64_t from, uint64_t size, struct open_how *how) {
-    unsigned char room[PATH_MAX];
-    if (size < sizeof *how || size > sizeof room || copy_in(call, from, room, size) < 0)
-        return 0;
-    memcpy(how, room, sizeof *how);
-    return syscall(SYS_openat2, -1, "", room, size) < 0 && errno == ENOENT;
-}
-
-static int answer_row(struct call *call, const struct handed_call *row, const __u64 *words, int *flags) {
-    struct open_how how = {.flags = row->flags < 0 ? O_WRONLY | O_CREAT | O_TRUNC : (uint32_t)words[row->flags]};
-    char text[PATH_MAX];
-    if (row->file < 0 && row->path < 0)
-        return signal_group(call, (int)words[1]);
-    if (row->path < 0) {
-        int is_hole = row->error == -ENODEV && words[1] & (FALLOC_FL_PUNCH_HOLE | FALLOC_FL_ZERO_RANGE);
-        call->file = (int)words[row->file];
-        return !is_hole && find_node(call) ? row->error : NOT_OURS;
-    }
-    int is_openat2 = row->file >= 0 && row->flags < 0, directory = row->file < 0 ? AT_FDCWD : (int)words[row->file];
-    if ((is_openat2 && !read_how(call, words[2], words[3], &how)) || copy_text(call, words[row->path], text) < 0 ||
-        how.flags & O_PATH || (how.flags & (O_CREAT | O_EXCL)) == (O_CREAT | O_EXCL))
-        return NOT_OURS;
-    *flags = (int)how.flags;
-    int file = look_up(call, directory, text, &how);
-    int result = file < 0 ? NOT_OURS : open_found(call, file, how.flags, row->error != 0);
-    if (file >= 0)
-        close(file);
-    return result;
 }
 
 /* ---- what a helper and the launcher do with a call */
@@ -376,38 +272,18 @@ static int give_file(const union notice *notice, int file, int flags) {
     return result;
 }
 
-/* Returns the row of a call, or NULL if it is an ioctl. */
-static const struct handed_call *row_of(const struct seccomp_data *data) {
-    int is_old = data->arch != AUDIT_ARCH_X86_64;
-    for (const struct handed_call *row = handed_calls; row < handed_calls + HANDED_CALLS; row++)
-        if ((is_old ? row->old_number : row->number) == data->nr)
-            return row;
-    return NULL;
-}
-
-/* What a call gets that can't be looked at: the kernel carries it out, unless it would take a node for a file or send
-   signals outside. */
-static int answer_unseen(const struct handed_call *row) {
-    return row && (row->file >= 0 || row->path >= 0) ? NOT_OURS : -EAGAIN;
-}
-
-void refuse_call(const union notice *notice) { finish_call(notice, answer_unseen(row_of(&notice->got.data))); }
-
 /* (a process that is gone by now may have left its number to another one) */
 void answer_call(const union notice *notice) {
     const struct seccomp_data *data = &notice->got.data;
     struct call call = {.id = notice->got.id,
                         .process = (pid_t)notice->got.pid,
-                        .file = (int)data->args[0],
                         .is_old = data->arch != AUDIT_ARCH_X86_64,
-                        .request = (uint32_t)data->args[1],
-                        .argument = data->args[2]};
-    const struct handed_call *row = row_of(data);
-    int flags = 0, result = row ? answer_unseen(row) : NOT_OURS;
-    int is_ours = act_as_caller(&call);
-    if (is_ours && is_alive(call.id))
-        result = row ? answer_row(&call, row, data->args, &flags) : answer_ioctl(&call);
-    if (row && row->path >= 0 && result >= 0)
-        result = give_file(notice, result, flags);
+                        .opened = NOT_OPENED};
+    const struct decided_call *row = decided_calls;
+    while (!row->answer || (call.is_old ? row->old_number : row->number) != data->nr)
+        row++;
+    int result = act_as_caller(&call) && is_alive(call.id) ? row->answer(&call, data->args) : -EAGAIN;
+    if (result >= 0 && call.opened != NOT_OPENED)
+        result = give_file(notice, result, call.opened);
     finish_call(notice, result);
 }

@@ -12,16 +12,17 @@
 #include <sys/syscall.h>
 #include <sys/wait.h>
 
+pid_t first;
 static int channel; /* to the process that becomes the command */
 
-/* Gives up the rights with which the namespace is made. No program that is started later has others than those that are
-   left. */
-static void drop_rights(void) {
+/* Gives up the rights with which the namespace is made, and others. No program that is started later has other rights than
+   those that are left. */
+static void drop_rights(uint32_t others) {
     struct __user_cap_header_struct version = {_LINUX_CAPABILITY_VERSION_3, 0};
     struct __user_cap_data_struct rights[2];
     if (syscall(SYS_capget, &version, rights) < 0)
         fail_by_errno("rights can't be read");
-    rights[0].permitted &= ~(1U << CAP_SYS_ADMIN | 1U << CAP_SETPCAP);
+    rights[0].permitted &= ~(1U << CAP_SYS_ADMIN | 1U << CAP_SETPCAP | others);
     for (unsigned right = 0; prctl(PR_CAPBSET_READ, right) >= 0; right++)
         if (!(rights[right / 32].permitted >> right % 32 & 1))
             prctl(PR_CAPBSET_DROP, right);
@@ -38,6 +39,9 @@ __attribute__((noreturn)) static void be_first(pid_t command) {
     int how;
     setsid();
     close_range(0, ~0U, 0);
+    prctl(PR_SET_NAME, "init");
+    if (has_sandbox) /* (no search for a name finds this process) */
+        strcpy(memset(program_invocation_name, '\0', strlen(MODEL_FOLDER "/launcher") + sizeof INSIDE), "init");
     while ((ended = wait(&how)) != command)
         if (ended < 0 && errno == ECHILD)
             _exit(FAILED);
@@ -79,7 +83,7 @@ __attribute__((noreturn)) static void begin(char **arguments, const char *librar
     prctl(PR_SET_DUMPABLE, 0);
     if (has_sandbox) {
         show_own_processes();
-        drop_rights();
+        drop_rights(1U << CAP_SYS_PTRACE);
     }
     filter_calls();
     if (unshare(CLONE_FILES) < 0 || dup2(its_end, CHANNEL) < 0 || close_range(CHANNEL + 1, ~0U, 0) < 0)
@@ -110,7 +114,7 @@ void try_namespace(void) {
     pid_t process = fork_first(0);
     if (process == 0) {
         show_own_processes();
-        drop_rights();
+        drop_rights(1U << CAP_SYS_PTRACE);
         _exit(0);
     }
     exit(waitpid(process, &how, 0) == process && how == 0 ? 0 : FAILED);
@@ -128,19 +132,19 @@ static pid_t hear(void) {
     return writer.pid;
 }
 
-pid_t start_command(char **arguments, const char *library, const sigset_t *blocked, pid_t *first) {
+pid_t start_command(char **arguments, const char *library, const sigset_t *blocked) {
     int ends[2];
     calls = open("/dev/null", O_RDONLY | O_CLOEXEC);
     if (calls < 0 || socketpair(AF_UNIX, SOCK_STREAM | SOCK_CLOEXEC, 0, ends) < 0 ||
         setsockopt(ends[0], SOL_SOCKET, SO_PASSCRED, &(int){1}, sizeof(int)) < 0)
         fail_by_errno("the command can't be started");
-    *first = fork_first(CLONE_FILES);
-    if (*first == 0)
+    first = fork_first(CLONE_FILES);
+    if (first == 0)
         begin(arguments, library, ends[1], blocked);
     if (has_sandbox)
-        drop_rights();
+        drop_rights(0);
     struct pollfd ready = {.fd = channel = ends[0], .events = POLLIN};
-    while (poll(&ready, 1, 50) == 0 && waitpid(*first, NULL, WNOHANG) == 0)
+    while (poll(&ready, 1, 50) == 0 && waitpid(first, NULL, WNOHANG) == 0)
         continue;
     close(ends[1]);
     pid_t command = hear();

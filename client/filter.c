@@ -1,6 +1,6 @@
-/* Filters of calls (seccomp). The one that the command's processes inherit hands the ioctls of NVMe and of block
-   devices to the launcher and, in a sandbox, the calls of calls.c's table. Those of the launcher and of the devices
-   allow the calls that they make, so that nobody who leads one of them astray reaches more. None of this is proved. */
+/* Filters of calls (seccomp). The one that the command's processes inherit is the table of opens.c. Those of the launcher
+   and of the devices allow the calls that they make, so that nobody who leads one of them astray reaches more. None of
+   this is proved. */
 #include "launcher.h"
 #include <linux/audit.h>
 #include <linux/filter.h>
@@ -13,9 +13,7 @@
 #define SECCOMP_FILTER_FLAG_WAIT_KILLABLE_RECV (1UL << 5)
 #endif
 
-enum { CHANGES = O_WRONLY | O_RDWR | O_TRUNC | O_DIRECT | O_EXCL, MISSING = SECCOMP_RET_ERRNO | ENOSYS };
-enum { OLD_IOCTL = 54, SIGNAL_BY_DESCRIPTOR = 424, TO_GROUP = 4, TAKE_FILE = 438, X32_BIT = 0x40000000 };
-enum { GROUP_PRIORITY = 1, GROUP_IO_PRIORITY = 2 };
+enum { MISSING = SECCOMP_RET_ERRNO | ENOSYS, X32_BIT = 0x40000000 };
 
 #define COUNT(array) (sizeof(array) / sizeof *(array))
 
@@ -66,55 +64,27 @@ static void decide_each(const int *numbers, size_t count, uint32_t action) {
         decide_when(BPF_JEQ, (uint32_t)numbers[at], action);
 }
 
-/* Adds a call that is handed over. */
-static void add_handed(const struct handed_call *call, int number) {
-    if (call->flags >= 0)
-        decide_by(number, call->flags, BPF_JSET, CHANGES, SECCOMP_RET_USER_NOTIF);
-    else if (call->file < 0 && call->path < 0)
-        decide_by(number, 0, BPF_JEQ, 0, SECCOMP_RET_USER_NOTIF);
-    else
-        decide_when(BPF_JEQ, (uint32_t)number, SECCOMP_RET_USER_NOTIF);
-}
-
-/* Adds the calls that don't exist in the sandbox: io_uring, which opens files without calls; those of keys, which would
-   be the caller's; and clone3, whose flags can't be seen, so that glibc uses clone. No process of root gets a namespace
-   of control groups, in which it could mount them anew, and change them. (Other users can change only what they can
-   change outside.) */
-static void add_missing(int is_old) {
-    const int first_key = is_old ? 286 : SYS_add_key;
-    const int missing[] = {SYS_io_uring_setup, SYS_io_uring_enter, SYS_io_uring_register, SYS_clone3,
-                           first_key,          first_key + 1,      first_key + 2};
-    decide_each(missing, COUNT(missing), MISSING);
-    if (geteuid() == 0) {
-        decide_by(is_old ? 120 : SYS_clone, 0, BPF_JSET, CLONE_NEWCGROUP, SECCOMP_RET_ERRNO | EPERM);
-        decide_by(is_old ? 310 : SYS_unshare, 0, BPF_JSET, CLONE_NEWCGROUP, SECCOMP_RET_ERRNO | EPERM);
-    }
-}
-
-/* Adds the calls of programs of 64 or of 32 bits. No process can type into the caller's terminal (TIOCSTI, and the
-   selection of TIOCLINUX), or take an open file from a process outside, which the peer of a socket can name. A process
-   group has processes outside, so none gets a signal by a descriptor, or another priority. (Of a request the kernel
-   looks at 32 bits.) */
+/* Adds the calls of programs of 64 or of 32 bits. (Of an argument the kernel looks at 32 bits.) */
 static void add_calls(int is_old) {
+    static const unsigned tests[] = {[EQUALS] = BPF_JEQ, [HAS_BITS] = BPF_JSET, [HAS_TYPE] = BPF_JEQ};
     load(offsetof(struct seccomp_data, nr));
     decide_when(BPF_JGE, X32_BIT, MISSING);
-    decide_when(BPF_JEQ, TAKE_FILE, SECCOMP_RET_ERRNO | EPERM);
-    if (has_sandbox)
-        add_missing(is_old);
-    for (unsigned at = 0; has_sandbox && at < HANDED_CALLS; at++)
-        add_handed(handed_calls + at, is_old ? handed_calls[at].old_number : handed_calls[at].number);
-    decide_by(SIGNAL_BY_DESCRIPTOR, 3, BPF_JSET, TO_GROUP, SECCOMP_RET_ERRNO | EINVAL);
-    decide_by(is_old ? 97 : SYS_setpriority, 0, BPF_JEQ, GROUP_PRIORITY, SECCOMP_RET_ERRNO | EPERM);
-    decide_by(is_old ? 289 : SYS_ioprio_set, 0, BPF_JEQ, GROUP_IO_PRIORITY, SECCOMP_RET_ERRNO | EPERM);
-    unsigned short begun = when(BPF_JEQ, is_old ? OLD_IOCTL : SYS_ioctl);
-    load(offsetof(struct seccomp_data, args[1]));
-    decide_when(BPF_JEQ, TIOCSTI, SECCOMP_RET_ERRNO | EPERM);
-    decide_when(BPF_JEQ, TIOCLINUX, SECCOMP_RET_ERRNO | EPERM);
-    decide_when(BPF_JEQ, GEOMETRY_REQUEST, SECCOMP_RET_USER_NOTIF);
-    emit(BPF_ALU | BPF_AND | BPF_K, _IOC_TYPEMASK << _IOC_TYPESHIFT);
-    decide_when(BPF_JEQ, NVME_TYPE << _IOC_TYPESHIFT, SECCOMP_RET_USER_NOTIF);
-    decide_when(BPF_JEQ, BLOCK_TYPE << _IOC_TYPESHIFT, SECCOMP_RET_USER_NOTIF);
-    otherwise(begun);
+    for (const struct decided_call *row = decided_calls; row->action; row++) {
+        if ((row->where >= IN_SANDBOX && !has_sandbox) || (row->where == BY_ROOT && geteuid() != 0))
+            continue;
+        unsigned short begun = when(BPF_JEQ, (uint32_t)(is_old ? row->old_number : row->number));
+        if (row->test.kind == ALWAYS)
+            decide(row->action);
+        else {
+            int shift = row->test.kind == HAS_TYPE ? _IOC_TYPESHIFT : 0;
+            load(offsetof(struct seccomp_data, args) + 8 * row->test.argument);
+            if (row->test.kind == HAS_TYPE)
+                emit(BPF_ALU | BPF_AND | BPF_K, _IOC_TYPEMASK << shift);
+            decide_when(tests[row->test.kind], row->test.value << shift, row->action);
+            load(offsetof(struct seccomp_data, nr));
+        }
+        otherwise(begun);
+    }
     decide(SECCOMP_RET_ALLOW);
 }
 
@@ -160,9 +130,9 @@ static const int launcher_calls[] = {
     SYS_open, SYS_openat, SYS_openat2, SYS_getdents64, SYS_mkdir, SYS_mkdirat, SYS_mknod, SYS_mknodat, SYS_linkat,
     SYS_symlinkat, SYS_unlink, SYS_unlinkat, SYS_rmdir, SYS_ftruncate, SYS_fallocate, SYS_fchmod, SYS_fchown, SYS_statfs,
     SYS_fstatfs, SYS_inotify_init1, SYS_inotify_add_watch,
-    SYS_process_vm_readv, SYS_process_vm_writev, SYS_fork, SYS_wait4, SYS_waitid, SYS_kill, SYS_getppid, SYS_setsid,
-    SYS_setgroups, SYS_setresuid, SYS_setresgid,
-    SYS_select, SYS_pselect6, SYS_poll, SYS_ppoll, SYS_signalfd4, SYS_eventfd2};
+    SYS_process_vm_readv, SYS_process_vm_writev, SYS_fork, SYS_wait4, SYS_waitid, SYS_kill, SYS_setpriority,
+    SYS_ioprio_set, SYS_getppid, SYS_setsid, SYS_setgroups, SYS_setresuid, SYS_setresgid, SYS_capget, SYS_capset,
+    SYS_poll, SYS_ppoll, SYS_signalfd4, SYS_eventfd2};
 
 /* The requests of the launcher's ioctls: for calls that were handed over, and by which stdio looks for a terminal (the
    last one in glibc 2.42); its options of prctl; and the flags of clone by which a process gets other namespaces. */

@@ -115,11 +115,9 @@ static void serve(struct device *device) {
     }
 }
 
-/* Begins a process that isn't reached by signals of a terminal's keys or of a process group, or ended by a limit of the
-   sizes of files. */
+/* Begins a process that isn't reached by signals of a terminal's keys or of a process group. */
 static void begin_process(void) {
     setsid();
-    signal(SIGXFSZ, SIG_IGN);
     prctl(PR_SET_PDEATHSIG, SIGKILL);
     if (getppid() != launcher)
         _exit(0);
@@ -226,7 +224,7 @@ static int give_call(int is_late) {
     if (helper)
         store_and_wake(&helper->given, helper->given + 1);
     else {
-        refuse_call(&spare);
+        finish_call(&spare, -EAGAIN);
         drop_helpers();
     }
     return 1;

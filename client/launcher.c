@@ -9,26 +9,28 @@
 #include <linux/close_range.h>
 #include <sched.h>
 #include <stdarg.h>
+#include <sys/mman.h>
 #include <sys/prctl.h>
 #include <sys/resource.h>
 #include <sys/signalfd.h>
 #include <sys/syscall.h>
 #include <sys/sysinfo.h>
 #include <sys/wait.h>
+#include <time.h>
 
 struct device *devices;
 unsigned device_count;
 int has_sandbox, waits;
 uint64_t geometry[NUMBERS] = {[DEPTH] = 32, [PAGE_SIZE] = 4096, [WINDOW] = 1};
 
-/* The descriptors that the launcher outside hands on: of the current folder, until it was found inside; of bwrap's
-   status, which tells the signals that wait there; of the trace; and of the subsystem files, until the devices have
-   them. Inside, it has these and the streams alone, and adds a socket and a pipe of each device (device.c), folders of
+/* The descriptors that the launcher outside hands on: of the current folder, until it was found inside; of the words
+   that it was started with, until they were read; of bwrap's status, which tells the signals that wait there; of the
+   trace; and of the subsystem files, until the devices have them. Inside, it has these and the streams alone, and adds a socket and a pipe of each device (device.c), folders of
    its own /sys (sysfs.c), the data of namespaces without nodes and what tells of changes in /dev (nodes.c), and what
    signals and calls come from. */
-enum { HERE = 200, MONITOR, TRACE_TO, FILES };
+enum { HERE = 200, WORDS, MONITOR, TRACE_TO, FILES };
 
-static pid_t first, command;   /* process 1 of the command's namespace, which ends with its status, and the command */
+static pid_t command;
 static int status = -1;        /* of the command, once it has ended */
 static sigset_t mask, watched; /* the signals that were blocked at the start, and the signals to wait for */
 static char parts[PATH_MAX], library[PATH_MAX + 32], program[PATH_MAX + 32];
@@ -36,6 +38,7 @@ static char parts[PATH_MAX], library[PATH_MAX + 32], program[PATH_MAX + 32];
 /* Kills the keepers, which would report the end of a device, then in a sandbox all processes, whose calls nobody
    answers any more, and the devices. None of these has anything to clean up, and helpers end with the launcher. */
 static void end_devices(void) {
+    is_over = 1;
     for (struct device *device = devices; device < devices + device_count; device++) {
         device->is_lost = 1;
         if (device->keeper > 0)
@@ -52,12 +55,14 @@ static void end_devices(void) {
 }
 
 void fail(const char *format, ...) {
+    char text[2 * PATH_MAX];
     va_list values;
-    fputs("nvme-model: ", stderr);
     va_start(values, format);
-    vfprintf(stderr, format, values);
+    vsnprintf(text, sizeof text, format, values);
     va_end(values);
-    fputc('\n', stderr);
+    is_over = 1;
+    if (takes_line(STDERR_FILENO))
+        fprintf(stderr, "nvme-model: %s\n", text);
     if (command > 0)
         kill(command, SIGTERM);
     end_devices();
@@ -114,7 +119,7 @@ static unsigned long signals_at_monitor(void) {
 static void pass_on(unsigned long *passed, unsigned long *seen) {
     unsigned long waiting = has_sandbox ? signals_at_monitor() & ~*passed : 0;
     for (int number = 1; number < NSIG; number++)
-        if ((waiting & *seen) >> (number - 1) & 1 && sigismember(&watched, number) > 0 && command > 0)
+        if ((waiting & *seen) >> (number - 1) & 1 && sigismember(&watched, number) > 0)
             kill(command, number);
     *passed |= waiting & *seen;
     *seen = waiting;
@@ -128,23 +133,30 @@ static void take_signal(int from, unsigned long *passed) {
     int number = (int)signal.ssi_signo;
     if (signal.ssi_code == SI_KERNEL && (number == SIGINT || number == SIGQUIT))
         *passed |= 1UL << (number - 1);
-    else if (command > 0 && number != SIGCHLD)
+    else if (number != SIGCHLD)
         kill(command, number);
 }
 
-/* Lets the command go on, which may then limit what this process opens, and has calls answered and passes signals on
-   until it ends. */
+static uint64_t milliseconds(void) {
+    struct timespec time;
+    clock_gettime(CLOCK_MONOTONIC, &time);
+    return (uint64_t)time.tv_sec * 1000 + (uint64_t)time.tv_nsec / 1000000;
+}
+
+/* Lets the command begin, and has calls answered and passes signals on until it ends. */
 static void run_command(void) {
-    enum { MOST_TURNS = 256 };
+    enum { INTERVAL = 50 };
     const int from = signalfd(-1, &watched, SFD_CLOEXEC | SFD_NONBLOCK);
     unsigned long passed = 0, seen = 0;
     if (from < 0)
         fail_by_errno("signalfd");
     release_command();
-    for (unsigned turn = 1; status < 0; turn++) {
+    for (uint64_t last = 0; status < 0;) {
         unsigned ready = await_call(from);
-        if (ready == 0 || turn % MOST_TURNS == 0)
+        if (milliseconds() - last >= INTERVAL) {
             pass_on(&passed, &seen);
+            last = milliseconds();
+        }
         if (ready == 0 || ready & 1) {
             take_signal(from, &passed);
             reap();
@@ -152,7 +164,8 @@ static void run_command(void) {
     }
 }
 
-/* Blocks the signals that are received one by one, and the one that a socket of a lost device causes. */
+/* Blocks the signals that are received one by one, and those that a socket of a lost device and a limit of the sizes of
+   files cause. */
 static void block_signals(void) {
     static const int numbers[] = {SIGCHLD, SIGINT, SIGTERM, SIGHUP, SIGQUIT, SIGUSR1, SIGUSR2};
     sigset_t blocked;
@@ -161,6 +174,7 @@ static void block_signals(void) {
         sigaddset(&watched, numbers[at]);
     blocked = watched;
     sigaddset(&blocked, SIGPIPE);
+    sigaddset(&blocked, SIGXFSZ);
     sigprocmask(SIG_BLOCK, &blocked, NULL);
 }
 
@@ -183,13 +197,34 @@ static void run_qemu(char **arguments) {
     fail_by_errno(program);
 }
 
-/* Opens a file, as the caller sees it, with a number of its own. */
-static void open_as(int number, const char *path, int flags) {
-    int file = open(path, flags | O_NOCTTY, 0666);
+/* Fails by a limit with which the launcher can't begin. */
+static void check_limits(void) {
+    static const struct {
+        __rlimit_resource_t limit;
+        rlim_t least;
+        const char *name;
+    } needed[] = {{RLIMIT_NOFILE, 256, "open files (ulimit -n)"},
+                  {RLIMIT_FSIZE, 1 << 20, "the bytes of a file (ulimit -f)"}};
+    struct rlimit limit;
+    signal(SIGXFSZ, SIG_IGN);
+    for (unsigned at = 0; at < sizeof needed / sizeof *needed; at++)
+        if (getrlimit(needed[at].limit, &limit) == 0 && limit.rlim_cur < needed[at].least)
+            fail("the limit of %s is %ju, and at least %ju are needed", needed[at].name, (uintmax_t)limit.rlim_cur,
+                 (uintmax_t)needed[at].least);
+    signal(SIGXFSZ, SIG_DFL);
+}
+
+/* Gives an open file another number. */
+static void keep_as(int number, int file, const char *name) {
     if (file < 0 || dup2(file, number) < 0)
-        fail_by_errno(path);
+        fail_by_errno(name);
     if (file != number)
         close(file);
+}
+
+/* Opens a file, as the caller sees it, with a number of its own. */
+static void open_as(int number, const char *path, int flags) {
+    keep_as(number, open(path, flags | O_NOCTTY, 0666), path);
 }
 
 static void open_files(void) {
@@ -212,18 +247,20 @@ static int run(char **arguments) {
     struct rlimit files_limit;
     block_signals();
     trace = options.trace_file ? TRACE_TO : STDERR_FILENO;
-    pid_t started = start_command(arguments, library, &mask, &first);
+    pid_t started = start_command(arguments, library, &mask);
     umask(0);
     devices = share(MOST_DEVICES * sizeof *devices);
     for (int file = HERE; file < FILES + MOST_DEVICES; file++)
         fcntl(file, F_SETFD, FD_CLOEXEC);
+    signal(SIGTTOU, SIG_IGN); /* (messages come from the background as well) */
     options.device_words[0] = program;
     if (options.subsystem_count > 0)
         options.device_words[options.device_word_count++] = "--subsystem=/proc/self/fd/3";
     if (options.has_trace)
         options.device_words[options.device_word_count++] = "--trace";
     for (unsigned at = 0; at == 0 || at < options.subsystem_count; at++)
-        start_device(options.device_words, options.subsystem_count > 0 ? FILES + (int)at : -1, options.subsystems[at], &mask);
+        start_device(options.device_words, options.subsystem_count > 0 ? FILES + (int)at : -1, options.subsystems[at],
+                     &mask);
     for (unsigned at = 0; at < options.subsystem_count; at++)
         close(FILES + (int)at);
     make_nodes();
@@ -242,16 +279,37 @@ static int run(char **arguments) {
     return status;
 }
 
-/* Becomes bwrap, which doesn't end by the signals that the launcher inside passes on to the command. */
-static void go_inside(const struct sandbox *sandbox, char **arguments) {
-    char here[PATH_MAX], blocked[32];
-    unsigned long bits;
+/* Hands on the blocked signals, the current folder, and the words that this program was started with: bwrap takes no
+   more than 9,000 words itself. */
+static void hand_on_words(char **arguments) {
+    char here[PATH_MAX];
+    unsigned long blocked;
     if (!getcwd(here, sizeof here) || here[0] != '/')
         fail("the current folder can't be told: run the command from another one");
-    memcpy(&bits, &mask, sizeof bits);
-    snprintf(blocked, sizeof blocked, "%lx", bits);
-    block_signals();
-    enter_sandbox(sandbox, (const char *const[]){INSIDE, blocked, here, NULL}, arguments);
+    memcpy(&blocked, &mask, sizeof blocked);
+    keep_as(WORDS, memfd_create("words", 0), "memfd_create");
+    FILE *to = fdopen(dup(WORDS), "w");
+    if (!to || fprintf(to, "%lx%c%s%c", blocked, '\0', here, '\0') < 0)
+        fail_by_errno("the words of the command");
+    for (; *arguments; arguments++)
+        fwrite(*arguments, 1, strlen(*arguments) + 1, to);
+    if (ferror(to) || fclose(to) != 0)
+        fail_by_errno("the words of the command");
+}
+
+static char **take_words(int *count) {
+    struct stat about;
+    char *text = fstat(WORDS, &about) < 0 ? MAP_FAILED
+                                          : mmap(NULL, (size_t)about.st_size, PROT_READ | PROT_WRITE, MAP_PRIVATE, WORDS, 0);
+    if (text == MAP_FAILED)
+        fail_by_errno("the words of the command");
+    *count = 0;
+    for (char *at = text; at < text + about.st_size; at += strlen(at) + 1)
+        ++*count;
+    char **words = calloc((size_t)*count + 1, sizeof *words), **into = words;
+    for (char *at = text; words && at < text + about.st_size; at += strlen(at) + 1)
+        *into++ = at;
+    return words ?: (fail("out of memory"), NULL);
 }
 
 /* Takes what the launcher outside handed on. This process is the first one of its kind, so all others end with it. */
@@ -270,7 +328,7 @@ static void begin_inside(const char *blocked, const char *here) {
     if (chdir(here) < 0 || stat(".", &about) < 0 ||
         (!is_replaced(here) && (about.st_dev != outside.st_dev || about.st_ino != outside.st_ino)))
         fail("the folder %s isn't there for the command: run it from another one", here);
-    if (close_range(STDERR_FILENO + 1, HERE, 0) < 0 || close_range(FILES + options.subsystem_count, ~0U, 0) < 0)
+    if (close_range(STDERR_FILENO + 1, WORDS, 0) < 0 || close_range(FILES + options.subsystem_count, ~0U, 0) < 0)
         fail_by_errno("close_range");
     if (!options.trace_file)
         close(TRACE_TO);
@@ -284,8 +342,11 @@ static void begin_inside(const char *blocked, const char *here) {
 static int begin_outside(char **arguments, char **command_arguments) {
     const struct sandbox sandbox = {options.limit, options.added, library, program, options.is_root};
     const char *reason = why_no_sandbox(&sandbox), *node = a_real_node();
-    if (!reason)
-        go_inside(&sandbox, arguments);
+    if (!reason) {
+        hand_on_words(arguments);
+        block_signals(); /* (bwrap doesn't end by those that the launcher inside passes on) */
+        enter_sandbox(&sandbox, INSIDE);
+    }
     if (node)
         fail("%s is a device of this machine, and no sandbox can be made to keep the command from it: %s", node,
              reason);
@@ -307,13 +368,13 @@ static int begin_outside(char **arguments, char **command_arguments) {
 
 int main(int count, char **arguments) {
     struct sysinfo machine;
-    int is_inside = getpid() == 1 && count > 4 && strcmp(arguments[1], INSIDE) == 0;
-    char *blocked = is_inside ? arguments[2] : NULL, *here = is_inside ? arguments[3] : NULL;
+    int is_inside = getpid() == 1 && count == 2 && strcmp(arguments[1], INSIDE) == 0;
+    char **words = is_inside ? take_words(&count) : NULL;
     if (getpid() == 1 && count == 2 && strcmp(arguments[1], TRIAL) == 0)
         try_namespace();
     if (is_inside) {
-        arguments += 3;
-        count -= 3;
+        arguments = words + 1;
+        count -= 1;
     } else {
         int is_qemu = count > 1 && (strcmp(arguments[1], "--qemu") == 0 || strcmp(arguments[1], "--vfio-user") == 0);
         if (!is_qemu)
@@ -326,16 +387,18 @@ int main(int count, char **arguments) {
         if (close_range(STDERR_FILENO + 1, ~0U, CLOSE_RANGE_CLOEXEC) < 0)
             fail_by_errno("close_range");
     }
+    char *here = arguments[0];
     arguments[0] = "nvme-model";
     if (sysinfo(&machine) == 0)
         options.limit = (uint64_t)machine.totalram * machine.mem_unit / 4;
     int at = read_options(count, arguments);
     signal(SIGCHLD, SIG_DFL);
     if (is_inside) {
-        begin_inside(blocked, here);
+        begin_inside(words[0], here);
         return run(arguments + at);
     }
     sigprocmask(SIG_BLOCK, NULL, &mask);
+    check_limits();
     open_files();
     find_parts();
     return begin_outside(arguments + 1, arguments + at);

@@ -58,10 +58,11 @@ extern struct options options;
 int read_options(int count, char **arguments);
 __attribute__((noreturn)) void fail_by_number(const char *name);
 
-/* command.c: starts process 1 of the command's own namespace, which is stored, and gives up the rights that make it;
-   returns the process that becomes the command, with these signals blocked, as soon as it is released; and ends this
-   process after it has tried to make such a namespace. */
-pid_t start_command(char **arguments, const char *library, const sigset_t *blocked, pid_t *first);
+/* command.c: starts process 1 of the command's own namespace (`first`), and gives up the rights that make it; returns
+   the process that becomes the command, with these signals blocked, as soon as it is released; and ends this process
+   after it has tried to make such a namespace. */
+extern pid_t first;
+pid_t start_command(char **arguments, const char *library, const sigset_t *blocked);
 void release_command(void);
 __attribute__((noreturn)) void try_namespace(void);
 
@@ -71,8 +72,11 @@ enum { SUBSYSTEM_FILE = STDERR_FILENO + 1 };
 void start_device(char *const *words, int file, const char *name, const sigset_t *blocked);
 
 /* relay.c: starts the exchange with a device; sends it a request, and returns -1 if it is gone, or one for a controller
-   by its number among all; and copies what it wrote to its standard error so far. */
+   by its number among all; copies what it wrote to its standard error so far; and returns whether a file takes a line,
+   which it may not for seconds at the end (`is_over`), because nobody reads it. */
 extern int trace; /* where the lines of a trace go */
+extern int is_over;
+int takes_line(int file);
 void greet_device(struct device *device, const char *name);
 void lose_device(struct device *device);
 int exchange(struct device *device, const struct request_header *header, void *data, struct answer_header *answer);
@@ -126,13 +130,6 @@ void put_namespace(unsigned controller, uint32_t nsid, const struct volume *volu
 void remove_namespace(unsigned controller, uint32_t nsid);
 unsigned most_sectors(unsigned controller);
 
-/* A call that is handed to the launcher by programs in a sandbox. */
-struct handed_call {
-    int number, old_number, file, path, flags, error;
-};
-enum { HANDED_CALLS = 14 };
-extern const struct handed_call handed_calls[HANDED_CALLS]; /* calls.c */
-
 /* filter.c: has the calls of this process, which becomes the command, answered by the launcher, for which `calls` was
    opened; and lets this process, the launcher or one that becomes a device, make only the calls that it needs. (Helpers
    and keepers inherit this from the launcher.) */
@@ -150,12 +147,11 @@ union notice {
 enum { NOT_OURS = -10000 };
 
 /* calls.c: receives a call that waits, and returns whether there was one; answers one, in a helper; tells whether the
-   process of a call still waits; gives it a result; and does so if there is no helper. */
+   process of a call still waits; and gives it a result. */
 int receive_call(union notice *notice);
 void answer_call(const union notice *notice);
 int is_alive(uint64_t id);
 void finish_call(const union notice *notice, int result);
-void refuse_call(const union notice *notice);
 
 /* helpers.c: begins with helpers and keepers; waits some milliseconds at most for a call, which is given to a helper,
    or for a signal, and returns 0 if none came; and takes note that one of these processes has ended, without which
@@ -172,15 +168,46 @@ void *share(size_t size);
 void *own_data(void);
 int ask_keeper(const struct request_header *header, struct answer_header *answer);
 
-/* A call that a process made on a node. */
+/* A call that a process made. */
+enum { NOT_OPENED = -1 };
 struct call {
     uint64_t id;
     pid_t process;
-    int file, is_writable, is_old; /* whether the file is open for writing, and the program has 32 bits */
+    int is_old;      /* the program has 32 bits */
+    int opened;      /* the flags by which a file was opened for it, or NOT_OPENED */
+    int file;        /* the descriptor of a node that it is about */
+    int is_writable; /* which is open for writing */
+    int is_path;     /* which is open as a path alone (O_PATH) */
     uint32_t request;
     uint64_t argument;
     struct node node;
 };
+
+/* What the command's filter decides about a call, by its numbers in programs of 64 and of 32 bits, if a test of one of
+   its arguments holds: an action of seccomp, and who answers it if it is handed over. */
+struct decided_call {
+    enum { EVERYWHERE, IN_SANDBOX, BY_ROOT } where;
+    int number, old_number;
+    struct {
+        enum { ALWAYS, EQUALS, HAS_BITS, HAS_TYPE } kind; /* (the type of an ioctl) */
+        unsigned argument;
+        uint32_t value;
+    } test;
+    uint32_t action;
+    int (*answer)(struct call *call, const __u64 *arguments);
+};
+extern const struct decided_call decided_calls[]; /* opens.c; the last one has no number */
+
+/* calls.c: whether the file of a call is a node, which is stored; answers an ioctl; has a controller's device do
+   something; claims a block device for a file that is opened with O_EXCL; the number of the file system in which nodes, or the model's files of /sys, are; and reads by which name a
+   file was opened, with links followed. */
+enum { OF_DEV, OF_SYS };
+int find_node(struct call *call);
+int answer_ioctl(struct call *call, const __u64 *arguments);
+int ask_controller(const struct call *call, uint16_t kind);
+int claim(const struct call *call, int file);
+dev_t number_of(int is_sys);
+void read_link(const char *link, char name[PATH_MAX]);
 
 /* caller.c: takes the identity of the process that made a call, because its memory and its files are open to nobody
    else, and returns whether it did (root alone can, and is root again where it opens the data of a node); returns
@@ -193,11 +220,11 @@ int copy_in(const struct call *call, uint64_t from, void *into, size_t size);
 int copy_out(const struct call *call, uint64_t into, const void *from, size_t size);
 int copy_text(const struct call *call, uint64_t from, char into[PATH_MAX]);
 
-/* caller.c: opens what a path of the process leads to, with O_PATH, or returns -1; and sends a signal to the processes
-   of its group that are in the sandbox, if there may be others. */
+/* caller.c: opens what a path of the process leads to, with O_PATH, or returns -1; and reads the beginning of a file
+   about a process. */
 struct open_how;
 int look_up(const struct call *call, int directory, const char *path, const struct open_how *how);
-int signal_group(const struct call *call, int number);
+const char *read_about(pid_t process, const char *name, char *text, size_t room);
 
 /* calls.c: stores the result of a command in the structure that a call has, in its older or its wider form, and returns
    its status, or -EFAULT. */
@@ -229,13 +256,12 @@ struct sandbox {
 #define TRIAL "--trial"
 
 /* sandbox.c: returns an NVMe device of the machine, or NULL if it has none; returns why no sandbox can be made, or NULL
-   if one can; starts the launcher in it with these words and arguments, in place of this process; and, in it, fails if
+   if one can; starts the launcher in it with this word, in place of this process; and, in it, fails if
    a mount isn't kept from the command, has each /proc show the processes of this process's namespace alone, and returns
    whether a path is one that bwrap makes anew, such as /dev, or below one. */
 const char *a_real_node(void);
 const char *why_no_sandbox(const struct sandbox *sandbox);
-__attribute__((noreturn)) void enter_sandbox(const struct sandbox *sandbox, const char *const *first,
-                                             char *const *arguments);
+__attribute__((noreturn)) void enter_sandbox(const struct sandbox *sandbox, const char *word);
 void check_mounts(void);
 void show_own_processes(void);
 int is_replaced(const char *path);

@@ -128,7 +128,7 @@ int follow_rules(const struct call *call, int is_io, const struct nvme_passthru_
 
 void report_rules(void) {
     for (const struct rule *rule = rules; rule < rules + rule_count; rule++)
-        if (!counts[rule - rules].has_acted)
+        if (!counts[rule - rules].has_acted && takes_line(STDERR_FILENO))
             fprintf(stderr, "nvme-model: %s %s %s no command; %ju came\n", actions[rule->action].option, rule->text,
                     actions[rule->action].done, (uintmax_t)counts[rule - rules].came);
 }

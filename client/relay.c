@@ -1,7 +1,16 @@
 /* The launcher's exchange with the devices, one request after another. None of this is proved. */
 #include "launcher.h"
+#include <poll.h>
 
-int trace = -1;
+int trace = -1, is_over;
+
+int takes_line(int file) {
+    enum { PATIENCE = 2000 };
+    static int is_stuck;
+    struct pollfd room = {.fd = file, .events = POLLOUT};
+    is_stuck |= is_over && poll(&room, 1, PATIENCE) <= 0;
+    return !is_stuck;
+}
 
 /* Transfers all bytes. Returns 0, or -1 if no more can be transferred. */
 static int move_all(int file, void *at, size_t size, int outwards) {
@@ -87,7 +96,10 @@ void greet_device(struct device *device, const char *name) {
 static void copy_line(const struct device *device, const char *line, size_t length) {
     unsigned number;
     int behind = 0;
-    if (sscanf(line, "nvme%u %n", &number, &behind) == 1 && behind > 0)
+    int is_traced = sscanf(line, "nvme%u %n", &number, &behind) == 1 && behind > 0;
+    if (!takes_line(is_traced ? trace : STDERR_FILENO))
+        return;
+    if (is_traced)
         dprintf(trace, "nvme%u %.*s", number + device->first, (int)length - behind, line + behind);
     else
         dprintf(STDERR_FILENO, "%.*s", (int)length, line);

@@ -29,6 +29,10 @@ static const char rights[] = "--cap-drop ALL --cap-add CAP_CHOWN --cap-add CAP_D
                              " --cap-add CAP_FSETID --cap-add CAP_KILL --cap-add CAP_SETGID --cap-add CAP_SETUID"
                              " --cap-add CAP_AUDIT_WRITE";
 
+/* What the launcher may do besides: make the command's namespace, before anything else is started, and look at each
+   process of the sandbox. (Where the kernel has Yama, no other process but its parent could.) */
+static const char own_rights[] = "--cap-add CAP_SYS_ADMIN --cap-add CAP_SETPCAP --cap-add CAP_SYS_PTRACE";
+
 static int begins(const char *text, const char *beginning) { return strncmp(text, beginning, strlen(beginning)) == 0; }
 
 const char *a_real_node(void) {
@@ -252,7 +256,7 @@ static void add_root(void) {
         add_stand_in(real);
 }
 
-static void compose(const struct sandbox *sandbox, const char *const *first, char *const *arguments) {
+static void compose(const struct sandbox *sandbox, const char *word) {
     add("bwrap");
     add_mounts();
     add_dev(sandbox->limit, sandbox->devices);
@@ -262,12 +266,9 @@ static void compose(const struct sandbox *sandbox, const char *const *first, cha
     add_part(sandbox->device, 0555, MODEL_FOLDER "/device");
     if (sandbox->is_root && geteuid() != 0)
         add_root();
-    add_words("--unshare-pid --as-pid-1 --unshare-ipc --chdir / %s --cap-add CAP_SYS_ADMIN --cap-add CAP_SETPCAP"
-              " -- " MODEL_FOLDER "/launcher", sandbox->is_root || geteuid() == 0 ? rights : "");
-    for (; *first; first++)
-        add(*first);
-    for (; *arguments; arguments++)
-        add(*arguments);
+    add_words("--unshare-pid --as-pid-1 --unshare-ipc --chdir / %s %s -- " MODEL_FOLDER "/launcher",
+              sandbox->is_root || geteuid() == 0 ? rights : "", own_rights);
+    add(word);
 }
 
 /* ---- the sandbox */
@@ -279,9 +280,9 @@ static void write_map(const char *path, const char *format, unsigned number) {
         fail_by_errno(path);
 }
 
-/* Becomes bwrap, which starts the launcher with these arguments, in a place where the machine's later mounts aren't
+/* Becomes bwrap, which starts the launcher with this word, in a place where the machine's later mounts aren't
    seen. (The mounts that bwrap makes follow those that it finds, and a mount that came later wouldn't be nodev.) */
-void enter_sandbox(const struct sandbox *sandbox, const char *const *first, char *const *arguments) {
+void enter_sandbox(const struct sandbox *sandbox, const char *word) {
     unsigned user = geteuid(), group = getegid();
     if (unshare(CLONE_NEWNS) < 0) {
         if (unshare(CLONE_NEWUSER | CLONE_NEWNS) < 0)
@@ -292,7 +293,7 @@ void enter_sandbox(const struct sandbox *sandbox, const char *const *first, char
     }
     if (mount(NULL, "/", NULL, MS_REC | MS_PRIVATE, NULL) < 0)
         fail_by_errno("mounts can't be private");
-    compose(sandbox, first, arguments);
+    compose(sandbox, word);
     execvp(words[0], words);
     if (errno == ENOENT)
         _exit(NOT_FOUND);
@@ -302,10 +303,9 @@ void enter_sandbox(const struct sandbox *sandbox, const char *const *first, char
 /* (another process makes a sandbox for a trial first, because the status of a bwrap that fails would be taken for the
    command's. It ends by itself: a bwrap that is killed as it starts would leave a process that waits for it.) */
 const char *why_no_sandbox(const struct sandbox *sandbox) {
-    char *const none[] = {NULL};
     int ends[2], how, null = open("/dev/null", O_RDWR | O_CLOEXEC);
     if (null < 0 || pipe2(ends, O_CLOEXEC) < 0)
-        fail_by_errno("pipe");
+        fail_by_errno(null < 0 ? "/dev/null" : "pipe");
     if (access(sandbox->library, R_OK) < 0)
         fail_by_errno(sandbox->library);
     if (access(sandbox->device, X_OK) < 0)
@@ -319,7 +319,7 @@ const char *why_no_sandbox(const struct sandbox *sandbox) {
         dup2(null, STDIN_FILENO);
         dup2(null, STDOUT_FILENO);
         dup2(ends[1], STDERR_FILENO);
-        enter_sandbox(sandbox, (const char *const[]){TRIAL, NULL}, none);
+        enter_sandbox(sandbox, TRIAL);
     }
     close(null);
     close(ends[1]);

@@ -15,7 +15,8 @@ from tests.support import DEMO, TOP, Case, Running, left_running, process_folder
 CLIENT = TOP / 'client'
 PROGRAMS = TOP / 'tests/programs'
 PARTS = {'bin/nvme-model': ('launcher', 'relay', 'nodes', 'sysfs', 'sandbox', 'calls', 'caller', 'filter', 'helpers',
-                            'io', 'refuse', 'device', 'inherited', 'command', 'options'),
+                            'io', 'refuse', 'device', 'inherited', 'command', 'options',
+                            'opens'),
          'lib/nvme-model/library.so': ('library',),
          'lib/nvme-model/qemu': ('qemu', 'messages', 'function', 'memory', 'proxy', 'vfio_user')}
 WARNINGS = '-Wall', '-Wextra', '-Werror'

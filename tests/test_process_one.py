@@ -51,11 +51,12 @@ for number, flags in (56, 0x02000011), (272, 0x02000000), (56, 0x12000011), (272
 '''
 
 
-# Changes the priorities of a process group. Each prints its error.
-PRIORITIES = '''import ctypes
+# Changes the priorities of a process group, and prints what each call gives and its error, and the priorities then.
+PRIORITIES = '''import ctypes, os
 call = ctypes.CDLL(None, use_errno=True).syscall
 for number, which, value in (141, 1, 19), (251, 2, 2 << 13 | 6):
     print(call(number, which, 0, value), ctypes.get_errno())
+print(os.getpriority(os.PRIO_PROCESS, 0), call(252, 1, 0))
 '''
 
 
@@ -147,18 +148,34 @@ class Outside(ModelCase):
                 others = '425 1 0', '435 0 0', '438 -1 0 0', '97 1 0 7', '289 2 0 16390'
                 groups = '310 0x02000000', '310 0x12000000', '120 0x12000011'
                 answers = self.old(user, *keys, *others, *groups)
-                self.assertEqual(answers[:9], ['-38'] * 5 + ['-1'] * 4)
+                self.assertEqual(answers[:9], ['-38'] * 5 + ['-1', '0', '0', '-1'])
                 # (a process that was made may print its 0 as well)
                 self.assertEqual(answers[9:] == ['-1', '-1'] if is_root else '-1' not in answers[9:], True, answers)
 
     def test_priorities(self):
         # the caller's process group has processes outside, whose priorities stay
-        outside = 'sleep 100 & "$@"; cut -d " " -f 19 /proc/$!/stat; kill $!'
+        outside = 'sleep 100 & "$@"; cut -d " " -f 19 /proc/$!/stat; ionice -p $!; kill $!'
         for user in USERS:
             with self.subTest(user=user):
                 command = self.command('python3', '-c', PRIORITIES)
                 ended = run('setsid', '-w', *user, 'sh', '-c', outside, 'sh', *command)
-                self.ends(ended, 0, f'-1 1\n-1 1\n{os.nice(0)}\n'.encode(), b'')
+                self.ends(ended, 0, f'0 0\n0 0\n19 16390\n{os.nice(0)}\nnone: prio 0\n'.encode(), b'')
+
+    def test_the_session(self):
+        # nothing sets the priority of the caller's session, by whatever path
+        script = ('cd "$1"; ln -sf /proc/self/autogroup link; for path in /proc/self/autogroup /proc/$$/autogroup '
+                  '/proc/self/task/../autogroup /proc/thread-self/../../autogroup link; do '
+                  '(echo 19 > $path) 2>&1 | grep -c "Permission denied"; done; exec 7< /proc/self/autogroup; '
+                  '(echo 19 > /proc/self/fd/7) 2>&1 | grep -c "Permission denied"; rm link')
+        nested = 'unshare -Urm sh -c \'(echo 19 > /proc/self/autogroup) 2>&1 | grep -c "Permission denied"\''
+        self.folder.chmod(0o777)
+        for user in USERS:
+            with self.subTest(user=user):
+                own = pathlib.Path('/proc/self/autogroup').read_text()
+                self.ends(run(*user, *self.command('sh', '-c', script, 'sh', self.folder)), 0, b'1\n' * 6, b'')
+                if user and works(*NESTED):
+                    self.ends(run(*user, *self.command('sh', '-c', nested)), 0, b'1\n', b'')
+                self.assertEqual(pathlib.Path('/proc/self/autogroup').read_text(), own)
 
     def test_keys(self):
         for user in USERS:
