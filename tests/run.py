@@ -1,7 +1,10 @@
 """Runs the test modules side by side, each as a process: `python3 -m tests.run`, or with `--quick` those that need no
-proof. The output of a failed one is shown in full. The last line is `N passed, N failed, N skipped`, where each row of
-a table counts, and the status is 1 if anything failed."""
+proof. Those that took longest in the last run begin first. The output of a failed one is shown in full. The last line
+is `N passed, N failed, N skipped`, where each row of a table counts, and the status is 1 if anything failed. Without
+`--quick`, a test that was skipped has failed, unless the reason is one of ALLOWED."""
 
+import json
+import math
 import os
 import re
 import runpy
@@ -11,11 +14,20 @@ import tempfile
 import time
 import unittest
 
-from tests.support import TOP, environment, process_folder
+from tests.support import IS_UNPROVED, TOP, environment, process_folder
 
-LONGEST = ('test_refused', 'test_program', 'test_wrapper', 'test_describe_model', 'test_describe_qemu',
-           'unproved.Programs')
 SUMS = '{} passed, {} failed, {} skipped'
+# What a reason to skip a test may begin with, each with what allows it.
+ALLOWED = {
+    **dict.fromkeys(('root alone ', 'true device nodes can be made by root alone', '/dev/kmsg can not be read'),
+                    'an ordinary user can run the tests too'),
+    **dict.fromkeys(('programs of 32 bits ', 'programs of 64 bits ', 'the kernel runs no programs of 32 bits',
+                     'the kernel has no keys', 'userfaultfd: ', 'there is no /dev/fuse that can be used',
+                     'no mount namespace can be made here', 'no file system ', 'no such machine can be made here'),
+                    'a kernel may have no such thing, or keep it from this user'),
+    'this QEMU has no vfio-user-pci': 'QEMU has it from 10.1 on, and Debian 12 has QEMU 7.2',
+    'some files are not as they were committed': 'packages are made of a commit',
+}
 
 
 class Counts(unittest.TextTestResult):
@@ -41,9 +53,13 @@ def run_one(name):
     """Runs a module, or one of its tests, in this process."""
     runner = unittest.TextTestRunner(sys.stdout, resultclass=Counts)
     result = unittest.main(None, argv=['tests', f'tests.{name}'], testRunner=runner, exit=False).result
+    failed = len(result.failures) + len(result.errors)
     for reason in sorted({reason for _, reason in result.skipped}):
-        print(f'skipped: {reason}')
-    print(SUMS.format(result.passed, len(result.failures) + len(result.errors), len(result.skipped)))
+        tests = [test.id().split()[0].rpartition('.')[2] for test, other in result.skipped if other == reason]
+        is_allowed = IS_UNPROVED or reason.startswith(tuple(ALLOWED))
+        failed += 0 if is_allowed else len(tests)
+        print(f"skipped{'' if is_allowed else ', which is a failure'}: {reason}: {', '.join(dict.fromkeys(tests))}")
+    print(SUMS.format(result.passed, failed, len(result.skipped)))
 
 
 class Part:
@@ -69,15 +85,17 @@ class Part:
             counts[1] += 1
         if counts[1]:
             print(f'{text}\nThe module alone: python3 -m unittest tests.{self.name}')
-        minutes, seconds = divmod(int(time.monotonic() - self.begun_at), 60)
-        print(*re.findall('^skipped: .*\n', text, re.M), sep='', end='')
-        print(f'{self.name}: {SUMS.format(*counts)}, {minutes} min {seconds} s', flush=True)
+        self.seconds = int(time.monotonic() - self.begun_at)
+        print(*re.findall('^skipped.*: .*\n', text, re.M), sep='', end='')
+        print(f'{self.name}: {SUMS.format(*counts)}, {self.seconds // 60} min {self.seconds % 60} s', flush=True)
         return counts
 
 
-def run_all(names):
-    """Runs modules, as many at once as there are processors, and returns the sums of their counts."""
-    waiting, running, sums = list(names), [], [0, 0, 0]
+def run_all(names, times):
+    """Runs modules, as many at once as there are processors, and returns the sums of their counts. A file has the
+    seconds that each took in the last run, and then has those of this run."""
+    seconds = json.loads(times.read_text()) if times.exists() else {}
+    waiting, running, sums = sorted(names, key=lambda name: -seconds.get(name, math.inf)), [], [0, 0, 0]
     try:
         while waiting or running:
             while waiting and len(running) < len(os.sched_getaffinity(0)):
@@ -86,6 +104,9 @@ def run_all(names):
             for part in [part for part in running if part.process.poll() is not None]:
                 running.remove(part)
                 sums = [sum(pair) for pair in zip(sums, part.counts())]
+                seconds[part.name] = part.seconds
+        times.parent.mkdir(exist_ok=True)
+        times.write_text(json.dumps(seconds))
     finally:
         for part in running:
             part.process.terminate()
@@ -96,7 +117,7 @@ def run_all(names):
 
 def unbuilt():
     """Returns a line for each program, and the library, that isn't built from the current sources."""
-    builds = runpy.run_path(str(TOP / 'tools/dist'))['BUILDS']
+    builds = {**runpy.run_path(str(TOP / 'tools/dist'))['BUILDS'], 'nv_failing_tests': 'tools/build nv_failing_tests'}
     return [f'{name} is not built from these sources: {command} makes it' for name, command in builds.items()
             if subprocess.run([TOP / 'tools/stamp', 'is-current', name]).returncode != 0]
 
@@ -110,12 +131,12 @@ def main(arguments):
         from tests import unproved
         of_sources = ['test_program', 'test_unready', 'test_documents']
         print('not run: proofs, wrong bodies,', ', '.join(name for name in names if name not in of_sources))
-        names = [*of_sources, 'unproved.Layout', 'unproved.Programs', *unproved.names()]
+        names = [*unproved.names(), *of_sources]
     elif arguments:
         sys.exit('usage: python3 -m tests.run [--quick]')
     elif missing := unbuilt():
         sys.exit('\n'.join(['the tests need all that is built, and', *missing]))
-    sums = run_all(sorted(names, key=lambda name: name not in LONGEST))
+    sums = run_all(names, TOP / 'out' / ('seconds.quick' if arguments else 'seconds'))
     print('unproved: ' * len(arguments) + SUMS.format(*sums))
     sys.exit(1 if sums[1] or not sums[0] else 0)
 

@@ -1,5 +1,5 @@
-"""Checks the unproved sources for the gate: runs the tests of each crate and the program nv_failing_tests by `rt try`,
-and checks the layout of the files. `python3 -m tests.run --quick` runs this."""
+"""Checks the unproved sources: runs the tests of each crate and the program nv_failing_tests by `rt try`, and checks the
+layout of the files. `python3 -m tests.run --quick` runs this."""
 
 import re
 
@@ -15,8 +15,9 @@ CRATES = [crate for crate in sorted((TOP / 'crates').iterdir()) if tests_written
 
 
 def names():
-    """Returns the names of the tests of all crates, which run side by side."""
-    return [f'unproved.Tests.test_{crate.name}' for crate in CRATES]
+    """Returns the names of all tests, which run side by side."""
+    return ['unproved.Programs.test_output', 'unproved.Programs.test_reads_and_messages',
+            *(f'unproved.Tests.test_{crate.name}' for crate in CRATES), 'unproved.Layout']
 
 
 class Tests(Case):
@@ -38,11 +39,21 @@ for tested in CRATES:
 
 
 class Programs(Case):
-    def test_nv_failing_tests(self):
+    """The program nv_failing_tests, whose kinds of failures are tried side by side: each letter of its input is one."""
+
+    def check(self, letters):
         crate = TOP / 'crates/nv_failing_tests'
-        source, wanted = ((crate / name).read_bytes() for name in ('stdin', 'stdout'))
-        ended = run('rt', 'try', '--seconds', '900', cwd=crate, source=source, limit=1800)
-        self.ends(ended, 0, wanted)
+        kinds = {'reads': b'r', 'output': b'o', 'messages': b'm'}
+        wanted = [line for line in (crate / 'stdout').read_text().splitlines(True)
+                  if ' cut by ' not in line or kinds[line.split()[4].rstrip(':')] in letters]
+        ended = run('rt', 'try', '--steps', '1', '--seconds', '900', cwd=crate, source=letters, limit=1800)
+        self.ends(ended, 0, ''.join(wanted).encode())
+
+    def test_output(self):
+        self.check(b'o')
+
+    def test_reads_and_messages(self):
+        self.check(b'rm')
 
 
 class Layout(Case):

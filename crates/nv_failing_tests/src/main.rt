@@ -1,6 +1,7 @@
 //! Runs scripts that are cut short, because a read, a write or an allocation fails at any place, and
 //! compares what a run leaves behind with what its lines write. The program relies on its caller to
-//! make allocations fail. If its standard input isn't empty, it makes reads and writes fail too.
+//! make allocations fail. The letters of its standard input say what else fails: `r` reads, `o`
+//! writes of output, and `m` writes of messages.
 #![tactic(auto)]
 
 mod case;
@@ -13,7 +14,7 @@ mod memory;
 mod reads;
 mod writes;
 
-use case::Case;
+use case::{Case, Stream};
 use cases::cases;
 use memory::{Left, run_case};
 use std::io::{self, Read};
@@ -32,24 +33,38 @@ fn run_each(rt: &HostRuntime, cases: &[Case]) -> io::Result<bool> {
     Ok(is_right)
 }
 
-/// Prints for each script whether the runs left what they should in which each of its reads or
-/// writes failed in turn. Returns whether all did.
-fn cut_each(rt: &HostRuntime, cases: &[Case]) -> io::Result<bool> {
-    let mut is_right = reads::last_read_is_a_fault(rt.alloc())?;
+/// Runs each script with a failure of each read in turn, or of each write to a stream, as the letter
+/// says, and prints whether the runs left what they should. Returns whether all did.
+fn cut_each(rt: &HostRuntime, cases: &[Case], letter: u8) -> io::Result<bool> {
+    let mut is_right = letter != b'r' || reads::last_read_is_a_fault(rt.alloc())?;
     for case in cases {
-        let by_reads = reads::cut_each(rt.alloc(), case)?;
-        let by_writes = writes::cut_each(rt.alloc(), case)?;
-        is_right = is_right && by_reads && by_writes;
+        let (what, is_left) = match letter {
+            b'r' => ("reads", reads::cut_each(rt.alloc(), case)?),
+            b'o' => (
+                "output",
+                writes::cut_each(rt.alloc(), case, Stream::Output)?,
+            ),
+            _ => (
+                "messages",
+                writes::cut_each(rt.alloc(), case, Stream::Messages)?,
+            ),
+        };
+        is_right = is_right && is_left;
         let lines = case.lines.len();
-        println!(rt; "{lines} lines, cut by reads: {by_reads}, by writes: {by_writes}")?;
+        println!(rt; "{lines} lines, cut by {what}: {is_left}")?;
     }
     Ok(is_right)
 }
 
 fn run_all(rt: &HostRuntime) -> io::Result<bool> {
     let cases = cases(rt.alloc())?;
-    let is_cut = rt.reader().read(&mut [0])? != 0;
-    Ok(run_each(rt, cases.as_slice())? && (!is_cut || cut_each(rt, cases.as_slice())?))
+    let mut letters = [0; 3];
+    let count = rt.reader().read(&mut letters)?;
+    let mut is_right = run_each(rt, cases.as_slice())?;
+    for letter in letters.iter().take(count) {
+        is_right = is_right && cut_each(rt, cases.as_slice(), *letter)?;
+    }
+    Ok(is_right)
 }
 
 fn main(rt: HostRuntime) -> ExitCode {

@@ -85,7 +85,7 @@ const MOST_CALLS: u64 = 1000;
 
 /// Runs a case's script once for each write to a stream, which fails, and once without a failure.
 /// Returns whether each run left what it should.
-fn cut_stream(alloc: Global, case: &Case, stream: Stream) -> Result<bool, AllocError> {
+pub(crate) fn cut_each(alloc: Global, case: &Case, stream: Stream) -> Result<bool, AllocError> {
     let whole = case.text(alloc, stream, case.lines.len())?;
     let most = if whole.len() > 1000 { 501 } else { 7 };
     for calls in 0..MOST_CALLS {
@@ -95,9 +95,4 @@ fn cut_stream(alloc: Global, case: &Case, stream: Stream) -> Result<bool, AllocE
         }
     }
     Ok(false)
-}
-
-/// Does the same for both streams.
-pub(crate) fn cut_each(alloc: Global, case: &Case) -> Result<bool, AllocError> {
-    Ok(cut_stream(alloc, case, Stream::Output)? && cut_stream(alloc, case, Stream::Messages)?)
 }
