@@ -6,16 +6,15 @@ use Rattle.nv_prp.specs.Buffer.{buffer_places}
 use Rattle.nv_layout.specs.declared.cqe.Status.{Status}
 use Rattle.nv_bus.specs.declared.told.Told.{Told}
 use Rattle.nv_bus.specs.Entry.{status_in, told_by}
-use Rattle.nv_bus.specs.Call.{asked_by, data_places}
+use Rattle.nv_bus.specs.Call.{asked_by}
 use Rattle.nv_driver.proofs.Words.{Answer, AreOutside, Asked, BusValue, Cqe, Delivers, Geometry, HasFreeSlot}
 use Rattle.nv_driver.proofs.Words.{IsAnswered, IsBus, IsOnWay, IsPlaceFor, IsReady, IsRequest, IsSubmittedAt, IsTold}
 use Rattle.nv_driver.proofs.Words.{KeepsBelow, QueuePairFields, RequestPlace, Run, Sent, Setting, Sqe, SqeFits}
 use Rattle.nv_driver.proofs.Words.{awaited_completion, bank_at, collected_one, entry, greatest_limit, known_to}
 use Rattle.nv_driver.proofs.Words.{length_of, limit_bounds, limit_of, mul-le-mul_right, numbered, padded}
-use Rattle.nv_driver.proofs.Words.{pages_of_entry, pair_value, place_in, places, received_from, run_of, sent_at}
+use Rattle.nv_driver.proofs.Words.{pages_of_entry, pair_value, place_in, received_from, run_of, sent_at}
 use Rattle.nv_driver.proofs.Words.{sent_for, setting_of, side, slice_set, step_of, transfer_for, way, with_register_at}
 use Rattle.nv_queue.specs.Numbers.{next, slot_of}
-use Rattle.nv_queue.specs.Slots.{submission_at}
 use Rattle.nv_driver.specs.BringingUp.{BusTurn, TailWrite, Write}
 use Rattle.nv_driver.specs.Passing.{GoesAlone, entry_pages}
 use Rattle.nv_driver.specs.inner.Alone.{IsExchanged, came_with}
@@ -30,8 +29,6 @@ use Rattle.nv_driver.specs.inner.Submitting.{request_as}
 use Rattle.nv_driver.specs.declared.submitting.Outgoing.{Outgoing}
 use Rattle.nv_driver.proofs.AnswerLaws.{IsAnswerTo, answer_sound}
 use Rattle.nv_driver.proofs.RequestLaws.{every_entry}
-use Rattle.nv_driver.proofs.KeptLaws.{number_zero}
-use Rattle.nv_driver.proofs.PointerLaws.{entry_places}
 use Rattle.nv_driver.proofs.OnWayLaws.{answer_next, begins, collects_on, completion_is, held, left_after}
 use Rattle.nv_driver.proofs.OnWayLaws.{submits_on, tells_on}
 use Rattle.nv_driver.proofs.PaddingLaws.{length-padded}

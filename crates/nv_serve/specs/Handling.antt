@@ -1,5 +1,5 @@
 -- What requests do on a bus, call by call.
-use Rattle.std.specs.Prelude.{◌≡◌, ℕ, Bool, List, [], ◌∷◌, if◌then◌else◌, length, nat_lt}
+use Rattle.std.specs.Prelude.{◌≡◌, ℕ, List, [], ◌∷◌, if◌then◌else◌, length, nat_lt}
 use Rattle.nv_layout.specs.declared.sqe.Sqe.{Sqe}
 use Rattle.nv_bus.specs.Bus.{BusValue}
 use Rattle.nv_driver.specs.BringingUp.{BusTurn, EnablesFirst, Read, Restarts, TailWrite, Write, Zeroes}

@@ -1,4 +1,4 @@
-use Rattle.std.proofs.Common.{[], ◌≡◌, ◌∙◌, ℕ, ◌+◌, ◌-◌, ◌*◌, ◌%◌, ◌<◌, ◌≤◌, List, ap, arith, get_or, inl, inr, length}
+use Rattle.std.proofs.Common.{[], ◌≡◌, ◌∙◌, ℕ, ◌+◌, ◌-◌, ◌*◌, ◌%◌, ◌<◌, ◌≤◌, List, ap, arith, get_or, inl, length}
 use Rattle.std.proofs.Common.{length-take, min, refl, sym}
 use Rattle.std.proofs.lemmas.List.{get_or_default}
 use Rattle.nv_host.specs.PageSets.{Pages}
@@ -11,7 +11,7 @@ use Rattle.nv_driver.specs.inner.Pace.{IsToldByPace}
 use Rattle.nv_driver.proofs.OnWayLaws.{can_collect}
 use Rattle.nv_driver.proofs.RoundLaws.{answer_buffer, answer_sends, answers_more, awaits, can_give, collects}
 use Rattle.nv_driver.proofs.RoundLaws.{held_one, number_inside, takes, tells_on, turns_idly, turns_on}
-use Rattle.nv_driver.proofs.UnderWayLaws.{geometry_is, world}
+use Rattle.nv_driver.proofs.UnderWayLaws.{geometry_is}
 use Rattle.nv_driver.proofs.batch.Batch.turn.Goals.{then-self-pace, else-self-pace}
 use Rattle.nv_driver.proofs.batch.Batch.turn.Goals as goal
 
