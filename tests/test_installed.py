@@ -198,6 +198,8 @@ class Installed(Case):
         self.ends(ended, 0, f'nvme-model {VERSION}\n'.encode(), b'')
         for program in self.prefix / 'bin/nvme-describe', TOP / 'nvme-describe':
             self.ends(run(program, '--version'), 0, f'nvme-describe {VERSION}\n'.encode(), b'')
+            full = b'nvme-describe: standard output: No space left on device\n'
+            self.ends(run(program, '--version', out='/dev/full'), 1, err=full)
         for page in self.prefix.glob('share/man/man*/*'):
             self.assertIn(f'\n.Os nvme-script {VERSION}\n', page.read_text(), page)
 
