@@ -124,15 +124,17 @@ static void begin_process(void) {
 }
 
 static void start_keeper(struct device *device) {
+    int watcher = watch_nodes();
     pid_t process = fork();
     if (process < 0)
         fail_by_errno("fork");
     if (process > 0) {
         device->keeper = process;
+        close(watcher);
         return;
     }
     begin_process();
-    for (int watcher = watch_nodes(device);;) {
+    for (;;) {
         const int files[] = {asks[device - devices], device->is_lost ? -1 : device->to_and_from, watcher};
         serve(device);
         unsigned ready = await_files(files, 3, -1);

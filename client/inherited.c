@@ -21,18 +21,59 @@ static const unsigned char added_minors[] = {200, 229, 232, 238, 241};
    and more serial ports and consoles of virtual machines. The console (5, 1) is one too, but not a master (5, 2). */
 static const unsigned char terminals[] = {3, 4, 136, 137, 138, 139, 140, 141, 142, 143, 166, 188, 204, 229};
 
-/* The file systems that hold files. */
-static const unsigned file_systems[] = {
-    EXT4_SUPER_MAGIC,      XFS_SUPER_MAGIC,      BTRFS_SUPER_MAGIC,    TMPFS_MAGIC,           RAMFS_MAGIC,
-    OVERLAYFS_SUPER_MAGIC, FUSE_SUPER_MAGIC,     NFS_SUPER_MAGIC,      SMB_SUPER_MAGIC,       CIFS_SUPER_MAGIC,
-    SMB2_SUPER_MAGIC,      V9FS_MAGIC,           F2FS_SUPER_MAGIC,     MSDOS_SUPER_MAGIC,     EXFAT_SUPER_MAGIC,
-    ISOFS_SUPER_MAGIC,     UDF_SUPER_MAGIC,      SQUASHFS_MAGIC,       EROFS_SUPER_MAGIC_V1,  CRAMFS_MAGIC,
-    NILFS_SUPER_MAGIC,     REISERFS_SUPER_MAGIC, OCFS2_SUPER_MAGIC,    ECRYPTFS_SUPER_MAGIC,  CEPH_SUPER_MAGIC,
-    AFS_SUPER_MAGIC,       AFS_FS_MAGIC,         CODA_SUPER_MAGIC,     HPFS_SUPER_MAGIC,      MINIX_SUPER_MAGIC,
-    MINIX_SUPER_MAGIC2,    MINIX2_SUPER_MAGIC,   MINIX2_SUPER_MAGIC2,  MINIX3_SUPER_MAGIC,    0x7275 /* romfs */,
-    0x4244 /* hfs */,      0x482b /* hfsplus */, 0x3153464a /* jfs */, 0x5346544e /* ntfs */, 0x7366746e /* ntfs3 */,
-    0x2fc12fc1 /* zfs */,  0x01161970 /* gfs2 */, 0xca451a4e /* bcachefs */, 0x0bd00bd0 /* lustre */,
-    0x61756673 /* aufs */, 0x786f4256 /* vboxsf */};
+/* The file systems that hold files, and can be written as outside, by their names and the numbers of their kinds (which
+   autofs and nsfs lack, because they have no files of the machine). All others, such as a second sysfs, are read-only. */
+static const struct {
+    const char *names;
+    unsigned numbers[5];
+} file_systems[] = {{" 9p ", {V9FS_MAGIC}},
+                    {" afs ", {AFS_SUPER_MAGIC, AFS_FS_MAGIC}},
+                    {" aufs ", {0x61756673}},
+                    {" autofs nsfs ", {0}},
+                    {" bcachefs ", {0xca451a4e}},
+                    {" btrfs ", {BTRFS_SUPER_MAGIC}},
+                    {" ceph ", {CEPH_SUPER_MAGIC}},
+                    {" cifs smb3 smbfs ", {CIFS_SUPER_MAGIC, SMB2_SUPER_MAGIC, SMB_SUPER_MAGIC}},
+                    {" coda ", {CODA_SUPER_MAGIC}},
+                    {" cramfs ", {CRAMFS_MAGIC}},
+                    {" ecryptfs ", {ECRYPTFS_SUPER_MAGIC}},
+                    {" erofs ", {EROFS_SUPER_MAGIC_V1}},
+                    {" exfat ", {EXFAT_SUPER_MAGIC}},
+                    {" ext2 ext3 ext4 ", {EXT4_SUPER_MAGIC}},
+                    {" f2fs ", {F2FS_SUPER_MAGIC}},
+                    {" fuse fuseblk virtiofs ", {FUSE_SUPER_MAGIC}},
+                    {" gfs2 ", {0x01161970}},
+                    {" hfs hfsplus ", {0x4244, 0x482b}},
+                    {" hpfs ", {HPFS_SUPER_MAGIC}},
+                    {" iso9660 ", {ISOFS_SUPER_MAGIC}},
+                    {" jfs ", {0x3153464a}},
+                    {" lustre ", {0x0bd00bd0}},
+                    {" minix ",
+                     {MINIX_SUPER_MAGIC, MINIX_SUPER_MAGIC2, MINIX2_SUPER_MAGIC, MINIX2_SUPER_MAGIC2,
+                      MINIX3_SUPER_MAGIC}},
+                    {" msdos vfat ", {MSDOS_SUPER_MAGIC}},
+                    {" nfs nfs4 ", {NFS_SUPER_MAGIC}},
+                    {" nilfs2 ", {NILFS_SUPER_MAGIC}},
+                    {" ntfs ntfs3 ", {0x5346544e, 0x7366746e}},
+                    {" ocfs2 ", {OCFS2_SUPER_MAGIC}},
+                    {" overlay ", {OVERLAYFS_SUPER_MAGIC}},
+                    {" ramfs ", {RAMFS_MAGIC}},
+                    {" reiserfs ", {REISERFS_SUPER_MAGIC}},
+                    {" romfs ", {0x7275}},
+                    {" squashfs ", {SQUASHFS_MAGIC}},
+                    {" tmpfs ", {TMPFS_MAGIC}},
+                    {" udf ", {UDF_SUPER_MAGIC}},
+                    {" vboxsf ", {0x786f4256}},
+                    {" xfs ", {XFS_SUPER_MAGIC}},
+                    {" zfs ", {0x2fc12fc1}}};
+enum { FILE_SYSTEMS = sizeof file_systems / sizeof *file_systems };
+
+int holds_files(const char *kind) {
+    for (unsigned at = 0; at < FILE_SYSTEMS; at++)
+        if (strstr(file_systems[at].names, kind))
+            return 1;
+    return strncmp(kind, " fuse.", 6) == 0;
+}
 
 int is_machine_node(dev_t number) {
     for (unsigned at = 0; at < MACHINE_NODES; at++)
@@ -95,11 +136,12 @@ void check_nodes(void) {
 
 /* ---- open files */
 
-static int holds_files(int file) {
+static int is_in_files(int file) {
     struct statfs about;
     int is_found = 0;
-    for (unsigned at = 0; fstatfs(file, &about) == 0 && at < sizeof file_systems / sizeof *file_systems; at++)
-        is_found |= (unsigned)about.f_type == file_systems[at];
+    for (unsigned at = 0; fstatfs(file, &about) == 0 && at < FILE_SYSTEMS; at++)
+        for (const unsigned *number = file_systems[at].numbers; number < file_systems[at].numbers + 5; number++)
+            is_found |= *number != 0 && (unsigned)about.f_type == *number;
     return is_found;
 }
 
@@ -111,7 +153,7 @@ static const char *why_not(int file) {
     if (fstat(file, &about) < 0)
         return strerror(errno);
     mode_t kind = about.st_mode & S_IFMT;
-    if (kind == S_IFIFO || kind == S_IFSOCK || (kind == S_IFREG && holds_files(file)) ||
+    if (kind == S_IFIFO || kind == S_IFSOCK || (kind == S_IFREG && is_in_files(file)) ||
         (kind == S_IFCHR && (is_machine_node(about.st_rdev) || (is_terminal(about.st_rdev) && isatty(file)))))
         return NULL;
     if (kind == S_IFCHR || kind == S_IFBLK)

@@ -108,7 +108,7 @@ void make_nodes(void);
 void look_for_changes(struct device *device, const struct request_header *request, const struct answer_header *answer);
 void scan(struct device *device, unsigned first, unsigned count);
 void lose_nodes(const struct device *device);
-int watch_nodes(const struct device *device);
+int watch_nodes(void);
 void repair_files(const struct device *device, int watcher);
 void show_anew(struct device *device, uint32_t nsid);
 int read_name(const char *name, struct node *node);
@@ -274,10 +274,12 @@ struct machine_node {
 enum { MACHINE_NODES = 6 };
 extern const struct machine_node machine_nodes[MACHINE_NODES]; /* inherited.c */
 
-/* inherited.c: returns whether a device number is that of such a node; returns where a device is that --device adds,
+/* inherited.c: returns whether a kind of file system, between blanks, holds files; whether a device number is that of such
+   a node; returns where a device is that --device adds,
    and fails if it may not be added; fails, in the sandbox, if /dev has any other device; fails if an open file, or a
    standard stream, isn't one that may come into the sandbox; and occupies the numbers of closed streams, so that no
    other file gets them, by a path that nobody can use, outside and again in the sandbox. */
+int holds_files(const char *kind);
 int is_machine_node(dev_t number);
 char *find_device(const char *path);
 void check_nodes(void);

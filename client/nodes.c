@@ -326,11 +326,10 @@ static void repair_all(const struct device *device) {
         repair(device, nsid);
 }
 
-int watch_nodes(const struct device *device) {
+int watch_nodes(void) {
     int watcher = has_sandbox ? inotify_init1(IN_CLOEXEC | IN_NONBLOCK) : -1;
-    if (watcher >= 0)
-        inotify_add_watch(watcher, "/dev", IN_CLOSE_WRITE);
-    repair_all(device);
+    if (has_sandbox && (watcher < 0 || inotify_add_watch(watcher, "/dev", IN_CLOSE_WRITE) < 0))
+        fail_by_errno("changes of nodes can't be watched (inotify)");
     return watcher;
 }
 

@@ -176,6 +176,71 @@ class Identities(CallCase):
         self.assertEqual([(self.folder / f'by-{number}').read_bytes() for number in (1001, 1002)], [b'x\n' * 3] * 2)
 
 
+# What a process can do, by a line for each: whether it can write a file of /sys, set the session's priority, and open a
+# node, which isn't truncated, and what an ioctl by an open node and by its path (O_PATH) gives.
+ABLE = '''
+import ctypes, errno, fcntl, os, sys
+def told(call, *words):
+    try:
+        call(*words)
+        return "done"
+    except OSError as error:
+        return errno.errorcode[error.errno]
+own, path = os.open("/dev/nvme0", os.O_RDONLY), os.open("/dev/nvme0", os.O_PATH)
+exec(sys.argv[1])
+print(told(os.open, "/sys/block/nvme0n1/ro", os.O_WRONLY), told(os.open, "/proc/self/autogroup", os.O_WRONLY),
+      told(os.open, "/dev/nvme0n3", os.O_WRONLY | os.O_TRUNC), told(fcntl.ioctl, own, 0x4e44),
+      told(fcntl.ioctl, path, 0x4e44))
+'''
+WITHOUT_RIGHTS = ('libc = ctypes.CDLL(None)\n'
+                  'libc.capset(ctypes.byref((ctypes.c_uint * 2)(0x20080522, 0)), (ctypes.c_uint * 6)())')
+
+
+class Rights(CallCase):
+    def able(self, change, user=(), inside=()):
+        """Returns what a process can do after a change, and whether the node still has its data."""
+        script = FILL + 'chmod 644 /dev/nvme0; "$@"; ' + LOOK
+        ended = run(*user, *self.command('sh', '-c', script, 'sh', *inside, 'python3', '-c', ABLE, change))
+        self.ends(ended, 0, err=b'')
+        return ended.out.decode().split()
+
+    def test_each(self):
+        same, refused = ['4608', 'same'], ['EACCES'] * 2
+        for user in USERS:
+            self.assertEqual(self.able('', user), [*refused, 'done', 'done', 'EBADF', *same])
+        # (a program of another user that hides itself is seen by root's helpers alone)
+        hidden = 'ctypes.CDLL(None).prctl(4, 0)'
+        self.assertEqual(self.able(hidden, USERS[-1])[:2], refused)
+        if IS_ROOT:
+            self.assertEqual(self.able(hidden), [*refused, 'done', 'done', 'EBADF', *same])
+            # (the nodes belong to root, which may write them without rights, but isn't an administrator then)
+            self.assertEqual(self.able(WITHOUT_RIGHTS), [*refused, 'done', 'EACCES', 'EBADF', *same])
+            self.assertEqual(self.able('', inside=NOBODY), ['EACCES'] * 4 + ['EBADF', *same])
+            able = 'setpriv', '--reuid=1000', '--clear-groups', '--inh-caps=+dac_override', '--ambient-caps=+dac_override'
+            self.assertEqual(self.able('', inside=able), [*refused, 'done', 'EACCES', 'EBADF', *same])
+
+    @unittest.skipUnless(IS_ROOT, 'root alone can take groups')
+    def test_many_groups(self):
+        groups = '--groups=' + ','.join(map(str, range(100_000, 100_300)))
+        script = FILL + 'chgrp 100299 /dev/nvme0n3; chmod 660 /dev/nvme0n3; exec "$@"'
+        inner = ': > /dev/nvme0n3; ' + LOOK
+        ended = self.shell(script, 'setpriv', '--reuid=1000', '--regid=1000', groups, 'sh', '-c', inner)
+        self.ends(ended, 0, b'4608 same\n', b'')
+
+    @unittest.skipUnless(works('unshare', '-Ur'), 'users can make no namespaces here')
+    def test_other_roots(self):
+        # a link in another root leads to what that has at its path, and its /.. is itself
+        script = FILL + 'exec "$@"'
+        self.needs('busybox')
+        inner = ('cd "$1"; mkdir root root/dev; cp "$2" root; echo own > root/dev/nvme0n3; ln -s /dev/nvme0n3 root/link; '
+                 'ln -s /../../dev/nvme0n3 root/up; for path in link up ../dev/nvme0n3 /dev/nvme0n3; do '
+                 'chroot root /busybox sh -c "echo $path > $path"; cat root/dev/nvme0n3; done; rm -r root; ' + LOOK)
+        user = USERS[-1]
+        ended = run(*user, *self.command('sh', '-c', script, 'sh', 'unshare', '-Urm', 'sh', '-c', inner, 'sh', self.folder,
+                                         shutil.which('busybox')))
+        self.ends(ended, 0, b'link\nup\n../dev/nvme0n3\n/dev/nvme0n3\n4608 same\n', b'')
+
+
 class Groups(CallCase):
     def test_signals_to_the_group(self):
         # they reach the processes inside, but no process of the caller's group outside

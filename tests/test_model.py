@@ -318,6 +318,18 @@ class Signals(ModelCase):
         time.sleep(0.6)
         self.assertFalse((self.folder / 'late').exists())
 
+    def test_end_of_a_shell_at_a_terminal(self):
+        # a shell of its own process group gives the terminal back, and ends with its own status
+        for shell in 'sh', 'bash --norc':
+            with self.subTest(shell):
+                running = Running(*self.command(*shell.split(), '-i'), terminal=True, env={'PS1': 'ready: '})
+                self.addCleanup(running.process.kill)
+                running.comes(b'ready: ', 60)
+                running.say(b'exit 3\n')
+                self.assertEqual(running.process.wait(60), 3)
+                running.hear(0)
+                self.assertNotIn(b'annot set', running.heard)
+
     def test_typed_at_a_terminal(self):
         for script, status in (('echo ready; exec sleep 100', 130),
                                ('trap "test -c /dev/nvme0 && exit 5" INT; echo ready; while :; do sleep 0.1; done', 5)):

@@ -83,6 +83,20 @@ class Mounts(MachineCase):
                     self.ends(machine.model(script, by=by), 0, b'end\n', b'')
                     machine.is_unchanged()
 
+    def test_other_mounts_of_what_has_dev(self):
+        # where /dev is a folder of the root file system, another mount of that is read-only, unless /dev isn't in it
+        way = ('mount -t tmpfs x "$place/root" && cd / && for d in *; do case $d in dev) ;; *) test -d $d && '
+               'test ! -L $d && mkdir "$place/root/$d" && mount --rbind $d "$place/root/$d" || cp -a $d "$place/root/$d" ;; '
+               'esac; done; cd "$place/root" && mkdir dev again other apart && chmod 777 . dev again other apart && '
+               'cp -a /dev/null /dev/zero /dev/full /dev/random /dev/urandom /dev/tty /dev/nvme0n1 dev && '
+               'mount --bind . again && mount --bind other apart && chroot . "$@"')
+        script = ('for path in /again/dev/nvme0n1 /again/other; do rm -rf $path && echo removed $path; done; '
+                  '(: > /again/dev/own) && echo made; head -c 7 /again/dev/nvme0n1; echo own > /apart/file; cat /other/file')
+        # (in another root, root alone can make a namespace)
+        with contextlib.closing(Machine(self, 'devices')) as machine:
+            ended = machine.model(script, by=('unshare', '-m', 'sh', '-c', way + '; exit', 'sh'))
+            self.assertEqual(ended.out, b'own\n', ended)
+
     def test_folders_that_are_removed(self):
         # a mount that comes later outside goes when its folder is removed inside
         for user in (), NOBODY:

@@ -11,7 +11,7 @@ from signal import SIGCONT, SIGKILL, SIGSTOP
 
 from tests.modelled import (DEVICES, HELPERS, KEEPERS, LAUNCHER, PROGRAMS, WARNINGS, ModelCase, parts, process_folder,
                             signals, works)
-from tests.support import Running, run
+from tests.support import Running, environment, run
 
 IS_ROOT = os.geteuid() == 0
 NOBODY = 'setpriv', '--reuid=65534', '--regid=65534', '--clear-groups'
@@ -213,6 +213,64 @@ class Processes(WaitingCase):
                 with self.subTest(limit, user=user):
                     self.assertEqual(self.ends_by_signal(self.begun(user, script, 'x')), b'go\n')
                     self.ends(self.begun(user, script, '').end(20), 5, b'go\n')
+
+    def test_many_orphans(self):
+        # a signal is passed on while processes without parents stop and end
+        script = ('import os, signal\n'
+                  'print("go", flush=True)\n'
+                  'while True:\n'
+                  '    if os.fork() == 0:\n'
+                  '        if os.fork() == 0:\n'
+                  '            os.kill(os.getpid(), signal.SIGSTOP)\n'
+                  '        os._exit(0)\n'
+                  '    os.wait()\n'
+                  '    os.kill(-1, signal.SIGKILL)\n')
+        for user in USERS:
+            with self.subTest(user=user):
+                self.assertEqual(self.ends_by_signal(self.begun(user, 'exec python3 -c "$1"', script)), b'go\n')
+
+    def test_trace_that_nobody_reads(self):
+        for user in USERS:
+            with self.subTest(user=user):
+                reader, writer = os.pipe()
+                command = self.command('sh', '-c', 'while nvme id-ctrl /dev/nvme0 > /dev/null; do :; done',
+                                       options=['--trace', '--refuse', 'format=0x2002'])
+                process = subprocess.Popen([*user, *command], stderr=writer, stdout=subprocess.DEVNULL, env=environment())
+                self.addCleanup(process.kill)
+                os.close(writer)
+                time.sleep(3)
+                process.terminate()
+                self.assertEqual(process.wait(20), 143)
+                os.close(reader)
+                self.leaves_nothing()
+
+    def test_limits_of_the_caller(self):
+        for limit, said in (('-n 100', 'open files (ulimit -n) is 100, and at least 256'),
+                            ('-f 0', 'the bytes of a file (ulimit -f) is 0, and at least 1048576')):
+            for user in USERS:
+                with self.subTest(limit, user=user):
+                    by = *user, 'bash', '-c', f'ulimit {limit}; exec "$@"', 'bash'
+                    ended = subprocess.run([*by, *self.command('true')], capture_output=True, env=environment())
+                    self.assertEqual((ended.returncode, ended.stderr.decode()),
+                                     (72, f'nvme-model: the limit of {said} are needed\n'))
+
+    def test_many_words(self):
+        words = [*map(str, range(30000)), 'x' * 100000]
+        for user in USERS:
+            ended = run(*user, *self.command('sh', '-c', 'echo $# $2 ${30001} | wc -c', 'sh', *words))
+            self.ends(ended, 0, b'%d\n' % len(f'30001 1 {words[-1]}\n'), b'')
+
+    @unittest.skipUnless(IS_ROOT, 'root alone can take the number of a user without processes')
+    def test_no_watchers(self):
+        # without inotify, nothing would tell of nodes that become longer
+        user = 'setpriv', '--reuid=54400', '--regid=54400', '--clear-groups'
+        taker = subprocess.Popen([*user, 'python3', '-c', 'import ctypes, time\n'
+                                  'while ctypes.CDLL(None).inotify_init1(0) >= 0: pass\n'
+                                  'print("full", flush=True)\ntime.sleep(100)'], stdout=subprocess.PIPE, env=environment())
+        self.addCleanup(taker.kill)
+        self.assertEqual(taker.stdout.readline(), b'full\n')
+        ended = run(*user, *self.command('true'))
+        self.ends(ended, 72, b'', b'nvme-model: changes of nodes can\'t be watched (inotify): Too many open files\n')
 
     def test_lost_at_once(self):
         # that a device was lost is reported before the command can see it
