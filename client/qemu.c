@@ -25,6 +25,7 @@ static int ways[MOST_FUNCTIONS];     /* QEMU's ways to the sockets */
 static char folder[100], *sockets;   /* for QEMU's sockets, and how the paths of all begin */
 static pid_t qemu;
 static _Atomic int ending; /* the signal that ends this process */
+static sigset_t former_mask, endings;
 
 static struct sockaddr_un address_of(const char *path, unsigned number) {
     struct sockaddr_un made = {.sun_family = AF_UNIX};
@@ -43,36 +44,29 @@ static void remove_sockets(void) {
     sockets = NULL;
 }
 
-/* Ends the connections of a server's clients. (What a client sent is read, because otherwise it would learn by a
-   reset that the connection ended, which aborts QEMU 11.1.) */
-static void leave_clients(void) {
+/* Ends this process by a signal, whose number is positive. (What a server's clients sent is read, because otherwise a
+   reset would tell them that their connections ended, which aborts QEMU 11.1.) */
+static int end_now(int number) {
     char rest[4096];
     for (unsigned at = 0; is_server && at < function_count; at++)
         if (functions[at].socket >= 0 && shutdown(functions[at].socket, SHUT_RD) == 0)
             while (recv(functions[at].socket, rest, sizeof rest, MSG_DONTWAIT) > 0)
                 ;
-}
-
-static int end_now(int number) {
-    sigset_t mask;
-    leave_clients();
     remove_sockets();
-    sigemptyset(&mask);
-    sigaddset(&mask, number);
-    pthread_sigmask(SIG_UNBLOCK, &mask, NULL);
+    pthread_sigmask(SIG_SETMASK, &former_mask, NULL);
     return raise(number);
 }
 
 /* Waits for a signal that ends this process, and ends it after a second if it didn't end by itself, because a client can
    make a turn as long as it likes. */
-static void *end_in_time(void *endings) {
+static void *end_in_time(void *unused) {
     int number;
-    sigwait(endings, &number);
+    sigwait(&endings, &number);
     ending = number;
     kill(getpid(), SIGCHLD);
     sleep(1);
     end_now(number);
-    return NULL;
+    return unused;
 }
 
 /* Serves what came: that the pin was seen, what the receiver took, a client, that it reads, or more of a message. From
@@ -147,7 +141,7 @@ static const struct protocol *choose(char **options) {
 }
 
 /* Becomes QEMU, with options that put functions and shared memory into its machine. It ends with the parent. */
-static void run_qemu(char **options, unsigned count, const sigset_t *mask, pid_t parent) {
+static void run_qemu(char **options, unsigned count, pid_t parent) {
     char *first[] = {"qemu-system-x86_64", "-machine", "q35,memory-backend=nvme-model-ram", "-object", NULL};
     char *arguments[sizeof first / sizeof *first + 2 * MOST_FUNCTIONS + count + 1];
     char **next = mempcpy(arguments, first, sizeof first);
@@ -164,7 +158,7 @@ static void run_qemu(char **options, unsigned count, const sigset_t *mask, pid_t
             length = asprintf(next++, "x-pci-proxy-dev,fd=%d", end);
     }
     memcpy(next, options, (count + 1) * sizeof *options);
-    sigprocmask(SIG_SETMASK, mask, NULL);
+    sigprocmask(SIG_SETMASK, &former_mask, NULL);
     if (length >= 0 && prctl(PR_SET_PDEATHSIG, SIGKILL) == 0 && getppid() == parent)
         execvp(*arguments, arguments);
     err(errno == ENOENT ? NOT_FOUND : NOT_EXECUTABLE, "%s", *arguments);
@@ -172,24 +166,22 @@ static void run_qemu(char **options, unsigned count, const sigset_t *mask, pid_t
 
 /* Returns a descriptor that tells that a child has ended, and has a thread wait for the signals that end this process,
    except for those that were ignored. (Beside QEMU, those of the terminal's keys are QEMU's.) */
-static int watch_signals(sigset_t *mask) {
+static int watch_signals(void) {
     static const int numbers[] = {SIGTERM, SIGHUP, SIGINT, SIGQUIT};
-    static sigset_t endings;
     struct sigaction former;
     sigset_t children;
     pthread_t waiting;
-    sigemptyset(&endings);
     sigemptyset(&children);
     sigaddset(&children, SIGCHLD);
     signal(SIGCHLD, SIG_DFL);
-    sigprocmask(SIG_BLOCK, &children, mask);
+    sigprocmask(SIG_BLOCK, &children, &former_mask);
     for (unsigned at = 0; at < sizeof numbers / sizeof *numbers; at++)
         if (sigaction(numbers[at], NULL, &former) == 0 && former.sa_handler != SIG_IGN)
             sigaddset(&endings, numbers[at]);
     sigprocmask(SIG_BLOCK, &endings, NULL);
     if (!is_server)
         sigdelset(&endings, SIGINT), sigdelset(&endings, SIGQUIT);
-    if (pthread_create(&waiting, NULL, end_in_time, &endings) != 0)
+    if (pthread_create(&waiting, NULL, end_in_time, NULL) != 0)
         errx(FAILED, "a thread could not be started");
     return signalfd(-1, &children, SFD_CLOEXEC | SFD_NONBLOCK);
 }
@@ -293,13 +285,12 @@ static unsigned read_options(int count, char **arguments) {
 }
 
 int main(int count, char **arguments) {
-    sigset_t mask;
     struct rlimit files;
     arguments[0] = program_invocation_short_name = "nvme-model";
     unsigned at = read_options(count, arguments);
     const struct protocol *protocol = is_server ? &vfio_user : choose(arguments + at);
     prepare_counters();
-    int signals = watch_signals(&mask);
+    int children = watch_signals();
     if (getrlimit(RLIMIT_NOFILE, &files) == 0)
         setrlimit(RLIMIT_NOFILE, &(struct rlimit){files.rlim_max, files.rlim_max});
     reserve_memory();
@@ -309,10 +300,10 @@ int main(int count, char **arguments) {
     make_sockets();
     pid_t self = getpid();
     if (!is_server && (qemu = fork()) == 0)
-        run_qemu(arguments + at, (unsigned)count - at, &mask, self);
+        run_qemu(arguments + at, (unsigned)count - at, self);
     if (qemu < 0)
         err(FAILED, "fork");
-    int status = serve_all(signals);
+    int status = serve_all(children);
     if (has_summary)
         tell_summary();
     return status >= 0 ? status : end_now(-status);
