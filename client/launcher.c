@@ -252,6 +252,11 @@ static int run(char **arguments) {
     devices = share(MOST_DEVICES * sizeof *devices);
     for (int file = HERE; file < FILES + MOST_DEVICES; file++)
         fcntl(file, F_SETFD, FD_CLOEXEC);
+    /* (each namespace has its data in an open file) */
+    if (getrlimit(RLIMIT_NOFILE, &files_limit) == 0) {
+        files_limit.rlim_cur = files_limit.rlim_max;
+        setrlimit(RLIMIT_NOFILE, &files_limit);
+    }
     signal(SIGTTOU, SIG_IGN); /* (messages come from the background as well) */
     options.device_words[0] = program;
     if (options.subsystem_count > 0)
@@ -265,11 +270,6 @@ static int run(char **arguments) {
         close(FILES + (int)at);
     make_nodes();
     command = started; /* (from now on, what can't be made doesn't end it) */
-    /* (a namespace without nodes has its data in an open file) */
-    if (getrlimit(RLIMIT_NOFILE, &files_limit) == 0) {
-        files_limit.rlim_cur = files_limit.rlim_max;
-        setrlimit(RLIMIT_NOFILE, &files_limit);
-    }
     if (has_sandbox)
         confine_launcher();
     begin_helpers();

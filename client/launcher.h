@@ -88,7 +88,7 @@ struct volume {
     uint64_t blocks;
     unsigned power;      /* a block has two to this power bytes; 0 if the namespace isn't known */
     unsigned generation; /* how many namespaces had this NSID before */
-    int left;            /* the file of its data while no node has it, or 0 */
+    unsigned files;      /* how many files had the data of namespaces with this NSID */
 
     /* What ioctls of its block devices have set: whether they can't be written, the sectors that are read ahead, and
        the bytes of a buffer, which hold for one process. */

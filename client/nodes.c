@@ -81,13 +81,26 @@ static int find_volume(const struct device *device, uint32_t nsid, char path[MOS
     return 0;
 }
 
-/* Opens a namespace's data by its path, or as it was left, or returns -1. */
+/* The file of each namespace's data, as a keeper has it open from its beginning, with its number among the namespace's
+   files. (Processes that began before a file was made have another number.) */
+static struct {
+    int file;
+    unsigned number;
+} kept[MOST_DEVICES][MOST_NSID + 1];
+
+/* Opens a namespace's data, or returns -1. */
 static int open_volume(const struct device *device, uint32_t nsid) {
-    const struct volume *volume = volume_at(device, nsid);
     char path[MOST_NAME];
-    if (find_volume(device, nsid, path))
-        return open(path, O_RDWR | O_NOFOLLOW | O_NONBLOCK | O_CLOEXEC);
-    return volume->left > 0 ? fcntl(volume->left, F_DUPFD_CLOEXEC, 0) : -1;
+    if (kept[device - devices][nsid].file > 0 && kept[device - devices][nsid].number == volume_at(device, nsid)->files)
+        return fcntl(kept[device - devices][nsid].file, F_DUPFD_CLOEXEC, 0);
+    return find_volume(device, nsid, path) ? open(path, O_RDWR | O_NOFOLLOW | O_NONBLOCK | O_CLOEXEC) : -1;
+}
+
+static void keep_volume(const struct device *device, uint32_t nsid, int file) {
+    if (kept[device - devices][nsid].file > 0)
+        close(kept[device - devices][nsid].file);
+    kept[device - devices][nsid].file = file < 0 ? 0 : fcntl(file, F_DUPFD_CLOEXEC, 0);
+    kept[device - devices][nsid].number = ++volume_at(device, nsid)->files;
 }
 
 int open_data(const struct node *node) {
@@ -98,27 +111,28 @@ int open_data(const struct node *node) {
 
 static const struct group *disk; /* to which root's block devices belong, as on Linux */
 
-/* Makes the file of a namespace's data, without a name. Data that was left in a file that lost all names moves there,
-   piece by piece, because that gets no name again. */
-static int make_data(struct volume *volume) {
+/* Makes the file of a namespace's data, without a name. Data of a file that lost all names moves there, piece by piece,
+   because that file gets no name again. */
+static int make_data(const struct device *device, uint32_t nsid) {
     static unsigned char piece[1 << 18];
-    volume->is_read_only = 0;
-    volume->read_ahead = READ_AHEAD;
+    struct volume *volume = volume_at(device, nsid);
     off_t at = 0;
     ssize_t count = 0;
-    int file = open("/dev", O_TMPFILE | O_RDWR | O_CLOEXEC, 0660), from = volume->left;
+    int file = open("/dev", O_TMPFILE | O_RDWR | O_CLOEXEC, 0660), from = open_volume(device, nsid);
+    volume->is_read_only = 0;
+    volume->read_ahead = READ_AHEAD;
     if (file < 0 || ftruncate(file, length_of(volume)) < 0 ||
         (disk && fchown(file, (uid_t)-1, disk->gr_gid) < 0 && errno != EPERM && errno != EINVAL))
         cannot("/dev");
-    while (from > 0 && (at = lseek(from, at + count, SEEK_DATA)) >= 0) {
+    while (from >= 0 && (at = lseek(from, at + count, SEEK_DATA)) >= 0) {
         count = pread(from, piece, sizeof piece, at);
         if (count <= 0 || fallocate(from, FALLOC_FL_PUNCH_HOLE | FALLOC_FL_KEEP_SIZE, at, count) < 0 ||
             pwrite(file, piece, (size_t)count, at) != count)
             break;
     }
-    if (from > 0)
+    if (from >= 0)
         close(from);
-    volume->left = 0;
+    keep_volume(device, nsid, file);
     return file;
 }
 
@@ -126,26 +140,23 @@ static int make_data(struct volume *volume) {
 
 static void put(const struct device *device, unsigned controller, uint32_t nsid) {
     struct volume *volume = volume_at(device, nsid);
-    int file = volume->left > 0 ? -1 : open_volume(device, nsid);
+    struct stat about;
+    int file = open_volume(device, nsid);
+    if (file >= 0 && fstat(file, &about) == 0 && about.st_nlink == 0) {
+        close(file);
+        file = -1;
+    }
     if (file < 0 && has_sandbox)
-        file = make_data(volume);
+        file = make_data(device, nsid);
     shown[controller][nsid] = volume->generation + 1;
     put_namespace(controller, nsid, volume, file);
     if (file >= 0)
         close(file);
 }
 
-static void hide_namespace(const struct device *device, unsigned controller, uint32_t nsid) {
-    struct volume *volume = volume_at(device, nsid);
-    int file = shown[controller][nsid] == volume->generation + 1 ? open_volume(device, nsid) : -1, other;
+static void hide_namespace(unsigned controller, uint32_t nsid) {
     remove_namespace(controller, nsid);
     shown[controller][nsid] = 0;
-    if ((other = open_volume(device, nsid)) < 0 && file >= 0)
-        volume->left = file;
-    else if (file >= 0)
-        close(file);
-    if (other >= 0)
-        close(other);
 }
 
 void lose_nodes(const struct device *device) {
@@ -206,7 +217,7 @@ static void update(struct device *device, unsigned controller, uint32_t nsid, in
     unsigned now = shown[controller][nsid];
     int is_shown = now == volume_at(device, nsid)->generation + 1;
     if (now != 0 && (!is_active || !is_shown))
-        hide_namespace(device, controller, nsid);
+        hide_namespace(controller, nsid);
     if (is_active && !is_shown && measure(device, controller, nsid) == 0)
         put(device, controller, nsid);
 }
@@ -234,9 +245,8 @@ static void set_length(const struct device *device, uint32_t nsid, off_t length)
 static void forget_namespace(struct device *device, uint32_t nsid) {
     struct volume *volume = volume_at(device, nsid);
     set_length(device, nsid, 0);
-    if (volume->left > 0)
-        close(volume->left);
-    *volume = (struct volume){.generation = volume->generation + 1};
+    keep_volume(device, nsid, -1);
+    *volume = (struct volume){.generation = volume->generation + 1, .files = volume->files};
 }
 
 /* (the library sees by the mode of the file whether it may write) */

@@ -440,3 +440,26 @@ class Tools(ModelCase):
         self.ends(ended, 0, err=b'')
         self.assertEqual(re.findall(rb'created nsid:(\d)', ended.out), [b'1', b'2', b'3'])
         self.assertEqual(len(re.findall(rb'(?m)^/dev/nvme', ended.out)), 4)
+
+
+class Data(ModelCase):
+    def test_nodes_that_are_closed(self):
+        # whatever a command does to its node, a format zeroes the data and a detach keeps it
+        lease = ('import fcntl, os, sys\n'
+                 'node = os.open(sys.argv[1], os.O_RDWR)\n'
+                 'for kind in fcntl.F_RDLCK, fcntl.F_WRLCK:\n'
+                 '    try:\n'
+                 '        fcntl.fcntl(node, fcntl.F_SETLEASE, kind)\n'
+                 '    except BlockingIOError:\n'
+                 '        print("busy")\n')
+        again = 'nvme detach-ns /dev/nvme0 -n 3 -c 0 > /dev/null; nvme attach-ns /dev/nvme0 -n 3 -c 0 > /dev/null; '
+        script = ('python3 -c "$1" /dev/nvme0n3; echo text > /dev/nvme0n3; chmod 0 /dev/nvme0n3; '
+                  'nvme format -f /dev/nvme0 -n 3 > /dev/null; chmod 600 /dev/nvme0n3; head -c 4 /dev/nvme0n3 | od -An -c; '
+                  'echo kept > /dev/nvme0n3; chmod 0 /dev/nvme0n3; ' + again + 'head -c 4 /dev/nvme0n3; '
+                  'rm /dev/nvme0n3; ' + again + 'head -c 4 /dev/nvme0n3')
+        nobody = 'setpriv', '--reuid=65534', '--regid=65534', '--clear-groups'
+        self.needs(script)
+        for user in [(), nobody] if os.geteuid() == 0 else [()]:
+            with self.subTest(user=user):
+                ended = run(*user, *self.command('sh', '-c', script, 'sh', lease))
+                self.ends(ended, 0, b'busy\nbusy\n  \\0  \\0  \\0  \\0\nkeptkept', b'')
