@@ -112,6 +112,19 @@ int claim(const struct call *call, int file) {
     return is_free ? 0 : -EBUSY;
 }
 
+/* Whether another file than that of a call has claimed its block device. (The kernel lists the locks of a file.) */
+static int is_claimed(const struct call *call) {
+    char path[64], text[1024] = "";
+    int own = open_own_data(call), file = -1;
+    int is_free = own < 0 || lock(own, F_OFD_GETLK, F_WRLCK, 1 + call->node.controller) == F_UNLCK;
+    snprintf(path, sizeof path, "/proc/%d/fdinfo/%d", call->process, call->file);
+    if (!is_free && (file = open(path, O_RDONLY | O_CLOEXEC)) >= 0)
+        is_free = read(file, text, sizeof text - 1) > 0 && strstr(text, "OFDLCK");
+    close(file);
+    close(own);
+    return !is_free;
+}
+
 /* Discards blocks, which are then zeros. */
 static int discard(const struct call *call, uint64_t size, uint64_t block) {
     int file = -1, punched = FALLOC_FL_PUNCH_HOLE | FALLOC_FL_KEEP_SIZE;
@@ -144,6 +157,8 @@ static int change(const struct call *call, uint32_t request, uint64_t block) {
         return -EFAULT;
     if (request == BLKBSZSET && (number < block || number > (block > 4096 ? block : 4096) || number & (number - 1)))
         return -EINVAL;
+    if ((request == BLKBSZSET || request == BLKRRPART) && is_claimed(call))
+        return -EBUSY;
     if (request == BLKBSZSET) {
         volume->buffer = number;
         volume->buffer_of = call->process;

@@ -70,7 +70,8 @@ static int is_of_session(int file, const char *name) {
 
 /* Answers a call that opens a file that was found, or that changes its length: a file of /sys that isn't there for
    writing can't be opened for it, even by root, and a node isn't truncated. Others are opened as the caller could.
-   (Linux 6.6 and later open files in memory for direct access. The library tells by this flag which writes fail.) */
+   (Linux 6.6 and later open files in memory for direct access. The library tells by this flag which writes fail. From
+   the greatest offset, where a character device is opened, reads and writes fail with EINVAL, as they should.) */
 static int open_found(struct call *call, int file, uint64_t flags, int is_length) {
     const int left_out = O_CREAT | O_EXCL | O_TRUNC | O_NOFOLLOW;
     char place[64], name[PATH_MAX];
@@ -86,14 +87,17 @@ static int open_found(struct call *call, int file, uint64_t flags, int is_length
     int is_node = strncmp(name, "/dev/", 5) == 0 && read_name(name + 5, &call->node);
     if (is_node && is_length)
         return -EINVAL;
-    if (is_length || (is_node ? !(flags & (O_TRUNC | O_DIRECT | O_EXCL)) : strncmp(name, "/sys/", 5) != 0))
+    int is_block = is_node && call->node.kind == 'b', is_plain = is_block && !(flags & (O_TRUNC | O_DIRECT | O_EXCL));
+    if (is_length || is_plain || (!is_node && strncmp(name, "/sys/", 5) != 0))
         return NOT_OURS;
     int again = open(place, ((int)flags & ~left_out) | O_CLOEXEC);
     if (again < 0 && errno == EINVAL && flags & O_DIRECT)
         again = open(place, ((int)flags & ~(left_out | O_DIRECT)) | O_CLOEXEC);
     if (again < 0)
         return -errno;
-    int result = is_node && flags & O_EXCL && call->node.kind == 'b' ? claim(call, again) : 0;
+    int result = is_block && flags & O_EXCL ? claim(call, again) : 0;
+    if (is_node && !is_block)
+        lseek(again, INT64_MAX, SEEK_SET);
     if (result == 0 && (is_node || control(name)))
         return again;
     close(again);
