@@ -38,11 +38,14 @@ const char *read_about(pid_t process, const char *name, char *text, size_t room)
     return text;
 }
 
+/* Whether a process is in this user namespace, whose link in /proc has a text of its own. */
 static int has_own_users(pid_t process) {
-    char path[64];
-    struct stat its, own;
+    static char own[64];
+    char path[64], its[64] = "";
     snprintf(path, sizeof path, "/proc/%d/ns/user", process);
-    return stat(path, &its) == 0 && stat("/proc/self/ns/user", &own) == 0 && its.st_ino == own.st_ino;
+    if (!*own && readlink("/proc/self/ns/user", own, sizeof own - 1) < 0)
+        return 0;
+    return readlink(path, its, sizeof its - 1) > 0 && strcmp(its, own) == 0;
 }
 
 /* (the owner of a process's folder in /proc is root if the process changed its user) */
@@ -216,10 +219,11 @@ static int find_place(int from, const char *path, int flags, struct place *place
     return 0;
 }
 
-static int find_root(pid_t process, struct place *place) {
+/* (which may be open) */
+static int find_root(pid_t process, int root, struct place *place) {
     char path[64];
     snprintf(path, sizeof path, "/proc/%d/root", process);
-    return find_place(AT_FDCWD, path, 0, place);
+    return root >= 0 ? find_place(root, "", AT_EMPTY_PATH, place) : find_place(AT_FDCWD, path, 0, place);
 }
 
 static int is_same(const struct place *one, const struct place *other) {
@@ -270,11 +274,12 @@ int look_up(const struct call *call, int directory, const char *path, const stru
     struct place root;
     char folder[32];
     int is_below = given->resolve & (RESOLVE_BENEATH | RESOLVE_IN_ROOT) && *path == '/', file = -1;
+    int is_absolute = *path == '/' && !is_below;
     snprintf(folder, sizeof folder, directory == AT_FDCWD ? "cwd" : "fd/%d", directory);
-    int from = open_about(call->process, *path == '/' && !is_below ? "root" : folder, O_PATH);
+    int from = open_about(call->process, is_absolute ? "root" : folder, O_PATH);
     const char *rest = is_below ? path : path + strspn(path, "/");
-    if (from < 0 || !*path || (of_command.number == 0 && find_root(first, &of_command) < 0) ||
-        find_root(call->process, &root) < 0)
+    if (from < 0 || !*path || (of_command.number == 0 && find_root(first, -1, &of_command) < 0) ||
+        find_root(call->process, is_absolute ? from : -1, &root) < 0)
         return from < 0 ? -1 : (close(from), -1);
     int has_other = !is_same(&root, &of_command);
     if (!has_other)

@@ -60,12 +60,17 @@ static int control(const char *name) {
     return is_reset || is_scan;
 }
 
-/* Whether a file sets the priority of the caller's session, which has processes outside. */
-static int is_of_session(int file, const char *name) {
+/* Whether a file sets the priority of the caller's session, which has processes outside. (Its name is read by this
+   link.) */
+static int is_of_session(int file, const char *link) {
+    static const char wanted[] = "/autogroup";
+    char name[PATH_MAX];
     struct statfs system;
-    size_t length = strlen(name), end = strlen("/autogroup");
-    return fstatfs(file, &system) == 0 && system.f_type == PROC_SUPER_MAGIC && length > end &&
-           strcmp(name + length - end, "/autogroup") == 0;
+    if (fstatfs(file, &system) < 0 || system.f_type != PROC_SUPER_MAGIC)
+        return 0;
+    read_link(link, name);
+    size_t length = strlen(name);
+    return length >= sizeof wanted && strcmp(name + length - strlen(wanted), wanted) == 0;
 }
 
 /* Answers a call that opens a file that was found, or that changes its length: a file of /sys that isn't there for
@@ -79,11 +84,11 @@ static int open_found(struct call *call, int file, uint64_t flags, int is_length
     if (fstat(file, &about) < 0 || !S_ISREG(about.st_mode))
         return NOT_OURS;
     snprintf(place, sizeof place, "/proc/self/fd/%d", file);
-    read_link(place, name);
     if (about.st_dev != number_of(OF_DEV) && about.st_dev != number_of(OF_SYS))
-        return is_of_session(file, name) ? -EACCES : NOT_OURS;
+        return is_of_session(file, place) ? -EACCES : NOT_OURS;
     if (about.st_dev == number_of(OF_SYS) && !(about.st_mode & 0222))
         return -EACCES;
+    read_link(place, name);
     int is_node = strncmp(name, "/dev/", 5) == 0 && read_name(name + 5, &call->node);
     if (is_node && is_length)
         return -EINVAL;
