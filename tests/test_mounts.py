@@ -97,6 +97,15 @@ class Mounts(MachineCase):
             ended = machine.model(script, by=('unshare', '-m', 'sh', '-c', way + '; exit', 'sh'))
             self.assertEqual(ended.out, b'own\n', ended)
 
+    def test_parts_of_proc_that_are_hidden(self):
+        # (docker hides parts of /proc in this way, and gives a container's root the right to mount if it is asked to)
+        way = 'mount --bind /dev/null /proc/keys && mount -t tmpfs -o ro x /proc/acpi && mount --bind /proc/sys /proc/sys && '
+        script = 'cat /proc/keys 2> /dev/null | wc -c; ls -A /proc/acpi; (: > /proc/sys/vm/swappiness) 2> /dev/null || echo end'
+        with contextlib.closing(Machine(self, 'files')) as machine:
+            ended = run('unshare', '-m', 'sh', '-c', way + 'exec "$@"', 'sh', *self.command('sh', '-c', script))
+            self.ends(ended, 0, b'0\nend\n', b'')
+            machine.is_unchanged()
+
     def test_folders_that_are_removed(self):
         # a mount that comes later outside goes when its folder is removed inside
         for user in (), NOBODY:
