@@ -168,13 +168,15 @@ static int look_for(struct device *device, unsigned controller, const unsigned c
 }
 
 /* A namespace has no identifiers, but that of its command set. */
-static int list_identifiers(struct device *device, unsigned controller, const unsigned char *entry, unsigned char *page) {
+static int list_identifiers(struct device *device, unsigned controller, const unsigned char *entry,
+                            unsigned char *page) {
     memcpy(page, (const unsigned char[]){4, 1, 0, 0, 0}, 5);
     return look_for(device, controller, entry, CNS_NAMESPACE);
 }
 
 /* The controllers of the subsystem, or those to which a namespace is attached, in the order of their identifiers. */
-static int list_controllers(struct device *device, unsigned controller, const unsigned char *entry, unsigned char *page) {
+static int list_controllers(struct device *device, unsigned controller, const unsigned char *entry,
+                            unsigned char *page) {
     static unsigned char is_listed[UINT16_MAX + 1], is_active[MOST_NSID + 1], data[IDENTIFY_BYTES];
     int is_of_one = entry[40] == CNS_ATTACHED;
     int status = is_of_one ? look_for(device, controller, entry, CNS_ALLOCATED) : DONE;

@@ -44,8 +44,8 @@ __attribute__((noreturn)) void fail_by_errno(const char *what);
 void cannot(const char *path);
 const char *last_line(int file, const char *program);
 
-/* options.c: what the options choose, and reads them; returns where the command's words begin; and reports that a number
-   isn't one that an option of the layout takes. */
+/* options.c: what the options choose, and reads them; returns where the command's words begin; and reports that a
+   number isn't one that an option of the layout takes. */
 enum { MOST_ADDED = 64 };
 struct options {
     const char *subsystems[MOST_DEVICES], *added[MOST_ADDED + 1], *trace_file; /* (`added` ends with NULL) */
@@ -100,9 +100,10 @@ struct volume {
 
 /* nodes.c: makes the nodes of all controllers; looks for changes after a command; scans the namespaces of some
    controllers; makes the nodes of a lost device unusable; returns a descriptor that tells which nodes of a device were
-   written, and restores their lengths; shows a namespace anew after an ioctl changed it; returns whether a name is that
-   of a node, which may have been removed, and stores the node; returns whether a controller shows a namespace; asks a
-   controller, as Identify does or for its active namespaces, and returns the length of what came, or -1; opens the data of a namespace that is active on a node's controller, or returns -1; and stores how long a namespace is, or
+   written, and restores their lengths; shows a namespace anew after an ioctl changed it; returns whether a name is
+   that of a node, which may have been removed, and stores the node; returns whether a controller shows a namespace;
+   asks a controller, as Identify does or for its active namespaces, and returns the length of what came, or -1; opens
+   the data of a namespace that is active on a node's controller, or returns -1; and stores how long a namespace is, or
    returns 0 if this isn't known or just changes. */
 void make_nodes(void);
 void look_for_changes(struct device *device, const struct request_header *request, const struct answer_header *answer);
@@ -161,8 +162,8 @@ unsigned await_call(int signals);
 void note_end(pid_t process);
 
 /* helpers.c: memory that all these processes share; and in a helper, room for data, and a request to the keeper of a
-   controller's device, which returns -1 if the device is gone. The request may also be a scan of controllers, or to show
-   a namespace anew. */
+   controller's device, which returns -1 if the device is gone. The request may also be a scan of controllers, or to
+   show a namespace anew. */
 enum { KIND_SCAN = 0xffff, KIND_SHOW = 0xfffe };
 void *share(size_t size);
 void *own_data(void);
@@ -199,8 +200,8 @@ struct decided_call {
 extern const struct decided_call decided_calls[]; /* opens.c; the last one has no number */
 
 /* calls.c: whether the file of a call is a node, which is stored; answers an ioctl; has a controller's device do
-   something; claims a block device for a file that is opened with O_EXCL; the number of the file system in which nodes, or the model's files of /sys, are; and reads by which name a
-   file was opened, with links followed. */
+   something; claims a block device for a file that is opened with O_EXCL; the number of the file system in which
+   nodes, or the model's files of /sys, are; and reads by which name a file was opened, with links followed. */
 enum { OF_DEV, OF_SYS };
 int find_node(struct call *call);
 int answer_ioctl(struct call *call, const __u64 *arguments);
@@ -239,8 +240,8 @@ const char *add_rule(enum rule_action action, const char *text);
 int follow_rules(const struct call *call, int is_io, const struct nvme_passthru_cmd *given);
 void report_rules(void);
 
-/* io.c: carries out an I/O command, and returns its status, or an error's number as a negative one; and answers an admin
-   command that the controllers don't have, and returns whether it is one. */
+/* io.c: carries out an I/O command, and returns its status, or an error's number as a negative one; and answers an
+   admin command that the controllers don't have, and returns whether it is one. */
 int io(struct call *call);
 int supply(struct device *device, const struct request_header *request, void *data, struct answer_header *answer);
 

@@ -32,8 +32,10 @@ static const struct action {
     const char *option, *done, *form;
     uint64_t most;
 } actions[] = {
-    [REFUSE] = {"--refuse", "refused", "the form is COMMAND[,SKIP[,TIMES]]=STATUS, with a STATUS of 1 to 0x7fff", GREATEST_STATUS},
-    [DELAY] = {"--delay", "delayed", "the form is COMMAND[,SKIP[,TIMES]]=SECONDS, with 1 to 86400 SECONDS", MOST_SECONDS}};
+    [REFUSE] = {"--refuse", "refused", "the form is COMMAND[,SKIP[,TIMES]]=STATUS, with a STATUS of 1 to 0x7fff",
+                GREATEST_STATUS},
+    [DELAY] = {"--delay", "delayed", "the form is COMMAND[,SKIP[,TIMES]]=SECONDS, with 1 to 86400 SECONDS",
+               MOST_SECONDS}};
 
 /* A rule: after `skip` commands, `times` of them get a status or are delayed by seconds. */
 static struct rule {
@@ -98,7 +100,8 @@ const char *add_rule(enum rule_action action, const char *text) {
    resets the controller, and the call fails. */
 static int wait_for(const struct call *call, int is_io, uint64_t seconds, uint32_t limit) {
     const struct request_header reset = {.controller = (uint16_t)call->node.controller, .kind = KIND_RESET};
-    const uint64_t most = limit ? (uint64_t)limit << is_io : 60000, least = seconds * 1000 < most ? seconds * 1000 : most;
+    const uint64_t most = limit ? (uint64_t)limit << is_io : 60000;
+    const uint64_t least = seconds * 1000 < most ? seconds * 1000 : most;
     struct timespec left = {.tv_sec = (time_t)(least / 1000), .tv_nsec = (long)(least % 1000 * 1000000)};
     while (nanosleep(&left, &left) < 0 && errno == EINTR)
         continue;
