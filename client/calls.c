@@ -216,7 +216,7 @@ static int carry_out_ioctl(struct call *call) {
     struct device *device = device_of(call->node.controller);
     if (call->is_path && call->request != NODE_REQUEST)
         return -EBADF;
-    if (device->is_lost)
+    if (device->state == LOST)
         return -ENXIO;
     switch (call->request) {
     case NODE_REQUEST:

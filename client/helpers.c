@@ -16,11 +16,14 @@
    fewer if there are no addresses for the data of so many.) */
 enum { USUAL_HELPERS = 8, MOST_HELPERS = 512 };
 
+/* A helper waits for a call, looks at one that it was given, or waits for a keeper, whose answer it then looks at. */
+enum { IDLE, AT_WORK, ASKING };
+
 struct helper {
-    pid_t process;            /* 0 if there is none */
-    unsigned given, done;     /* calls that it was given, and that it has answered */
-    unsigned asked, answered; /* the numbers of its last request to a keeper, and of the last one with an answer */
-    int result;               /* of the last request: 0, or -1 if the device is gone */
+    pid_t process;  /* 0 if there is none */
+    unsigned state; /* by whose change these processes wake each other */
+    unsigned turn;  /* the number of its last request */
+    int result;     /* of that request: 0, or -1 if the device is gone */
     struct request_header request;
     struct answer_header answer;
     union notice notice;
@@ -94,8 +97,8 @@ static void *data_of(const struct helper *helper) { return all_data + (helper - 
 static struct helper *find_request(const struct device *device) {
     struct helper *first = NULL;
     for (struct helper *helper = helpers; helper < end(); helper++)
-        if (load(&helper->asked) != helper->answered && device_of(helper->request.controller) == device &&
-            (!first || (int)(helper->asked - first->asked) < 0))
+        if (load(&helper->state) == ASKING && device_of(helper->request.controller) == device &&
+            (!first || (int)(helper->turn - first->turn) < 0))
             first = helper;
     return first;
 }
@@ -111,7 +114,7 @@ static void serve(struct device *device) {
             show_anew(device, request.length);
         else
             helper->result = carry_out(&request, data_of(helper), &helper->answer);
-        store_and_wake(&helper->answered, helper->asked);
+        store_and_wake(&helper->state, AT_WORK);
     }
 }
 
@@ -135,7 +138,7 @@ static void start_keeper(struct device *device) {
     }
     begin_process();
     for (;;) {
-        const int files[] = {asks[device - devices], device->is_lost ? -1 : device->to_and_from, watcher};
+        const int files[] = {asks[device - devices], device->state == LOST ? -1 : device->to_and_from, watcher};
         serve(device);
         unsigned ready = await_files(files, 3, -1);
         if (ready & 1)
@@ -149,13 +152,13 @@ static void start_keeper(struct device *device) {
 
 int ask_keeper(const struct request_header *header, struct answer_header *answer) {
     const struct device *device = device_of(header->controller);
-    unsigned before = self->answered;
-    if (device->is_lost)
+    if (device->state == LOST)
         return -1;
     self->request = *header;
-    store(&self->asked, __atomic_add_fetch(&shared->requests, 1, __ATOMIC_SEQ_CST));
+    self->turn = __atomic_add_fetch(&shared->requests, 1, __ATOMIC_SEQ_CST);
+    store(&self->state, ASKING);
     tell(asks[device - devices]);
-    await_change(&self->answered, before);
+    await_change(&self->state, ASKING);
     *answer = self->answer;
     return self->result;
 }
@@ -169,9 +172,9 @@ __attribute__((noreturn)) static void help(struct helper *helper) {
     self = helper;
     begin_process();
     for (;;) {
-        await_change(&helper->given, helper->done);
+        await_change(&helper->state, IDLE);
         answer_call(&helper->notice);
-        store(&helper->done, helper->given);
+        store(&helper->state, IDLE);
         if (load(&shared->is_awaited))
             tell(at_end);
     }
@@ -179,6 +182,7 @@ __attribute__((noreturn)) static void help(struct helper *helper) {
 
 /* Returns whether a helper could be started. */
 static int start_helper(struct helper *helper) {
+    store(&helper->state, IDLE);
     pid_t process = fork();
     if (process == 0)
         help(helper);
@@ -189,7 +193,7 @@ static int start_helper(struct helper *helper) {
 /* Kills the helpers whose callers no longer wait. */
 static void drop_helpers(void) {
     for (struct helper *helper = helpers; helper < end(); helper++)
-        if (helper->process > 0 && load(&helper->done) != helper->given && !is_alive(helper->notice.got.id))
+        if (helper->process > 0 && load(&helper->state) != IDLE && !is_alive(helper->notice.got.id))
             kill(helper->process, SIGKILL);
 }
 
@@ -197,10 +201,11 @@ static void drop_helpers(void) {
 static struct helper *find_helper(unsigned most) {
     struct helper *place = NULL;
     for (struct helper *helper = helpers; helper < end(); helper++) {
-        int is_free = load(&helper->asked) == load(&helper->answered) && load(&helper->done) == helper->given;
-        if (is_free && helper->process > 0)
+        unsigned state = load(&helper->state);
+        if (helper->process > 0 && state == IDLE)
             return helper;
-        place = is_free && !place ? helper : place;
+        if (helper->process == 0 && state != ASKING && !place)
+            place = helper;
     }
     if (!place && end() < helpers + most)
         place = end();
@@ -224,7 +229,7 @@ static int give_call(int is_late) {
     if (!receive_call(helper ? &helper->notice : &spare))
         return 1;
     if (helper)
-        store_and_wake(&helper->given, helper->given + 1);
+        store_and_wake(&helper->state, AT_WORK);
     else {
         finish_call(&spare, -EAGAIN);
         drop_helpers();
@@ -244,14 +249,13 @@ unsigned await_call(int signals) {
     return ready;
 }
 
-/* (the call of a helper that was killed may have been done) */
+/* (the call of a helper that was killed may have been done, and a keeper may still do what it asked for) */
 void note_end(pid_t process) {
     for (struct helper *helper = helpers; helper < end(); helper++)
         if (helper->process == process) {
             helper->process = 0;
-            if (helper->done != helper->given)
+            if (load(&helper->state) != IDLE)
                 finish_call(&helper->notice, -EIO);
-            helper->done = helper->given;
         }
     for (struct device *device = devices; device < devices + device_count; device++)
         if (device->keeper == process)

@@ -40,7 +40,7 @@ static char parts[PATH_MAX], library[PATH_MAX + 32], program[PATH_MAX + 32];
 static void end_devices(void) {
     is_over = 1;
     for (struct device *device = devices; device < devices + device_count; device++) {
-        device->is_lost = 1;
+        device->state = LOST;
         if (device->keeper > 0)
             kill(device->keeper, SIGKILL);
     }

@@ -24,7 +24,7 @@ struct device {
     pid_t process;         /* 0 if it has ended */
     int to_and_from, said; /* sockets for its input and output, and for its standard error */
     unsigned first, count; /* its controllers, by the numbers of /dev/nvmeX */
-    int is_lost;           /* it no longer answers */
+    enum { STARTING, ANSWERING, LOST } state;
     pid_t keeper;          /* the process that alone exchanges requests with it */
 };
 

@@ -28,11 +28,11 @@ static int move_all(int file, void *at, size_t size, int outwards) {
 /* Reports that a device is lost, before anybody can see it. A device that doesn't even start reports the reason itself.
  */
 void lose_device(struct device *device) {
-    if (device->is_lost || device->count == 0)
+    if (device->state != ANSWERING)
         return;
     fputs("nvme-model: the device ended, or answered what was not asked\n", stderr);
     lose_nodes(device);
-    device->is_lost = 1;
+    device->state = LOST;
 }
 
 /* (the answer has at most as many bytes of data as were asked for, and none if data was sent) */
@@ -40,7 +40,7 @@ int exchange(struct device *device, const struct request_header *header, void *d
     struct request_header request = *header;
     uint32_t sent = header->kind == KIND_ENTRY && header->entry[0] & 1 ? header->length : 0;
     uint32_t most = sent > 0 ? 0 : header->length;
-    if (device->is_lost)
+    if (device->state == LOST)
         return -1;
     if (move_all(device->to_and_from, &request, sizeof request, 1) < 0 ||
         move_all(device->to_and_from, data, sent, 1) < 0 ||
@@ -89,6 +89,7 @@ void greet_device(struct device *device, const char *name) {
     device->count = answer.dword_0;
     if (device->count == 0 || device->first + device->count > MOST_CONTROLLERS)
         fail("the device does not answer as it should");
+    device->state = ANSWERING;
 }
 
 /* Copies a line of a trace. It begins with a controller, whose number among all devices' controllers replaces its own.
