@@ -99,24 +99,20 @@ static int lock(int file, int command, short type, off_t place) {
     return fcntl(file, command, &byte) < 0 ? -1 : byte.l_type;
 }
 
-/* (the file then has a lock as long as it is open, unless another one has it or just gets it, and so has the first lock)
- */
+/* (the file then has a lock as long as it is open, and no other file may have one; of two that get theirs at once, maybe
+   neither has claimed the device) */
 int claim(const struct call *call, int file) {
     short type = (fcntl(file, F_GETFL) & O_ACCMODE) == O_RDONLY ? F_RDLCK : F_WRLCK;
-    off_t place = 1 + call->node.controller;
-    int own = open_own_data(call);
-    int is_free = own >= 0 && lock(own, F_OFD_SETLK, F_WRLCK, 0) >= 0 &&
-                  lock(own, F_OFD_GETLK, F_WRLCK, place) == F_UNLCK && lock(file, F_OFD_SETLK, type, place) >= 0;
-    if (own >= 0)
-        close(own);
-    return is_free ? 0 : -EBUSY;
+    off_t place = call->node.controller;
+    int is_alone = lock(file, F_OFD_SETLK, type, place) >= 0 && lock(file, F_OFD_GETLK, F_WRLCK, place) == F_UNLCK;
+    return is_alone ? 0 : -EBUSY;
 }
 
 /* Whether another file than that of a call has claimed its block device. (The kernel lists the locks of a file.) */
 static int is_claimed(const struct call *call) {
     char path[64], text[1024] = "";
     int own = open_own_data(call), file = -1;
-    int is_free = own < 0 || lock(own, F_OFD_GETLK, F_WRLCK, 1 + call->node.controller) == F_UNLCK;
+    int is_free = own < 0 || lock(own, F_OFD_GETLK, F_WRLCK, call->node.controller) == F_UNLCK;
     snprintf(path, sizeof path, "/proc/%d/fdinfo/%d", call->process, call->file);
     if (!is_free && (file = open(path, O_RDONLY | O_CLOEXEC)) >= 0)
         is_free = read(file, text, sizeof text - 1) > 0 && strstr(text, "OFDLCK");
