@@ -129,7 +129,7 @@ def main(arguments):
     os.environ['UNPROVED'] = '1' if arguments else '0'
     if arguments == ['--quick']:
         from tests import unproved
-        of_sources = ['test_program', 'test_unready', 'test_documents']
+        of_sources = ['test_program', 'test_unready', 'test_documents', 'test_gate']
         print('not run: proofs, wrong bodies,', ', '.join(name for name in names if name not in of_sources))
         names = [*unproved.names(), *of_sources]
     elif arguments:

@@ -1,0 +1,53 @@
+"""Runs .ci/run on machines that lack programs, in a copy of its files: it names everything that is missing, and installs
+it only in CI. A stand-in for apt-get stores what it was told."""
+
+import os
+import re
+import shutil
+
+from tests.support import TOP, Case, run
+
+QUICK = b"missing: apt install python3 gcc\nmissing: the Rattle toolchain's command rt\n"
+
+
+class Gate(Case):
+    def setUp(self):
+        super().setUp()
+        self.tools = self.folder / 'tools'
+        self.tools.mkdir()
+        for name in 'dirname', 'grep', 'id', 'sed':
+            (self.tools / name).symlink_to(shutil.which(name))
+        (self.folder / '.ci').mkdir()
+        for name in 'run', 'needed':
+            shutil.copy(TOP / '.ci' / name, self.folder / '.ci')
+        self.file('tools/apt-get', b'#!/bin/sh\necho "$*" >> "${0%/*}/../told"\n').chmod(0o755)
+
+    def gate(self, *words, ci='', user=()):
+        return run(*user, '/bin/sh', self.folder / '.ci/run', *words, env={'PATH': self.tools, 'CI': ci})
+
+    def told(self):
+        return (self.folder / 'told').read_text() if (self.folder / 'told').exists() else ''
+
+    def test_what_is_missing(self):
+        self.ends(self.gate('--quick'), 1, b'', QUICK)
+        ended = self.gate()
+        self.ends(ended, 1, b'')
+        first, *rest = ended.err.decode().splitlines()
+        self.assertRegex(first, '^missing: apt install python3 gcc bubblewrap .* zsh$')
+        self.assertIn("missing: the Rattle toolchain's command rt", rest)
+        self.assertIn('missing: a kernel for virtual machines: tools/kernel', rest)
+        self.ends(self.gate('--bogus'), 2, b'', b'usage: .ci/run [--quick]\n')
+
+    def test_what_is_installed(self):
+        other = (shutil.which('setpriv'), '--reuid=65534', '--clear-groups') if os.geteuid() == 0 else ()
+        self.folder.chmod(0o777)
+        for words, ci, user in (((), '', ()), ((), 'false', ()), ((), '1', ()), (('--quick',), 'true', ()),
+                                ((), 'true', other)):
+            with self.subTest(words, ci=ci, user=user):
+                self.ends(self.gate(*words, ci=ci, user=user), 1, b'')
+                self.assertEqual(self.told(), '')
+        if other:
+            ended = self.gate(ci='true')
+            self.ends(ended, 1, b'')
+            packages = re.search('(?m)^missing: apt install (.*)$', ended.err.decode())[1]
+            self.assertEqual(self.told(), f'update\ninstall -y {packages}\n', ended)
