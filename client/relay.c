@@ -58,6 +58,8 @@ int carry_out(struct request_header *header, void *data, struct answer_header *a
     struct device *device = device_of(header->controller);
     header->controller -= (uint16_t)device->first;
     int result = supply(device, header, data, answer) ? 0 : exchange(device, header, data, answer);
+    if (device->state == LOST)
+        return -1;
     if (result == 0)
         look_for_changes(device, header, answer);
     return result;
