@@ -101,25 +101,14 @@ static double seconds(void) {
     return (double)now.tv_sec + (double)now.tv_nsec / 1e9;
 }
 
-/* Returns the process of the device, which is the launcher's first child. */
-static pid_t device_of(pid_t launcher) {
-    DIR *processes = opendir("/proc");
-    struct dirent *entry;
-    pid_t found = 0;
-    while (processes && (entry = readdir(processes))) {
-        char path[300], line[512] = "";
-        snprintf(path, sizeof path, "/proc/%s/stat", entry->d_name);
-        FILE *file = atoi(entry->d_name) > 0 ? fopen(path, "r") : NULL;
-        char *end = file && fgets(line, sizeof line, file) ? strrchr(line, ')') : NULL;
-        if (file)
-            fclose(file);
-        int number = atoi(entry->d_name);
-        if (end && atoi(end + 4) == launcher && number != getpid() && (found == 0 || number < found))
-            found = number;
-    }
-    if (processes)
-        closedir(processes);
-    return found;
+/* Has the test, which can name the device, send it a signal. */
+static void signal_device(int number) {
+    char byte;
+    FILE *asks = fopen(getenv("ASKS"), "w");
+    must(asks && fprintf(asks, "%d\n", number) > 0 && fclose(asks) == 0, "a signal is asked for");
+    int answers = open(getenv("ANSWERS"), O_RDONLY);
+    must(answers >= 0 && read(answers, &byte, 1) == 1, "it was sent");
+    close(answers);
 }
 
 static void pause_for(unsigned milliseconds) {
@@ -130,8 +119,8 @@ static void pause_for(unsigned milliseconds) {
 /* Requests that come while the device is busy are carried out in this order. Each creates a namespace. */
 static void try_order(void) {
     static const int wanted[] = {2, 4, 0};
-    pid_t device = device_of(getppid()), children[3];
-    must(device > 0 && kill(device, SIGSTOP) == 0, "the device is stopped");
+    pid_t children[3];
+    signal_device(SIGSTOP);
     for (unsigned at = 0; at < 3; at++) {
         struct command made = create(18, 18, 0, 0, 0);
         uint64_t result = 0;
@@ -142,7 +131,7 @@ static void try_order(void) {
         }
         pause_for(200);
     }
-    kill(device, SIGCONT);
+    signal_device(SIGCONT);
     for (unsigned at = 0; at < 3; at++) {
         int how;
         must(waitpid(children[at], &how, 0) == children[at] && WEXITSTATUS(how) == wanted[at], "request %u has its turn",
@@ -359,15 +348,14 @@ void try_gone(void) {
     uint64_t result;
     struct stat about;
     int how;
-    pid_t device = device_of(getppid());
     double begun = seconds();
     struct command command = identify(1, 0);
-    must(device > 0 && kill(device, SIGSTOP) == 0, "the device is stopped");
+    signal_device(SIGSTOP);
     pid_t child = fork();
     if (child == 0)
         _exit(send_command(files[0], &command, &result) != -1 || errno != ENXIO);
     pause_for(50);
-    kill(device, SIGKILL);
+    signal_device(SIGKILL);
     waitpid(child, &how, 0);
     must(how == 0, "an ioctl that waits for its answer tells that the device is gone");
     must(send_command(files[0], &command, &result) == -1 && errno == ENXIO, "so does a later one");

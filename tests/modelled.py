@@ -94,9 +94,10 @@ def nodes():
     return sorted(name for name in os.listdir('/dev') if name.startswith(('.model', 'nvme', 'ng')))
 
 
-def processes_of(word):
-    """Returns the processes with this word in their arguments."""
-    return processes('cmdline', lambda text: os.fsencode(word) in text)
+def processes_of_models():
+    """Returns the processes of all models that the tests of this process started."""
+    names = [b'bwrap\n', b'nvme-model\n', b'launcher\n', b'device\n']
+    return [*{*left_running()} & {*processes('comm', lambda text: text in names)}]
 
 
 DEVICES, KEEPERS, HELPERS, LAUNCHER = range(4)
@@ -175,7 +176,7 @@ class ModelCase(Case):
 
     def leaves_nothing(self):
         """Checks that no device and no mount is left, and that the launcher left nothing in the machine's folders."""
-        self.assertTrue(until(lambda: not processes_of(self.subsystem)), 'a device was left running')
+        self.assertTrue(until(lambda: not processes_of_models()), 'a device was left running')
         new = [line for line in mounts() if line not in self.mounts and ('.model' in line or 'newroot' in line)]
         self.assertEqual(new, [], 'mounts are seen outside')
         self.assertEqual(nodes(), self.nodes, 'nodes are seen outside')

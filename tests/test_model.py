@@ -1,6 +1,7 @@
 """Tests ./nvme-model: the ioctls of tests/check.c with drivers of several geometries, arguments, several subsystems,
 nodes and the data of namespaces, signals, and the tools that are installed."""
 
+import contextlib
 import itertools
 import os
 import pathlib
@@ -9,12 +10,12 @@ import shutil
 import signal
 import subprocess
 import sys
+import threading
 import time
 import unittest
 
-from tests.modelled import (CLIENT, DEVICES, PARTS, VERSION, ModelCase, compiled_c, installed, parts, processes_of,
-                            signals)
-from tests.support import TOP, Running, program, run, until
+from tests.modelled import CLIENT, DEVICES, PARTS, VERSION, ModelCase, compiled_c, installed, parts, signals
+from tests.support import TOP, Running, left_running, program, run, until
 
 CHECK = 'check', 'check_client'
 PARTS_OF_CHECK = 'commands', 'wide', 'lengths', 'many', 'broken', 'killed', 'nodes'
@@ -25,14 +26,30 @@ BY_SIGNAL = {'HUP': 129, 'INT': 130, 'QUIT': 131, 'TERM': 143}
 
 
 class Ioctls(ModelCase):
+    def setUp(self):
+        super().setUp()
+        self.env = {'ASKS': self.folder / 'asks', 'ANSWERS': self.folder / 'answers'}
+        for path in self.env.values():
+            os.mkfifo(path)
+        threading.Thread(target=self.send, daemon=True).start()
+
+    def send(self):
+        """Sends the device each signal that a check asks for."""
+        with contextlib.suppress(FileNotFoundError):
+            while True:
+                number = int(self.env['ASKS'].read_text())
+                signals(DEVICES, number)()
+                self.env['ANSWERS'].write_text('sent')
+
     def test_geometries(self):
         check = compiled_c(self.folder / 'check', CHECK, '-pthread')
         for geometry, part in itertools.product(GEOMETRIES, PARTS_OF_CHECK):
             with self.subTest(geometry=geometry, part=part):
-                self.ends(self.model(check, part, options=geometry.split(), limit=900), 0, b'', b'')
+                self.ends(self.model(check, part, options=geometry.split(), env=self.env, limit=900), 0, b'', b'')
         for geometry in GEOMETRIES:
             with self.subTest(geometry=geometry, part='gone'):
-                self.says(self.model(check, 'gone', options=geometry.split()), 0, 'nvme-model: the device ended')
+                self.says(self.model(check, 'gone', options=geometry.split(), env=self.env), 0,
+                          'nvme-model: the device ended')
 
     def test_sanitized(self):
         # the library's sources are compiled into the check itself; the preloaded library is another one
@@ -43,7 +60,7 @@ class Ioctls(ModelCase):
         parts.mkdir(parents=True)
         subprocess.run(['cc', '-shared', '-o', parts / 'library.so', '-x', 'c', '-'], input=b'int no;', check=True)
         shutil.copy(program('nvme_device'), parts)
-        env = {'ASAN_OPTIONS': 'verify_asan_link_order=0:detect_leaks=0'}
+        env = {'ASAN_OPTIONS': 'verify_asan_link_order=0:detect_leaks=0', **self.env}
         for part in (*PARTS_OF_CHECK, 'gone'):
             with self.subTest(part):
                 ended = run(launcher, '--subsystem', self.subsystem, check, part, env=env, limit=900)
@@ -222,13 +239,13 @@ class Subsystems(ModelCase):
         self.assertNotRegex(ended.err, rb'(?m)^nvme[013] taken Namespace Management \(0x0d\) ')
 
     def test_one_device_is_killed(self):
-        running = self.stepped('step; sleep 0.2; cat /dev/nvme2n1; nvme id-ctrl /dev/nvme3; '
+        running = self.stepped('step; sleep 0.2; cat /dev/nvme2n1; test -c /dev/nvme3 || echo gone; '
                                'nvme id-ctrl /dev/nvme1 | grep -c "^sn .*S1"; nvme id-ctrl /dev/nvme4 | grep "^sn "; '
                                'nvme reset /dev/nvme4; head -c 1 /dev/nvme0n1 | wc -c',
                                lambda: os.kill(parts(3)[DEVICES][1], 9),
                                options=['--subsystem', self.subsystem, '--subsystem', self.subsystem])
         self.ends(running.end(60), 0, b'step\nnvme-model: the device ended, or answered what was not asked\n'
-                  b'cat: /dev/nvme2n1: No such device or address\n/dev/nvme3: No such device or address\n'
+                  b'cat: /dev/nvme2n1: No such device or address\ngone\n'
                   b'1\nsn        : S0                  \n1\n')
 
 
@@ -306,8 +323,8 @@ class Signals(ModelCase):
 
     def end_waiting_bwrap(self):
         """Ends a process of bubblewrap whose parent was killed before it told the process to go on."""
-        if not until(lambda: not processes_of(self.subsystem), 30):
-            for number in processes_of(self.subsystem):
+        if not until(lambda: not left_running(), 30):
+            for number in left_running():
                 self.assertEqual(pathlib.Path(f'/proc/{number}/comm').read_text(), 'bwrap\n')
                 os.kill(number, signal.SIGKILL)
 
