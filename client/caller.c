@@ -1,4 +1,5 @@
-/* The process that made a call, as a helper sees it: its identity, its memory, and what its paths lead to. All of this may take as long as that process lets it. None of this is proved. */
+/* The process that made a call, as a helper sees it: its identity, its memory, and what its paths lead to. All of this
+   may take as long as that process lets it. None of this is proved. */
 #include "launcher.h"
 #include <grp.h>
 #include <linux/capability.h>

@@ -1,7 +1,7 @@
-/* The ioctls of nodes, and what helpers (helpers.c) do with a call that a filter handed over (filter.c). Programs inherit
-   this filter, and helpers answer from the memory of the process, as Linux does, so static programs, and those that
-   make system calls themselves, are answered too. A result is that of the call, or an error's number as a negative one.
-   None of this is proved. */
+/* The ioctls of nodes, and what helpers (helpers.c) do with a call that a filter handed over (filter.c). Programs
+   inherit this filter, and helpers answer from the memory of the process, as Linux does, so static programs, and those
+   that make system calls themselves, are answered too. A result is that of the call, or an error's number as a negative
+   one. None of this is proved. */
 #include "launcher.h"
 #include <linux/audit.h>
 #include <linux/blkzoned.h>
@@ -99,8 +99,8 @@ static int lock(int file, int command, short type, off_t place) {
     return fcntl(file, command, &byte) < 0 ? -1 : byte.l_type;
 }
 
-/* (the file then has a lock as long as it is open, and no other file may have one; of two that get theirs at once, maybe
-   neither has claimed the device) */
+/* (the file then has a lock as long as it is open, and no other file may have one; of two that get theirs at once,
+   maybe neither has claimed the device) */
 int claim(const struct call *call, int file) {
     short type = (fcntl(file, F_GETFL) & O_ACCMODE) == O_RDONLY ? F_RDLCK : F_WRLCK;
     off_t place = call->node.controller;

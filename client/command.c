@@ -15,8 +15,8 @@
 pid_t first;
 static int channel; /* to the process that becomes the command */
 
-/* Gives up the rights with which the namespace is made, and others. No program that is started later has other rights than
-   those that are left. */
+/* Gives up the rights with which the namespace is made, and others. No program that is started later has other rights
+   than those that are left. */
 static void drop_rights(uint32_t others) {
     struct __user_cap_header_struct version = {_LINUX_CAPABILITY_VERSION_3, 0};
     struct __user_cap_data_struct rights[2];
@@ -32,8 +32,8 @@ static void drop_rights(uint32_t others) {
         fail_by_errno("rights can't be dropped");
 }
 
-/* Is process 1 while the command runs. (It is in a session of its own, because the terminal's keys would end it if there
-   is no namespace.) */
+/* Is process 1 while the command runs. (It is in a session of its own, because the terminal's keys would end it if
+   there is no namespace.) */
 __attribute__((noreturn)) static void be_first(pid_t command) {
     pid_t ended;
     int how;
@@ -74,8 +74,8 @@ __attribute__((noreturn)) static void become(char **arguments, const char *libra
     _exit(is_found ? NOT_EXECUTABLE : NOT_FOUND);
 }
 
-/* Begins as process 1, which shares the table of open files with the launcher until that one has what the filter opens as
-   `calls`. (Somebody who traced this process could keep it from ending.) */
+/* Begins as process 1, which shares the table of open files with the launcher until that one has what the filter opens
+   as `calls`. (Somebody who traced this process could keep it from ending.) */
 __attribute__((noreturn)) static void begin(char **arguments, const char *library, int its_end,
                                             const sigset_t *blocked) {
     enum { CHANNEL = STDERR_FILENO + 1 };

@@ -1,6 +1,6 @@
-/* Filters of calls (seccomp). The one that the command's processes inherit is the table of opens.c. Those of the launcher
-   and of the devices allow the calls that they make, so that nobody who leads one of them astray reaches more. None of
-   this is proved. */
+/* Filters of calls (seccomp). The one that the command's processes inherit is the table of opens.c. Those of the
+   launcher and of the devices allow the calls that they make, so that nobody who leads one of them astray reaches more.
+   None of this is proved. */
 #include "launcher.h"
 #include <linux/audit.h>
 #include <linux/filter.h>
@@ -128,8 +128,8 @@ static const int common_calls[] = {
    such as those that made calls; and to wait. */
 static const int launcher_calls[] = {
     SYS_open, SYS_openat, SYS_openat2, SYS_getdents64, SYS_mkdir, SYS_mkdirat, SYS_mknod, SYS_mknodat, SYS_linkat,
-    SYS_symlinkat, SYS_unlink, SYS_unlinkat, SYS_rmdir, SYS_ftruncate, SYS_fallocate, SYS_fchmod, SYS_fchown, SYS_statfs,
-    SYS_fstatfs, SYS_inotify_init1, SYS_inotify_add_watch,
+    SYS_symlinkat, SYS_unlink, SYS_unlinkat, SYS_rmdir, SYS_ftruncate, SYS_fallocate, SYS_fchmod, SYS_fchown,
+    SYS_statfs, SYS_fstatfs, SYS_inotify_init1, SYS_inotify_add_watch,
     SYS_process_vm_readv, SYS_process_vm_writev, SYS_fork, SYS_wait4, SYS_waitid, SYS_kill, SYS_setpriority,
     SYS_ioprio_set, SYS_getppid, SYS_setsid, SYS_setgroups, SYS_setresuid, SYS_setresgid, SYS_capget, SYS_capset,
     SYS_poll, SYS_ppoll, SYS_signalfd4, SYS_eventfd2};

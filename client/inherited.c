@@ -22,7 +22,8 @@ static const unsigned char added_minors[] = {200, 229, 232, 238, 241};
 static const unsigned char terminals[] = {3, 4, 136, 137, 138, 139, 140, 141, 142, 143, 166, 188, 204, 229};
 
 /* The file systems that hold files, and can be written as outside, by their names and the numbers of their kinds (which
-   autofs and nsfs lack, because they have no files of the machine). All others, such as a second sysfs, are read-only. */
+   autofs and nsfs lack, because they have no files of the machine). All others, such as a second sysfs, are read-only.
+   */
 static const struct {
     const char *names;
     unsigned numbers[5];

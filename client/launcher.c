@@ -25,9 +25,9 @@ uint64_t geometry[NUMBERS] = {[DEPTH] = 32, [PAGE_SIZE] = 4096, [WINDOW] = 1};
 
 /* The descriptors that the launcher outside hands on: of the current folder, until it was found inside; of the words
    that it was started with, until they were read; of bwrap's status, which tells the signals that wait there; of the
-   trace; and of the subsystem files, until the devices have them. Inside, it has these and the streams alone, and adds a socket and a pipe of each device (device.c), folders of
-   its own /sys (sysfs.c), the data of namespaces without nodes and what tells of changes in /dev (nodes.c), and what
-   signals and calls come from. */
+   trace; and of the subsystem files, until the devices have them. Inside, it has these and the streams alone, and adds
+   a socket and a pipe of each device (device.c), folders of its own /sys (sysfs.c), the data of namespaces without
+   nodes and what tells of changes in /dev (nodes.c), and what signals and calls come from. */
 enum { HERE = 200, WORDS, MONITOR, TRACE_TO, FILES };
 
 static pid_t command;
@@ -299,8 +299,9 @@ static void hand_on_words(char **arguments) {
 
 static char **take_words(int *count) {
     struct stat about;
-    char *text = fstat(WORDS, &about) < 0 ? MAP_FAILED
-                                          : mmap(NULL, (size_t)about.st_size, PROT_READ | PROT_WRITE, MAP_PRIVATE, WORDS, 0);
+    char *text = MAP_FAILED;
+    if (fstat(WORDS, &about) == 0)
+        text = mmap(NULL, (size_t)about.st_size, PROT_READ | PROT_WRITE, MAP_PRIVATE, WORDS, 0);
     if (text == MAP_FAILED)
         fail_by_errno("the words of the command");
     *count = 0;

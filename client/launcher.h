@@ -275,11 +275,11 @@ struct machine_node {
 enum { MACHINE_NODES = 6 };
 extern const struct machine_node machine_nodes[MACHINE_NODES]; /* inherited.c */
 
-/* inherited.c: returns whether a kind of file system, between blanks, holds files; whether a device number is that of such
-   a node; returns where a device is that --device adds,
-   and fails if it may not be added; fails, in the sandbox, if /dev has any other device; fails if an open file, or a
-   standard stream, isn't one that may come into the sandbox; and occupies the numbers of closed streams, so that no
-   other file gets them, by a path that nobody can use, outside and again in the sandbox. */
+/* inherited.c: returns whether a kind of file system, between blanks, holds files; whether a device number is that of
+   such a node; returns where a device is that --device adds, and fails if it may not be added; fails, in the sandbox,
+   if /dev has any other device; fails if an open file, or a standard stream, isn't one that may come into the sandbox;
+   and occupies the numbers of closed streams, so that no other file gets them, by a path that nobody can use, outside
+   and again in the sandbox. */
 int holds_files(const char *kind);
 int is_machine_node(dev_t number);
 char *find_device(const char *path);

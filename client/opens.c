@@ -168,8 +168,8 @@ static int answer_fallocate(struct call *call, const __u64 *words) {
 
 /* ---- calls to the caller's process group, if that began outside of the sandbox */
 
-/* Returns the group of a process, which is 0 if the group began outside, or -1 if this can't be told, or if the launcher
-   is the parent of the process, whose group will then be another one. */
+/* Returns the group of a process, which is 0 if the group began outside, or -1 if this can't be told, or if the
+   launcher is the parent of the process, whose group will then be another one. */
 static int group_of(pid_t process) {
     char text[512];
     int parent, group;
@@ -234,14 +234,15 @@ const struct decided_call decided_calls[] = {
     {IN_SANDBOX, SYS_splice, OLD_SPLICE, {ALWAYS, 0, 0}, ANSWER, answer_splice},
     {IN_SANDBOX, SYS_fallocate, OLD_FALLOCATE, {ALWAYS, 0, 0}, ANSWER, answer_fallocate},
     {IN_SANDBOX, SYS_copy_file_range, OLD_COPY_FILE_RANGE, {ALWAYS, 0, 0}, ANSWER, answer_copy},
-    /* what reaches the process group, or takes an open file from a process outside, which the peer of a socket can name */
+    /* what reaches the process group, or takes an open file from a process outside, which the peer of a socket can name
+       */
     {IN_SANDBOX, SYS_kill, OLD_KILL, {EQUALS, 0, 0}, ANSWER, answer_kill},
     {IN_SANDBOX, SYS_setpriority, OLD_SETPRIORITY, {EQUALS, 0, PRIO_PGRP}, ANSWER, answer_priority},
     {IN_SANDBOX, SYS_ioprio_set, OLD_IOPRIO_SET, {EQUALS, 0, GROUP_IO_PRIORITY}, ANSWER, answer_io_priority},
     {EVERYWHERE, SYS_pidfd_send_signal, SYS_pidfd_send_signal, {HAS_BITS, 3, TO_GROUP}, ERROR(EINVAL), NULL},
     {EVERYWHERE, SYS_pidfd_getfd, SYS_pidfd_getfd, {ALWAYS, 0, 0}, ERROR(EPERM), NULL},
-    /* io_uring, which opens files without calls; keys, which would be the caller's; clone3, whose flags can't be seen, so
-       that glibc uses clone; and for root, namespaces of control groups, in which it could mount and change them */
+    /* io_uring, which opens files without calls; keys, which would be the caller's; clone3, whose flags can't be seen,
+       so that glibc uses clone; and for root, namespaces of control groups, in which it could mount and change them */
     {IN_SANDBOX, SYS_io_uring_setup, SYS_io_uring_setup, {ALWAYS, 0, 0}, ERROR(ENOSYS), NULL},
     {IN_SANDBOX, SYS_io_uring_enter, SYS_io_uring_enter, {ALWAYS, 0, 0}, ERROR(ENOSYS), NULL},
     {IN_SANDBOX, SYS_io_uring_register, SYS_io_uring_register, {ALWAYS, 0, 0}, ERROR(ENOSYS), NULL},
