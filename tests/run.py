@@ -19,11 +19,12 @@ from tests.support import IS_UNPROVED, TOP, environment, process_folder
 SUMS = '{} passed, {} failed, {} skipped'
 # What a reason to skip a test may begin with, each with what allows it.
 ALLOWED = {
-    **dict.fromkeys(('root alone ', 'true device nodes can be made by root alone', '/dev/kmsg can not be read'),
+    **dict.fromkeys(('root alone', 'true device nodes can be made by root alone', '/dev/kmsg can not be read'),
                     'an ordinary user can run the tests too'),
     **dict.fromkeys(('programs of 32 bits ', 'programs of 64 bits ', 'the kernel runs no programs of 32 bits',
                      'the kernel has no keys', 'userfaultfd: ', 'there is no /dev/fuse that can be used',
-                     'no mount namespace can be made here', 'no file system ', 'no such machine can be made here'),
+                     'no mount namespace can be made here', 'users can make no namespaces here', 'no file system ',
+                     'no such machine can be made here'),
                     'a kernel may have no such thing, or keep it from this user'),
     'this QEMU has no vfio-user-pci': 'QEMU has it from 10.1 on, and Debian 12 has QEMU 7.2',
     'some files are not as they were committed': 'packages are made of a commit',
