@@ -1,6 +1,7 @@
 """Runs .ci/run on machines that lack programs, in a copy of its files: it names everything that is missing, and installs
 it only in CI. A stand-in for apt-get stores what it was told."""
 
+import glob
 import os
 import re
 import shutil
@@ -34,8 +35,8 @@ class Gate(Case):
         self.ends(ended, 1, b'')
         first, *rest = ended.err.decode().splitlines()
         self.assertRegex(first, '^missing: apt install python3 gcc bubblewrap .* zsh$')
-        self.assertIn("missing: the Rattle toolchain's command rt", rest)
-        self.assertIn('missing: a kernel for virtual machines: tools/kernel', rest)
+        kernel = [] if glob.glob('/boot/vmlinuz-*') else ['missing: a kernel for virtual machines: tools/kernel']
+        self.assertEqual(rest[:1] + rest[-1:] * len(kernel), ["missing: the Rattle toolchain's command rt", *kernel])
         self.ends(self.gate('--bogus'), 2, b'', b'usage: .ci/run [--quick]\n')
 
     def test_what_is_installed(self):
