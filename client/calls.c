@@ -38,6 +38,7 @@ int find_node(struct call *call) {
         return 0;
     call->is_writable = (how.st_mode & S_IWUSR) != 0;
     call->is_path = (how.st_mode & (S_IRUSR | S_IWUSR)) == 0;
+    call->is_gone = has_sandbox && about.st_nlink == 0 && !(about.st_mode & 0777);
     return read_name(name + strlen(before), &call->node);
 }
 
@@ -214,6 +215,8 @@ static int carry_out_ioctl(struct call *call) {
         return -EBADF;
     if (device->state == LOST)
         return -ENXIO;
+    if ((call->is_gone || presence_of(call->node.controller) != BOUND) && call->request != NODE_REQUEST)
+        return -ENODEV;
     switch (call->request) {
     case NODE_REQUEST:
         return copy_out(call, call->argument, &call->node, sizeof call->node);

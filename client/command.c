@@ -94,7 +94,7 @@ __attribute__((noreturn)) static void begin(char **arguments, const char *librar
     if (command > 0)
         be_first(command);
     sigprocmask(SIG_SETMASK, blocked, NULL);
-    if (write(CHANNEL, &byte, 1) == 1 && read(CHANNEL, &byte, 1) == 1 && close(CHANNEL) == 0)
+    if (send(CHANNEL, &byte, 1, 0) == 1 && read(CHANNEL, &byte, 1) == 1 && close(CHANNEL) == 0)
         become(arguments, library);
     _exit(FAILED);
 }

@@ -14,7 +14,7 @@ static void run_device(char *const *words, int file, int in_and_out, int said) {
     prctl(PR_SET_PDEATHSIG, SIGKILL);
     for (int number = 0; number <= last; number++)
         is_ready &= dup2(files[number], number) >= 0;
-    if (is_ready && close_range((unsigned)last + 1, ~0U, CLOSE_RANGE_CLOEXEC) == 0 && confine_device() == 0)
+    if (is_ready && close_range((unsigned)last + 1, ~0U, CLOSE_RANGE_CLOEXEC) == 0 && confine_device(0) == 0)
         execv(words[0], words);
     dprintf(STDERR_FILENO, "nvme-model: %s: %s\n", words[0], strerror(errno));
     _exit(FAILED);

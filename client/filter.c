@@ -66,7 +66,7 @@ static void decide_each(const int *numbers, size_t count, uint32_t action) {
 
 /* Adds the calls of programs of 64 or of 32 bits. (Of an argument the kernel looks at 32 bits.) */
 static void add_calls(int is_old) {
-    static const unsigned tests[] = {[EQUALS] = BPF_JEQ, [HAS_BITS] = BPF_JSET, [HAS_TYPE] = BPF_JEQ};
+    static const unsigned tests[] = {[EQUALS] = BPF_JEQ, [EXCEEDS] = BPF_JGT, [HAS_BITS] = BPF_JSET, [HAS_TYPE] = BPF_JEQ};
     load(offsetof(struct seccomp_data, nr));
     decide_when(BPF_JGE, X32_BIT, MISSING);
     for (const struct decided_call *row = decided_calls; row->action; row++) {
@@ -132,14 +132,14 @@ static const int launcher_calls[] = {
     SYS_statfs, SYS_fstatfs, SYS_inotify_init1, SYS_inotify_add_watch,
     SYS_process_vm_readv, SYS_process_vm_writev, SYS_fork, SYS_wait4, SYS_waitid, SYS_kill, SYS_setpriority,
     SYS_ioprio_set, SYS_getppid, SYS_setsid, SYS_setgroups, SYS_setresuid, SYS_setresgid, SYS_capget, SYS_capset,
-    SYS_poll, SYS_ppoll, SYS_signalfd4, SYS_eventfd2};
+    SYS_poll, SYS_ppoll, SYS_signalfd4, SYS_eventfd2, SYS_accept4};
 
 /* The requests of the launcher's ioctls: for calls that were handed over, and by which stdio looks for a terminal (the
    last one in glibc 2.42); its options of prctl; and the flags of clone by which a process gets other namespaces. */
 static const uint32_t launcher_requests[] = {
     SECCOMP_IOCTL_NOTIF_RECV,  SECCOMP_IOCTL_NOTIF_SEND, SECCOMP_IOCTL_NOTIF_ID_VALID,
     SECCOMP_IOCTL_NOTIF_ADDFD, TCGETS,                   0x802c542a};
-static const uint32_t launcher_options[] = {PR_SET_PDEATHSIG, 0x53564d41 /* PR_SET_VMA */};
+static const uint32_t launcher_options[] = {PR_SET_PDEATHSIG, PR_SET_NAME, 0x53564d41 /* PR_SET_VMA */};
 enum {
     NAMESPACES =
         CLONE_NEWNS | CLONE_NEWCGROUP | CLONE_NEWUTS | CLONE_NEWIPC | CLONE_NEWUSER | CLONE_NEWPID | CLONE_NEWNET
@@ -183,10 +183,13 @@ void confine_launcher(void) {
 
 /* (A device opens files to read them, when it starts, and changes limits of its own alone. It becomes its program under
    this filter, which can't see whether it becomes another one.) */
-int confine_device(void) {
+int confine_device(int forks) {
     const uint32_t changes = O_WRONLY | O_RDWR | O_CREAT | O_TRUNC;
+    static const int more_calls[] = {SYS_execve, SYS_fadvise64, SYS_dup, SYS_dup2, SYS_alarm, SYS_wait4};
     begin_list();
-    decide_when(BPF_JEQ, SYS_execve, SECCOMP_RET_ALLOW);
+    decide_each(more_calls, forks ? COUNT(more_calls) : 1, SECCOMP_RET_ALLOW);
+    if (forks)
+        decide_by(SYS_clone, 0, BPF_JSET, NAMESPACES, MISSING);
     decide_by(SYS_open, 1, BPF_JSET, changes, MISSING);
     decide_by(SYS_openat, 2, BPF_JSET, changes, MISSING);
     decide_by(SYS_prlimit64, 0, BPF_JGT, 0, MISSING);

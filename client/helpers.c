@@ -107,12 +107,8 @@ static struct helper *find_request(const struct device *device) {
 static void serve(struct device *device) {
     for (struct helper *helper; (helper = find_request(device));) {
         struct request_header request = helper->request;
-        helper->result = 0;
-        if (request.kind == KIND_SCAN)
-            scan(device, request.controller, request.length);
-        else if (request.kind == KIND_SHOW)
-            show_anew(device, request.length);
-        else
+        helper->result = serve_keeper(device, &request);
+        if (helper->result == NOT_OURS)
             helper->result = carry_out(&request, data_of(helper), &helper->answer);
         store_and_wake(&helper->state, AT_WORK);
     }
@@ -137,16 +133,19 @@ static void start_keeper(struct device *device) {
         return;
     }
     begin_process();
+    enum { QUIET = 20 };
     for (;;) {
         const int files[] = {asks[device - devices], device->state == LOST ? -1 : device->to_and_from, watcher};
         serve(device);
-        unsigned ready = await_files(files, 3, -1);
+        unsigned ready = await_files(files, 3, is_any_written() ? QUIET : -1);
+        if (ready == 0)
+            probe_written(device);
         if (ready & 1)
             hear(files[0]);
         if (ready & 2)
             lose_device(device);
         if (ready & 4)
-            repair_files(device, watcher);
+            repair_files(device);
     }
 }
 
@@ -188,6 +187,19 @@ static int start_helper(struct helper *helper) {
         help(helper);
     helper->process = process > 0 ? process : 0;
     return process > 0;
+}
+
+/* Starts a process that asks keepers for udevadm, as a helper that is always at work. */
+static void start_settler(void) {
+    struct helper *helper = end();
+    helper->process = -1;
+    helper->state = AT_WORK;
+    store(&shared->count, load(&shared->count) + 1);
+    if (fork() > 0)
+        return;
+    self = helper;
+    begin_process();
+    settle();
 }
 
 /* Kills the helpers whose callers no longer wait. */
@@ -277,4 +289,6 @@ void begin_helpers(void) {
     }
     if (!find_helper(1))
         fail_by_errno("fork");
+    if (has_sandbox)
+        start_settler();
 }

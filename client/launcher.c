@@ -247,6 +247,10 @@ static int run(char **arguments) {
     struct rlimit files_limit;
     block_signals();
     trace = options.trace_file ? TRACE_TO : STDERR_FILENO;
+    if (has_sandbox) {
+        list_devices();
+        list_blocks();
+    }
     pid_t started = start_command(arguments, library, &mask);
     umask(0);
     devices = share(MOST_DEVICES * sizeof *devices);
@@ -270,8 +274,10 @@ static int run(char **arguments) {
         close(FILES + (int)at);
     make_nodes();
     command = started; /* (from now on, what can't be made doesn't end it) */
-    if (has_sandbox)
+    if (has_sandbox) {
+        start_prober();
         confine_launcher();
+    }
     begin_helpers();
     run_command();
     end_devices();

@@ -90,27 +90,35 @@ struct volume {
     unsigned generation; /* how many namespaces had this NSID before */
     unsigned files;      /* how many files had the data of namespaces with this NSID */
 
-    /* What ioctls of its block devices have set: whether they can't be written, the sectors that are read ahead, and
-       the bytes of a buffer, which hold for one process. */
+    /* What ioctls or files of its block devices have set: whether they can't be written, the sectors that are read
+       ahead, the scheduler, and the bytes of a buffer, which hold for one process. */
     int is_read_only;
     uint64_t read_ahead;
+    const char *scheduler;
     unsigned buffer;
     pid_t buffer_of;
 };
 
+/* What is there of a controller: nothing, its PCI function alone, or all, because it has its driver. */
+enum presence { REMOVED, UNBOUND, BOUND };
+
 /* nodes.c: makes the nodes of all controllers; looks for changes after a command; scans the namespaces of some
    controllers; makes the nodes of a lost device unusable; returns a descriptor that tells which nodes of a device were
-   written, and restores their lengths; shows a namespace anew after an ioctl changed it; returns whether a name is
-   that of a node, which may have been removed, and stores the node; returns whether a controller shows a namespace;
-   asks a controller, as Identify does or for its active namespaces, and returns the length of what came, or -1; opens
-   the data of a namespace that is active on a node's controller, or returns -1; and stores how long a namespace is, or
-   returns 0 if this isn't known or just changes. */
+   written, restores their lengths, tells whether there are any, and looks at their data; shows a namespace anew after an
+   ioctl changed it; returns whether a name is that of a node, which may have been removed, and stores the node; returns
+   whether a controller shows a namespace; asks a controller, as Identify does or for its active namespaces, and returns
+   the length of what came, or -1; opens the data of a namespace that is active on a node's controller, or returns -1;
+   stores how long a namespace is, or returns 0 if this isn't known or just changes; tells what is there of a controller;
+   and does what is asked of a keeper, and returns 0, or an error's number as a negative one (NOT_OURS, if a device is
+   asked). */
 void make_nodes(void);
 void look_for_changes(struct device *device, const struct request_header *request, const struct answer_header *answer);
 void scan(struct device *device, unsigned first, unsigned count);
 void lose_nodes(const struct device *device);
 int watch_nodes(void);
-void repair_files(const struct device *device, int watcher);
+void repair_files(const struct device *device);
+int is_any_written(void);
+void probe_written(const struct device *device);
 void show_anew(struct device *device, uint32_t nsid);
 int read_name(const char *name, struct node *node);
 struct device *device_of(unsigned controller);
@@ -120,16 +128,23 @@ int list_active(struct device *device, unsigned controller, unsigned char is_act
 int open_data(const struct node *node);
 struct volume *volume_of(const struct node *node);
 int read_volume(const struct node *node, struct volume *volume);
+int serve_keeper(struct device *device, const struct request_header *request);
+enum presence presence_of(unsigned controller);
 
-/* sysfs.c: puts the files of /sys that are there at first, and those that describe a subsystem, a controller with its
-   place in it, and a namespace, whose data is in an open file (or -1, if it has its node), with the nodes of these;
-   removes those of a namespace; and returns the greatest number of sectors in a transfer of a controller. */
+/* sysfs.c: puts the files of /sys that are there at first; learns what a controller says of itself; shows its subsystem,
+   its PCI function, itself with its node, or its temperature, or shows it no more; puts the temperature by its health
+   log; puts and removes the files of a namespace with its nodes, whose data is in an open file (or -1, if it has its
+   node); puts the record that udev has of a block device, with what blkid says of its data; and returns the greatest
+   number of sectors in a transfer of a controller. */
 void begin_sys(void);
-void put_subsystem(unsigned number, const unsigned char *identity);
-void put_controller(unsigned number, unsigned place, const unsigned char *identity);
+enum part { SUBSYSTEM, FUNCTION, CONTROLLER, HEALTH };
+void know_controller(unsigned controller, const unsigned char *identity);
+void show_part(unsigned controller, enum part part, int is_there);
+void put_health(unsigned controller, const unsigned char *log);
 void put_namespace(unsigned controller, uint32_t nsid, const struct volume *volume, int file);
 void remove_namespace(unsigned controller, uint32_t nsid);
 unsigned most_sectors(unsigned controller);
+void put_record(unsigned controller, uint32_t nsid, const char *lines);
 
 /* filter.c: has the calls of this process, which becomes the command, answered by the launcher, for which `calls` was
    opened; and lets this process, the launcher or one that becomes a device, make only the calls that it needs. (Helpers
@@ -137,7 +152,7 @@ unsigned most_sectors(unsigned controller);
 extern int calls;
 void filter_calls(void);
 void confine_launcher(void);
-int confine_device(void);
+int confine_device(int forks);
 
 /* A message of the kernel about a call, which is longer in later versions, and the result of a call that the kernel
    carries out. */
@@ -162,9 +177,10 @@ unsigned await_call(int signals);
 void note_end(pid_t process);
 
 /* helpers.c: memory that all these processes share; and in a helper, room for data, and a request to the keeper of a
-   controller's device, which returns -1 if the device is gone. The request may also be a scan of controllers, or to
-   show a namespace anew. */
-enum { KIND_SCAN = 0xffff, KIND_SHOW = 0xfffe };
+   controller's device, which returns -1 if the device is gone. The request may also be one for the keeper: a scan of
+   controllers; to show a namespace anew; to look at the data of one and of all that were written; and to change what is
+   there of a controller. */
+enum { KIND_SCAN = 0xffff, KIND_SHOW = 0xfffe, KIND_PROBE = 0xfffd, KIND_PRESENCE = 0xfffc };
 void *share(size_t size);
 void *own_data(void);
 int ask_keeper(const struct request_header *header, struct answer_header *answer);
@@ -179,6 +195,7 @@ struct call {
     int file;        /* the descriptor of a node that it is about */
     int is_writable; /* which is open for writing */
     int is_path;     /* which is open as a path alone (O_PATH) */
+    int is_gone;     /* and whose controller has gone since */
     uint32_t request;
     uint64_t argument;
     struct node node;
@@ -190,7 +207,7 @@ struct decided_call {
     enum { EVERYWHERE, IN_SANDBOX, BY_ROOT } where;
     int number, old_number;
     struct {
-        enum { ALWAYS, EQUALS, HAS_BITS, HAS_TYPE } kind; /* (the type of an ioctl) */
+        enum { ALWAYS, EQUALS, EXCEEDS, HAS_BITS, HAS_TYPE } kind; /* (the type of an ioctl) */
         unsigned argument;
         uint32_t value;
     } test;
@@ -231,6 +248,29 @@ const char *read_about(pid_t process, const char *name, char *text, size_t room)
    its status, or -EFAULT. */
 int put_result(const struct call *call, int is_wide, uint64_t result, int status);
 
+/* attributes.c: does what a file of /sys is there for to which a text is written, and returns 0, or an error's number as
+   a negative one. */
+enum { MOST_WRITTEN = 64 };
+int write_attribute(const char *path, char *text);
+
+/* names.c: returns whether a file may be made at a path; and answers calls that make, remove or change names. */
+typedef int answering(struct call *call, const __u64 *arguments);
+int may_create(const struct call *call, int directory, char *path);
+answering answer_unlink, answer_unlinkat, answer_rename, answer_renameat, answer_mkdir, answer_mkdirat, answer_link,
+    answer_symlinkat, answer_linkat;
+
+/* udev.c: starts a process that looks at the data of block devices; has it look at that of one, whose record and links
+   change accordingly; and waits for keepers on behalf of udevadm, for ever. */
+void start_prober(void);
+void probe(unsigned controller, uint32_t nsid);
+void settle(void);
+
+/* lists.c: writes the lists of /proc for the command: of kinds of devices, and of block devices; and waits until no other
+   keeper has its turn, or ends it, by a type of lock. */
+void list_devices(void);
+void list_blocks(void);
+void take_turn(short type);
+
 /* refuse.c: adds a rule of --refuse or --delay, or returns why it isn't one; does with a command what the rules say,
    and returns the status with which it is refused, an error's number as a negative one, or 0; and reports which rules
    had no effect. */
@@ -253,12 +293,14 @@ struct sandbox {
     int is_root; /* whether the command is root, if only in the sandbox */
 };
 #define MODEL_FOLDER "/sys/fs/nvme-model"
+#define SETTINGS MODEL_FOLDER "/settings" /* what the command's /proc has besides its processes */
 #define INSIDE "--inside"
 #define TRIAL "--trial"
 
 /* sandbox.c: returns an NVMe device of the machine, or NULL if it has none; returns why no sandbox can be made, or NULL
-   if one can; starts the launcher in it with this word, in place of this process; and, in it, fails if
-   a mount isn't kept from the command, has each /proc show the processes of this process's namespace alone, and returns
+   if one can; starts the launcher in it with this word, in place of this process; and, in it, fails if a mount isn't
+   kept from the command, has each /proc show the processes of this process's namespace alone, and /sys read-only, and
+   returns
    whether a path is one that bwrap makes anew, such as /dev, or below one. */
 const char *a_real_node(void);
 const char *why_no_sandbox(const struct sandbox *sandbox);

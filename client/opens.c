@@ -35,30 +35,26 @@ enum {
     OLD_KEYCTL = __NR_keyctl,
     OLD_CLONE = __NR_clone,
     OLD_UNSHARE = __NR_unshare,
-    OLD_IOCTL = __NR_ioctl
+    OLD_IOCTL = __NR_ioctl,
+    OLD_WRITE = __NR_write,
+    OLD_UNLINK = __NR_unlink,
+    OLD_UNLINKAT = __NR_unlinkat,
+    OLD_RMDIR = __NR_rmdir,
+    OLD_RENAME = __NR_rename,
+    OLD_RENAMEAT = __NR_renameat,
+    OLD_RENAMEAT2 = __NR_renameat2,
+    OLD_MKDIR = __NR_mkdir,
+    OLD_MKDIRAT = __NR_mkdirat,
+    OLD_MKNOD = __NR_mknod,
+    OLD_MKNODAT = __NR_mknodat,
+    OLD_SYMLINK = __NR_symlink,
+    OLD_SYMLINKAT = __NR_symlinkat,
+    OLD_LINK = __NR_link,
+    OLD_LINKAT = __NR_linkat
 };
 #include <sys/syscall.h>
 
 /* ---- calls that open a file */
-
-/* Does what a file of /sys is there for that was opened to be written. Returns whether it is such a file. */
-static int control(const char *name) {
-    struct call call = {.process = 0};
-    char controller[24], what[24];
-    int is_all = strcmp(name, "/sys/bus/pci/rescan") == 0;
-    for (struct device *device = devices; is_all && device < devices + device_count; device++) {
-        const struct request_header header = {
-            .controller = (uint16_t)device->first, .kind = KIND_SCAN, .length = device->count};
-        ask_keeper(&header, &(struct answer_header){0});
-    }
-    if (is_all || sscanf(name, "/sys/devices/%*[^/]/%*[^/]/nvme/%23[^/]/%23s", controller, what) != 2 ||
-        !read_name(controller, &call.node) || strcmp(controller, call.node.name) != 0 || call.node.kind != 'c')
-        return is_all;
-    int is_reset = strcmp(what, "reset_controller") == 0, is_scan = strcmp(what, "rescan_controller") == 0;
-    if (is_reset || is_scan)
-        ask_controller(&call, is_reset ? KIND_RESET : KIND_SCAN);
-    return is_reset || is_scan;
-}
 
 /* Whether a file sets the priority of the caller's session, which has processes outside. (Its name is read by this
    link.) */
@@ -76,7 +72,8 @@ static int is_of_session(int file, const char *link) {
 /* Answers a call that opens a file that was found, or that changes its length: a file of /sys that isn't there for
    writing can't be opened for it, even by root, and a node isn't truncated. Others are opened as the caller could.
    (Linux 6.6 and later open files in memory for direct access. The library tells by this flag which writes fail. From
-   the greatest offset, where a character device is opened, reads and writes fail with EINVAL, as they should.) */
+   the greatest offset, where a character device is opened, reads and writes fail with EINVAL, as they should. There a
+   file of /sys is too, which is read-only for the caller, so that a write fails that isn't handed over.) */
 static int open_found(struct call *call, int file, uint64_t flags, int is_length) {
     const int left_out = O_CREAT | O_EXCL | O_TRUNC | O_NOFOLLOW;
     char place[64], name[PATH_MAX];
@@ -95,27 +92,30 @@ static int open_found(struct call *call, int file, uint64_t flags, int is_length
     int is_block = is_node && call->node.kind == 'b', is_plain = is_block && !(flags & (O_TRUNC | O_DIRECT | O_EXCL));
     if (is_length || is_plain || (!is_node && strncmp(name, "/sys/", 5) != 0))
         return NOT_OURS;
-    int again = open(place, ((int)flags & ~left_out) | O_CLOEXEC);
+    int again = is_node ? open(place, ((int)flags & ~left_out) | O_CLOEXEC)
+                        : open(name, ((int)flags & ~(left_out | O_APPEND)) | O_NOFOLLOW | O_CLOEXEC);
     if (again < 0 && errno == EINVAL && flags & O_DIRECT)
         again = open(place, ((int)flags & ~(left_out | O_DIRECT)) | O_CLOEXEC);
     if (again < 0)
         return -errno;
     int result = is_block && flags & O_EXCL ? claim(call, again) : 0;
-    if (is_node && !is_block)
+    if (is_node ? !is_block : (flags & O_ACCMODE) == O_WRONLY)
         lseek(again, INT64_MAX, SEEK_SET);
-    if (result == 0 && (is_node || control(name)))
+    if (result == 0)
         return again;
     close(again);
-    return result == 0 ? NOT_OURS : result;
+    return result;
 }
 
 /* Looks for the file at a path, from a folder. */
 static int find_and_open(struct call *call, int folder, uint64_t path, const struct open_how *how, int is_length) {
     char text[PATH_MAX];
-    if (copy_text(call, path, text) < 0 || how->flags & O_PATH ||
-        (how->flags & (O_CREAT | O_EXCL)) == (O_CREAT | O_EXCL))
+    if (copy_text(call, path, text) < 0 || how->flags & O_PATH)
         return NOT_OURS;
-    int file = look_up(call, folder, text, how);
+    int is_new = (how->flags & (O_CREAT | O_EXCL)) == (O_CREAT | O_EXCL);
+    int file = is_new ? -1 : look_up(call, folder, text, how);
+    if (file < 0 && how->flags & O_CREAT && !may_create(call, folder, text))
+        return -EACCES;
     int result = file < 0 ? NOT_OURS : open_found(call, file, how->flags, is_length);
     if (file >= 0)
         close(file);
@@ -150,11 +150,33 @@ static int answer_truncate(struct call *call, const __u64 *words) {
     return find_and_open(call, AT_FDCWD, words[0], &(struct open_how){.flags = O_WRONLY}, 1);
 }
 
-/* ---- calls that Linux refuses for a node, by its descriptor */
+/* ---- calls that Linux refuses for a node, by its descriptor, and that write to a file of /sys */
+
+/* Whether the file of a call is one of /sys that is open for writing, which the launcher alone opens so. */
+static int is_attribute(const struct call *call, char name[PATH_MAX]) {
+    char link[64];
+    struct stat about, how;
+    snprintf(link, sizeof link, "/proc/%d/fd/%d", call->process, call->file);
+    read_link(link, name);
+    return strncmp(name, "/sys/", 5) == 0 && stat(link, &about) == 0 && about.st_dev == number_of(OF_SYS) &&
+           lstat(link, &how) == 0 && how.st_mode & S_IWUSR;
+}
+
+static int answer_write(struct call *call, const __u64 *words) {
+    char name[PATH_MAX], text[MOST_WRITTEN + 1] = "";
+    call->file = (int)words[0];
+    if (words[2] > MOST_WRITTEN || !is_attribute(call, name))
+        return NOT_OURS;
+    if (copy_in(call, words[1], text, words[2]) < 0)
+        return -EFAULT;
+    int result = write_attribute(name, text);
+    return result < 0 ? result : (int)words[2];
+}
 
 static int refuse_node(struct call *call, __u64 file, int error) {
+    char name[PATH_MAX];
     call->file = (int)file;
-    return find_node(call) && !call->is_path ? error : NOT_OURS;
+    return (find_node(call) && !call->is_path) || is_attribute(call, name) ? error : NOT_OURS;
 }
 
 static int answer_ftruncate(struct call *call, const __u64 *words) { return refuse_node(call, words[0], -EINVAL); }
@@ -234,6 +256,24 @@ const struct decided_call decided_calls[] = {
     {IN_SANDBOX, SYS_splice, OLD_SPLICE, {ALWAYS, 0, 0}, ANSWER, answer_splice},
     {IN_SANDBOX, SYS_fallocate, OLD_FALLOCATE, {ALWAYS, 0, 0}, ANSWER, answer_fallocate},
     {IN_SANDBOX, SYS_copy_file_range, OLD_COPY_FILE_RANGE, {ALWAYS, 0, 0}, ANSWER, answer_copy},
+    /* what writes few bytes, as to a file of /sys (but not messages), and what makes or removes names */
+    {IN_SANDBOX, SYS_write, OLD_WRITE, {EQUALS, 0, STDERR_FILENO}, SECCOMP_RET_ALLOW, NULL},
+    {IN_SANDBOX, SYS_write, OLD_WRITE, {EXCEEDS, 2, MOST_WRITTEN}, SECCOMP_RET_ALLOW, NULL},
+    {IN_SANDBOX, SYS_write, OLD_WRITE, {ALWAYS, 0, 0}, ANSWER, answer_write},
+    {IN_SANDBOX, SYS_unlink, OLD_UNLINK, {ALWAYS, 0, 0}, ANSWER, answer_unlink},
+    {IN_SANDBOX, SYS_rmdir, OLD_RMDIR, {ALWAYS, 0, 0}, ANSWER, answer_unlink},
+    {IN_SANDBOX, SYS_unlinkat, OLD_UNLINKAT, {ALWAYS, 0, 0}, ANSWER, answer_unlinkat},
+    {IN_SANDBOX, SYS_rename, OLD_RENAME, {ALWAYS, 0, 0}, ANSWER, answer_rename},
+    {IN_SANDBOX, SYS_renameat, OLD_RENAMEAT, {ALWAYS, 0, 0}, ANSWER, answer_renameat},
+    {IN_SANDBOX, SYS_renameat2, OLD_RENAMEAT2, {ALWAYS, 0, 0}, ANSWER, answer_renameat},
+    {IN_SANDBOX, SYS_mkdir, OLD_MKDIR, {ALWAYS, 0, 0}, ANSWER, answer_mkdir},
+    {IN_SANDBOX, SYS_mknod, OLD_MKNOD, {ALWAYS, 0, 0}, ANSWER, answer_mkdir},
+    {IN_SANDBOX, SYS_mkdirat, OLD_MKDIRAT, {ALWAYS, 0, 0}, ANSWER, answer_mkdirat},
+    {IN_SANDBOX, SYS_mknodat, OLD_MKNODAT, {ALWAYS, 0, 0}, ANSWER, answer_mkdirat},
+    {IN_SANDBOX, SYS_link, OLD_LINK, {ALWAYS, 0, 0}, ANSWER, answer_link},
+    {IN_SANDBOX, SYS_symlink, OLD_SYMLINK, {ALWAYS, 0, 0}, ANSWER, answer_link},
+    {IN_SANDBOX, SYS_symlinkat, OLD_SYMLINKAT, {ALWAYS, 0, 0}, ANSWER, answer_symlinkat},
+    {IN_SANDBOX, SYS_linkat, OLD_LINKAT, {ALWAYS, 0, 0}, ANSWER, answer_linkat},
     /* what reaches the process group, or takes an open file from a process outside, which the peer of a socket can name
        */
     {IN_SANDBOX, SYS_kill, OLD_KILL, {EQUALS, 0, 0}, ANSWER, answer_kill},

@@ -15,8 +15,6 @@
 static const char *const shown[] = {"/sys/devices/system",     "/sys/fs/cgroup",           "/sys/kernel/mm",
                                     "/sys/class/net",          "/sys/devices/virtual/net", "/sys/class/dmi",
                                     "/sys/devices/virtual/dmi"};
-/* Where the parts of /proc are that the command has of the machine's. */
-#define SETTINGS MODEL_FOLDER "/settings"
 /* What root may do in the sandbox: all that files need, and to become another user. */
 static const char rights[] = "--cap-drop ALL --cap-add CAP_CHOWN --cap-add CAP_DAC_OVERRIDE --cap-add CAP_FOWNER"
                              " --cap-add CAP_FSETID --cap-add CAP_KILL --cap-add CAP_SETGID --cap-add CAP_SETUID"
@@ -152,6 +150,27 @@ int is_replaced(const char *path) {
     return 0;
 }
 
+/* Adds a /run/udev of the sandbox's own. If the machine has none, no folder is made in its /run, of which the command has
+   a copy then. */
+static void add_udev(void) {
+    struct dirent *entry;
+    struct stat about;
+    DIR *entries = access("/run/udev", F_OK) < 0 ? opendir("/run") : NULL;
+    char path[PATH_MAX], target[PATH_MAX];
+    if (entries)
+        add_words("--perms 0755 --tmpfs /run");
+    while (entries && (entry = readdir(entries))) {
+        snprintf(path, sizeof path, "/run/%s", entry->d_name);
+        ssize_t length = readlink(path, target, sizeof target - 1);
+        target[length < 0 ? 0 : length] = '\0';
+        if (length > 0)
+            bind_to("--symlink", target, path);
+        else if (strcmp(entry->d_name, ".") != 0 && strcmp(entry->d_name, "..") != 0 && lstat(path, &about) == 0)
+            bind_to("--bind-try", path, path);
+    }
+    add_words("--perms 0755 --tmpfs /run/udev");
+}
+
 /* Looks at a path without asking a server, which might not answer. */
 static int look_at(const char *path, struct statx *about) {
     return statx(AT_FDCWD, path, AT_SYMLINK_NOFOLLOW | AT_NO_AUTOMOUNT | AT_STATX_DONT_SYNC,
@@ -187,6 +206,7 @@ static void add_mounts(void) {
     find_dev(&dev);
     FILE *mounts = open_mounts();
     bind_to("--bind", "/", "/");
+    add_udev();
     while (read_mount(mounts, &mount)) {
         int is_view = mount.number == dev.number && (is_above(mount.root, dev.root) || is_above(dev.root, mount.root));
         if (strcmp(mount.path, "/") == 0 || is_replaced(mount.path) || (holds_files(mount.kind) && !is_view) ||
@@ -395,10 +415,17 @@ static void mount_proc(const char *path) {
     closedir(entries);
 }
 
+/* (the launcher goes on to write there, where this namespace of mounts isn't) */
+static void close_sys(void) {
+    if (mount(NULL, "/sys", NULL, MS_REMOUNT | MS_BIND | MS_RDONLY | MS_NOSUID | MS_NODEV, NULL) < 0)
+        fail_by_errno("/sys");
+}
+
 /* (parts of /proc are mounts as well) */
 void show_own_processes(void) {
     static struct mount mount;
     FILE *mounts = open_mounts();
+    close_sys();
     while (read_mount(mounts, &mount))
         if (strcmp(mount.kind, " proc ") == 0 && strcmp(mount.root, "/") == 0 && reach_of(&mount) == REACHED)
             mount_proc(mount.path);

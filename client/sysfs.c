@@ -1,10 +1,12 @@
 /* The launcher's part of /sys: the files and links that Linux has for NVMe subsystems, controllers and namespaces
-   without native multipath, and the links of /dev/disk that udev makes. Each controller has a PCI bus of its own, in a
+   without native multipath, and the links and records that udev makes. Each controller has a PCI bus of its own, in a
    domain that the machine doesn't have. None of this is proved. */
 #include "launcher.h"
 #include <ctype.h>
+#include <dirent.h>
 #include <ftw.h>
 #include <stdarg.h>
+#include <time.h>
 
 /* The folders below /sys, and the nodes and links of /dev, as sys.txt describes them. */
 extern const char folders[];
@@ -20,10 +22,11 @@ struct folder {
 
 static struct folder top = {.name = "\n[top] "}, module = {.name = "\n[module] "}, core = {.name = "\n[core] "},
                      subsystem = {.name = "\n[subsystem] "}, function = {.name = "\n[function] "},
-                     controller = {.name = "\n[controller] "}, block = {.name = "\n[block] "},
-                     queue = {.name = "\n[queue] "}, generic = {.name = "\n[generic] "};
+                     controller = {.name = "\n[controller] "}, hwmon = {.name = "\n[hwmon] "},
+                     block = {.name = "\n[block] "}, queue = {.name = "\n[queue] "}, record = {.name = "\n[record] "},
+                     generic = {.name = "\n[generic] "};
 
-/* The line of an entry: its name, and its text with the mark before it, which is > ! + = or none (0). */
+/* The line of an entry: its name, and its text with the mark before it, which is > ! + = & ? or none (0). */
 struct line {
     const char *name, *text;
     size_t name_length, text_length;
@@ -33,7 +36,7 @@ struct line {
 /* Reads a line, and returns where the next one begins, or NULL at a folder's end. */
 static const char *read_line(const char *at, struct line *line) {
     size_t length = strcspn(at, "\n"), name = strcspn(at, " \n");
-    size_t before = name + (name < length), mark = length > before && strchr(">!+=", at[before]) != NULL;
+    size_t before = name + (name < length), mark = length > before && strchr(">!+=&?", at[before]) != NULL;
     *line = (struct line){at, at + before + mark, name, length - before - mark, mark ? at[before] : '\0'};
     return length > 0 ? at + length + 1 : NULL;
 }
@@ -46,8 +49,8 @@ static uint32_t address_of(unsigned controller) { return 0xfe000000 + controller
 
 static struct {
     const char *name;
-    char text[300];
-} values[32];
+    char text[2048];
+} values[64];
 
 /* What Identify Controller says of each controller, up to its name. */
 enum { IDENTITY_BYTES = 1024 };
@@ -64,8 +67,9 @@ __attribute__((format(printf, 2, 3))) static void set(const char *name, const ch
     va_end(texts);
 }
 
-/* Sets a text without its spaces at the end, as digits and as a part of a file's name, as udev makes it. */
-static void set_name(const char *digits, const char *name, const unsigned char *text, size_t length) {
+/* Sets a text without its spaces at the end, as it is, as digits and as a part of a file's name, as udev makes it. */
+static void set_name(const char *whole, const char *digits, const char *name, const unsigned char *text,
+                     size_t length) {
     char hex[2 * 40 + 1] = "", part[40 + 1], *into = part;
     while (length > 0 && (text[length - 1] == ' ' || text[length - 1] == '\0'))
         length--;
@@ -76,6 +80,7 @@ static void set_name(const char *digits, const char *name, const unsigned char *
             *into++ = is_kept ? (char)text[at] : '_';
     }
     *into = '\0';
+    set(whole, "%.*s", (int)length, text);
     set(digits, "%s", hex);
     set(name, "%s", part);
 }
@@ -83,28 +88,40 @@ static void set_name(const char *digits, const char *name, const unsigned char *
 static void set_controller(unsigned number) {
     const unsigned char *identity = identities[number];
     const char *text = (const char *)identity;
+    struct timespec now;
+    clock_gettime(CLOCK_MONOTONIC, &now);
+    set("now", "%llu", 1000000ULL * (unsigned long long)now.tv_sec + (unsigned long long)now.tv_nsec / 1000);
+    set("k", "%u", (unsigned)(device_of(number) - devices));
+    set("is_bound", "%d", presence_of(number) == BOUND);
+    set("driver", "%s", presence_of(number) == BOUND ? "DRIVER=nvme\n" : "");
     set("x", "%u", number);
     set("bus", "pci%04x:%02x", PCI_DOMAIN, number);
     set("function", "%04x:%02x:00.0", PCI_DOMAIN, number);
+    set("function_tag", "%04x_%02x_00_0", PCI_DOMAIN, number);
     set("first", "%016x", address_of(number));
     set("last", "%016x", address_of(number) + REGISTER_BYTES - 1);
     set("sqsize", "%u", (unsigned)geometry[DEPTH] - 1);
-    set("vendor", "%04x", (unsigned)number_at(identity, 2));
-    set("subsystem_vendor", "%04x", (unsigned)number_at(identity + 2, 2));
+    const unsigned vendor = (unsigned)number_at(identity, 2), subsystem = (unsigned)number_at(identity + 2, 2);
+    set("vendor", "%04x", vendor);
+    set("subsystem_vendor", "%04x", subsystem);
+    set("PCI_ID", "%04X:0000", vendor);
+    set("PCI_SUBSYS_ID", "%04X:0000", subsystem);
+    set("modalias", "pci:v%08Xd00000000sv%08Xsd00000000bc01sc08i02", vendor, subsystem);
     set("serial", "%.20s", text + 4);
     set("model", "%.40s", text + 24);
     set("firmware", "%.8s", text + 64);
     set("cntlid", "%u", (unsigned)number_at(identity + 78, 2));
     set("nqn", "%.256s", text + 768);
-    set_name("serial_hex", "serial_name", identity + 4, 20);
-    set_name("model_hex", "model_name", identity + 24, 40);
+    set_name("serial_text", "serial_hex", "serial_name", identity + 4, 20);
+    set_name("model_text", "model_hex", "model_name", identity + 24, 40);
+    set_name("firmware_text", "firmware_hex", "firmware_name", identity + 64, 8);
 }
 
-static void set_numbers(unsigned major, unsigned number, uint32_t nsid) {
+static void set_numbers(char kind, unsigned number, uint32_t nsid) {
     set("n", "%u", nsid);
     set("nsid_hex", "%08x", nsid);
-    set("major", "%u", major);
-    set("minor", "%u", minor_of(number, nsid));
+    set("major", "%u", major_of(kind));
+    set("minor", "%u", minor_of(kind, number, nsid));
 }
 
 /* Replaces the words in a part of a text with their values, and | with the end of a line, as far as there is room. */
@@ -168,7 +185,7 @@ static int make(int folder, const char *name, char mark, const char *text) {
     char link[32];
     if (mark == '>')
         return symlinkat(text, folder, name);
-    if ((mark == '=' || mark == '+') && strcmp(text, "-1") == 0)
+    if (((mark == '=' || mark == '+') && strcmp(text, "-1") == 0) || (mark == '?' && !*text))
         return 0;
     if (mark == '=') {
         snprintf(link, sizeof link, "/proc/self/fd/%.10s", text);
@@ -176,8 +193,10 @@ static int make(int folder, const char *name, char mark, const char *text) {
     }
     if (name[strlen(name) - 1] == '/')
         return mkdirat(folder, name, 0755);
-    int file = openat(folder, name, O_WRONLY | O_CREAT | O_EXCL | O_CLOEXEC, mark == '!' ? 0200 : mark ? 0600 : 0444);
-    int result = file >= 0 && (mark || dprintf(file, "%s\n", text) == (int)strlen(text) + 1) ? 0 : -1;
+    const mode_t mode = mark == '!' ? 0200 : mark == '+' ? 0600 : mark == '&' ? 0644 : 0444;
+    int file = openat(folder, name, O_WRONLY | O_CREAT | O_EXCL | O_CLOEXEC, mode);
+    int is_text = mark != '!' && mark != '+' && *text;
+    int result = file >= 0 && (!is_text || dprintf(file, "%s\n", text) == (int)strlen(text) + 1) ? 0 : -1;
     if (file >= 0)
         close(file);
     return result;
@@ -211,21 +230,35 @@ static int open_folder(char *path) {
     return folder;
 }
 
-/* Makes a folder and its entries. One that is the same as in the last folder of this kind becomes another name of that
-   one. */
+/* Adds a link in /dev that udev makes to those that its record has. */
+static void add_link(const char *name) {
+    unsigned at = 0;
+    while (strcmp(values[at].name, "links") != 0)
+        at++;
+    size_t length = strlen(values[at].text);
+    snprintf(values[at].text + length, sizeof values[at].text - length, "S:%s\n", name + strlen("/dev/"));
+}
+
+/* Makes a folder and its entries. One that is the same as in the last folder of this kind, and can't be written, becomes
+   another name of that one. (A link whose name ends with a value that is empty isn't made.) */
 static void put_folder(struct folder *folder) {
     char path[PATH_MAX], name[PATH_MAX], *before = folder->texts[folder->turn];
     struct line line;
     if (!has_sandbox)
         return;
+    set("links", "%s", "");
     const char *next = expand_path(path, folder);
     char *text = folder->texts[folder->turn = !folder->turn], *end = text + sizeof folder->texts[0];
     int at = open_folder(path);
     while ((next = read_line(next, &line)) && at >= 0) {
         expand_name(name, &line);
         expand(text, (size_t)(end - text), line.text, line.text_length);
+        if (name[strlen(name) - 1] == '/' && line.mark == '>')
+            continue;
+        if (strncmp(name, "/dev/disk/", 10) == 0 && line.mark == '>')
+            add_link(name);
         int is_own = *name != '/', is_same = folder->last > 0 && is_own && strcmp(text, before) == 0;
-        if (!is_same || linkat(folder->last, name, at, name, 0) < 0)
+        if (!is_same || line.mark == '&' || linkat(folder->last, name, at, name, 0) < 0)
             put(at, name, line.mark, text);
         before += is_own ? strlen(before) + 1 : 0;
         text += is_own && strlen(text) + 1 < (size_t)(end - text) ? strlen(text) + 1 : 0;
@@ -235,9 +268,18 @@ static void put_folder(struct folder *folder) {
     folder->last = at;
 }
 
-/* Removes what a folder has elsewhere, but no links that another folder has made, and then the folder. */
+/* Removes a link, but none that another folder has made. */
+static void remove_link(const char *name, const char *text) {
+    char found[PATH_MAX];
+    ssize_t length = readlink(name, found, sizeof found - 1);
+    found[length < 0 ? 0 : length] = '\0';
+    if (strcmp(found, text) == 0)
+        unlink(name);
+}
+
+/* Removes what a folder has elsewhere, and then the folder (of records, all is elsewhere). */
 static void remove_folder(struct folder *folder) {
-    char path[PATH_MAX], name[PATH_MAX], text[PATH_MAX], found[PATH_MAX];
+    char path[PATH_MAX], name[PATH_MAX], text[PATH_MAX];
     struct line line;
     if (!has_sandbox)
         return;
@@ -246,12 +288,13 @@ static void remove_folder(struct folder *folder) {
             continue;
         expand_name(name, &line);
         expand(text, sizeof text, line.text, line.text_length);
-        ssize_t length = readlink(name, found, sizeof found - 1);
-        found[length < 0 ? 0 : length] = '\0';
-        if (line.mark != '>' || strcmp(found, text) == 0)
+        if (line.mark == '>')
+            remove_link(name, text);
+        else
             unlink(name);
     }
-    remove_all(path);
+    if (folder != &record)
+        remove_all(path);
 }
 
 /* Puts a file of bytes in the folder of a function. */
@@ -259,6 +302,7 @@ static void put_bytes(const char *name, const void *bytes, size_t size, mode_t m
     char path[PATH_MAX];
     expand_path(path, &function);
     strcat(path, name);
+    unlink(path);
     int file = open(path, O_WRONLY | O_CREAT | O_EXCL | O_CLOEXEC, mode);
     if (file < 0 || write(file, bytes, size) != (ssize_t)size)
         cannot(path);
@@ -295,23 +339,35 @@ void begin_sys(void) {
     put_folder(&core);
 }
 
-void put_subsystem(unsigned number, const unsigned char *identity) {
-    memcpy(identities[0], identity, IDENTITY_BYTES);
-    set("k", "%u", number);
-    set_controller(0);
-    put_folder(&subsystem);
+void know_controller(unsigned number, const unsigned char *identity) {
+    memcpy(identities[number], identity, IDENTITY_BYTES);
 }
 
-void put_controller(unsigned number, unsigned place, const unsigned char *identity) {
-    memcpy(identities[number], identity, IDENTITY_BYTES);
+void show_part(unsigned number, enum part part, int is_there) {
+    static struct folder *const parts[] = {&subsystem, &function, &controller, &hwmon};
     set_controller(number);
-    set_numbers(CONTROLLER_MAJOR, number, 0);
-    put_folder(&function);
-    put_folder(&controller);
-    if (has_sandbox) {
-        put_registers(place);
-        put_configuration(identity, address_of(number));
-    }
+    set_numbers('c', number, 0);
+    if (!is_there)
+        return remove_folder(parts[part]);
+    put_folder(parts[part]);
+    if (part != FUNCTION || !has_sandbox)
+        return;
+    put_registers(number - device_of(number)->first);
+    put_configuration(identities[number], address_of(number));
+}
+
+/* Sets a temperature in thousandths of a degree (0 Kelvin is none, unless it is measured). */
+static void set_kelvin(const char *name, const unsigned char *at, int is_measured) {
+    int kelvin = (int)number_at(at, 2);
+    set(name, kelvin > 0 || is_measured ? "%d" : "", 1000 * kelvin - 273150);
+}
+
+void put_health(unsigned number, const unsigned char *log) {
+    set_kelvin("temperature", log + 1, 1);
+    set_kelvin("warning", identities[number] + 266, 0);
+    set_kelvin("critical", identities[number] + 268, 0);
+    set("alarm", "%d", log[0] >> 1 & 1);
+    show_part(number, HEALTH, 1);
 }
 
 unsigned most_sectors(unsigned number) {
@@ -319,27 +375,70 @@ unsigned most_sectors(unsigned number) {
     return mdts != 0 && mdts < 9 ? 8u << mdts : usual;
 }
 
+/* Sets a value that blkid's lines have, if it can be the name of a link. */
+static void set_probed(const char *name, const char *lines, const char *key) {
+    const char *at = strstr(lines, key), *text = at ? at + strlen(key) : "";
+    int length = (int)strcspn(text, "\n");
+    int is_name = !memchr(text, '/', (size_t)length) && !strstr(lines, "ID_FS_USAGE=raid");
+    set(name, "%.*s", is_name && length < NAME_MAX ? length : 0, text);
+}
+
+/* Removes the links in a folder that lead to a block device, whose numbers are set. */
+static void remove_links(const char *folder) {
+    static const char text[] = "../../nvme{x}n{n}";
+    char path[PATH_MAX], target[64];
+    DIR *entries = has_sandbox ? opendir(folder) : NULL;
+    struct dirent *entry;
+    expand(target, sizeof target, text, strlen(text));
+    while (entries && (entry = readdir(entries))) {
+        snprintf(path, sizeof path, "%s/%s", folder, entry->d_name);
+        remove_link(path, target);
+    }
+    if (entries)
+        closedir(entries);
+}
+
+/* Replaces the record of a block device, whose numbers are set, and the links that it names. */
+static void replace_record(const char *lines) {
+    remove_links("/dev/disk/by-label");
+    remove_links("/dev/disk/by-uuid");
+    set("probed", "%s", lines);
+    set_probed("label", lines, "E:ID_FS_LABEL_ENC=");
+    set_probed("uuid", lines, "E:ID_FS_UUID_ENC=");
+    put_folder(&record);
+}
+
+void put_record(unsigned number, uint32_t nsid, const char *lines) {
+    set_controller(number);
+    set_numbers('b', number, nsid);
+    replace_record(lines);
+}
+
 void put_namespace(unsigned number, uint32_t nsid, const struct volume *volume, int file) {
-    static uint32_t queues; /* a bit for each power of a block's size whose folder is there */
     uint64_t size = volume->power < 9 ? volume->blocks >> (9 - volume->power) : volume->blocks << (volume->power - 9);
     set_controller(number);
+    set_numbers('b', number, nsid);
+    set("most_kb", "%u", most_sectors(number) / 2);
     set("size", "%llu", (unsigned long long)size);
     set("block", "%llu", 1ULL << volume->power);
     set("ro", "%d", volume->is_read_only);
     set("file", "%d", file);
-    set_numbers(BLOCK_MAJOR, number, nsid);
+    set("ahead", "%llu", (unsigned long long)volume->read_ahead / 2);
+    set("schedulers", "%s", strcmp(volume->scheduler, "none") == 0 ? "[none] mq-deadline " : "[mq-deadline] none");
     put_folder(&block);
-    if (!(queues >> volume->power & 1))
-        put_folder(&queue);
-    queues |= 1u << volume->power;
-    set_numbers(GENERIC_MAJOR, number, nsid);
+    put_folder(&queue);
+    if (file >= 0)
+        replace_record("");
+    set_numbers('g', number, nsid);
     put_folder(&generic);
 }
 
 void remove_namespace(unsigned number, uint32_t nsid) {
     set_controller(number);
-    set_numbers(BLOCK_MAJOR, number, nsid);
+    set_numbers('b', number, nsid);
+    replace_record("");
+    remove_folder(&record);
     remove_folder(&block);
-    set_numbers(GENERIC_MAJOR, number, nsid);
+    set_numbers('g', number, nsid);
     remove_folder(&generic);
 }

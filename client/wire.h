@@ -51,11 +51,16 @@ struct node {
    ENXIO if the node's device is gone. */
 #define NODE_REQUEST _IOWR('N', 0xf0, struct node)
 
-/* The device numbers of nodes. Linux gives no driver such a major number, so a node with one reaches no device. */
-enum { CONTROLLER_MAJOR = 4092, GENERIC_MAJOR = 4093, BLOCK_MAJOR = 4094 };
+/* The device numbers of nodes, by their kind. None reaches a device: Linux gives no character device such a major, and
+   of block devices with 259 (blkext), those of the machine have the lowest minors. */
+enum { CONTROLLER_MAJOR = 4092, GENERIC_MAJOR = 4093, BLOCK_MAJOR = 259, FIRST_BLOCK = 1 << 19 };
 
-static inline unsigned minor_of(unsigned controller, uint32_t nsid) {
-    return controller * MOST_NSID + (nsid != 0 ? nsid - 1 : 0);
+static inline unsigned major_of(char kind) {
+    return kind == 'b' ? BLOCK_MAJOR : kind == 'g' ? GENERIC_MAJOR : CONTROLLER_MAJOR;
+}
+
+static inline unsigned minor_of(char kind, unsigned controller, uint32_t nsid) {
+    return (kind == 'b' ? FIRST_BLOCK : 0) + controller * MOST_NSID + (nsid != 0 ? nsid - 1 : 0);
 }
 
 /* A node whose device is gone becomes a socket, because Linux answers ENXIO when a socket is opened. */

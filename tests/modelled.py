@@ -16,7 +16,7 @@ CLIENT = TOP / 'client'
 PROGRAMS = TOP / 'tests/programs'
 PARTS = {'bin/nvme-model': ('launcher', 'relay', 'nodes', 'sysfs', 'sandbox', 'calls', 'caller', 'filter', 'helpers',
                             'io', 'refuse', 'device', 'inherited', 'command', 'options',
-                            'opens'),
+                            'opens', 'attributes', 'names', 'lists', 'udev'),
          'lib/nvme-model/library.so': ('library',),
          'lib/nvme-model/qemu': ('qemu', 'messages', 'function', 'memory', 'proxy', 'vfio_user')}
 WARNINGS = '-Wall', '-Wextra', '-Werror'
@@ -24,7 +24,8 @@ VERSION = (TOP / 'VERSION').read_text().strip()
 
 # Programs that need not be installed. A test that calls one is skipped if it isn't.
 TOOLS = ('nvme', 'smartctl', 'busybox', 'inotifywait', 'lsblk', 'blkid', 'blkdiscard', 'wipefs', 'mkfs.ext4', 'debugfs',
-         'e2fsck', 'sudo', 'strace', 'script', 'udevadm', 'lspci')
+         'e2fsck', 'sudo', 'strace', 'script', 'udevadm', 'lspci', 'fdisk',
+         'sg_inq', 'e2label')
 # (an ordinary user's PATH may lack those that root uses)
 os.environ['PATH'] += ':/usr/sbin:/sbin'
 

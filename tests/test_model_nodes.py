@@ -69,8 +69,8 @@ class Nodes(ModelCase):
         self.assertEqual(sorted(gone), ['ng0n1', 'ng0n3', 'ng1n1', 'nvme0n1', 'nvme0n3', 'nvme1n1'], seen)
 
     def test_no_notice(self):
-        for looks in ('nvme ns-rescan /dev/nvme1', 'nvme reset /dev/nvme1', 'echo 1 > /sys/bus/pci/rescan; sleep 0.3; '
-                      'nvme id-ctrl /dev/nvme0 > /dev/null'):
+        for looks in ('nvme ns-rescan /dev/nvme1', 'nvme reset /dev/nvme1',
+                      'echo 1 > /sys/class/nvme/nvme1/rescan_controller'):
             with self.subTest(looks):
                 self.ends(self.shell('nvme attach-ns /dev/nvme1 -n 1 -c 1 > /dev/null; ls /dev/nvme1n* 2>&1; '
                                      f'ls /sys/class/block | grep 1n; {looks}; '
@@ -98,19 +98,19 @@ class Nodes(ModelCase):
         ended = self.shell('ls /sys/block/nvme0n1 | grep -c -x -e csi -e nuse -e metadata_bytes')
         self.assertIn(ended.out, (b'0\n', b'3\n'), ended)
         broken = ('for l in $(find /sys/devices/pci*/*/nvme /sys/class/nvme* /sys/block/nvme* /sys/class/block/nvme* '
-                  '/sys/devices/virtual/nvme-subsystem /sys/dev/*/409?:* -type l); do '
+                  '/sys/devices/virtual/nvme-subsystem /sys/dev/*/409?:* /sys/dev/block/259:* -type l); do '
                   'test -e $l && echo yes || echo $l; done | sort | uniq -c')
         ended = self.shell(broken)
         self.assertRegex(ended.out, rb'^ *[3-9]\d yes\n$', ended)
 
     def test_sys_is_read_only(self):
         # (a write to a file fails as on Linux, also for root, by any program, and changes nothing)
-        files = '/sys/block/nvme0n1/size /sys/class/nvme/nvme0/model /sys/block/nvme0n1/queue/scheduler'
+        files = '/sys/block/nvme0n1/size /sys/class/nvme/nvme0/model /sys/block/nvme0n1/queue/nr_requests'
         script = (f'cd /sys/block; for f in {files} nvme0n1/ro /proc/self/cwd/nvme0n1/nsid; do '
                   'for c in "echo x >" "busybox truncate -s 0" "dd if=/dev/zero count=1 conv=notrunc of="; do '
                   'case $c in *=) c=$c$f ;; *) c="$c $f" ;; esac; (eval "$c") 2>&1 | grep -c "Permission denied"; done; done | '
                   f'sort | uniq -c; cat {files} nvme0n1/ro nvme0n1/nsid')
-        self.ends(self.shell(script), 0, b'     15 1\n2048\nDemo Controller                         \n[none]\n0\n1\n',
+        self.ends(self.shell(script), 0, b'     15 1\n2048\nDemo Controller                         \n31\n0\n1\n',
                   b'')
         self.ends(self.python('for call in lambda: os.open("/sys/block/nvme0n1/size", os.O_RDWR), '
                               'lambda: os.truncate("/sys/block/nvme0n1/size", 0), '
@@ -130,7 +130,8 @@ class Nodes(ModelCase):
                   '$(basename $(readlink $d/driver)) $(basename $(readlink -f $d/driver/module)); done; '
                   'ls ../drivers/nvme; cat /sys/module/nvme/parameters/io_queue_depth /sys/module/nvme_core/parameters/multipath')
         self.ends(self.shell(script), 0, b'0001:00:00.0 0x010802 0x0000 0x0000 nvme nvme\n'
-                  b'0001:01:00.0 0x010802 0x0000 0x0000 nvme nvme\n0001:00:00.0\n0001:01:00.0\nmodule\n1024\nN\n', b'')
+                  b'0001:01:00.0 0x010802 0x0000 0x0000 nvme nvme\n0001:00:00.0\n0001:01:00.0\nbind\nmodule\nunbind\n'
+                  b'1024\nN\n', b'')
         # what lspci reads: identifiers, memory space and bus master, the class, and one base address, of 64 bits
         script = ('cd /sys/bus/pci/devices/0001:01:00.0; od -A n -v -t x4 -w16 config; wc -l < resource; '
                   'head -n 2 resource')
@@ -172,8 +173,9 @@ class Nodes(ModelCase):
         ended = self.shell('ls /dev | grep -c "^n[vg]"; ls /sys/class/block | wc -l; cat /sys/block/nvme15n1024/nsid; '
                            'find /sys/devices/pci0001:* -mindepth 5 -type f | wc -l; stat -c %h /sys/block/nvme9n9/ro', limit=300)
         self.ends(ended, 0, err=b'')
-        # (15 files for each block device, and 2 for each generic node; what is the same for each is one file)
-        self.assertEqual(ended.out.splitlines(), [b'32784', b'16384', b'1024', b'%d' % (16384 * 17), b'16384'])
+        # (43 files for each block device, 2 for each generic node, and 7 for each controller's temperature; what is the same
+        # for each is one file)
+        self.assertEqual(ended.out.splitlines(), [b'32784', b'16384', b'1024', b'%d' % (16384 * 45 + 16 * 7), b'16384'])
 
     def test_sys_agrees_with_nodes(self):
         self.ends(self.model(sys.executable, PROGRAMS / 'numbers.py'), 0, b'ng0n1 ng0n3 nvme0 nvme0n1 nvme0n3 nvme1\n', b'')
@@ -456,7 +458,7 @@ class Data(ModelCase):
         script = ('python3 -c "$1" /dev/nvme0n3; echo text > /dev/nvme0n3; chmod 0 /dev/nvme0n3; '
                   'nvme format -f /dev/nvme0 -n 3 > /dev/null; chmod 600 /dev/nvme0n3; head -c 4 /dev/nvme0n3 | od -An -c; '
                   'echo kept > /dev/nvme0n3; chmod 0 /dev/nvme0n3; ' + again + 'head -c 4 /dev/nvme0n3; '
-                  'rm /dev/nvme0n3; ' + again + 'head -c 4 /dev/nvme0n3')
+                  'rm /dev/nvme0n3 2> /dev/null && echo removed; ' + again + 'head -c 4 /dev/nvme0n3')
         nobody = 'setpriv', '--reuid=65534', '--regid=65534', '--clear-groups'
         self.needs(script)
         for user in [(), nobody] if os.geteuid() == 0 else [()]:

@@ -1,0 +1,251 @@
+"""Tests what stands around the drives of ./nvme-model: files of /sys that are written, controllers that are pulled out,
+lists of /proc, records of udev. The jobs of tests/linux print what they printed on a real Linux (JOB.txt, which
+tests/linux/keep makes), but for the lines of JOB.differs, each below the sentence of the page that tells it."""
+
+import difflib
+import os
+import shutil
+import unittest
+
+from tests.modelled import ModelCase, is_there
+from tests.support import TOP, run
+
+JOBS = sorted((TOP / 'tests/linux').glob('*.sh'))
+TOLD = ' '.join((TOP / 'docs/NVME-MODEL.md').read_text().split() +
+                (TOP / 'tests/linux/demo.toml').read_text().replace('\n# ', ' ').split())
+IS_ROOT = os.geteuid() == 0
+NOBODY = 'setpriv', '--reuid=65534', '--regid=65534', '--clear-groups'
+
+# Tries to do something, and prints the last words of its message, and its status.
+TRY = 't() { m=$("$@" 2>&1); s=$?; echo "$(echo "$m" | sed -n "1s/.*: //p")" $s; }\nw() { t bash -c "echo $1 > $2"; }\n'
+
+
+class Linux(ModelCase):
+    def setUp(self):
+        super().setUp()
+        self.subsystem = self.file('qemu.toml', (TOP / 'tests/linux/demo.toml').read_bytes())
+
+    def differences(self, job, user=(), options=()):
+        """Returns the lines that differ, each after the mark of diff."""
+        shutil.copy(job, self.folder)
+        ended = run(*user, *self.command('bash', job.name, options=options), cwd=self.folder, err='&1',
+                    env={'LANG': 'C', 'HOME': '/root'})
+        wanted = job.with_suffix('.txt').read_text().splitlines()
+        got = [*ended.out.decode().splitlines(), f'status {ended.status}']
+        return [line for line in difflib.ndiff(wanted, got) if line[0] in '-+']
+
+    def test_jobs(self):
+        self.assertNotEqual(JOBS, [])
+        for job in JOBS:
+            self.needs(job)
+            file = job.with_suffix('.differs')
+            lines = file.read_text().splitlines() if file.exists() else []
+            for line in lines:
+                self.assertTrue(line[0] in '-+' or line[2:] in TOLD, line)
+            for user, options in [((), ()), (NOBODY, ['--root'])] if IS_ROOT else [((), ['--root'])]:
+                with self.subTest(job.name, user=user):
+                    self.assertEqual(self.differences(job, user, options), [line for line in lines if line[0] in '-+'])
+
+
+class UserCase(ModelCase):
+    def setUp(self):
+        super().setUp()
+        self.folder.chmod(0o777)
+
+    def as_users(self, script, options=()):
+        """Returns how a script ends with --root and, for whoever runs this test, without; and if that is root, for
+        another user in the same sandbox, and in that user's own."""
+        command = self.command('sh', '-c', TRY + script, options=options)
+        as_root = self.command('sh', '-c', TRY + script, options=['--root', *options])
+        if not IS_ROOT:
+            return [run(*as_root), run(*command)]
+        inner = self.command(*NOBODY, 'sh', '-c', TRY + script, options=options)
+        return [run(*NOBODY, *as_root), run(*command), run(*NOBODY, *command), run(*inner)]
+
+
+class Names(UserCase):
+    def test_nobody_makes_or_removes(self):
+        script = ('cd /sys/class/nvme/nvme0; for c in "touch new" "mkdir new" "rm model" "mv model new" "ln -s x new" '
+                  '"ln model new" "mkfifo new" "rmdir hwmon0" "rm -rf /sys/class/nvme/nvme0" "mkdir /sys/new" '
+                  '"mv /sys/class/nvme /sys/new" "rm -f /dev/nvme0n1" "mv /dev/ng0n1 /dev/new" "busybox rm /dev/nvme0" '
+                  '"busybox mkdir new" "cp model new" "tee new"; do t $c < /dev/null; done\n'
+                  't rm none; t mkdir hwmon0; t ln -s x model; touch "$HOME/own"; t mv "$HOME/own" "$HOME/other"; '
+                  't mkdir "$HOME/folder"; t rm -r "$HOME/other" "$HOME/folder"; ls -A /sys /sys/class/nvme/nvme0 | grep new; '
+                  'ls /dev/nvme0 /dev/nvme0n1 /dev/ng0n1')
+        self.needs('busybox')
+        os.environ['HOME'] = str(self.folder)
+        denied, permitted = 'Permission denied 1\n', 'Operation not permitted 1\n'
+        rest = ('No such file or directory 1\nFile exists 1\nFile exists 1\n 0\n 0\n 0\n'
+                '/dev/ng0n1\n/dev/nvme0\n/dev/nvme0n1\n')
+        for place, ended in enumerate(self.as_users(script)):
+            is_root = place == 0 or (IS_ROOT and place == 1)
+            wanted = denied + 14 * (permitted if is_root else denied) + 2 * denied + rest
+            self.ends(ended, 0, wanted.encode(), b'')
+
+    def test_links_in_dev(self):
+        self.ends(self.shell('ln -s nvme0n1 /dev/mine; mkdir /dev/group; ln -s ../nvme0 /dev/group/one; mv /dev/mine /dev/own; '
+                             'touch /dev/nvme7; ls /dev/nvme7; test -b /dev/own; echo $?; rm -r /dev/own /dev/group /dev/nvme7; '
+                             'test -e /dev/group; echo $?'), 0, b'/dev/nvme7\n0\n1\n', b'')
+
+
+class Written(UserCase):
+    def test_what_is_refused(self):
+        bad, none, busy = 'Invalid argument 1\n', 'No such device 1\n', 'Device or resource busy 1\n'
+        script = ('p=$(readlink -f /sys/class/nvme/nvme0/device); d=/sys/bus/pci/drivers/nvme; q=/sys/block/nvme0n1; '
+                  'for c in foo "" -1 1x; do w "$c" $p/remove; w "$c" /sys/bus/pci/rescan; w "$c" $p/reset; done; w 0 $p/reset; '
+                  'w 0001:99:00.0 $d/bind; w foo $d/unbind; w 0001:00:00.1 $d/unbind; w ../x $d/unbind; w 0001:00:00.0 $d/bind; '
+                  'for c in foo "" "none x"; do w "$c" $q/queue/scheduler; done; '
+                  'for c in foo -1 "" 99999999999999999999 0x10; do w "$c" $q/queue/read_ahead_kb; done; '
+                  'for c in foo "" CHANGE "change x"; do w "$c" $q/uevent; done; '
+                  'for c in 0 0x0; do w $c $p/remove; w $c /sys/bus/pci/rescan; done; ls -d /dev/nvme0 $p')
+        self.ends(self.shell(TRY + script), 0, (12 * bad + bad + 4 * none + busy + 3 * bad + 5 * bad + 4 * bad + 4 * ' 0\n' +
+                  '/dev/nvme0\n/sys/devices/pci0001:00/0001:00:00.0\n').encode(), b'')
+
+    def test_settings(self):
+        script = ('cd /sys/block/nvme0n1/queue; for s in mq-deadline none; do echo $s > scheduler; cat scheduler; done; '
+                  'echo 65 > read_ahead_kb; cat read_ahead_kb; cat ../../nvme0n3/queue/read_ahead_kb; printf 8 >> read_ahead_kb; '
+                  'cat read_ahead_kb; echo mq-deadline | tee scheduler; cat scheduler; nvme format /dev/nvme0n1 -l 1 -f > /dev/null; '
+                  'cat logical_block_size')
+        self.ends(self.shell(script), 0, b'[mq-deadline] none\n[none] mq-deadline \n64\n128\n8\nmq-deadline\n[mq-deadline] none\n'
+                  b'4096\n', b'')
+
+    def test_by_other_users(self):
+        script = ('for f in /sys/block/nvme0n1/queue/scheduler /sys/block/nvme0n1/uevent /sys/bus/pci/rescan '
+                  '/sys/class/nvme/nvme0/reset_controller /sys/class/nvme/nvme0/device/remove; do t tee $f < /dev/null; done')
+        if IS_ROOT:
+            self.ends(self.as_users(script)[3], 0, b'Permission denied 1\n' * 5, b'')
+
+    def test_other_ways_to_write(self):
+        # (these are calls that the launcher doesn't see: they fail, and nothing happens)
+        script = ('for name in "/sys/class/nvme/nvme0/device/remove", "/sys/block/nvme0n1/queue/scheduler":\n'
+                  '    file = os.open(name, os.O_WRONLY | os.O_TRUNC)\n'
+                  '    for call in (lambda: os.writev(file, [b"none\\n"]), lambda: os.write(file, b"1" * 65), '
+                  'lambda: os.sendfile(file, os.open("/etc/passwd", 0), 0, 2), lambda: os.ftruncate(file, 0)):\n'
+                  '        try:\n            print(call())\n        except OSError as error:\n'
+                  '            print(errno.errorcode[error.errno])\n'
+                  'print(open("/sys/block/nvme0n1/queue/scheduler").read(), os.path.exists("/dev/nvme0"))')
+        self.ends(self.python(script), 0, 8 * b'EINVAL\n' + b'[none] mq-deadline \n True\n', b'')
+
+
+OPEN = ('import fcntl\nnames = "nvme0", "ng0n1", "nvme0n1", "nvme1"\n'
+        'files = {name: os.open(f"/dev/{name}", os.O_RDWR) for name in names}\n'
+        'def told(call, *words):\n'
+        '    try:\n        return call(*words)\n'
+        '    except OSError as error:\n        return errno.errorcode[error.errno]\n'
+        'def look():\n'
+        '    print(*(told(fcntl.ioctl, file, request) for file in files.values() for request in (0x4e40, 0x4e46, 0x125f)), '
+        'told(os.pread, files["nvme0n1"], 3, 0), told(os.pwrite, files["nvme0n1"], b"new", 0), '
+        'os.lseek(files["nvme0n1"], 0, 2), oct(os.fstat(files["nvme0n1"]).st_mode), sorted(glob.glob("/dev/n[gv]*")))\n'
+        'def write(text, name):\n    open(name, "w").write(text)\n')
+
+
+class Removal(ModelCase):
+    def test_open_files(self):
+        # the other controller goes on; after the return, files that were open are as lost as before
+        script = OPEN + ('os.pwrite(files["nvme0n1"], b"abc", 0)\nnode = os.path.realpath("/sys/class/nvme/nvme0/device")\n'
+                         'write("1", f"{node}/remove")\nlook()\nwrite("1\\n", "/sys/bus/pci/rescan")\nlook()\n'
+                         'print(open("/dev/nvme0n1", "rb").read(3))\n')
+        lost = "ENODEV ENODEV ENODEV ENODEV ENODEV ENODEV ENODEV ENODEV ENODEV ENOTTY 0 ENOTTY b'' ENOSPC 0 0o60000 "
+        self.ends(self.python(script), 0, (lost + "['/dev/nvme1']\n" + lost + "['/dev/ng0n1', '/dev/ng0n3', '/dev/nvme0', "
+                                           "'/dev/nvme0n1', '/dev/nvme0n3', '/dev/nvme1']\nb'abc'\n").encode(), b'')
+
+    def test_what_is_seen(self):
+        script = ('see() { ls -A /sys/class/nvme /sys/class/nvme-subsystem /sys/block /sys/class/nvme-generic /sys/class/hwmon '
+                  '/sys/bus/pci/devices /sys/bus/pci/drivers/nvme /dev/disk/by-id /run/udev/data | grep -e 0 -e hwmon1 | sort; '
+                  'tail -n +3 /proc/partitions; nvme list-subsys; }; see > "$1.a"; p=$(readlink -f /sys/class/nvme/nvme0/device); '
+                  'echo 1 > $p/remove; ls -d $p /sys/class/nvme/* /sys/bus/pci/devices/* /sys/class/hwmon/* /dev/disk/*/* 2> /dev/null; '
+                  'wc -l < /proc/partitions; echo 1 > /sys/bus/pci/rescan; see > "$1.b"; diff "$1.a" "$1.b"; '
+                  'a=$(basename $p); cd /sys/bus/pci/drivers/nvme; echo $a > unbind; cat $p/enable; grep -c DRIVER $p/uevent; '
+                  'ls; ls $p | grep -e driver -e hwmon; (echo $a > unbind) 2> /dev/null || echo $?; echo $a > bind; '
+                  'see > "$1.b"; diff "$1.a" "$1.b"; for c in 0 1; do echo 0001:0$c:00.0 > unbind; done; '
+                  'ls -d /sys/class/nvme-subsystem/* /dev/nvme* 2> /dev/null; for c in 1 0; do echo 0001:0$c:00.0 > bind; done; see > "$1.b"; '
+                  'diff "$1.a" "$1.b"')
+        self.ends(self.shell(script, self.folder / 'seen'), 0,
+                  b'/sys/bus/pci/devices/0001:01:00.0\n/sys/class/hwmon/hwmon1\n/sys/class/nvme/nvme1\n2\n'
+                  b'0\n0\n0001:01:00.0\nbind\nmodule\nunbind\n1\n', b'')
+
+    def test_reset(self):
+        # a controller that comes back has its features' default values, and keeps those that were saved
+        script = ('get() { nvme get-feature /dev/nvme0 -f 6 | grep -o "[01]$"; }; nvme set-feature /dev/nvme0 -f 6 --value 0 > /dev/null; '
+                  'get; p=$(readlink -f /sys/class/nvme/nvme0/device); echo 1 > $p/remove; echo 1 > /sys/bus/pci/rescan; get; '
+                  'nvme set-feature /dev/nvme0 -f 6 --value 0 -s > /dev/null; cd /sys/bus/pci/drivers/nvme; basename $p > unbind; '
+                  'basename $p > bind; get; nvme id-ctrl /dev/nvme1 | grep -c S1')
+        ended = self.shell(script, options=['--trace'])
+        self.ends(ended, 0, b'0\n1\n0\n1\n')
+        self.assertEqual(ended.err.count(b'nvme0 write CC=0x460001\n'), 3, ended)
+        self.assertEqual(ended.err.count(b'nvme1 write CC=0x460001\n'), 1, ended)
+
+    def test_shared_namespace(self):
+        script = ('nvme create-ns /dev/nvme0 -s 16 -c 16 -f 0 -m 1 && nvme attach-ns /dev/nvme0 -n 2 -c 0,1; echo abc > /dev/nvme0n2; '
+                  'p=$(readlink -f /sys/class/nvme/nvme0/device); echo 1 > $p/remove; head -c 3 /dev/nvme1n2; echo def > /dev/nvme1n2; '
+                  'nvme delete-ns /dev/nvme1 -n 1; echo 1 > /sys/bus/pci/rescan; head -c 3 /dev/nvme0n2; ls /dev/nvme*n*; ls -l /dev/nvme1n2 | cut -c 1')
+        self.ends(self.shell(script), 0, b'create-ns: Success, created nsid:2\nattach-ns: Success, nsid:2\nabc'
+                  b'delete-ns: Success, deleted nsid:1\ndef/dev/nvme0n2\n/dev/nvme0n3\n/dev/nvme1n2\nb\n', b'')
+
+
+class Lists(UserCase):
+    def test_of_proc(self):
+        script = ('list() { tail -n +3 /proc/partitions; awk \'{print $1, $2, $3}\' /proc/diskstats; }; list; '
+                  'nvme attach-ns /dev/nvme1 -n 1 -c 1 > /dev/null; nvme format /dev/nvme0n1 -l 1 -f > /dev/null; '
+                  'nvme detach-ns /dev/nvme0 -n 3 -c 0 > /dev/null; list; nvme delete-ns /dev/nvme0 -n 1 > /dev/null; list; '
+                  'sed -n "/^Block/,\\$p" /proc/devices; grep -c nvme /proc/devices; (echo x > /proc/partitions) 2>&1 | grep -c .')
+        for at, ended in enumerate(self.as_users(script)):
+            if at < 3:
+                self.ends(ended, 0, b' 259   524288       1024 nvme0n1\n 259   524290          4 nvme0n3\n259 524288 nvme0n1\n'
+                          b'259 524290 nvme0n3\n 259   524288       1024 nvme0n1\n 259   525312       1024 nvme1n1\n'
+                          b'259 524288 nvme0n1\n259 525312 nvme1n1\nBlock devices:\n259 blkext\n2\n1\n', b'')
+
+    @unittest.skipUnless(IS_ROOT, 'root alone can mount without a user namespace')
+    def test_of_another_proc(self):
+        place = self.folder / 'proc'
+        place.mkdir()
+        mounted = 'mount -t proc proc "$0" && exec "$@"'
+        command = self.command('sh', '-c', f'tail -n +3 {place}/partitions; wc -l < {place}/diskstats')
+        self.ends(run('unshare', '-m', 'sh', '-c', mounted, place, *command), 0,
+                  b' 259   524288       1024 nvme0n1\n 259   524290          4 nvme0n3\n2\n', b'')
+
+    def test_by_fdisk(self):
+        self.needs('fdisk')
+        self.ends(self.shell('fdisk -l | grep -o "^Disk /dev/[^:]*"'), 0, b'Disk /dev/nvme0n1\nDisk /dev/nvme0n3\n', b'')
+
+
+class Temperatures(ModelCase):
+    def test_files(self):
+        script = ('cd /sys/class/hwmon/hwmon0; cat name temp1_*; ls -d /sys/class/nvme/nvme0/hwmon0 | wc -l')
+        self.subsystem = self.file('thresholds.toml', (TOP / 'examples/thresholds.toml').read_bytes())
+        ended = self.shell(script)
+        lines = ended.out.split()
+        self.assertEqual(lines, [b'nvme', b'0', b'84850', b'-273150', b'Composite', b'74850', b'1'], ended)
+
+    def test_no_errors_are_logged(self):
+        self.ends(self.shell('nvme error-log /dev/nvme0 -e 1 | grep error_count; cat /sys/class/hwmon/hwmon0/temp1_max'), 0,
+                  b'error_count\t: 0\n69850\n', b'')
+
+
+class Udev(UserCase):
+    def test_records(self):
+        self.needs('udevadm', 'mkfs.ext4', 'blkid', 'wipefs')
+        script = ('look() { udevadm settle; echo $?; udevadm info -q property /dev/nvme0n1 | grep ID_FS_TYPE; '
+                  'ls -A /dev/disk/by-label 2> /dev/null; }; udevadm wait --timeout=5 /dev/nvme0n1 /dev/nvme0 /dev/ng0n1; echo $?; look; '
+                  'mkfs.ext4 -qO ^has_journal -L one /dev/nvme0n1; look; e2label /dev/nvme0n1 two; look; '
+                  'udevadm wait --timeout=5 /dev/disk/by-label/two; echo $?; nvme detach-ns /dev/nvme0 -n 1 -c 0; look 2> /dev/null; '
+                  'nvme attach-ns /dev/nvme0 -n 1 -c 0; look; wipefs -qa /dev/nvme0n1; look; '
+                  'mkfs.ext4 -qO ^has_journal -L ../../x /dev/nvme0n1; look; nvme format /dev/nvme0n1 -l 0 -f > /dev/null; look; '
+                  'ls /run/udev/data | wc -l')
+        ext4 = 'E: ID_FS_TYPE=ext4\n'.replace('E: ', '')
+        wanted = ('0\n0\n' + f'0\n{ext4}one\n' + f'0\n{ext4}two\n' + '0\ndetach-ns: Success, nsid:1\n0\n' +
+                  f'attach-ns: Success, nsid:1\n0\n{ext4}two\n' + '0\n' + f'0\n{ext4}..\\x2f..\\x2fx\n' + '0\n11\n')
+        before = os.path.exists('/run/udev')
+        for at, ended in enumerate(self.as_users(script)):
+            if at < 3:
+                self.ends(ended, 0, wanted.encode(), b'')
+        self.assertEqual(os.path.exists('/run/udev'), before)
+
+    def test_without_blkid(self):
+        self.needs('udevadm')
+        self.ends(self.shell('echo x > /dev/nvme0n1; echo change > /sys/block/nvme0n1/uevent; echo $?; '
+                             'grep -c ^E:ID_ /run/udev/data/b259:524288'), 0, b'0\n8\n', b'')
+
+
+if __name__ == '__main__':
+    unittest.main()
