@@ -51,4 +51,4 @@ class Gate(Case):
             ended = self.gate(ci='true')
             self.ends(ended, 1, b'')
             packages = re.search('(?m)^missing: apt install (.*)$', ended.err.decode())[1]
-            self.assertEqual(self.told(), f'update\ninstall -y {packages}\n', ended)
+            self.assertEqual(self.told(), f'update\ninstall -y --no-install-recommends {packages}\n', ended)
