@@ -98,7 +98,7 @@ int main(int count, char **arguments) {
     setbuf(stdout, NULL);
     if (!is_device)
         confine_launcher();
-    else if (!is_again && confine_device() < 0)
+    else if (!is_again && confine_device(0) < 0)
         fail_by_errno("confine_device");
     for (unsigned at = 0; at < sizeof calls_of_both / sizeof *calls_of_both; at++)
         try(calls_of_both[at].name, calls_of_both[at].number, calls_of_both[at].first, calls_of_both[at].second, 0);

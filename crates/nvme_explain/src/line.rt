@@ -38,28 +38,32 @@ pub fn fault_in(
             let byte = error.valid_up_to().saturating_add(1);
             format!(in alloc; "byte {byte} is the first wrong one")?
         }
-        Ok(text) => reason_of(alloc, text, controllers, fault)?,
+        Ok(text) => {
+            let words = split_words(alloc, text)?;
+            reason_of(alloc, without_program(words.as_slice()), controllers, fault)?
+        }
     };
     Ok(Some(format!(in alloc; "{fault}: {reason}")?))
 }
 
+/// Returns the words without a first word `nvme`.
+fn without_program<'a>(words: &'a [&'a str]) -> &'a [&'a str] {
+    if !words.is_empty() && words[0] == "nvme" {
+        return &words[1..];
+    }
+    words
+}
+
 /// Returns the reason of a fault that the words of a line have.
-fn reason_of(
+fn reason_of<'a>(
     alloc: Global,
-    text: &str,
+    words: &'a [&'a str],
     controllers: u16,
     fault: LineFault,
 ) -> Result<String, AllocError> {
-    let words = split_words(alloc, text)?;
-    let begin = if !words.is_empty() && words[0] == "nvme" {
-        1
-    } else {
-        0
-    };
-    if words.len() <= begin {
+    if words.is_empty() {
         return String::from_str(alloc, "there is no command");
     }
-    let words = &words[begin..];
     let Some(verb) = Verb::of(words[0]) else {
         return unknown_command(alloc, words[0]);
     };

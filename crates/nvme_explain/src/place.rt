@@ -89,7 +89,10 @@ fn push_places_in(
 
 /// Keeps the first tables of a list.
 fn keep(table: &mut Table, key: &str, count: usize) {
-    if let Some(values) = table.get_mut(key).and_then(Value::as_array_mut) {
+    let Some(value) = table.get_mut(key) else {
+        return;
+    };
+    if let Some(values) = value.as_array_mut() {
         values.truncate(count);
     }
 }
@@ -97,10 +100,10 @@ fn keep(table: &mut Table, key: &str, count: usize) {
 /// Returns a table of a list.
 fn table_in<'a>(table: &'a mut Table, key: &str, at: usize) -> Option<&'a mut Table> {
     table
-        .get_mut(key)
-        .and_then(Value::as_array_mut)
-        .and_then(|values| values.get_mut(at))
-        .and_then(Value::as_table_mut)
+        .get_mut(key)?
+        .as_array_mut()?
+        .get_mut(at)?
+        .as_table_mut()
 }
 
 impl Place {
@@ -130,13 +133,11 @@ impl Place {
             Place::Namespace(at) => table_in(document, "namespace", at),
             Place::Controller(at) => table_in(document, "controller", at),
             Place::Feature(at, feature) => {
-                table_in(document, "controller", at).and_then(|controller| {
-                    table_in(controller, "feature", feature)
-                })
+                table_in(table_in(document, "controller", at)?, "feature", feature)
             }
-            Place::Smart(at) => table_in(document, "controller", at)
-                .and_then(|controller| controller.get_mut("smart"))
-                .and_then(Value::as_table_mut),
+            Place::Smart(at) => table_in(document, "controller", at)?
+                .get_mut("smart")?
+                .as_table_mut(),
         }
     }
 }
