@@ -37,7 +37,7 @@ void list_devices(void) {
 /* (nobody else can have this lock) */
 void take_turn(short type) {
     static int turn;
-    turn = turn ?: open("/dev", O_TMPFILE | O_RDWR | O_CLOEXEC, 0600);
+    turn = turn ?: open(MODEL_FOLDER, O_TMPFILE | O_RDWR | O_CLOEXEC, 0600);
     fcntl(turn, F_SETLKW, &(struct flock){.l_type = type});
 }
 

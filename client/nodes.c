@@ -7,7 +7,7 @@
 #include <sys/inotify.h>
 
 enum { CNS_NAMESPACE = 0, CNS_CONTROLLER = 1, MOST_NAME = 40 };
-enum { OPCODE_GET_LOG = 0x02, OPCODE_SET_FEATURES = 0x09 };
+enum { OPCODE_GET_LOG = 0x02 };
 
 /* How many sectors of 512 bytes Linux reads ahead at first. */
 enum { READ_AHEAD = 256 };
@@ -346,8 +346,6 @@ void look_for_changes(struct device *device, const struct request_header *reques
         return;
     if (opcode == OPCODE_MANAGEMENT && !deletes)
         nsid = answer->dword_0;
-    if (opcode == OPCODE_SET_FEATURES || request->kind == KIND_RESET)
-        show_health(device, controller);
     if (opcode == OPCODE_FORMAT && nsid == EVERY_NSID)
         list_active(device, controller, is_active);
     for (uint32_t at = 1; at <= MOST_NSID; at++)

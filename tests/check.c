@@ -209,7 +209,7 @@ static void is_booked(unsigned controller, uint64_t specific) {
     is_number(0, 8, refusals[controller]);
     is_number(8, 2, 0);
     unsigned now = (unsigned)number(common, 10, 2) - last_identifier[controller];
-    must(now >= own[controller] && now >= 1 && now <= 6 + 4 * changes,
+    must(now >= own[controller] && now >= 1 && now <= 7 + 4 * changes,
          "after %u changes the launcher sent %u commands of its own, and now %u", changes, own[controller], now);
     own[controller] = now;
     must(number(common, 12, 2) >> 1 == last_status[controller], "the log has the status %xh, not %llxh",

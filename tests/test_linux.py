@@ -28,7 +28,7 @@ class Linux(ModelCase):
     def differences(self, job, user=(), options=()):
         """Returns the lines that differ, each after the mark of diff."""
         shutil.copy(job, self.folder)
-        ended = run(*user, *self.command('bash', job.name, options=options), cwd=self.folder, err='&1',
+        ended = run(*user, *self.command('bash', self.folder / job.name, options=options), cwd=self.folder, err='&1',
                     env={'LANG': 'C', 'HOME': '/root'})
         wanted = job.with_suffix('.txt').read_text().splitlines()
         got = [*ended.out.decode().splitlines(), f'status {ended.status}']
