@@ -78,6 +78,7 @@ KINDS = {
 
 # What the launcher has open besides the streams, and whether it must be in one of the sandbox's own mounts.
 KEPT = {r'socket:\[\d+\]': False, r'pipe:\[\d+\]': False, r'/proc/\d+/status': False, '/sys(/.*)?': True,
+        r'/dev/#\d+ \(deleted\)': True,
         'anon_inode:.*(eventfd|inotify|signalfd|seccomp notify).*': False}
 
 
