@@ -48,7 +48,8 @@ class Explain(Case):
             self.assertEqual(ended.status, 1, ended)
             self.assertTrue(ended.out.startswith(wanted), ended)
         self.ends(self.explain('--subsystem', 'missing.toml'), 3, b'', b'nvme-script: subsystem: unreadable\n')
-        self.ends(self.explain('--bogus'), 3, b'', b'nvme-script: arguments\n')
+        self.ends(self.explain('--bogus'), 3, b'', b'nvme-script: arguments\n'
+                  b'nvme-script: nvme-script --help shows the options\n')
 
     def test_scripts(self):
         # a script without a fault has no explanation, and nothing of it is carried out
