@@ -10,7 +10,8 @@ from tests.support import Running
 NOBODY = 'setpriv', '--reuid=65534', '--regid=65534', '--clear-groups'
 USERS = [(), NOBODY] if os.geteuid() == 0 else [()]
 INTERRUPT, SUSPEND = b'\x03', b'\x1a'
-BEGUN = b'$model sh -c "echo begun; exec sleep 100"\n'
+# A command that says when it runs, so that a key that is typed after that reaches it.
+BEGUN = b"""sh -c 'trap "echo continued" CONT; echo begun; while :; do sleep 0.1; done'\n"""
 
 
 class Terminal(ModelCase):
@@ -27,7 +28,7 @@ class Terminal(ModelCase):
         """Types a line or a key, and returns what comes after the line, up to this prompt."""
         shell.heard = b''
         shell.say(line)
-        shell.comes(prompt, 30)
+        shell.comes(prompt)
         return shell.heard.partition(b'\n')[2] if line.endswith(b'\n') else shell.heard
 
     def test_shells(self):
@@ -47,9 +48,9 @@ class Terminal(ModelCase):
             with self.subTest(user=user):
                 shell = self.begun(user)
                 self.told(shell, b'$model env PS1="inside: " bash --norc --noprofile\n', b'inside: ')
-                self.told(shell, b'sh -c "echo begun; exec sleep 100"\n', b'begun\n')
+                self.told(shell, BEGUN, b'begun\n')
                 self.assertIn(b'Stopped', self.told(shell, SUSPEND, b'inside: '))
-                self.told(shell, b'fg\n', b'100"\n')
+                self.told(shell, b'fg\n', b'continued\n')
                 self.told(shell, INTERRUPT, b'inside: ')
                 self.assertEqual(self.told(shell, b'echo $?\n', b'inside: '), b'130\ninside: ')
                 self.told(shell, b'exit\n')
@@ -58,12 +59,12 @@ class Terminal(ModelCase):
         for user in USERS:
             with self.subTest(user=user):
                 shell = self.begun(user)
-                self.told(shell, BEGUN, b'begun\n')
+                self.told(shell, b'$model ' + BEGUN, b'begun\n')
                 self.told(shell, INTERRUPT)
                 self.assertEqual(self.told(shell, b'echo $?\n'), b'130\noutside: ')
-                self.told(shell, BEGUN, b'begun\n')
+                self.told(shell, b'$model ' + BEGUN, b'begun\n')
                 self.assertIn(b'Stopped', self.told(shell, SUSPEND))
-                self.told(shell, b'fg\n', b'100"\n')
+                self.told(shell, b'fg\n', b'continued\n')
                 self.told(shell, INTERRUPT)
                 self.assertEqual(self.told(shell, b'echo $?; jobs\n'), b'130\noutside: ')
 
