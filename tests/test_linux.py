@@ -225,7 +225,7 @@ class Temperatures(ModelCase):
 class Udev(UserCase):
     def test_records(self):
         self.needs('udevadm', 'mkfs.ext4', 'blkid', 'wipefs')
-        script = ('look() { udevadm settle; echo $?; udevadm info -q property /dev/nvme0n1 | grep ID_FS_TYPE; '
+        script = ('look() { sleep 1; udevadm settle; echo $?; udevadm info -q property /dev/nvme0n1 | grep ID_FS_TYPE; '
                   'ls -A /dev/disk/by-label 2> /dev/null; }; udevadm wait --timeout=5 /dev/nvme0n1 /dev/nvme0 /dev/ng0n1; echo $?; look; '
                   'mkfs.ext4 -qO ^has_journal -L one /dev/nvme0n1; look; e2label /dev/nvme0n1 two; look; '
                   'udevadm wait --timeout=5 /dev/disk/by-label/two; echo $?; nvme detach-ns /dev/nvme0 -n 1 -c 0; look 2> /dev/null; '
