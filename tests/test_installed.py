@@ -160,7 +160,7 @@ class Installed(Case):
         for words, wanted in COMPLETED.items():
             with self.subTest(words):
                 self.assertEqual(self.completed(*words), [wanted])
-        self.assertEqual(self.completed('nvme-script', ''), [*OPTIONS, '--help', '--version'])
+        self.assertEqual(self.completed('nvme-script', ''), [*OPTIONS, '--explain', '--help', '--version'])
         self.assertEqual(self.completed('nvme-script', '--subsystem', '=', 'examples/demo.t'), ['examples/demo.toml'])
         self.assertEqual(self.completed('nvme-script', '--depth', '=', '8'), [])
         for name in 'nvme-script', 'nvme-model', 'nvme-describe':

@@ -62,7 +62,7 @@ TRIES = {
         f'cat /dev/zero > /dev/fill 2> /dev/null; {ATTACH}; head -c 1 /dev/nvme1n1 | wc -c; rm /dev/fill', b'1\n'),
     'all kinds of nodes': (
         'busybox find /dev /sys -type b; ls -A /dev; busybox find /dev -maxdepth 1 -type c | wc -l',
-        b'disk\nfd\nfull\nmqueue\nng0n1\nng0n3\nnull\nnvme0\nnvme0n1\nnvme0n3\nnvme1\nptmx\npts\nrandom\nshm\n'
+        b'block\nchar\ndisk\nfd\nfull\nmqueue\nng0n1\nng0n3\nnull\nnvme0\nnvme0n1\nnvme0n3\nnvme1\nptmx\npts\nrandom\nshm\n'
         b'stderr\nstdin\nstdout\ntty\nurandom\nzero\n6\n'),
     'files of the kernel': (
         'for f in /proc/sys/kernel/core_pattern /proc/sys/vm/swappiness /proc/sysrq-trigger /proc/irq/default_smp_affinity '

@@ -169,7 +169,7 @@ class Messages(Case):
         shutil.copy(program(), installed().parent.parent / 'lib/nvme-model/qemu')
         for option in '--qemu', '--vfio-user':
             self.ends(run(installed(), option, '--help'), 0, run(program(), '--help').out, b'')
-            self.assertIn(b'See nvme-model(1).\n', run(installed(), '--no-notice', option, 'true').err)
+            self.assertIn(b'see nvme-model --help\n', run(installed(), '--no-notice', option, 'true').err)
 
     def ended(self, script, *words, **more):
         """Runs the program over a stand-in with this script."""
