@@ -2,6 +2,7 @@
 end of a shell. The shell outside is bash, whose jobs are these runs."""
 
 import os
+import time
 import unittest
 
 from tests.modelled import ModelCase
@@ -48,9 +49,10 @@ class Terminal(ModelCase):
             with self.subTest(user=user):
                 shell = self.begun(user)
                 self.told(shell, b'$model env PS1="inside: " bash --norc --noprofile\n', b'inside: ')
-                self.told(shell, BEGUN, b'begun\n')
+                self.told(shell, b'sh -c "echo begun; exec sleep 100"\n', b'begun\n')
                 self.assertIn(b'Stopped', self.told(shell, SUSPEND, b'inside: '))
-                self.told(shell, b'fg\n', b'continued\n')
+                self.told(shell, b'fg\n', b'100"\n')
+                time.sleep(1)  # (the shell gives the terminal to the job after it has named it)
                 self.told(shell, INTERRUPT, b'inside: ')
                 self.assertEqual(self.told(shell, b'echo $?\n', b'inside: '), b'130\ninside: ')
                 self.told(shell, b'exit\n')
