@@ -1,7 +1,8 @@
 -- Sets of numbers as bits.
-use Rattle.std.proofs.Common.{◌≡◌, ◌≢◌, ◌∙◌, ℕ, ◌+◌, ◌-◌, ◌*◌, ◌/◌, ◌%◌, ◌^◌, ◌<◌, ◌≤◌, ◌==◌, Bool, true}
+use Rattle.std.proofs.Common.{◌≡◌, ◌≢◌, ◌∙◌, ℕ, ◌+◌, ◌-◌, ◌*◌, ◌/◌, ◌%◌, ◌^◌, ◌<◌, ◌≤◌, Bool, true}
 use Rattle.std.proofs.Common.{false, not, cond, List, length, get_or, set, length-set, is_some}
 use Rattle.std.proofs.Common.{refl, sym, ap, arith, inl, inr, min, get_or-set_other, replicate}
+use Rattle.std.proofs.lemmas.Grind.{common_steps}
 use Rattle.std.proofs.lemmas.List.{get_or-replicate, length-replicate}
 use Rattle.std.proofs.lemmas.Bool.{cases_eq, cases_lt, false_from_ne_true, ne_eqb, true≢false}
 use mir.Val.{bool_byte}
@@ -47,16 +48,12 @@ module _ (first count : ℕ) (old new : List ℕ) (k : ℕ) (here : k < count) w
   -- if new differs from old only in that bit k is set, its set is the set of old with the number of bit k
   pub members-insert : ChangesBit old new k true
       → members_of first count new ≡ insert (members_of first count old) (first + k)
-  members-insert change =
-      by_place-insert _ _ first count k here tt
-      (λ j. ap as_member (change j) ∙ as_member-change (j == k) true (bit_of old j))
+  members-insert change = grind (arith, common_steps, by_place-insert, as_member-change)
 
   -- if new differs from old only in that bit k is clear, its set is the set of old without the number of bit k
   pub members-remove : ChangesBit old new k false
       → members_of first count new ≡ map.remove (members_of first count old) (first + k)
-  members-remove change =
-      by_place-remove _ _ first count k here
-      (λ j. ap as_member (change j) ∙ as_member-change (j == k) false (bit_of old j))
+  members-remove change = grind (arith, common_steps, by_place-remove, as_member-change)
 
 -- words in which no bit of the range is set represent an empty set
 pub members-empty : (first count : ℕ) (words : List ℕ) → ((k : ℕ) → k < count → bit_of words k ≡ false)
@@ -90,18 +87,12 @@ module _ (first count len lowest_word : ℕ) (words : List ℕ) (are : AreBits f
 
   -- no number below the lowest word is a member
   none_below_lowest : (q : ℕ) → q < first + 64 * lowest_word → map.contains_key members q ≡ false
-  none_below_lowest q h =
-      not_member first count words q
-      (λ from _. none_of_zero words (q - first) (are.none_below ((q - first) / 64) (omega arith)))
+  none_below_lowest q h = grind (arith, common_steps, not_member, none_of_zero)
 
   module _ (at k : ℕ) (least : IsLeastFrom (bit_of words) at k) where
     -- the least bit that is set from a place on is one of the range
     pub least_in_range : k < count
-    least_in_range =
-        elim (cases_lt k count) [
-          | inl h ↦ h
-          | inr h ↦ absurd (true≢false (sym least.passes ∙ are.none_past k h))
-        ]
+    least_in_range = grind (arith, common_steps, cases_lt, true≢false)
 
     -- the number of that bit is a member
     least_is_member : map.contains_key members (first + k) ≡ true
@@ -113,32 +104,16 @@ module _ (first count len lowest_word : ℕ) (words : List ℕ) (are : AreBits f
 
     -- the least bit from the lowest word on is that of the lowest number
     pub lowest_is : at ≡ 64 * lowest_word → IsLowest members (first + k)
-    lowest_is e = record {
-      member = least_is_member;
-      least = λ q h.
-          elim (cases_lt q (first + 64 * lowest_word)) [
-            | inl below ↦ none_below_lowest q below
-            | inr from ↦ none_between q (λ f. omega arith) h
-          ];
-    }
+    lowest_is e = grind (arith, common_steps, least_is_member, cases_lt, none_below_lowest, none_between)
 
     -- the least bit from the place after a number on is that of the next number
     pub next_is : (n : ℕ) → at ≡ n + 1 - first → IsNext members n (first + k)
-    next_is n e = record {
-      later = omega (arith, least.from);
-      member = least_is_member;
-      least = λ q after before. none_between q (λ f. omega arith) before;
-    }
+    next_is n e = grind (arith, common_steps, least_is_member, none_between)
 
   module _ (at : ℕ) (none : (k : ℕ) → at ≤ k → bit_of words k ≡ false) where
     -- if no bit is set from the lowest word on, there is no number
     pub none_is : at ≡ 64 * lowest_word → members ≡ map.empty
-    none_is e =
-        members-empty first count words (λ k _.
-        elim (cases_lt k at) [
-          | inl below ↦ none_of_zero words k (are.none_below (k / 64) (omega arith))
-          | inr from ↦ none k from
-        ])
+    none_is e = grind (arith, common_steps, members-empty, cases_lt, none_of_zero)
 
     -- if no bit is set from the place after a number on, there is none above it
     pub no_next : (n : ℕ) → at ≡ n + 1 - first → (q : ℕ) → n < q → map.contains_key members q ≡ false

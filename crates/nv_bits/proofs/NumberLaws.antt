@@ -2,6 +2,7 @@
 use Rattle.std.proofs.Common.{◌≡◌, ◌≢◌, ◌∙◌, ℕ, zero, suc, ◌+◌, ◌-◌, ◌<◌, ◌≤◌, ◌==◌, ◌&&◌}
 use Rattle.std.proofs.Common.{Bool, true, false, cond, List, [], ◌∷◌, Option, Some, None, is_some}
 use Rattle.std.proofs.Common.{refl, sym, ap, subst, arith, inl, inr, map as map_list}
+use Rattle.std.proofs.lemmas.Grind.{common_steps}
 use Rattle.std.proofs.Math.Dec.{T}
 use Rattle.std.proofs.lemmas.Bool.{cases_eq, cases_lt, cases_order, cond_both, eq-eqb, le-ltb}
 use Rattle.std.proofs.lemmas.Bool.{lt-ltb, ne_eqb, or_parts, true≢false}
@@ -36,11 +37,7 @@ module _ {A : Type 0} where
   -- if k has no value, with_value gives k the optional value o and changes no other number
   get_of_with_value : (m : NumberMap A) (k q : ℕ) (o : Option A) → get m k ≡ None
       → get (with_value m k o) q ≡ cond (q == k) o (get m q)
-  get_of_with_value m k q None none =
-      elim (cases_eq q k) [
-        | inl e ↦ rw (e, eq-eqb k k refl) none
-        | inr ne ↦ rw (ne_eqb q k ne) refl
-      ]
+  get_of_with_value m k q None none = grind (arith, common_steps, cases_eq, eq-eqb, ne_eqb)
   get_of_with_value m k q (Some x) none = get_of_insert m k x q
 
   -- a map by places has no value for a number outside the range
@@ -99,13 +96,7 @@ module _ {A : Type 0} where
     -- a choice by whether first + j is first + k is the choice by whether j is k
     here_and_there : (o : Option A) (j : ℕ) → cond (first + j == first + k) o (old j)
         ≡ cond (j == k) o (old j)
-    here_and_there o j =
-        elim (cases_eq j k) [
-          | inl e ↦ rw (e, eq-eqb k k refl, eq-eqb (first + k) (first + k) refl) refl
-          | inr ne ↦
-              let other : first + j ≢ first + k = omega arith in
-              rw (ne_eqb j k ne, ne_eqb (first + j) (first + k) other) refl
-        ]
+    here_and_there o j = grind (arith, common_steps, cases_eq, eq-eqb, ne_eqb)
 
     -- a map that differs from the old one only in that first + k has o is the map by the new places
     changed : (o : Option A) (m : NumberMap A)
@@ -132,16 +123,12 @@ module _ {A : Type 0} where
   -- after a value is inserted under k, the map has k and the numbers that it had
   pub contains-insert : (m : NumberMap A) (k : ℕ) (x : A) (q : ℕ)
       → map.contains_key (map.insert m k x) q ≡ cond (q == k) true (map.contains_key m q)
-  contains-insert m k x q = ap is_some (get_of_insert m k x q)
-      ∙ elim (q == k) as (λ b. is_some (cond b (Some x) (get m q))
-      ≡ cond b true (is_some (get m q))) [ true ↦ refl | false ↦ refl ]
+  contains-insert m k x q = grind (arith, common_steps, get_of_insert)
 
   -- after k is removed, the map has the numbers that it had, without k
   pub contains-remove : (m : NumberMap A) (k q : ℕ) → map.contains_key (map.remove m k) q
       ≡ cond (q == k) false (map.contains_key m q)
-  contains-remove m k q = ap is_some (get_of_remove m k q)
-      ∙ elim (q == k) as (λ b. is_some (cond b None (get m q)) ≡ cond b false (is_some (get m q)))
-      [ true ↦ refl | false ↦ refl ]
+  contains-remove m k q = grind (arith, common_steps, get_of_remove)
 
   -- a map by places has no more numbers than there are
   pub len_within : (at : ℕ → Option A) (first count : ℕ) → map.len (by_place at first count) ≤ count
@@ -196,7 +183,7 @@ len-all_of first (suc count) =
 -- ---- the numbers of a map in ascending order
 
 -- if the order of numbers says that x is less than y, then x < y
-less : (x y : ℕ) → T (is_lt (nat_cmp x y)) → x < y
+pub less : (x y : ℕ) → T (is_lt (nat_cmp x y)) → x < y
 less x y h =
     elim (cases_lt x y) [
       | inl l ↦ l
@@ -208,12 +195,12 @@ less x y h =
     not_less false h = h
 
 -- if a conjunction holds, its first part holds
-left : (a b : Bool) → T (a && b) → T a
+pub left : (a b : Bool) → T (a && b) → T a
 left true b h = tt
 left false b h = absurd h
 
 -- if a conjunction holds, its second part holds
-right : (a b : Bool) → T (a && b) → T b
+pub right : (a b : Bool) → T (a && b) → T b
 right true b h = h
 right false b h = absurd h
 

@@ -1,7 +1,8 @@
 -- Laws of slots that are written.
 use Rattle.std.proofs.Common.{◌≡◌, ◌∙◌, ℕ, ◌+◌, ◌-◌, ◌<◌, ◌==◌, Bool, true, false, not, cond, List, [], ◌∷◌}
 use Rattle.std.proofs.Common.{length, get_or, set, Option, Some, None, is_some, IfSome, MatchOption, refl, sym, ap}
-use Rattle.std.proofs.Common.{arith, inl, inr, get_or-set_same, get_or-set_other}
+use Rattle.std.proofs.Common.{arith, get_or-set_same, get_or-set_other}
+use Rattle.std.proofs.lemmas.Grind.{common_steps}
 use Rattle.std.proofs.lemmas.Bool.{cases_eq, eq-eqb, ne_eqb, not-false, not-true}
 use Rattle.std.specs.Cmp.{nat_cmp_total}
 use Rattle.std.specs.Ordering.{nat_cmp}
@@ -28,11 +29,7 @@ module _ {A : Type 0} where
   -- after slot k is written, it has the new value, and every other slot has its own
   set_slot : (slots : List (Option A)) (k : ℕ) (o : Option A) → k < length slots
       → (j : ℕ) → get_or (set slots k o) j None ≡ cond (j == k) o (get_or slots j None)
-  set_slot slots k o h j =
-      elim (cases_eq j k) [
-        | inl e ↦ rw (e, eq-eqb k k refl) (get_or-set_same slots k o None h)
-        | inr ne ↦ rw (ne_eqb j k ne) (get_or-set_other slots k j o None ne)
-      ]
+  set_slot slots k o h j = grind (arith, common_steps, cases_eq, eq-eqb, get_or-set_same, ne_eqb, get_or-set_other)
 
   module _ (first count : ℕ) (slots : List (Option A)) (k : ℕ) (here : k < count) (room : length slots ≡ count) where
     -- writing x to slot k inserts x at the number of slot k into the map
@@ -130,8 +127,4 @@ module _ {A : Type 0} where
         → MatchOption r (above n (map.keys values) ≡ [])
         (λ k. above n (map.keys values) ≡ k ∷ above k (map.keys values))
     next_listed None none = above_none values n (λ q h. sym (are.occupied_is q) ∙ none q h)
-    next_listed (Some k) next = above_next values n k (record {
-      later = next.later;
-      member = sym (are.occupied_is k) ∙ next.member;
-      least = λ q a b. sym (are.occupied_is q) ∙ next.least q a b;
-    })
+    next_listed (Some k) next = grind (arith, common_steps, above_next)

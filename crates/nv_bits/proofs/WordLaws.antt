@@ -2,6 +2,7 @@
 use Rattle.std.proofs.Common.{◌≡◌, ◌≢◌, ◌∙◌, ℕ, ◌+◌, ◌-◌, ◌*◌, ◌/◌, ◌%◌, ◌^◌, ◌<◌, ◌≤◌, ◌==◌, true}
 use Rattle.std.proofs.Common.{false, not, List, length, get_or, set, w64, refl, arith, inl, inr}
 use Rattle.std.proofs.Common.{get_or-set_same, get_or-set_other, bit_and, bit_or, length-set, replicate}
+use Rattle.std.proofs.lemmas.Grind.{common_steps}
 use Rattle.std.proofs.lemmas.Bool.{cases_eq, cases_lt, eq-eqb, ne_eqb}
 use Rattle.std.proofs.Math.Nat.{div-div-eq-div-mul, div-le_self, div-one, pow-zero}
 use Rattle.std.proofs.lemmas.Bool.Decides.{nat_tests}
@@ -20,20 +21,7 @@ changed : (words : List ℕ) (k w b : ℕ) → k / 64 < length words → bit_at 
     → ChangesBit words (set words (k / 64) w) k (b == 1)
 unfolding bit_of
 changed words k w b h here others j =
-    elim (cases_eq (j / 64) (k / 64)) [
-      | inl word ↦
-          elim (cases_eq (j % 64) (k % 64)) [
-            | inl place ↦
-                let same : j ≡ k = omega arith in
-                rw (eq-eqb j k same, word, place, get_or-set_same words (k / 64) w 0 h, here) refl
-            | inr ne ↦
-                let other : j ≢ k = omega arith in
-                rw (ne_eqb j k other, word, get_or-set_same words (k / 64) w 0 h, others (j % 64) (omega arith) ne) refl
-          ]
-      | inr ne ↦
-          let other : j ≢ k = omega arith in
-          rw (ne_eqb j k other, get_or-set_other words (k / 64) (j / 64) w 0 ne) refl
-    ]
+    grind (arith, common_steps, cases_eq, eq-eqb, get_or-set_same, ne_eqb, get_or-set_other)
 
 -- the word of bit k, with a 1 at its place by "or", sets bit k and changes no other bit
 pub bit_of-or : (words : List ℕ) (k : ℕ) → k / 64 < length words
@@ -68,10 +56,7 @@ bit_at-shr n s j = rw (pow-add 2 s j, ← div-div-eq-div-mul n (2 ^ s) (2 ^ j)) 
 pub bit_of-shr : (words : List ℕ) (i s j : ℕ) → s + j < 64
     → bit_of words (64 * i + (s + j)) ≡ (bit_at (get_or words i 0 / 2 ^ s) j == 1)
 unfolding bit_of
-bit_of-shr words i s j h =
-    let word : (64 * i + (s + j)) / 64 ≡ i = omega arith in
-    let place : (64 * i + (s + j)) % 64 ≡ s + j = omega arith in
-    rw (word, place, bit_at-shr (get_or words i 0) s j) refl
+bit_of-shr words i s j h = grind (arith, common_steps, bit_at-shr)
 
 -- in a word that is 0 from bit s on, no bit from s on is set
 pub none_in_word : (words : List ℕ) (i s k : ℕ) → get_or words i 0 / 2 ^ s ≡ 0 → 64 * i + s ≤ k → k < 64 * i + 64
@@ -121,22 +106,13 @@ pub first_found : (words : List ℕ) (at : ℕ) → get_or words (at / 64) 0 < 2
     → 0 < get_or words (at / 64) 0 / 2 ^ (at % 64)
     → (trailing_zeros w64 (get_or words (at / 64) 0 / 2 ^ (at % 64)) < 64)
     × IsLeastFrom (bit_of words) at (at + trailing_zeros w64 (get_or words (at / 64) 0 / 2 ^ (at % 64)))
-first_found words at fits some =
-    let t = trailing_zeros w64 (get_or words (at / 64) 0 / 2 ^ (at % 64)) in
-    let found = least_in_word words (at / 64) (at % 64) (omega arith) fits some in
-    let e : 64 * (at / 64) + at % 64 ≡ at = omega arith in
-    let f : 64 * (at / 64) + (at % 64 + t) ≡ at + t = omega arith in
-    (omega (arith, found.0), rw (e, f) at found.1)
+first_found words at fits some = grind (arith, common_steps, least_in_word)
 
 -- no bit from one on is set before word i, if none is set in its own word and all words between are 0
 none_before : (words : List ℕ) (at i : ℕ) → get_or words (at / 64) 0 / 2 ^ (at % 64) ≡ 0
     → ((k : ℕ) → at / 64 + 1 ≤ k → k < i → get_or words k 0 ≡ 0) → (q : ℕ) → at ≤ q → q < 64 * i
     → bit_of words q ≡ false
-none_before words at i here between q from to =
-    elim (cases_lt (at / 64) (q / 64)) [
-      | inl later ↦ none_of_zero words q (between (q / 64) (omega arith) (omega arith))
-      | inr same ↦ none_in_word words (at / 64) (at % 64) q here (omega arith) (omega arith)
-    ]
+none_before words at i here between q from to = grind (arith, common_steps, cases_lt, none_of_zero, none_in_word)
 
 -- past the words, no bit is set
 pub none_past : (words : List ℕ) (k : ℕ) → length words ≤ k / 64 → bit_of words k ≡ false
@@ -175,11 +151,7 @@ later_found words at i before fits some here between =
 
 -- in words of zeros, no bit is set
 pub bit_of-zeros : (n k : ℕ) → bit_of (replicate n 0) k ≡ false
-bit_of-zeros n k =
-    elim (cases_lt (k / 64) n) [
-      | inl h ↦ none_of_zero (replicate n 0) k (get_or-replicate n (k / 64) 0 0 h)
-      | inr h ↦ none_past (replicate n 0) k (omega (arith, length-replicate {A = ℕ} n 0))
-    ]
+bit_of-zeros n k = grind (arith, common_steps, cases_lt, none_of_zero, get_or-replicate, none_past, length-replicate)
 
 -- words of ones, and as many ones in the last word as make `count`
 abbrev pub first_ones : ℕ → List ℕ
@@ -188,9 +160,7 @@ first_ones count = set (replicate (count / 64 + 1) (2 ^ 64 - 1)) (count / 64) (2
 module _ (count : ℕ) where
   -- the last word of first_ones has as many ones as `count` has past the last whole word
   last_word : get_or (first_ones count) (count / 64) 0 ≡ 2 ^ (count % 64) - 1
-  last_word =
-      get_or-set_same (replicate (count / 64 + 1) (2 ^ 64 - 1)) (count / 64) _ 0
-      (omega (arith, length-replicate (count / 64 + 1) (2 ^ 64 - 1)))
+  last_word = grind (arith, common_steps, get_or-set_same, length-replicate)
 
   -- in first_ones, each bit below `count` is set
   pub bit_of-ones : (k : ℕ) → k < count → bit_of (first_ones count) k ≡ true
@@ -211,12 +181,4 @@ module _ (count : ℕ) where
   pub bit_of-past_ones : (k : ℕ) → count ≤ k → bit_of (first_ones count) k ≡ false
   unfolding bit_of
   bit_of-past_ones k h =
-      elim (cases_eq (k / 64) (count / 64)) [
-        | inl e ↦ rw (e, last_word, bit_at_ones_above (count % 64) (k % 64) (omega arith)) refl
-        | inr ne ↦ none_past (first_ones count) k
-            (omega (
-              arith,
-              length-set (replicate (count / 64 + 1) (2 ^ 64 - 1)) (count / 64) (2 ^ (count % 64) - 1),
-              length-replicate (count / 64 + 1) (2 ^ 64 - 1),
-            ))
-      ]
+      grind (arith, common_steps, cases_eq, last_word, bit_at_ones_above, none_past, length-set, length-replicate)

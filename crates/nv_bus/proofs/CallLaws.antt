@@ -1,9 +1,8 @@
 -- The places of an entry's data.
-use Rattle.std.proofs.Common.{◌≡◌, ◌∙◌, ℕ, zero, suc, ◌%◌, ◌^◌, ◌<◌, ◌≤◌, ◌==◌, nat_lt, Bool, true, false}
+use Rattle.std.proofs.Common.{◌≡◌, ◌∙◌, ℕ, ◌%◌, ◌^◌, ◌<◌, ◌≤◌, ◌==◌, Bool, true, false}
 use Rattle.std.proofs.Common.{if◌then◌else◌, ap, refl, subst, sym, arith, lit<, lit≤, List, []}
-use Rattle.std.proofs.Common.{Option, None, Result, Ok, Err}
+use Rattle.std.proofs.Common.{Option, Result, Ok, Err}
 use Rattle.std.proofs.lemmas.Bool.Decides.{nat_tests}
-use Rattle.std.specs.Option.{option_or}
 use Rattle.nv_layout.specs.declared.sqe.Sqe.{Sqe}
 use Rattle.nv_command.specs.Decoding.{decoded_as, decoded_of, opcode_of, transfer_in, transfer_of}
 use Rattle.nv_command.specs.Form.{namespace_of}
@@ -23,34 +22,18 @@ use Rattle.nv_command.specs.declared.status_code.StatusCode.TheVariants.{Invalid
 use Rattle.nv_command.specs.declared.transfer.Transfer.{Transfer}
 use Rattle.nv_command.specs.declared.transfer.Transfer.TheVariants.{FromHost, NoData, ToHost}
 use Rattle.nv_prp.specs.Place.{LieIn, places}
-use Rattle.nv_prp.specs.Transfer.{IsLegal, PrpTransfer, fault_after_prp1, first_fault}
-use Rattle.nv_prp.specs.Transfer.{first_qword_fault, most_bytes, qword_fault, qwords, transfer_places}
+use Rattle.nv_prp.proofs.FaultLaws.{none_from_legal}
+use Rattle.nv_prp.specs.Transfer.{IsLegal, PrpTransfer, most_bytes, transfer_places}
 use Rattle.nv_prp.specs.declared.error.PrpError.{PrpError}
 use Rattle.nv_bus.specs.Call.{HasRoom, data_places, length_of, places_of, places_unless}
 use Rattle.nv_bus.specs.Call.{within}
-
--- if none of the first n qwords has a fault, there is no first qword fault
-no_qword_fault : (t : PrpTransfer) (n : ℕ) → ((k : ℕ) → k < n → qword_fault t k ≡ None)
-    → first_qword_fault t n ≡ None
-no_qword_fault t zero h = refl
-no_qword_fault t (suc n) h =
-    ap (λ (o : Option PrpError). option_or o (qword_fault t n))
-    (no_qword_fault t n (λ k b. h k (omega arith))) ∙ h n (omega arith)
-
--- a legal transfer has no first fault
-no_fault : (t : PrpTransfer) → IsLegal t → first_fault t ≡ None
-unfolding first_fault
-no_fault t l =
-    ap (λ (o : Option PrpError). option_or o (fault_after_prp1 t)) l.prp1
-    ∙ ap (λ (o : Option PrpError). option_or o (first_qword_fault t (qwords t))) l.prp2
-    ∙ no_qword_fault t (qwords t) l.list
 
 -- a legal transfer has the places of its bytes
 pub legal_places : (t : PrpTransfer) (at : List ℕ) → IsLegal t → at ≡ transfer_places t
     → places_of t ≡ Ok at
 unfolding places_of
 legal_places t at l e =
-    ap (λ (o : Option PrpError). places_unless o (transfer_places t)) (no_fault t l) ∙ ap Ok (sym e)
+    ap (λ (o : Option PrpError). places_unless o (transfer_places t)) (none_from_legal t l) ∙ ap Ok (sym e)
 
 -- an empty list of segments has no places
 pub places-nil : places [] ≡ []
@@ -160,23 +143,12 @@ room_within limit (FromHost n) low some few = some
 -- what the rule on the length accepts is no longer than the limit
 pub within_limit : (limit : ℕ) (asked t : Transfer) → within limit asked ≡ Ok t → (t ≡ asked)
     × (length_of t ≤ limit)
-within_limit limit asked t h = by_test (nat_lt limit (length_of asked)) refl h
-  where
-    by_test : (b : Bool) → nat_lt limit (length_of asked) ≡ b
-        → (if b then Err InvalidFieldInCommand else Ok asked) ≡ Ok t → (t ≡ asked)
-        × (length_of t ≤ limit)
-    by_test true is e = absurd (cc)
-    by_test false is e =
-        let same : t ≡ asked = sym (cc) in
-        let few : length_of asked ≤ limit = grind (arith, nat_tests, is) in
-        (same, subst (λ (m : Transfer). length_of m ≤ limit) (sym same) few)
+within_limit limit asked t h = grind (arith, nat_tests, h)
 
 -- what is no longer than the limit is accepted
 pub within_few : (limit : ℕ) (asked : Transfer) → length_of asked ≤ limit → within limit asked
     ≡ Ok asked
-within_few limit asked few =
-    let no : nat_lt limit (length_of asked) ≡ false = grind (arith, nat_tests) in
-    ap (λ b. if b then Err InvalidFieldInCommand else Ok asked) no
+within_few limit asked few = grind (arith, nat_tests)
 
 -- the transfer of an entry that the rule on its length accepts has a length that a data pointer can have
 pub has_room : (limit : ℕ) (e : Sqe) (asked t : Transfer) → limit ≤ most_bytes → transfer_of e ≡ Ok asked

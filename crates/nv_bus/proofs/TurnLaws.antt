@@ -2,7 +2,7 @@
 use Rattle.std.proofs.Common.{◌≡◌, ◌≢◌, ◌⊎◌, inl, inr, ◌∙◌, ℕ, zero, suc, ◌+◌, ◌-◌, ◌<◌, ◌≤◌, ◌==◌}
 use Rattle.std.proofs.Common.{◌&&◌, not, nat_le, Bool, true, false, ap, refl, subst, sym, arith}
 use Rattle.std.proofs.Common.{min, List, length, Result, Ok, Err}
-use Rattle.std.proofs.lemmas.Bool.{cases_eq, cases_lt}
+use Rattle.std.proofs.lemmas.Bool.{cases_eq, cases_lt, false_from_ne_true}
 use Rattle.std.proofs.lemmas.Bool.Decides.{nat_tests}
 use Rattle.nv_host.proofs.BytesLaws.{length-with_bytes}
 use Rattle.nv_layout.specs.Cqe.{bytes_of_cqe}
@@ -13,8 +13,7 @@ use Rattle.nv_command.specs.Reply.{data_of}
 use Rattle.nv_command.specs.declared.command.Command.{Command}
 use Rattle.nv_command.specs.declared.reply.Reply.{Reply}
 use Rattle.nv_command.specs.declared.status_code.StatusCode.{StatusCode}
-use Rattle.nv_queue.specs.Numbers.{IsWithinRing, distance, kept_number, next}
-use Rattle.nv_queue.proofs.KeptLaws.{kept_next}
+use Rattle.nv_queue.specs.Numbers.{IsWithinRing, distance, next}
 use Rattle.nv_queue.proofs.NumberLaws.{distance_after_next, distance_cases, distance_next, distance_none, slot_below}
 use Rattle.nv_queue.proofs.NumberLaws.{within_more, within_taken}
 use Rattle.nv_queue.specs.Rings.{fetched_one, posted_one}
@@ -71,11 +70,6 @@ reaches_by p q a b size e h i = grind (arith, nat_tests)
 -- if the test of reaching is true, the second end lies within the memory
 reaches_last : (p q a b size : ℕ) → ((p == q) && (nat_le a size && nat_le b size)) ≡ true → b ≤ size
 reaches_last p q a b size h = grind (arith, nat_tests)
-
--- what isn't true is false
-not_true : (b : Bool) → (b ≡ true → ⊥) → b ≡ false
-not_true true h = absurd (h refl)
-not_true false h = refl
 
 -- ---- both rings
 
@@ -242,7 +236,7 @@ turn_count_is page_size c most count old new fatal is turn =
     less.rings.lie (λ can. well (turn.stop.1 more can)) in (
       least most (waiting old.rings) (free_slots old.rings) count (waiting new.rings)
           (free_slots new.rings) turn.stop.0 less.rings.wait less.rings.free stop,
-      not_true fatal well,
+      false_from_ne_true fatal well,
     )
 
 -- ---- the rings after a turn
@@ -259,46 +253,6 @@ unfolding rings_after
 taken_rings zero page_size c old new same = ap (λ (x : Scene). x.rings) same
 taken_rings (suc k) page_size c old new taken =
     taken_rings k page_size c taken.0 new taken.2 ∙ ap (rings_after k) taken.1.one.rings
-
--- taking entries doesn't change the page size
-pub page_size_after : (k : ℕ) (r : Rings) → (rings_after k r).page_size ≡ r.page_size
-unfolding rings_after
-page_size_after zero r = refl
-page_size_after (suc k) r = page_size_after k (rings_one r)
-
--- if n entries were taken before, n + k are taken now
-pub submission_after : (k n : ℕ) (r : Rings) → r.submission.fetched
-    ≡ kept_number r.submission.depth n
-    → (rings_after k r).submission ≡ record r.submission {
-      fetched = kept_number r.submission.depth (n + k);
-    }
-unfolding rings_after
-submission_after zero n r h =
-    let d = r.submission.depth in
-    let same : n ≡ n + 0 = omega arith in
-    ap (λ x. record r.submission { fetched = x }) (h ∙ ap (kept_number d) same)
-submission_after (suc k) n r h =
-    let d = r.submission.depth in
-    let same : n + 1 + k ≡ n + suc k = omega arith in
-    submission_after k (n + 1) (rings_one r) (ap (next d) h ∙ kept_next d n)
-    ∙ ap (λ x. record r.submission { fetched = kept_number d x }) same
-
--- if n completions were posted before, n + k are posted now
-pub completion_after : (k n : ℕ) (r : Rings) → r.completion.posted
-    ≡ kept_number r.completion.depth n
-    → (rings_after k r).completion ≡ record r.completion {
-      posted = kept_number r.completion.depth (n + k);
-    }
-unfolding rings_after
-completion_after zero n r h =
-    let d = r.completion.depth in
-    let same : n ≡ n + 0 = omega arith in
-    ap (λ x. record r.completion { posted = x }) (h ∙ ap (kept_number d) same)
-completion_after (suc k) n r h =
-    let d = r.completion.depth in
-    let same : n + 1 + k ≡ n + suc k = omega arith in
-    completion_after k (n + 1) (rings_one r) (ap (next d) h ∙ kept_next d n)
-    ∙ ap (λ x. record r.completion { posted = kept_number d x }) same
 
 -- what a turn leaves of a ready controller whose rings lie in the memory
 pub record BankTakes (page_size most count : ℕ) (r : Rings) (old new : Site) : Type 0 where

@@ -1,5 +1,5 @@
 -- An entry fits its bits if its fields do.
-use Rattle.std.proofs.Common.{◌≡◌, ℕ, ◌<◌, ◌^◌, lit<}
+use Rattle.std.proofs.Common.{rules, ◌≡◌, ℕ, ◌<◌, ◌^◌}
 use Rattle.nv_layout.specs.Sqe.{SqeFits}
 use Rattle.nv_layout.specs.declared.sqe.Sqe.{Sqe}
 use Rattle.nv_command.specs.Entry.{entry_of, entry_with, with_pointer}
@@ -17,22 +17,7 @@ pub record FieldsFit (f : Fields) : Type 0 where
 -- an entry with fields, an NSID and a command identifier that fit is one that fits its bits
 pub entry_with_fits : (f : Fields) (nsid cid : ℕ) → FieldsFit f → nsid < 2 ^ 32 → cid < 2 ^ 16
     → SqeFits (entry_with f nsid cid)
-entry_with_fits f nsid cid fits n c = record {
-  opcode = fits.opcode;
-  fuse = lit< tt;
-  psdt = lit< tt;
-  cid = c;
-  nsid = n;
-  mptr = lit< tt;
-  prp1 = lit< tt;
-  prp2 = lit< tt;
-  cdw10 = fits.cdw10;
-  cdw11 = fits.cdw11;
-  cdw12 = fits.cdw12;
-  cdw13 = fits.cdw13;
-  cdw14 = lit< tt;
-  cdw15 = lit< tt;
-}
+entry_with_fits f nsid cid fits n c = search (rules, fits)
 
 -- wherever its data is stored, the entry of a command is decoded to that command
 abbrev pub IsDecoded : (Sqe → Command) → Command → Type 0

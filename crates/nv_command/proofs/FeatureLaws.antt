@@ -1,5 +1,5 @@
 -- Get Features and Set Features are read back from their entries.
-use Rattle.std.proofs.Common.{◌≡◌, ◌∙◌, ℕ, ◌+◌, ◌<◌, ◌^◌, ◌==◌, ap, lit<, arith}
+use Rattle.std.proofs.Common.{rules, ◌≡◌, ◌∙◌, ℕ, ◌+◌, ◌<◌, ◌^◌, ◌==◌, ap, arith}
 use Rattle.nv_layout.specs.Bits.{at_bits, bit, bits}
 use Rattle.nv_layout.proofs.RecordLaws.{bit_below, flag_back}
 use Rattle.nv_command.proofs.EntryLaws.{FieldsFit, IsDecoded}
@@ -12,23 +12,11 @@ use Rattle.nv_command.specs.declared.features.FeatureSetting.{FeatureSetting}
 
 -- the fields of the entry of a Get Features that fits fit their bits
 pub get_feature_fits : (q : FeatureQuery) → GetFeatureFits q → FieldsFit (get_feature_fields q)
-get_feature_fits q fits = record {
-  opcode = lit< tt;
-  cdw10 = omega arith;
-  cdw11 = fits.cdw11;
-  cdw12 = lit< tt;
-  cdw13 = lit< tt;
-}
+get_feature_fits q fits = search (rules, arith, fits)
 
 -- the fields of the entry of a Set Features that fits fit their bits
 pub set_feature_fits : (x : FeatureSetting) → SetFeatureFits x → FieldsFit (set_feature_fields x)
-set_feature_fits x fits = record {
-  opcode = lit< tt;
-  cdw10 = omega arith;
-  cdw11 = fits.value;
-  cdw12 = lit< tt;
-  cdw13 = lit< tt;
-}
+set_feature_fits x fits = search (rules, arith, fits)
 
 -- the bits of CDW10 of a Get, made of a feature identifier and a selector, are these two
 get_bits : (a b : ℕ) → a < 2 ^ 8 → b < 2 ^ 3

@@ -1,5 +1,5 @@
 -- What is asked of Format NVM arrives.
-use Rattle.std.proofs.Common.{◌≡◌, ◌∙◌, ℕ, ◌+◌, ◌<◌, ◌^◌, ◌==◌, ap, lit<, arith}
+use Rattle.std.proofs.Common.{rules, ◌≡◌, ◌∙◌, ℕ, ◌+◌, ◌<◌, ◌^◌, ◌==◌, ap, arith}
 use Rattle.nv_layout.specs.Bits.{at_bits, bit, bits}
 use Rattle.nv_layout.proofs.RecordLaws.{bit_below, flag_back}
 use Rattle.nv_command.proofs.EntryLaws.{FieldsFit, IsDecoded}
@@ -10,13 +10,7 @@ use Rattle.nv_command.specs.declared.format.NewFormat.{NewFormat}
 
 -- the fields of the entry of any Format NVM fit their bits
 pub format_fits : (f : NewFormat) → FieldsFit (format_fields f)
-format_fits f = record {
-  opcode = lit< tt;
-  cdw10 = omega arith;
-  cdw11 = lit< tt;
-  cdw12 = lit< tt;
-  cdw13 = lit< tt;
-}
+format_fits f = search (rules, arith)
 
 -- the bits of CDW10 of a Format NVM, made of its five fields, are the fields
 format_bits : (a b c d e : ℕ) → a < 2 ^ 4 → b < 2 → c < 2 ^ 3 → d < 2 → e < 2 ^ 3

@@ -1,7 +1,7 @@
 -- Get Log Page is read back from its entry, and so are logs from their bytes.
-use Rattle.std.proofs.Common.{◌≡◌, ◌∙◌, ℕ, zero, suc, ◌+◌, ◌-◌, ◌*◌, ◌/◌, ◌%◌, ◌<◌, ◌≤◌, ◌^◌, Bool}
-use Rattle.std.proofs.Common.{true, false, List, [], ◌∷◌, ◌++◌, ap, arith, drop, get_or, length}
-use Rattle.std.proofs.Common.{lit<, map, refl, replicate, sym, take}
+use Rattle.std.proofs.Common.{rules, ◌≡◌, ◌∙◌, ℕ, zero, suc, ◌+◌, ◌-◌, ◌*◌, ◌/◌, ◌%◌, ◌<◌, ◌≤◌, ◌^◌}
+use Rattle.std.proofs.Common.{List, [], ◌∷◌, ◌++◌, ap, arith, drop, get_or, length}
+use Rattle.std.proofs.Common.{map, refl, replicate, sym, take}
 use Rattle.std.specs.List.{AllByRecursion}
 use Rattle.std.specs.Simd.{first_chunks}
 use Rattle.std.proofs.lemmas.List.{drop-drop, get_or-take, length-append, length-map}
@@ -33,13 +33,7 @@ use Rattle.nv_command.specs.declared.reply.Reply.TheVariants as reply
 
 -- the fields of the entry of a Get Log Page that fits fit their bits
 pub get_log_fits : (q : LogQuery) → GetLogFits q → FieldsFit (get_log_fields q)
-get_log_fits q fits = record {
-  opcode = lit< tt;
-  cdw10 = omega arith;
-  cdw11 = omega arith;
-  cdw12 = omega arith;
-  cdw13 = omega (arith, fits.offset);
-}
+get_log_fits q fits = search (rules, arith, fits)
 
 -- the low byte of CDW10 of a Get Log Page is the log's identifier
 lid_back : (lid numd : ℕ) → lid < 2 ^ 8 → bits 0 8 (at_bits 0 8 lid + at_bits 16 16 numd) ≡ lid

@@ -1,6 +1,6 @@
 -- Namespace Management and Namespace Attachment are read back from their entries and data.
-use Rattle.std.proofs.Common.{◌≡◌, ℕ, ◌<◌, ◌^◌, Bool, true, false, List, Ok, ap}
-use Rattle.std.proofs.Common.{lit<, arith}
+use Rattle.std.proofs.Common.{rules, ◌≡◌, ℕ, ◌<◌, ◌^◌, Bool, List, Ok, ap}
+use Rattle.std.proofs.Common.{arith}
 use Rattle.nv_layout.specs.CtrlList.{bytes_of_ctrl_list}
 use Rattle.nv_layout.specs.NewNamespace.{NewNamespaceFits, bytes_of_new_namespace}
 use Rattle.nv_layout.specs.declared.new_namespace.NewNamespace.{NewNamespace}
@@ -13,20 +13,11 @@ use Rattle.nv_command.specs.declared.command.Command.TheVariants.{Create, Attach
 
 -- the fields of the entry of a Namespace Management with a select of four bits fit their bits
 pub management_fits : (select : ℕ) → select < 2 ^ 4 → FieldsFit (management_fields select)
-management_fits select h = record {
-  opcode = lit< tt;
-  cdw10 = omega (arith, h);
-  cdw11 = lit< tt;
-  cdw12 = lit< tt;
-  cdw13 = lit< tt;
-}
+management_fits select h = search (rules, arith)
 
 -- the fields of the entry of a Namespace Attachment fit their bits
 pub attachment_fits : (detach : Bool) → FieldsFit (attachment_fields detach)
-attachment_fits true =
-    record { opcode = lit< tt; cdw10 = lit< tt; cdw11 = lit< tt; cdw12 = lit< tt; cdw13 = lit< tt }
-attachment_fits false =
-    record { opcode = lit< tt; cdw10 = lit< tt; cdw11 = lit< tt; cdw12 = lit< tt; cdw13 = lit< tt }
+attachment_fits detach = search (rules, arith)
 
 -- a page from the host
 

@@ -18,33 +18,4 @@ by_row c sct sc some = record {
 pub is_refusal-refusal_by : (c : StatusCode) → IsRefusal (refusal_by c)
 is_refusal-refusal_by code.InvalidCommandOpcode =
     by_row code.InvalidCommandOpcode (lit< tt) (lit< tt) (lit< tt)
-is_refusal-refusal_by code.InvalidFieldInCommand =
-    by_row code.InvalidFieldInCommand (lit< tt) (lit< tt) (lit< tt)
-is_refusal-refusal_by code.DataTransferError =
-    by_row code.DataTransferError (lit< tt) (lit< tt) (lit< tt)
-is_refusal-refusal_by code.InvalidNamespaceOrFormat =
-    by_row code.InvalidNamespaceOrFormat (lit< tt) (lit< tt) (lit< tt)
-is_refusal-refusal_by code.PrpOffsetInvalid =
-    by_row code.PrpOffsetInvalid (lit< tt) (lit< tt) (lit< tt)
-is_refusal-refusal_by code.InvalidLogPage = by_row code.InvalidLogPage (lit< tt) (lit< tt) (lit< tt)
-is_refusal-refusal_by code.InvalidFormat = by_row code.InvalidFormat (lit< tt) (lit< tt) (lit< tt)
-is_refusal-refusal_by code.FeatureIdentifierNotSaveable =
-    by_row code.FeatureIdentifierNotSaveable (lit< tt) (lit< tt) (lit< tt)
-is_refusal-refusal_by code.FeatureNotChangeable =
-    by_row code.FeatureNotChangeable (lit< tt) (lit< tt) (lit< tt)
-is_refusal-refusal_by code.FeatureNotNamespaceSpecific =
-    by_row code.FeatureNotNamespaceSpecific (lit< tt) (lit< tt) (lit< tt)
-is_refusal-refusal_by code.NamespaceInsufficientCapacity =
-    by_row code.NamespaceInsufficientCapacity (lit< tt) (lit< tt) (lit< tt)
-is_refusal-refusal_by code.NamespaceIdentifierUnavailable =
-    by_row code.NamespaceIdentifierUnavailable (lit< tt) (lit< tt) (lit< tt)
-is_refusal-refusal_by code.NamespaceAlreadyAttached =
-    by_row code.NamespaceAlreadyAttached (lit< tt) (lit< tt) (lit< tt)
-is_refusal-refusal_by code.NamespaceIsPrivate =
-    by_row code.NamespaceIsPrivate (lit< tt) (lit< tt) (lit< tt)
-is_refusal-refusal_by code.NamespaceNotAttached =
-    by_row code.NamespaceNotAttached (lit< tt) (lit< tt) (lit< tt)
-is_refusal-refusal_by code.ThinProvisioningNotSupported =
-    by_row code.ThinProvisioningNotSupported (lit< tt) (lit< tt) (lit< tt)
-is_refusal-refusal_by code.ControllerListInvalid =
-    by_row code.ControllerListInvalid (lit< tt) (lit< tt) (lit< tt)
+is_refusal-refusal_by c = by_row c (lit< tt) (lit< tt) (lit< tt)

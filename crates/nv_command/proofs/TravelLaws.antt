@@ -31,60 +31,36 @@ use Rattle.nv_command.specs.declared.reply.Reply.{Reply}
 
 -- each command that fits arrives
 pub commands_travel : CommandsTravel
-commands_travel IdentifyController cid fits low = record {
-  fits = entry_with_fits _ 0 cid (identify_fits 0x01 (lit< tt)) (lit< tt) low;
-  transfer = λ p q. refl;
-  command = λ p q. refl;
-  sent = refl;
-}
-commands_travel (IdentifyNamespace n) cid fits low = record {
-  fits = entry_with_fits _ n cid (identify_fits 0x00 (lit< tt)) fits low;
-  transfer = λ p q. refl;
-  command = λ p q. refl;
-  sent = refl;
-}
-commands_travel (AllocatedNamespace n) cid fits low = record {
-  fits = entry_with_fits _ n cid (identify_fits 0x11 (lit< tt)) fits low;
-  transfer = λ p q. refl;
-  command = λ p q. refl;
-  sent = refl;
-}
-commands_travel (ActiveList n) cid fits low = record {
-  fits = entry_with_fits _ n cid (identify_fits 0x02 (lit< tt)) fits low;
-  transfer = λ p q. refl;
-  command = λ p q. refl;
-  sent = refl;
-}
-commands_travel (AllocatedList n) cid fits low = record {
-  fits = entry_with_fits _ n cid (identify_fits 0x10 (lit< tt)) fits low;
-  transfer = λ p q. refl;
-  command = λ p q. refl;
-  sent = refl;
-}
-commands_travel (Create w) cid fits low = record {
-  fits = entry_with_fits _ 0 cid (management_fits 0x0 (lit< tt)) (lit< tt) low;
-  transfer = λ p q. refl;
-  command = λ p q. create_back w fits;
-  sent = length-bytes_of_new_namespace w;
-}
-commands_travel (Delete n) cid fits low = record {
-  fits = entry_with_fits _ n cid (management_fits 0x1 (lit< tt)) fits low;
-  transfer = λ p q. refl;
-  command = λ p q. refl;
-  sent = refl;
-}
-commands_travel (Attachment n true ids) cid fits low = record {
-  fits = entry_with_fits _ n cid (attachment_fits true) fits.nsid low;
-  transfer = λ p q. refl;
-  command = λ p q. attachment_back true n ids fits;
-  sent = length-bytes_of_ctrl_list ids fits.list.count;
-}
-commands_travel (Attachment n false ids) cid fits low = record {
-  fits = entry_with_fits _ n cid (attachment_fits false) fits.nsid low;
-  transfer = λ p q. refl;
-  command = λ p q. attachment_back false n ids fits;
-  sent = length-bytes_of_ctrl_list ids fits.list.count;
-}
+commands_travel IdentifyController cid fits low =
+    assumption (entry_with_fits _ 0 cid (identify_fits 0x01 (lit< tt)) (lit< tt) low)
+commands_travel (IdentifyNamespace n) cid fits low =
+    assumption (entry_with_fits _ n cid (identify_fits 0x00 (lit< tt)) fits low)
+commands_travel (AllocatedNamespace n) cid fits low =
+    assumption (entry_with_fits _ n cid (identify_fits 0x11 (lit< tt)) fits low)
+commands_travel (ActiveList n) cid fits low =
+    assumption (entry_with_fits _ n cid (identify_fits 0x02 (lit< tt)) fits low)
+commands_travel (AllocatedList n) cid fits low =
+    assumption (entry_with_fits _ n cid (identify_fits 0x10 (lit< tt)) fits low)
+commands_travel (Create w) cid fits low =
+    assumption (
+      entry_with_fits _ 0 cid (management_fits 0x0 (lit< tt)) (lit< tt) low,
+      create_back w fits,
+      length-bytes_of_new_namespace w,
+    )
+commands_travel (Delete n) cid fits low =
+    assumption (entry_with_fits _ n cid (management_fits 0x1 (lit< tt)) fits low)
+commands_travel (Attachment n true ids) cid fits low =
+    assumption (
+      entry_with_fits _ n cid (attachment_fits true) fits.nsid low,
+      attachment_back true n ids fits,
+      length-bytes_of_ctrl_list ids fits.list.count,
+    )
+commands_travel (Attachment n false ids) cid fits low =
+    assumption (
+      entry_with_fits _ n cid (attachment_fits false) fits.nsid low,
+      attachment_back false n ids fits,
+      length-bytes_of_ctrl_list ids fits.list.count,
+    )
 commands_travel (Format f) cid fits low = record {
   fits = entry_with_fits _ f.nsid cid (format_fits f) fits.nsid low;
   transfer = λ p q. refl;

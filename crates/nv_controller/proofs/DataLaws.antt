@@ -1,14 +1,15 @@
 -- The data of replies.
-use Rattle.std.proofs.Common.{◌≡◌, ◌∙◌, ℕ, ◌+◌, ◌<◌, ◌≤◌, Bool, true, false, ap, arith, drop, refl, sym, take}
+use Rattle.std.proofs.Common.{◌≡◌, ◌∙◌, ℕ, ◌+◌, ◌<◌, ◌≤◌, Bool, true, false, ap, arith, drop, min, refl, sym, take}
 use Rattle.std.proofs.Common.{List, [], ◌∷◌, length}
 use Rattle.std.proofs.lemmas.List.{take_all}
 use Rattle.std.specs.Bool.{MatchBool}
 use Rattle.nv_layout.proofs.LogLaws.{length-bytes_of_smart, length-entries}
+use Rattle.nv_layout.proofs.PartLaws.{part_past}
+use Rattle.nv_layout.specs.Parts.{part}
 use Rattle.nv_prp.specs.Place.{written_at}
 use Rattle.nv_bus.specs.Call.{length_of}
-use Rattle.nv_command.proofs.TravelLaws.{replies_fit}
-use Rattle.nv_command.specs.Command.{bytes_to_host, transfer_by}
-use Rattle.nv_command.specs.Reply.{FitsRecord, IsReplyTo, data_of, log_of, page_of}
+use Rattle.nv_command.specs.Command.{bytes_to_host}
+use Rattle.nv_command.specs.Reply.{FitsRecord, data_of, log_of, page_of}
 use Rattle.nv_command.specs.declared.command.Command.{Command}
 use Rattle.nv_command.specs.declared.command.Command.TheVariants.{GetLog}
 use Rattle.nv_command.specs.declared.logs.LogQuery.{LogQuery}
@@ -32,12 +33,6 @@ page_data k r other = refl
 pub all_sent : (m : Transfer) (n : ℕ) → m ≡ ToHost n → bytes_to_host m ≡ length_of m
 all_sent m n is = ap bytes_to_host is ∙ sym (ap length_of is)
 
--- if the data of a command that reads no log is to the host, it is as long as the page of the reply
-pub page_length : (k : Command) (r : Reply) (n : ℕ) → transfer_by k ≡ ToHost n → IsReplyTo k r → FitsRecord r
-    → IsNoLog k → length_of (transfer_by k) ≡ length (page_of r)
-page_length k r n is reply fits other =
-    sym (all_sent (transfer_by k) n is) ∙ sym (replies_fit k r reply fits) ∙ ap length (page_data k r other)
-
 -- if the data isn't to the host, the controller sends no bytes
 pub none_sent : (m : Transfer) → ((n : ℕ) → m ≡ ToHost n → ⊥) → bytes_to_host m ≡ 0
 none_sent NoData other = refl
@@ -60,6 +55,15 @@ pub log_length : (r : Reply) → FitsRecord r → length (log_of r) ≤ 16384
 log_length (reply.Errors es) fits = omega (arith, length-entries es, fits.count)
 log_length (reply.Smart r) fits = omega (arith, length-bytes_of_smart r fits.sensor_count)
 log_length r fits = omega arith
+
+-- past the end of a log, all parts of the same length are equal
+pub part_least : (bytes : List ℕ) (from at most n : ℕ) → length bytes ≤ most
+    → part bytes (min from most + min at most) n ≡ part bytes (from + at) n
+part_least bytes from at most n short =
+    let same : min (min from most + min at most) (length bytes) ≡ min (from + at) (length bytes) = omega arith in
+    sym (part_past bytes (min from most + min at most) n)
+    ∙ ap (λ k. part bytes k n) same
+    ∙ part_past bytes (from + at) n
 
 -- ---- nothing
 

@@ -26,7 +26,6 @@ use Rattle.nv_model.specs.Conditions.{limit_of}
 use Rattle.nv_bus.proofs.TagLaws.{dword0_tagged, tagged}
 use Rattle.nv_bus.specs.Entry.{Moves, MovesBy, One, Scene, call_in, completion_in, completion_with, entry_in}
 use Rattle.nv_bus.specs.Entry.{exchange_in, next_step, step_unless, success, told_by}
-use Rattle.nv_bus.specs.declared.exchange.Exchange.{Exchange}
 use Rattle.nv_controller.specs.Tags.{answered_unless, next_scene, settled_unless, untagged_scene}
 use Rattle.nv_subsystem.proofs.AnswerLaws.{accepted_answer}
 use Rattle.nv_subsystem.proofs.TaggedLaws.{refusal_untagged, reply_untagged, untagged_keeps}

@@ -1,4 +1,3 @@
-pub mod LogLaws
 pub mod EntryLaws
 pub mod TurnLaws
 pub mod DataLaws

@@ -1,9 +1,8 @@
 //! Executes a command, and writes the data of its reply to the host's memory.
 
-ghost use Rattle.std.specs.Prelude.{◌≡◌, ◌*◌, ◌<◌, ◌≤◌, length};
-ghost use Rattle.nv_layout.specs.Parts.{part};
+ghost use Rattle.std.specs.Prelude.{◌≡◌, ◌<◌, ◌≤◌, length};
 ghost use Rattle.nv_command.specs.Command.{transfer_by};
-ghost use Rattle.nv_command.specs.Reply.{FitsRecord, IsReplyTo, data_of, log_of};
+ghost use Rattle.nv_command.specs.Reply.{FitsRecord, IsReplyTo, data_of};
 ghost use Rattle.nv_prp.specs.Place.{LieIn, places, written_at};
 ghost use Rattle.nv_prp.specs.Transfer.{most_bytes};
 ghost use Rattle.nv_model.specs.Meaning.{refusal_of};
@@ -14,41 +13,17 @@ ghost use Rattle.nv_bus.specs.Entry.{Moves, told_by};
 ghost use Rattle.nv_controller.specs.Tags.{answered_with};
 ghost use Rattle.nv_subsystem.specs.Tagged.{settled, untagged};
 
-use crate::log_part::LogPart;
-use crate::reply_page::ReplyPage;
+use crate::reply_data::ReplyData;
 use crate::scratch::EntryData;
 use nv_bus::Told;
-use nv_command::{Command, LogQuery, Reply, Transfer};
+use nv_command::{Command, Reply, Transfer};
 use nv_host::PagedMemory;
 use nv_layout::Status;
 use nv_prp::{Spans, write_out};
 use nv_subsystem::{Origin, Subsystem, dword0};
 
-/// The greatest length of a log in bytes: 256 entries of 64 bytes.
-const LONGEST_LOG: u64 = 16_384;
-
-/// Writes the part of a log that is asked for to the spans, span by span.
-fn deliver_log<M: PagedMemory>(mem: &mut M, asked: LogQuery, log: &Reply, spans: &Spans)
-    requires inside { LieIn (length (M.bytes mem.old)) spans.now }
-    requires len { length (places spans.now) ≡ 4 * asked.dwords }
-    requires short { length (log_of log.now) ≤ 16384 }
-    requires few { length (places spans.now) ≤ most_bytes }
-    ensures bytes { M.bytes mem.new ≡ written_at (M.bytes mem.old) (places spans.now)
-        (part (log_of log.now) asked.offset (4 * asked.dwords)) }
-    ensures len { length (M.bytes mem.new) ≡ length (M.bytes mem.old) }
-    ensures page_len { M.page_len mem.new ≡ M.page_len mem.old }
-{
-    // There are zeros past the log's end, wherever the part begins.
-    let from = asked.offset.min(LONGEST_LOG) as usize;
-    let part = LogPart {
-        log,
-        from,
-        len: asked.dwords.bytes() as usize,
-    };
-    write_out(mem, spans, &part);
-}
-
 /// Writes the data of the reply to a command to where the entry's data lies, if it has any.
+#[tactic(auto, using(crate::proofs::DataLaws::log_length))]
 fn deliver<M: PagedMemory>(
     mem: &mut M,
     command: &Command,
@@ -67,15 +42,9 @@ fn deliver<M: PagedMemory>(
     ensures len { length (M.bytes mem.new) ≡ length (M.bytes mem.old) }
     ensures page_len { M.page_len mem.new ≡ M.page_len mem.old }
 {
-    if let Command::GetLog(asked) = command {
-        deliver_log(mem, *asked, reply, spans);
-        return;
+    if let Transfer::ToHost(_) = transfer {
+        write_out(mem, spans, &ReplyData { command, reply });
     }
-    let Transfer::ToHost(_) = transfer else {
-        return;
-    };
-    let page = ReplyPage { reply };
-    write_out(mem, spans, &page);
 }
 
 /// Executes a command: writes the data of its reply, and then makes its changes.

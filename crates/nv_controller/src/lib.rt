@@ -48,9 +48,8 @@
 
 mod deliver;
 mod entry;
-mod log_part;
 mod machine;
-mod reply_page;
+mod reply_data;
 mod scratch;
 
 pub use machine::Machine;

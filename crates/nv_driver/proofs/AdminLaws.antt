@@ -1,6 +1,6 @@
 -- Commands and resets of a driver, over the queue pairs of its controllers.
 use Rattle.std.proofs.Common.{◌≡◌, ◌≢◌, ◌∙◌, ◌⊎◌, ℕ, ◌+◌, ◌-◌, ◌*◌, ◌<◌, ◌≤◌, List, ap, arith, get_or, inl, inr, length}
-use Rattle.std.proofs.Common.{[], map, refl, subst, sym}
+use Rattle.std.proofs.Common.{map, refl, subst, sym}
 use Rattle.std.proofs.Math.ListN.{length-set}
 use Rattle.std.proofs.lemmas.List.{get_or-set_other, map-set}
 use Rattle.std.proofs.lemmas.List.Elements.{All-set}
@@ -11,13 +11,12 @@ use Rattle.nv_driver.proofs.Words.{IsQuiet, IsReady, KeepsBelow, PagedBytes, Que
 use Rattle.nv_driver.proofs.Words.{bank_at, cases_eq, cases_lt, driver_value, end_of, get_or-map, get_or-set_same}
 use Rattle.nv_driver.proofs.Words.{get_or_default, idle_bank, length-map, mps_of, mul-le-mul_right, new_bank}
 use Rattle.nv_driver.proofs.Words.{pair_value, side, slice_set}
-use Rattle.nv_driver.specs.BringingUp.{BusTurn, TailWrite, Write}
-use Rattle.nv_driver.specs.Driver.{IsPlaced, after_commands, pair_at, no_pair}
-use Rattle.nv_driver.specs.Passing.{GoesAlone, Passes}
-use Rattle.nv_driver.specs.Sending.{Sends, SendsAll}
-use Rattle.nv_driver.proofs.Words.{Command, Sqe, World, run_of}
+use Rattle.nv_driver.specs.Driver.{IsPlaced, after_commands, page_count, pages_behind, pair_at, no_pair}
+use Rattle.nv_host.specs.PageSets.{Pages}
+use Rattle.nv_driver.specs.Sending.{GoesOver}
+use Rattle.nv_driver.proofs.Words.{World}
 use Rattle.nv_driver.specs.Linked.{IsLinked}
-use Rattle.nv_driver.specs.Layout.{pages_of, pages_of_command, set_pages}
+use Rattle.nv_driver.specs.Layout.{pages_of_command, set_pages}
 use Rattle.nv_driver.specs.Registers.{banks_of}
 use Rattle.nv_driver.specs.Settled.{IsSettled}
 use Rattle.nv_driver.specs.inner.Exchange.{Side}
@@ -35,8 +34,8 @@ pub value_at : (ls : List QueuePairFields) (c : ℕ) (d : QueuePairFields) (e : 
 value_at ls c d e below = get_or-map pair_value ls c d e below
 
 -- a driver, its value, and the queue pair of a controller
-module _ {g : Geometry} {mem : PagedBytes} {ls : List QueuePairFields} {d : DriverValue} {c : ℕ} {l : QueuePairFields}
-    (is : IsDriver g mem ls) (value : driver_value g mem ls ≡ d) (ctrl : c < length d.pairs)
+module _ {g : Geometry} {mem : PagedBytes} {more : Pages} {ls : List QueuePairFields} {d : DriverValue} {c : ℕ} {l : QueuePairFields}
+    (is : IsDriver g mem ls more) (value : driver_value g mem ls ≡ d) (ctrl : c < length d.pairs)
     (here : l ≡ get_or ls c l) where
   -- controller c has a queue pair among the driver's
   pub below : c < length ls
@@ -64,37 +63,16 @@ module _ {g : Geometry} {mem : PagedBytes} {ls : List QueuePairFields} {d : Driv
   pub shape_at : l.geometry ≡ g
   shape_at = ap (λ (v : QueuePair). v.geometry) placed_at
 
-  -- commands that were sent over the queue pair were sent over the driver's
-  pub sends_by : {B : Type 0} {wrote : Write B} {rang : TailWrite B} {turned : BusTurn B} {b : BusValue}
-      {bytes : List ℕ}
-      {commands : List Command} {old new : B} {last : World} → IsQuiet l
-      → SendsAll wrote rang turned (run_of l.geometry c b l bytes commands) old new last
-      → Sends wrote rang turned d c commands b old new
-  sends_by {wrote = wrote} {rang} {turned} {b} {bytes} {commands} {old} {new} {last} quiet steps = record {
+  -- what went over the queue pair went over the driver's
+  pub goes_over : {bytes : List ℕ} {last : World} (goes : Geometry → QueuePairFields → List ℕ → World → Type 0)
+      → IsQuiet l → goes l.geometry l bytes last → GoesOver d c (goes d.geometry)
+  goes_over {bytes} {last} goes quiet steps = record {
     pair = l;
     bytes = bytes;
     last = last;
     quiet = quiet;
     own = sym pair_is;
-    steps = subst (λ q. SendsAll wrote rang turned (run_of q c b l bytes commands) old new last)
-        (shape_at ∙ ap (λ (v : DriverValue). v.geometry) value) steps;
-  }
-
-  -- an entry that went over the queue pair on its own was passed through by the driver
-  pub passes_by : {B : Type 0} {wrote : Write B} {rang : TailWrite B} {turned : BusTurn B} {b : BusValue}
-      {bytes : List ℕ} {e : Sqe} {given : List ℕ} {first : ℕ} {old new : B} → IsQuiet l
-      → first ≡ pages_of d.geometry (length d.pairs)
-      → (last : World) × GoesAlone wrote rang turned (run_of l.geometry c b l bytes []) e given first old new last
-      → Passes wrote rang turned d c e given b old new
-  passes_by {wrote = wrote} {rang} {turned} {b} {bytes} {e} {given} {first} {old} {new} quiet begin went = record {
-    pair = l;
-    bytes = bytes;
-    last = went.0;
-    quiet = quiet;
-    own = sym pair_is;
-    steps = subst (λ n. GoesAlone wrote rang turned (run_of d.geometry c b l bytes []) e given n old new went.0) begin
-        (subst (λ q. GoesAlone wrote rang turned (run_of q c b l bytes []) e given first old new went.0)
-        (shape_at ∙ ap (λ (v : DriverValue). v.geometry) value) went.1);
+    steps = subst (λ q. goes q l bytes last) (shape_at ∙ ap (λ (v : DriverValue). v.geometry) value) steps;
   }
 
   -- what a call leaves by the queue pair's geometry is left by the driver's
@@ -114,7 +92,6 @@ module _ {g : Geometry} {mem : PagedBytes} {ls : List QueuePairFields} {d : Driv
         shape = shape_at;
         page_size = is.page_size;
         depth = ap (λ (v : QueuePair). v.depth) placed_at;
-        room = ap (λ (v : QueuePair). v.page_count) placed_at ∙ set_room g;
         quiet = subst IsQuiet (sym here) (is.quiet c l below);
         laid = rw (is.page_size, at) at (is.settled.laid c no_pair (omega arith));
         tags = rw at at (is.settled.tags c no_pair (omega arith));
@@ -127,6 +104,10 @@ module _ {g : Geometry} {mem : PagedBytes} {ls : List QueuePairFields} {d : Driv
   -- the controller is also ready by the geometry of the queue pair
   pub ready_by : {b : BusValue} → IsLinked b d → IsReady l.geometry b c l mem.page_size mem.bytes
   ready_by {b} linked = subst (λ q. IsReady q b c l mem.page_size mem.bytes) (sym shape_at) (ready_at linked)
+
+  -- its pages are those of each command of the window
+  pub room_by : l.pages.count ≡ l.geometry.window * pages_of_command l.geometry.page_size
+  room_by = rw shape_at (ap (λ (v : QueuePair). v.page_count) placed_at ∙ set_room g)
 
 -- ---- after the command
 
@@ -196,8 +177,8 @@ settled_after end page_size old new vs c v u s below here size keeps ends laid t
         (rw (same_one d) (sq, rw (first, count) refl)) i d h
 
 -- what is left of a driver, of which a queue pair's number and next command identifier change
-module _ {g : Geometry} {mem new : PagedBytes} {ls : List QueuePairFields} {d : DriverValue} {b b' : BusValue} {c : ℕ}
-    {l l' : QueuePairFields} {n next_cid end : ℕ} (is : IsDriver g mem ls) (value : driver_value g mem ls ≡ d)
+module _ {g : Geometry} {mem new : PagedBytes} {more : Pages} {ls : List QueuePairFields} {d : DriverValue} {b b' : BusValue} {c : ℕ}
+    {l l' : QueuePairFields} {n next_cid end : ℕ} (is : IsDriver g mem ls more) (value : driver_value g mem ls ≡ d)
     (ctrl : c < length d.pairs) (here : l ≡ get_or ls c l)
     (left : IsLeft g c end (record (pair_value l) { number = n; next_cid = next_cid })
     (side b l mem.page_size mem.bytes) (side b' l' new.page_size new.bytes)) where
@@ -207,7 +188,7 @@ module _ {g : Geometry} {mem new : PagedBytes} {ls : List QueuePairFields} {d : 
 
   -- after a command of controller c, the driver is still one
   pub driver_after : ((i : ℕ) (e : QueuePair) → i < length ls
-      → end_of g.page_size (get_or (map pair_value ls) i e) ≤ end) → IsDriver g new (slice_set ls c l')
+      → end_of g.page_size (get_or (map pair_value ls) i e) ≤ end) → IsDriver g new (slice_set ls c l') more
   driver_after ends =
       let many = length-map ls pair_value in
       let vs = map pair_value ls in
@@ -227,6 +208,8 @@ module _ {g : Geometry} {mem new : PagedBytes} {ls : List QueuePairFields} {d : 
             (omega arith)) (subst (IsPlaced g c) (sym left.pair)
             (stays_placed (pair_value l) (placed_at is value ctrl here))) i e
             (let longer = length-set ls c l' in let values = length-set vs c (pair_value l') in omega arith));
+        more = is.more ∙ ap (λ n. pages_behind g n (page_count mem)) (sym (length-set ls c l'))
+            ∙ rw (left.len, left.page) refl;
         settled = subst (IsSettled new.page_size new.bytes) (sym change)
             (settled_after end new.page_size mem.bytes new.bytes vs c (pair_value l) (pair_value l')
             (rw (left.page) is.settled) (omega arith) own left.len (rw page left.others)
@@ -254,7 +237,7 @@ module _ {g : Geometry} {mem new : PagedBytes} {ls : List QueuePairFields} {d : 
       (ap (λ (v : DriverValue). record v { pairs = slice_set v.pairs c (f (pair_at v.pairs c)) }) value)
 
 -- each queue pair of a driver ends within the memory
-pub ends_inside : {g : Geometry} {mem : PagedBytes} {ls : List QueuePairFields} → IsDriver g mem ls → (i : ℕ)
+pub ends_inside : {g : Geometry} {mem : PagedBytes} {more : Pages} {ls : List QueuePairFields} → IsDriver g mem ls more → (i : ℕ)
     (e : QueuePair) → i < length ls → end_of g.page_size (get_or (map pair_value ls) i e) ≤ length mem.bytes
 ends_inside {ls = ls} is i e h =
     let many = length-map ls pair_value in (rw is.page_size at (is.settled.laid i e (omega arith))).inside

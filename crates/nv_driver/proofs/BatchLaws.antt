@@ -1,14 +1,14 @@
--- Commands one at a time: their answers, the state after them, and those of a list of commands.
+-- Requests one at a time: their answers, the state after them, and those of a list of requests.
 use Rattle.std.proofs.Common.{◌≡◌, ◌∙◌, ℕ, zero, suc, ◌+◌, ◌<◌, List, [], ◌∷◌, ◌++◌, add-one, ap, arith, get_or, length}
 use Rattle.std.proofs.Common.{map, refl, take, ◌%◌, ◌≤◌, sym}
 use Rattle.std.proofs.lemmas.List.{take-map, take-take}
-use Rattle.nv_driver.proofs.Words.{Answer, Command, Sent, State, answers_to, length-map, mod_below, cid_after}
+use Rattle.nv_driver.proofs.Words.{Answer, Request, Sent, State, answers_to, length-map, mod_below, cid_after}
 use Rattle.nv_driver.proofs.Words.{numbered, step_of}
 use Rattle.nv_driver.specs.Request.{received_as}
 use Rattle.nv_driver.specs.Schedule.{Numbered, after, answers_of_all, state_after_all, step_after}
-use Rattle.nv_driver.specs.Batch.{answers_of, from_cid, numbered_command, state_after}
+use Rattle.nv_driver.specs.Batch.{from_cid, numbered_request}
 
--- ---- commands that were sent
+-- ---- requests that were sent
 
 -- there are as many answers as numbered requests
 pub length-answers_of_all : (c : ℕ) (s : State) (xs : List Numbered) → length (answers_of_all c s xs) ≡ length xs
@@ -54,30 +54,30 @@ answer_at c s (x ∷ xs) (suc n) d e h = answer_at c (step_of c s (numbered x)).
 pub cid_next : (next_cid n : ℕ) → cid_after ((next_cid + n) % 65535) ≡ (next_cid + (n + 1)) % 65535
 cid_next next_cid n = omega arith
 
--- ---- the commands of a schedule
+-- ---- the requests of a run
 
--- element n of the numbered commands is command n with the command identifier that is n further
-pub command_at : (next_cid n : ℕ) (ks : List Command) (d : Numbered) (e : Command) → next_cid < 65535 → n < length ks
-    → get_or (from_cid next_cid ks) n d ≡ numbered_command (get_or ks n e) ((next_cid + n) % 65535)
-command_at next_cid n [] d e below inside = absurd (omega arith)
-command_at next_cid zero (k ∷ ks) d e below inside =
-    let first : next_cid ≡ (next_cid + 0) % 65535 = omega arith in ap (numbered_command k) first
-command_at next_cid (suc n) (k ∷ ks) d e below inside =
+-- element n of the numbered requests is request n with the command identifier that is n further
+pub request_at : (next_cid n : ℕ) (qs : List Request) (d : Numbered) (e : Request) → next_cid < 65535 → n < length qs
+    → get_or (from_cid next_cid qs) n d ≡ numbered_request (get_or qs n e) ((next_cid + n) % 65535)
+request_at next_cid n [] d e below inside = absurd (omega arith)
+request_at next_cid zero (q ∷ qs) d e below inside =
+    let first : next_cid ≡ (next_cid + 0) % 65535 = omega arith in ap (numbered_request q) first
+request_at next_cid (suc n) (q ∷ qs) d e below inside =
     let same : (cid_after next_cid + n) % 65535 ≡ (next_cid + suc n) % 65535 = omega arith in
-    command_at (cid_after next_cid) n ks d e (mod_below (next_cid + 1) 65535 (omega arith)) (omega arith)
-    ∙ ap (numbered_command (get_or ks n e)) same
+    request_at (cid_after next_cid) n qs d e (mod_below (next_cid + 1) 65535 (omega arith)) (omega arith)
+    ∙ ap (numbered_request (get_or qs n e)) same
 
--- there are as many numbered commands as commands
-pub length-from_cid : (next_cid : ℕ) (ks : List Command) → length (from_cid next_cid ks) ≡ length ks
+-- there are as many numbered requests as requests
+pub length-from_cid : (next_cid : ℕ) (qs : List Request) → length (from_cid next_cid qs) ≡ length qs
 length-from_cid next_cid [] = refl
-length-from_cid next_cid (k ∷ ks) = ap suc (length-from_cid (cid_after next_cid) ks)
+length-from_cid next_cid (q ∷ qs) = ap suc (length-from_cid (cid_after next_cid) qs)
 
--- the first n numbered commands are the first n commands, numbered
-take-from_cid : (n next_cid : ℕ) (ks : List Command) → take n (from_cid next_cid ks) ≡ from_cid next_cid (take n ks)
-take-from_cid zero next_cid ks = refl
+-- the first n numbered requests are the first n requests, numbered
+take-from_cid : (n next_cid : ℕ) (qs : List Request) → take n (from_cid next_cid qs) ≡ from_cid next_cid (take n qs)
+take-from_cid zero next_cid qs = refl
 take-from_cid (suc n) next_cid [] = refl
-take-from_cid (suc n) next_cid (k ∷ ks) =
-    ap (λ xs. numbered_command k next_cid ∷ xs) (take-from_cid n (cid_after next_cid) ks)
+take-from_cid (suc n) next_cid (q ∷ qs) =
+    ap (λ xs. numbered_request q next_cid ∷ xs) (take-from_cid n (cid_after next_cid) qs)
 
 -- the first n answers are the answers to the first n requests
 take-answers : (n c : ℕ) (s : State) (xs : List Numbered)
@@ -87,21 +87,22 @@ take-answers (suc n) c s [] = refl
 take-answers (suc n) c s (x ∷ xs) =
     ap (λ ys. received_as x.asked (step_of c s x).answer ∷ ys) (take-answers n c (step_of c s x).state xs)
 
--- the requests are the first m of a list
-module _ (next_cid : ℕ) (ks : List Command) (xs : List Sent) (m : ℕ)
-    (are : map numbered xs ≡ take m (from_cid next_cid ks)) where
-  -- the first n requests are the first n commands of the list
-  first_are : (n : ℕ) → n ≤ m → take n (map numbered xs) ≡ take n (from_cid next_cid ks)
-  first_are n few = ap (take n) are ∙ take-take n m (from_cid next_cid ks) few
+-- the requests that were sent are the first m of a list
+module _ (next_cid : ℕ) (qs : List Request) (xs : List Sent) (m : ℕ)
+    (are : map numbered xs ≡ take m (from_cid next_cid qs)) where
+  -- the first n that were sent are the first n of the list
+  first_are : (n : ℕ) → n ≤ m → take n (map numbered xs) ≡ take n (from_cid next_cid qs)
+  first_are n few = ap (take n) are ∙ take-take n m (from_cid next_cid qs) few
 
-  -- the first n requests leave the same state as the first n commands
-  pub state_is : (c : ℕ) (s : State) (n : ℕ) → n ≤ m → after c s (take n xs) ≡ state_after c s next_cid (take n ks)
+  -- they leave the same state
+  pub state_is : (c : ℕ) (s : State) (n : ℕ) → n ≤ m
+      → after c s (take n xs) ≡ state_after_all c s (from_cid next_cid (take n qs))
   state_is c s n few =
-      ap (state_after_all c s) (sym (take-map numbered n xs) ∙ first_are n few ∙ take-from_cid n next_cid ks)
+      ap (state_after_all c s) (sym (take-map numbered n xs) ∙ first_are n few ∙ take-from_cid n next_cid qs)
 
-  -- the first n answers to the requests are the first n answers to the commands
+  -- they get the same answers
   pub answers_are : (c : ℕ) (s : State) (n : ℕ) → n ≤ m
-      → take n (answers_to c s xs) ≡ take n (answers_of c s next_cid ks)
+      → take n (answers_to c s xs) ≡ take n (answers_of_all c s (from_cid next_cid qs))
   answers_are c s n few =
       take-answers n c s (map numbered xs) ∙ ap (answers_of_all c s) (first_are n few)
-      ∙ sym (take-answers n c s (from_cid next_cid ks))
+      ∙ sym (take-answers n c s (from_cid next_cid qs))

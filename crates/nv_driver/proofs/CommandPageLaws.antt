@@ -1,8 +1,6 @@
 -- The pages of a command, as `build` requires them.
-use Rattle.std.proofs.Common.{◌≡◌, ◌∙◌, ℕ, ◌+◌, ◌*◌, ◌<◌, ◌≤◌, All, List, [], ◌∷◌, ap, arith, drop}
+use Rattle.std.proofs.Common.{◌≡◌, ◌∙◌, ℕ, ◌+◌, ◌*◌, ◌≤◌, All, List, [], ◌∷◌, ap, arith, drop}
 use Rattle.std.proofs.Common.{get_or, length, length-drop, length-take, refl, subst, suc, sym}
-use Rattle.std.proofs.lemmas.List.FromFn.{get_or-range_with_len, length-range_with_len}
-use Rattle.std.specs.List.{range_with_len}
 use Rattle.std.specs.Prelude.{slice_index}
 use Rattle.nv_host.specs.Pages.{HasPage}
 use Rattle.nv_host.specs.PageSets.{IsOf, Pages}
@@ -13,11 +11,10 @@ use Rattle.nv_driver.specs.Layout.{data_count}
 use Rattle.nv_driver.specs.Submitting.{place_in}
 use Rattle.nv_driver.specs.UnderWay.{LiesInPages, Run}
 use Rattle.nv_driver.proofs.ShareLaws.{data_fits}
-use Rattle.nv_driver.proofs.SubmittingLaws.{AreFrom}
 
 -- how many pages a command has
-pub all_count : (o : CommandPages) → length o.numbers ≡ 7 → o.count ≤ 7 → length (all_pages o) ≡ o.count
-all_count o seven few = let h = length-take o.count o.numbers in omega (arith, h, few, seven)
+pub all_count : (o : CommandPages) → o.count ≤ length o.numbers → length (all_pages o) ≡ o.count
+all_count o few = let h = length-take o.count o.numbers in omega (arith, h, few)
 
 -- the first two, and the rest
 pub first_two : (pages : List ℕ) → 2 ≤ length pages
@@ -27,7 +24,7 @@ first_two (a ∷ []) h = absurd (omega arith)
 first_two (a ∷ b ∷ rest) h = refl
 
 -- the pages of a command that was sent
-pub own_is : {r : Run} {x : Sent} (k : LiesInPages r x) → own_pages x ≡ k.pages
+pub own_is : {r : Run} {n : ℕ} {x : Sent} (k : LiesInPages r n x) → own_pages x ≡ k.pages
 own_is k = ap own_pages k.sent ∙ first_two k.pages (omega (arith, k.many))
 
 -- a page of a set lies in a memory that has all pages of the set
@@ -64,28 +61,3 @@ place_of_set g s pages bytes page_size len is page inside own distinct many =
       };
       distinct = subst AreDistinct two distinct;
     })
-
--- data and a list fit in all pages of a set that lies in the memory
-pub place_of_range : (g : Geometry) (s : Pages) (bytes : List ℕ) (page_size len : ℕ) → IsGeometry g
-    → page_size ≡ g.page_size → (s.first + s.count) * g.page_size ≤ length bytes → s.count ≡ data_count g len + 2
-    → IsPlaceFor bytes page_size (place_in g (range_with_len s.first s.count)) len
-place_of_range g s bytes page_size len is page inside many =
-    let long = length-range_with_len s.first s.count in
-    let at = get_or-range_with_len s.first s.count in
-    place_of_set g s (range_with_len s.first s.count) bytes page_size len is page inside
-    (λ i d h. let same = at i d (omega (arith, h, long)) in (omega (arith, same), omega (arith, same, h, long)))
-    (λ i j d before h same. absurd (omega (
-      arith,
-      at i d (omega (arith, before, h, long)),
-      at j d (omega (arith, h, long)),
-      same,
-      before,
-    ))) (long ∙ many)
-
--- no page of such a place comes before the first one
-pub from_first : (g : Geometry) (first n : ℕ) → AreFrom first (place_in g (range_with_len first (n + 2)))
-from_first g first n i d h =
-    let long = length-range_with_len first (n + 2) in
-    let same = first_two (range_with_len first (n + 2)) (omega (arith, long)) in
-    let below : i < n + 2 = omega (arith, h, ap (λ (xs : List ℕ). length xs) same, long) in
-    omega (arith, ap (λ xs. get_or xs i d) same, get_or-range_with_len first (n + 2) i d below)

@@ -1,6 +1,6 @@
 -- The data of a command: none, a page from the host, or up to 16,384 bytes from the controller.
 use Rattle.std.proofs.Common.{◌≡◌, ◌∙◌, ◌*◌, ◌<◌, ◌≤◌, ℕ, true, List, [], ◌∷◌, ◌++◌, ap, append-nil, arith}
-use Rattle.std.proofs.Common.{◌+◌, drop, get_or, length, length-drop, lit<, lit≤, refl, subst, sym, take}
+use Rattle.std.proofs.Common.{◌+◌, drop, get_or, length, length-drop, lit<, lit≤, refl, sym, take}
 use Rattle.std.proofs.lemmas.List.{drop-append-le, take-append-le, take_all}
 use Rattle.nv_prp.specs.Place.{read_at, written_at}
 use Rattle.nv_prp.proofs.PlaceLaws.{read_written}
@@ -42,10 +42,6 @@ shape (GetLog q) sends = log_shape (log_asked q.lid) q.offset q.dwords sends
 shape k sends = by_page (transfer_by k) refl
 
 -- ---- in general
-
--- the transfer of a command whose reply can be read has such a shape
-pub shape_as : (k : Command) (m : Transfer) → IsSendable k → m ≡ transfer_by k → HasShape m
-shape_as k m sends e = subst HasShape (sym e) (shape k sends)
 
 -- data of such a shape has at most 16,384 bytes
 pub most : (m : Transfer) → HasShape m → length_of m ≤ 16384

@@ -8,6 +8,7 @@ pub mod SubmittingLaws
 pub mod QuietLaws
 pub mod UnderWayLaws
 pub mod RoundLaws
+pub mod EndLaws
 pub mod AdminLaws
 pub mod PassthroughLaws
 pub mod LinkedLaws

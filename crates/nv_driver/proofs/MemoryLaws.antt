@@ -11,7 +11,10 @@ use Rattle.nv_driver.proofs.Words.{Geometry, HoldsTags, IsDriver, IsGeometry, Is
 use Rattle.nv_driver.proofs.Words.{QueuePair, QueuePairFields, driver_value, driver_with, end_of, get_or-map}
 use Rattle.nv_driver.proofs.Words.{length-map, length-map-range_with_len, length-replicate, mul-le-mul_right}
 use Rattle.nv_driver.proofs.Words.{page_size_bounds, pair_of, pair_pages, pair_value, pairs_of, replicate}
-use Rattle.nv_driver.specs.Driver.{page_count}
+use Rattle.nv_driver.specs.Driver.{page_count, pages_behind}
+use Rattle.nv_host.specs.PageSets.{Pages, consecutive}
+use Rattle.std.specs.FinSet as set
+use Rattle.std.proofs.Common.{◌-◌}
 use Rattle.nv_driver.specs.Layout.{completion_pages, pages_of, set_pages, submission_pages}
 use Rattle.nv_driver.specs.Settled.{IsSettled}
 use Rattle.nv_driver.proofs.AdminLaws.{slots_stay}
@@ -141,9 +144,15 @@ settled_at_first g n bytes laid tags =
 -- ---- a new driver
 
 -- a driver of n controllers
-pub record IsFirst (g : Geometry) (n more : ℕ) (mem : PagedBytes) (pairs : List QueuePairFields) : Type 0 where
-  pub driver : IsDriver g mem pairs
+pub record IsFirst (g : Geometry) (n more : ℕ) (mem : PagedBytes) (pairs : List QueuePairFields) (behind : Pages)
+    : Type 0 where
+  pub driver : IsDriver g mem pairs behind
   pub value : driver_value g mem pairs ≡ driver_with g n more
+
+-- all pages from this one on
+abbrev pub all_pages_from : (first count : ℕ) → Pages
+all_pages_from first count =
+    record { first = first; count = count; members = set.from_list (consecutive first count) }
 
 -- a new memory with the pages of the queue pairs and others
 module _ {g : Geometry} {n m pages : ℕ} {made : PagedBytes} (more : ℕ) (is : IsGeometry g) (same : m ≡ n)
@@ -162,9 +171,9 @@ module _ {g : Geometry} {n m pages : ℕ} {made : PagedBytes} (more : ℕ) (is :
   -- queue pairs that were laid out in such a memory belong to a new driver
   pub driver_at_first : {mem : PagedBytes} {pairs : List QueuePairFields} → pages < 2 ^ 32
       → mem.page_size ≡ made.page_size → length mem.bytes ≡ length made.bytes → All IsQuiet pairs
-      → map pair_value pairs ≡ pairs_of g m → IsSettled g.page_size mem.bytes (pairs_of g n)
-      → IsFirst g n more mem pairs
-  driver_at_first {mem} {pairs} few keeps_page keeps_size quiet pairs_are settled =
+      → map pair_value pairs ≡ pairs_of g m → IsSettled g.page_size mem.bytes (pairs_of g n) → {behind : Pages}
+      → behind ≡ all_pages_from (pages_of g m) more → IsFirst g n more mem pairs behind
+  driver_at_first {mem} {pairs} few keeps_page keeps_size quiet pairs_are settled made_set =
       let page = keeps_page ∙ ap (λ (x : PagedBytes). x.page_size) zeros in
       let size = keeps_size ∙ memory_size in
       let bounds = page_size_bounds g.page_size is.page_size in
@@ -180,6 +189,9 @@ module _ {g : Geometry} {n m pages : ℕ} {made : PagedBytes} (more : ℕ) (is :
           quiet = quiet;
           placed = λ i d h. rw (each, pair_at g n i d (omega arith)) refl;
           settled = rw (page, each) settled;
+          more = made_set ∙ ap (λ k. all_pages_from (pages_of g m) k)
+              (let rest : more ≡ pages - pages_of g m = omega (arith, many) in rest)
+              ∙ ap (λ k. pages_behind g k pages) (same ∙ sym long) ∙ ap (pages_behind g (length pairs)) (sym count);
         };
         value = rw (count, each, many, same) refl;
       }

@@ -7,7 +7,7 @@ use Rattle.nv_queue.proofs.KeptLaws.{between_kept, first_kept}
 use Rattle.nv_queue.specs.Numbers.{first_in_slot, next, slot_of}
 use Rattle.nv_queue.specs.Rings.{submitted_one, told_all}
 use Rattle.nv_queue.specs.Slots.{IsAwaitedThere}
-use Rattle.nv_driver.proofs.Words.{Answer, AreApart, Bell, BusValue, Collect, Command, Cqe, Geometry, Happens}
+use Rattle.nv_driver.proofs.Words.{Answer, AreApart, Bell, BusValue, Collect, Cqe, Geometry, Happens}
 use Rattle.nv_driver.proofs.Words.{HasFreeSlot, Holds, IsBus, IsLeft, IsOnWay, IsPlaceFor, IsReady, IsRequest}
 use Rattle.nv_driver.proofs.Words.{IsSubmittedAt, IsTold, KeepsBelow, QueuePairFields, RegisterBank, Request}
 use Rattle.nv_driver.proofs.Words.{RequestPlace, Run, Sent, Setting, State, Submit, Tell, Turn, World, after_some}
@@ -73,10 +73,10 @@ first_way r = way r (record { sent = []; answers = []; events = [] }) 0 0 0
 
 -- at the beginning of a run with a ready controller, its requests are on their way
 pub begins : {B : Type 0} {doing : Doing B} {start : B} {g : Geometry} {c : ℕ} {bus : BusValue} {l : QueuePairFields}
-    {now : ℕ} {bytes : List ℕ} (ks : List Command) → IsReady g bus c l now bytes
-    → IsOnWay doing start (first_way (run_of g c bus l bytes ks)) bus start l now bytes
-begins {g = g} {c = c} {bus = bus} {l = l} {now = now} {bytes = bytes} ks ready =
-    let r = run_of g c bus l bytes ks in
+    {now : ℕ} {bytes : List ℕ} (qs : List Request) → IsReady g bus c l now bytes
+    → IsOnWay doing start (first_way (run_of g c bus l bytes qs)) bus start l now bytes
+begins {g = g} {c = c} {bus = bus} {l = l} {now = now} {bytes = bytes} qs ready =
+    let r = run_of g c bus l bytes qs in
     let t = setting_of r in
     let same = same_world (first_way r) bytes {s = bus.state} {s' = bus.state} refl ready.bank in
     let next_cid : l.next_cid ≡ cid_at r 0 = omega (arith, ready.laid.next_cid) in

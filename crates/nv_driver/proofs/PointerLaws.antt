@@ -14,7 +14,7 @@ use Rattle.nv_bus.proofs.CallLaws.{legal_places, no_places}
 use Rattle.nv_driver.proofs.Words.{Asked, FromHost, HoldsSent, IsRequest, KeepsList, NoData, Sent, Setting, Sqe}
 use Rattle.nv_driver.proofs.Words.{StatusCode, StaysNamed, ToHost, Transfer, cases_lt, data_length, entry, length_of}
 use Rattle.nv_driver.proofs.Words.{mul-le-mul_right, page_size_bounds, pages_of_entry, places, pointed, sent_from}
-use Rattle.nv_driver.specs.Layout.{pages_for, pages_of_command}
+use Rattle.nv_driver.specs.Layout.{pages_for}
 use Rattle.nv_driver.proofs.DataLaws.{nothing}
 use Rattle.nv_driver.proofs.RegionLaws.{length-places}
 
@@ -42,12 +42,6 @@ pub entry_pages_few : (size : ℕ) → IsPageSize size → pages_of_entry size �
 entry_pages_few size is =
     let bounds = page_size_bounds size is in
     let whole = (div_ceil_times 1048576 size (omega (arith, bounds))).1 in grind (arith, bounds, whole)
-
--- a command has at most 7 pages
-pub command_pages_few : (size : ℕ) → IsPageSize size → pages_of_command size ≤ 7
-command_pages_few size is =
-    let bounds = page_size_bounds size is in
-    let whole = (div_ceil_times 16384 size (omega (arith, bounds))).1 in grind (arith, bounds, whole)
 
 -- ---- the data pointer of a command
 

@@ -1,14 +1,15 @@
 -- A queue pair without outstanding commands: the schedule that begins there, and its state after a schedule has ended.
-use Rattle.std.proofs.Common.{◌≡◌, ℕ, ◌+◌, ◌-◌, ◌*◌, ◌<◌, ◌≤◌, All, Bool, List, ap, arith, false, get_or, inr}
+use Rattle.std.proofs.Common.{subst, ◌≡◌, ℕ, ◌+◌, ◌-◌, ◌*◌, ◌<◌, ◌≤◌, All, Bool, List, ap, arith, false, get_or, inr}
 use Rattle.std.proofs.Common.{length, refl}
 use Rattle.nv_queue.specs.Rings.{CollectNumbers}
-use Rattle.nv_driver.proofs.Words.{AreOutside, BusValue, Geometry, IsApart, IsOf, IsQuiet, IsReady, KeepsBelow}
-use Rattle.nv_driver.proofs.Words.{QueuePairFields, Sent, World, bank_with, bytes_at, device_rings}
-use Rattle.nv_driver.proofs.Words.{end_of, limit_of, mul-le-mul_right, own_pages, pair_value, submit_ring}
+use Rattle.nv_driver.proofs.Words.{AreOutside, BusValue, Geometry, IsApart, IsLaid, IsOf, IsQuiet, IsReady, KeepsBelow}
+use Rattle.nv_driver.proofs.Words.{QueuePair, QueuePairFields, Sent, World, bank_with, device_rings}
+use Rattle.nv_driver.proofs.Words.{limit_of, mul-le-mul_right, own_pages, pair_value, submit_ring}
 use Rattle.nv_driver.specs.Keeping.{OthersStay}
 use Rattle.nv_driver.specs.Schedule.{IsIdle, collect_ring}
 use Rattle.nv_driver.specs.UnderWay.{beginning, setting}
 use Rattle.nv_host.specs.PageSets.{Pages}
+use Rattle.nv_driver.specs.inner.Exchange.{KeepsOutside}
 use Rattle.nv_driver.proofs.KeptLaws.{number_zero}
 
 -- ---- the beginning
@@ -57,34 +58,25 @@ outside_pair s x page_size sq from n own low high apart i d h =
     let last : get_or (own_pages x) i d + 1 ≤ s.first + s.count = omega (arith, (own i d h).1) in
     grind (arith, apart, low, mul-le-mul_right page_size (own i d h).0, mul-le-mul_right page_size last)
 
--- bytes outside a queue pair and outside the pages of its requests don't change
-pub others_kept : {g : Geometry} {b : BusValue} {c limit : ℕ} {l : QueuePairFields} {now : ℕ} {bytes : List ℕ}
-    {w : World} → IsReady g b c l now bytes → OthersStay (setting g c limit (pair_value l)) 0 bytes w
-    → (from n : ℕ) → IsApart l.submission.base (end_of g.page_size (pair_value l) - l.submission.base) from n
-    → ((i : ℕ) (d : Sent) → i < length w.sent → AreOutside g.page_size (get_or w.sent i d) from n)
-    → bytes_at w.mem from n ≡ bytes_at bytes from n
-others_kept {g} {l = l} r others from n apart outside =
-    let laid = r.laid in
-    others.same from n (record {
-      submissions = aside l.submission.base (64 * l.submission.depth)
-          (omega (arith, laid.rings, laid.pages)) (omega arith);
-      completions = aside l.completion.base (16 * l.submission.depth)
-          (omega (arith, laid.pages)) (omega (arith, laid.rings));
-      pages = λ i d low h. outside i d h;
-    })
-  where
-    aside : (base size : ℕ) → base + size ≤ (l.pages.first + l.pages.count) * g.page_size
-        → l.submission.base ≤ base → IsApart base size from n
-    aside base size high low = let laid = r.laid in grind (arith, apart, laid.rings, laid.pages)
-
--- if each request's pages were the queue pair's, nothing else changes
-pub all_others_kept : {g : Geometry} {b : BusValue} {c limit : ℕ} {l : QueuePairFields} {now : ℕ} {bytes : List ℕ}
-    {w : World} → IsReady g b c l now bytes → OthersStay (setting g c limit (pair_value l)) 0 bytes w
+-- if each request's pages were those of the set, what is in no ring and no such page doesn't change
+pub outside_kept : (g : Geometry) {c limit : ℕ} (l : QueuePairFields) {bytes : List ℕ} {w : World}
+    → OthersStay (setting g c limit (pair_value l)) 0 bytes w
     → ((i : ℕ) (d : Sent) → i < length w.sent
     → All (λ p. IsOf l.pages.first l.pages.count p) (own_pages (get_or w.sent i d)))
-    → (end : ℕ) → KeepsBelow end g.page_size (pair_value l) bytes w.mem
-all_others_kept {g} {l = l} {w = w} r others own end from n low apart =
-    let laid = r.laid in
-    others_kept r others from n apart (λ i d h.
-    outside_pair l.pages (get_or w.sent i d) g.page_size l.submission.base from n (own i d h)
-    (omega (arith, laid.rings, laid.pages)) (omega (arith, laid.rings, laid.pages)) apart)
+    → KeepsOutside g.page_size (pair_value l) bytes w.mem
+outside_kept g l {w = w} others own from n sq cq pages =
+    let s = l.pages in
+    let size : s.count * g.page_size ≡ (s.first + s.count) * g.page_size - s.first * g.page_size = omega arith in
+    others.same from n (record {
+      submissions = sq;
+      completions = cq;
+      pages = λ i d low h. outside_pair s (get_or w.sent i d) g.page_size (s.first * g.page_size) from n (own i d h)
+          (omega arith) (omega arith) (subst (λ m. IsApart (s.first * g.page_size) m from n) size pages);
+    })
+
+-- so nothing outside the queue pair changes
+pub pair_kept : {page_size size : ℕ} {v : QueuePair} (old new : List ℕ) → IsLaid page_size size v
+    → KeepsOutside page_size v old new → (end : ℕ) → KeepsBelow end page_size v old new
+pair_kept old new laid keeps end from n low apart =
+    keeps from n (grind (arith, apart, laid.rings, laid.pages, laid.inside))
+    (grind (arith, apart, laid.rings, laid.pages)) (grind (arith, apart, laid.rings, laid.pages))

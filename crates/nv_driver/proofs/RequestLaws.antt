@@ -15,13 +15,15 @@ use Rattle.nv_command.specs.declared.decoded.Opcode.TheVariants.{FormatNvm, GetF
 use Rattle.nv_command.specs.declared.decoded.Opcode.TheVariants.{NamespaceAttachment, NamespaceManagement, SetFeatures}
 use Rattle.nv_bus.specs.Call.{HasRoom, asked_by, moves_of, within}
 use Rattle.nv_bus.proofs.CallLaws.{AskedIf, asked_of, has_room, namespace_in, within_few, within_limit}
-use Rattle.nv_driver.proofs.Words.{Asked, CanBeSent, Command, FromHost, GoesBy, IsRequest, NoData, Sqe, SqeFits}
+use Rattle.nv_driver.proofs.Words.{Asked, Command, FromHost, GoesBy, IsRequest, NoData, Sqe, SqeFits}
 use Rattle.nv_driver.proofs.Words.{StatusCode, ToHost, Transfer, bytes_from_host, greatest_limit}
 use Rattle.nv_driver.proofs.Words.{length_of, limit_bounds, limit_of, request_of, sent_for, transfer_by, transfer_for}
 use Rattle.nv_driver.specs.Request.{EveryEntryIsRequest, moved_by, EveryCommandIsRequest, entry_as}
 use Rattle.nv_driver.proofs.PaddingLaws.{length-padded}
 use Rattle.nv_command.proofs.TravelLaws.{commands_travel}
 use Rattle.nv_driver.proofs.DataLaws.{HasShape, most, shape}
+use Rattle.nv_command.specs.Command.{CommandFits}
+use Rattle.nv_command.specs.Logs.{IsSendable}
 
 -- ---- commands
 
@@ -36,22 +38,23 @@ moves_same : (r : Result Transfer StatusCode) (m n : Transfer) → r ≡ Ok m �
 moves_same r m n is other = cc
 
 -- it is one for each controller, whose limit is at least four pages
-pub is_request : (limit : ℕ) (k : Command) → 16384 ≤ limit → CanBeSent k → IsRequest limit (request_of k)
-is_request limit k enough can =
+pub is_request : (limit : ℕ) (k : Command) → 16384 ≤ limit → CommandFits k → IsSendable k
+    → IsRequest limit (request_of k)
+is_request limit k enough fits sends =
     let m = transfer_by k in
-    let zero_id = commands_travel k 0 can.fits (lit< tt) in
-    let few = most m (shape k can.sends) in
+    let zero_id = commands_travel k 0 fits (lit< tt) in
+    let few = most m (shape k sends) in
     let moves : (cid p q : ℕ) → cid < 65536 → moves_of limit (entry_as (request_of k) cid p q) ≡ Ok m =
     λ cid p q low. ap (λ (r : Result Transfer StatusCode). r >>= within limit)
-    ((commands_travel k cid can.fits low).transfer p q) ∙ within_few limit m (omega arith) in
+    ((commands_travel k cid fits low).transfer p q) ∙ within_few limit m (omega arith) in
     record {
       fits = zero_id.fits;
-      room = shape_room m (shape k can.sends);
+      room = shape_room m (shape k sends);
       transfer = λ cid p q n low is.
           moves_same (moves_of limit (entry_as (request_of k) cid p q)) m n (moves cid p q low) is;
       asked = λ cid p q low. let e = entry_as (request_of k) cid p q in
           ap (λ (r : Result Transfer StatusCode). r >>= (λ _. command_of e (request_of k).sends)) (moves cid p q low)
-          ∙ (commands_travel k cid can.fits low).command p q;
+          ∙ (commands_travel k cid fits low).command p q;
       sends = zero_id.sent;
       command = (refl, zero_id.fits.nsid);
     }
@@ -59,7 +62,7 @@ is_request limit k enough can =
 -- every command that `admin` takes is a request
 pub every_command : EveryCommandIsRequest
 every_command s c k well below fits sends =
-    is_request (limit_of s c) k (limit_bounds s c well below).0 (record { fits = fits; sends = sends })
+    is_request (limit_of s c) k (limit_bounds s c well below).0 fits sends
 
 -- ---- what is asked for doesn't depend on the command identifier and the data pointer
 

@@ -110,7 +110,6 @@ left_again {g} {b} {b'} {c} {l = l} {mem = mem} r placed same quiet is size tags
         shape = ap (λ (v : QueuePair). v.geometry) is ∙ r.shape;
         page_size = same ∙ r.page_size;
         depth = ap (λ (v : QueuePair). v.depth) is ∙ r.depth;
-        room = ap (λ (v : QueuePair). v.page_count) is ∙ r.room;
         quiet = quiet;
         laid = rw is (omega (arith, laid, size));
         tags = subst (λ (v : QueuePair). HoldsTags mem v.cq v.depth v.number) (sym is) tags;

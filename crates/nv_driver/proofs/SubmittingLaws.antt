@@ -12,8 +12,8 @@ use Rattle.nv_prp.specs.Place.{written_at}
 use Rattle.nv_prp.specs.Transfer.{data_pages, most_bytes, room}
 use Rattle.nv_prp.proofs.PageLaws.{at_most_257}
 use Rattle.nv_prp.proofs.WriteLaws.{lies_at, pages_kept}
-use Rattle.nv_driver.proofs.Words.{AreDistinct, AreOutside, Asked, Geometry, IsPrepared, IsSubmittedAt, KeepsList}
-use Rattle.nv_driver.proofs.Words.{QueuePairFields, Request, RequestPlace, Sent, Sqe, StaysNamed, Transfer, bytes_at}
+use Rattle.nv_driver.proofs.Words.{AreDistinct, AreOutside, Geometry, IsPrepared, IsSubmittedAt, KeepsList}
+use Rattle.nv_driver.proofs.Words.{QueuePairFields, Request, RequestPlace, Sent, StaysNamed, bytes_at}
 use Rattle.nv_driver.proofs.Words.{bytes_from_host, data_length, length-written_at, mul-le-mul_right, own_pages}
 use Rattle.nv_driver.proofs.Words.{cases_lt, mod_below, page_size_bounds, places, pointed, sent_from}
 use Rattle.nv_driver.specs.Schedule.{ChangesList}
@@ -129,10 +129,6 @@ outside_before page_size first x from n behind low i d h =
 
 -- ---- the same parts
 
--- a request of these parts
-abbrev request : Sqe → Transfer → List ℕ → Asked → Request
-request e m xs asked = record { entry = e; transfer = m; sends = xs; asked = asked }
-
 -- queue pairs of the same parts
 abbrev pub pair_by : SubmitNumbers → CollectNumbers → ℕ → Geometry → Pages → QueuePairFields
 pair_by a c n g p = record { submission = a; completion = c; next_cid = n; geometry = g; pages = p }
@@ -145,11 +141,6 @@ pairs_same e f g = cc
 -- what holds if a result is Ok holds for one that is
 pub on_ok : {X E : Type 0} {P : Type 0} (r : Result X E) (x : X) → r ≡ Ok x → OnOk r P → P
 on_ok {P = P} r x is all = subst (λ q. OnOk q P) is all
-
--- requests of equal parts are equal
-pub requests_same : {e e' : Sqe} {m m' : Transfer} {xs xs' : List ℕ} {asked : Asked} → e ≡ e' → m ≡ m' → xs ≡ xs'
-    → request e m xs asked ≡ request e' m' xs' asked
-requests_same e f g = cc
 
 -- a submission is one under equal names too
 pub submitted_as : {size size' : ℕ} {at at' : RequestPlace} {q q' : Request} {old new : QueuePairFields}

@@ -1,23 +1,25 @@
 -- A list of commands while a controller executes it: what holds meanwhile, and submissions.
 use Rattle.std.proofs.Common.{[], ◌≡◌, ◌∙◌, ℕ, ◌+◌, ◌*◌, ◌<◌, ◌≤◌, All, List, ◌∷◌, ◌++◌, ap, arith, get_or, length}
 use Rattle.std.proofs.Common.{length-append, min, refl, subst, sym, take}
-use Rattle.std.proofs.lemmas.List.{get_or-take, map_push, take_more}
+use Rattle.std.proofs.lemmas.List.{map_push, take_more}
 use Rattle.nv_queue.specs.Numbers.{next, slot_of}
-use Rattle.nv_driver.proofs.Words.{Batch, BusValue, CanBeSent, Command, Geometry, HasFreeSlot, IsOnWay}
-use Rattle.nv_driver.proofs.Words.{IsSubmittedAt, IsUnderWay, QueuePairFields, Run, Sent, World}
-use Rattle.nv_driver.proofs.Words.{get_or-map, get_or_default, length_of, limit_bounds, limit_of, numbered, own_pages}
-use Rattle.nv_driver.proofs.Words.{Submit, Transfer, request_of, sent_at, setting_of, slot, transfer_by, way}
-use Rattle.nv_driver.specs.Batch.{numbered_command}
+use Rattle.nv_driver.proofs.Words.{Batch, BusValue, Geometry, HasFreeSlot, IsOnWay, IsRequest}
+use Rattle.nv_driver.proofs.Words.{IsSubmittedAt, IsUnderWay, QueuePairFields, Request, Run, Sent, World}
+use Rattle.nv_driver.proofs.Words.{length_of, limit_of, numbered, own_pages}
+use Rattle.nv_driver.proofs.Words.{Submit, Transfer, sent_at, setting_of, slot, way}
+use Rattle.nv_driver.specs.UnderWay.{IsRunOf}
+use Rattle.nv_driver.specs.declared.requests.Requests.{Requests}
+use Rattle.nv_bus.specs.Call.{HasRoom}
+use Rattle.nv_driver.proofs.Words.{FromHost, NoData, ToHost, greatest_limit}
 use Rattle.nv_driver.specs.Keeping.{AreInOrder}
-use Rattle.nv_driver.specs.Layout.{most_bytes, pages_of_command}
+use Rattle.nv_driver.specs.Layout.{pages_for}
 use Rattle.nv_driver.specs.BringingUp.{BusTurn, TailWrite, Write}
 use Rattle.nv_driver.specs.UnderWay.{Course, DoesNext, HasCollected, IsDue, LiesInPages, numbered_of, sent_in_window}
 use Rattle.nv_driver.specs.UnderWay.{cid_at, world_of}
 use Rattle.nv_driver.specs.inner.Pace.{IsToldInTime}
-use Rattle.nv_driver.proofs.BatchLaws.{command_at, length-from_cid}
-use Rattle.nv_driver.proofs.DataLaws.{most, shape_as}
-use Rattle.nv_driver.proofs.RequestLaws.{is_request}
+use Rattle.nv_driver.proofs.BatchLaws.{length-from_cid, request_at}
 use Rattle.nv_driver.proofs.CommandPageLaws.{first_two, own_is, place_of_set}
+use Rattle.nv_driver.proofs.ShareLaws.{data_fits}
 use Rattle.nv_driver.proofs.PageSetLaws.{full_length, in_of, is_in}
 use Rattle.nv_driver.proofs.WindowPageLaws.{few_pages, fresh, page_of_one, pages-append, taken_also, taken_len}
 use Rattle.nv_driver.proofs.WindowPageLaws.{without_also}
@@ -36,8 +38,19 @@ use Rattle.nv_driver.specs.Submitting.{place_in}
 use Rattle.nv_driver.specs.UnderWay.{IsHeld, free_pages, held_pages, pages_of_all}
 use Rattle.nv_driver.specs.declared.command_pages.CommandPages.{CommandPages}
 use Rattle.nv_driver.proofs.SubmitLaws.{each_more}
-use Rattle.nv_driver.proofs.TurnLaws.{no_command}
 use Rattle.nv_driver.proofs.OnWayLaws as W
+
+-- ---- the requests of a run
+
+-- the request that was sent is request n of the run
+pub request_is : {r : Run} {n : ℕ} {x : Sent} (k : LiesInPages r n x) → x.request ≡ get_or r.requests n x.request
+request_is k = ap (λ (y : Sent). y.request) k.sent
+
+-- data that a data pointer can have isn't longer than any limit
+pub room_few : (m : Transfer) → HasRoom m → length_of m ≤ greatest_limit
+room_few NoData has = omega arith
+room_few (ToHost n) has = omega (arith, has.1)
+room_few (FromHost n) has = omega (arith, has.1)
 
 -- ---- what holds meanwhile
 
@@ -58,23 +71,14 @@ module _ {B : Type 0} {wrote : Write B} {rang : TailWrite B} {turned : BusTurn B
   has_collected all near = record { all = u.collected ∙ sym all; near = omega (arith, all, near) }
 
   -- if the batch has sent as many commands as the window has room for, so has the schedule
-  pub is_full : b.sent ≡ min (b.collected + r.geometry.window) (length r.commands)
+  pub is_full : b.sent ≡ min (b.collected + r.geometry.window) (length r.requests)
       → length u.course.sent ≡ sent_in_window r world
   is_full full =
-      u.sent ∙ full ∙ ap (λ k. min (k + r.geometry.window) (length r.commands)) (sym u.collected)
+      u.sent ∙ full ∙ ap (λ k. min (k + r.geometry.window) (length r.requests)) (sym u.collected)
 
   -- the counts of the list are in order
   pub counts : AreInOrder r.pair.submission.depth b.collected turns bells b.sent b.told
   counts = rw (u.collected, u.sent) at u.keeps.counts
-
-  -- request n is command n of the list with its command identifier
-  pub command_of : (n : ℕ) (e : Command) → n < b.sent
-      → numbered (get_or u.course.sent n no_command) ≡ numbered_command (get_or r.commands n e) (cid_at r n)
-  command_of n e below =
-      sym (get_or-map numbered u.course.sent n no_command (numbered no_command) (omega (arith, u.sent)))
-      ∙ ap (λ xs. get_or xs n (numbered no_command)) u.commands
-      ∙ get_or-take b.sent (numbered_of r) n (numbered no_command) below
-      ∙ command_at r.pair.next_cid n r.commands (numbered no_command) e u.begun.laid.next_cid (omega (arith, u.some))
 
   -- the pages of the outstanding commands
   abbrev pub held : List ℕ
@@ -84,11 +88,29 @@ module _ {B : Type 0} {wrote : Write B} {rang : TailWrite B} {turned : BusTurn B
   pub still_inside : (l.pages.first + l.pages.count) * r.geometry.page_size ≤ length bytes
   still_inside = rw (u.left) (let laid = u.begun.laid in omega (arith, laid.inside, u.size))
 
-  -- there are enough pages for one more command
-  pub set_has : b.sent < b.collected + r.geometry.window
-      → pages_of_command r.geometry.page_size ≤ set.len l.pages.members
-  set_has more =
-      let each = pages_of_command r.geometry.page_size in
+  -- the next command identifier is that of the next request
+  cid_is : l.next_cid ≡ cid_at r b.sent
+  cid_is = ap (λ (q : QueuePairFields). q.next_cid) u.on_way.pair ∙ ap (cid_at r) u.sent
+
+  -- a request that was sent has no more pages than the longest data has
+  pub few_of : {n : ℕ} {x : Sent} (most : ℕ) → All (λ q. length_of q.transfer ≤ most) r.requests → LiesInPages r n x
+      → n < b.sent → length (own_pages x) ≤ pages_for most r.geometry.page_size
+  few_of {n} {x} most brief k below =
+      let few : length_of x.request.transfer ≤ most =
+      subst (λ (q : Request). length_of q.transfer ≤ most) (sym (request_is k))
+      (brief n x.request (omega (arith, below, u.some))) in
+      omega (
+        arith,
+        ap (λ (ps : List ℕ). length ps) (own_is k),
+        k.many,
+        (data_fits r.geometry (length_of x.request.transfer) most u.begun.geometry few).1,
+      )
+
+  -- there are enough pages for one more request
+  pub set_has : {what : Requests} (of : IsRunOf r what) → b.sent < b.collected + r.geometry.window
+      → b.sent < length r.requests → pages_for of.most r.geometry.page_size ≤ set.len l.pages.members
+  set_has of more below =
+      let each = pages_for of.most r.geometry.page_size in
       let pages = r.pair.pages in
       let xs = drop b.collected u.course.sent in
       let all = ap (set.len) u.begun.quiet.free ∙ full_length pages.first pages.count in
@@ -96,13 +118,13 @@ module _ {B : Type 0} {wrote : Write B} {rang : TailWrite B} {turned : BusTurn B
       let now_has = ap (λ (p : Pages). set.len p.members) u.left in
       let few = few_pages each xs (λ n d h.
       subst (λ (x : Sent). length (own_pages x) ≤ each) (sym (get_or-drop b.collected u.course.sent n d))
-      (let k = u.kept (b.collected + n) d (omega (arith, h, u.sent, length-drop b.collected u.course.sent)) in
-      omega (arith, ap (λ (ps : List ℕ). length ps) (own_is k), k.few))) in
+      (let low : b.collected + n < b.sent = omega (arith, h, u.sent, length-drop b.collected u.course.sent) in
+      few_of of.most of.brief (u.kept (b.collected + n) d low) low)) in
       let c = counts in
-      let one_more : length xs + 1 ≤ r.geometry.window =
-      omega (arith, length-drop b.collected u.course.sent, u.sent, more, c.collected, c.done, c.rung) in
+      let one_more : length xs + 1 ≤ min r.geometry.window (length r.requests) =
+      omega (arith, length-drop b.collected u.course.sent, u.sent, more, below, c.collected, c.done, c.rung) in
       let times = mul-le-mul_right each one_more in
-      omega (arith, all, rest, now_has, few, times, u.begun.room)
+      omega (arith, all, rest, now_has, few, times, of.room)
 
   -- within the window, the submission ring has a free slot
   pub free_slot : b.sent < b.collected + r.geometry.window → HasFreeSlot l bytes
@@ -127,32 +149,30 @@ two_places : (n m : ℕ) → n < m → m < n + 16 → n % 16 ≢ m % 16
 unfolding slot_of
 two_places n m l h = λ same. slots_apart 16 m n l h (sym same)
 
--- a command's pages were taken, and it was submitted there
-pub record IsSentIn (g : Geometry) (k : Command) (o : CommandPages) (old new : QueuePairFields)
+-- a request's pages were taken, and it was submitted there
+pub record IsSentIn (g : Geometry) (q : Request) (o : CommandPages) (old new : QueuePairFields)
     (before after : List ℕ) (now end : ℕ) : Type 0 where
-  pub many : o.count ≡ data_count g (length_of (transfer_by k)) + 2
-  pub seven : length o.numbers ≡ 7
-  pub few : o.count ≤ 7
-  pub fits : o.count ≤ pages_of_command g.page_size
+  pub many : o.count ≡ data_count g (length_of q.transfer) + 2
+  pub long : o.count ≤ length o.numbers
   pub taken : AreTaken old.pages (all_pages o)
   pub lowest : AreLowest old.pages (all_pages o)
-  pub one : IsSubmittedAt g.page_size (place_in g (all_pages o)) (request_of k)
+  pub one : IsSubmittedAt g.page_size (place_in g (all_pages o)) q
       (record old { pages = without old.pages (all_pages o) }) new before after now end
 
--- a command that is submitted while others are outstanding
+-- a request that is submitted while others are outstanding
 module _ {B : Type 0} {wrote : Write B} {rang : TailWrite B} {turned : BusTurn B} {start on : B} {r : Run}
     {bells turns : ℕ} {b : Batch} {bus : BusValue} {l l' : QueuePairFields} {now : ℕ} {bytes mem : List ℕ}
-    {places : List CommandPages} {k : Command} {o : CommandPages} {now' tail : ℕ}
+    {places : List CommandPages} {q : Request} {o : CommandPages} {now' tail : ℕ}
     (u : IsUnderWay wrote rang turned start r bells turns b bus on l now bytes places)
-    (more : b.sent < b.collected + r.geometry.window)
-    (can : CanBeSent k) (sub : IsSentIn r.geometry k o l l' bytes mem now' tail) where
-  -- the command as it was sent
+    (more : b.sent < b.collected + r.geometry.window) (below : b.sent < length r.requests)
+    (is : q ≡ get_or r.requests b.sent q) (sub : IsSentIn r.geometry q o l l' bytes mem now' tail) where
+  -- the request as it was sent
   abbrev new_one : Sent
-  new_one = sent_at (place_in r.geometry (all_pages o)) (request_of k) l.next_cid sub.one.prp1 sub.one.prp2
+  new_one = sent_at (place_in r.geometry (all_pages o)) q l.next_cid sub.one.prp1 sub.one.prp2
 
   -- it has the pages that were taken
   all_long : length (all_pages o) ≡ o.count
-  all_long = let h = length-take o.count o.numbers in omega (arith, h, sub.few, sub.seven)
+  all_long = let h = length-take o.count o.numbers in omega (arith, h, sub.long)
 
   own_new : own_pages new_one ≡ all_pages o
   own_new = first_two (all_pages o) (omega (arith, all_long, sub.many))
@@ -163,13 +183,11 @@ module _ {B : Type 0} {wrote : Write B} {rang : TailWrite B} {turned : BusTurn B
       (subst (λ s. AreTaken s (all_pages o)) u.left sub.taken)
 
   -- it was sent with its data in its pages
-  kept_new : LiesInPages r new_one
+  kept_new : LiesInPages r b.sent new_one
   kept_new = record {
-    command = k;
     pages = all_pages o;
-    sent = refl;
+    sent = cc (is, cid_is u);
     many = all_long ∙ sub.many;
-    few = omega (arith, all_long, sub.fits);
     points = record { list = λ m. sub.one.list; none = sub.one.pointer };
   }
 
@@ -202,9 +220,8 @@ module _ {B : Type 0} {wrote : Write B} {rang : TailWrite B} {turned : BusTurn B
       → IsOnWay (DoesNext wrote rang turned r) start (way r course_more bells turns b.told) bus on l' now' mem
   on_way_more its_time =
       W.submits_on u.on_way sub.one
-      (is_request (limit_of r.bus.state r.controller) k (limit_bounds r.bus.state r.controller u.begun.bus.state
-      (omega (arith, u.begun.controller, u.begun.bus.banks))).0 can)
-      (place_of_set r.geometry l.pages (all_pages o) bytes now (length_of (transfer_by k)) u.begun.geometry u.page_size
+      (subst (λ p. IsRequest (limit_of r.bus.state r.controller) p) (sym is) (u.can b.sent q below))
+      (place_of_set r.geometry l.pages (all_pages o) bytes now (length_of q.transfer) u.begun.geometry u.page_size
       (still_inside u) sub.taken.own sub.taken.distinct (all_long ∙ sub.many))
       (λ i d h. (own_of_set i d h).0)
       (omega arith)
@@ -218,7 +235,7 @@ module _ {B : Type 0} {wrote : Write B} {rang : TailWrite B} {turned : BusTurn B
 
   pages_new : l'.pages ≡ free_pages r b.collected (u.course.sent ++ new_one ∷ [])
   pages_new =
-      ap (λ (q : QueuePairFields). q.pages) sub.one.pair ∙ ap (λ s. without s (all_pages o)) u.left
+      ap (λ (p : QueuePairFields). p.pages) sub.one.pair ∙ ap (λ s. without s (all_pages o)) u.left
       ∙ without_also r.pair.pages (held u) (all_pages o)
       ∙ ap (λ ps. without r.pair.pages (held u ++ ps)) (sym own_new)
       ∙ ap (without r.pair.pages) (sym all_held)
@@ -229,51 +246,45 @@ module _ {B : Type 0} {wrote : Write B} {rang : TailWrite B} {turned : BusTurn B
   slots_more n p d from below =
       let qs = set places (b.sent % 16) o in
       each_more (λ i y. IsHeld (get_or qs (i % 16) p) y) b.collected u.course.sent new_one
-      (λ i e above low. subst (λ q. IsHeld q (get_or u.course.sent i e))
+      (λ i e above low. subst (λ p. IsHeld p (get_or u.course.sent i e))
       (sym (get_or-set_other places (b.sent % 16) (i % 16) o p
       (two_places i b.sent (omega (arith, u.sent)) (omega (arith, above, more, u.begun.geometry.window.1)))))
       (u.slots i p e above (omega (arith, u.sent))))
-      (subst (λ q. IsHeld q new_one)
+      (subst (λ p. IsHeld p new_one)
       (sym (ap (λ i. get_or qs (i % 16) p) u.sent
       ∙ get_or-set_same places (b.sent % 16) o p (omega (arith, u.room, mod_below b.sent 16 (omega arith)))))
-      (record { few = sub.few; seven = sub.seven; pages = sym own_new }))
+      (record { few = sub.long; pages = sym own_new }))
       n d from (omega (arith, below, u.sent, length-append u.course.sent (new_one ∷ [])))
 
-  -- it is the next of the run's commands
-  next_numbered : b.sent < length r.commands → ((d : Command) → k ≡ get_or r.commands b.sent d)
-      → numbered new_one ≡ get_or (numbered_of r) b.sent (numbered new_one)
-  next_numbered below is =
-      ap (λ q. numbered_command q l.next_cid) (is k)
-      ∙ ap (λ (q : QueuePairFields). numbered_command (get_or r.commands b.sent k) q.next_cid) u.pair
-      ∙ ap (λ n. numbered_command (get_or r.commands b.sent k) (cid_at r n)) u.sent
-      ∙ sym (command_at r.pair.next_cid b.sent r.commands (numbered new_one) k u.begun.laid.next_cid below)
+  -- it is the next of the run's requests
+  next_numbered : numbered new_one ≡ get_or (numbered_of r) b.sent (numbered new_one)
+  next_numbered = ap numbered kept_new.sent
+      ∙ sym (request_at r.pair.next_cid b.sent r.requests (numbered new_one) q u.begun.laid.next_cid below)
 
   -- and its turn has come
-  is_due : turns ≡ b.collected → IsToldInTime r b → b.sent < length r.commands
-      → ((d : Command) → k ≡ get_or r.commands b.sent d) → IsDue r u.course.events (world u) (Submit new_one)
-  is_due all near below is = (
+  is_due : turns ≡ b.collected → IsToldInTime r b → IsDue r u.course.events (world u) (Submit new_one)
+  is_due all near = (
     has_collected u all near,
     omega (arith, u.sent, u.collected, more, below),
     record {
-      kept = kept_new;
+      kept = subst (λ n. LiesInPages r n new_one) (sym u.sent) kept_new;
+      taken = subst (λ c. AreTaken (free_pages r c u.course.sent) (own_pages new_one)) (sym u.collected) taken_new;
       lowest = subst (λ c. AreLowest (free_pages r c u.course.sent) (own_pages new_one)) (sym u.collected)
           (subst (AreLowest (free_pages r b.collected u.course.sent)) (sym own_new)
           (subst (λ s. AreLowest s (all_pages o)) u.left sub.lowest));
-      numbered = next_numbered below is ∙ ap (λ i. get_or (numbered_of r) i (numbered new_one)) (sym u.sent);
     },
   )
 
-  -- the list goes on with this command sent
-  pub submits : turns ≡ b.collected → IsToldInTime r b → b.sent < length r.commands
-      → ((d : Command) → k ≡ get_or r.commands b.sent d)
+  -- the list goes on with this request sent
+  pub submits : turns ≡ b.collected → IsToldInTime r b
       → IsUnderWay wrote rang turned start r bells turns (record b { sent = b.sent + 1 }) bus on l' now' mem
       (set places (b.sent % 16) o)
-  submits all near below is =
+  submits all near =
       let xs = u.course.sent in
       let more_sent = length-append xs (new_one ∷ []) in
       record {
         course = course_more;
-        on_way = on_way_more (is_due all near below is);
+        on_way = on_way_more (is_due all near);
         awake = λ h. h;
         can = u.can;
         controller = u.controller;
@@ -281,12 +292,13 @@ module _ {B : Type 0} {wrote : Write B} {rang : TailWrite B} {turned : BusTurn B
           window = omega (arith, more);
           some = omega (arith, below);
           sent = more_sent ∙ ap (λ n. n + 1) u.sent;
-          commands = map_push numbered xs new_one ∙ ap (λ ys. ys ++ numbered new_one ∷ []) u.commands
-              ∙ ap (λ y. take b.sent (numbered_of r) ++ y ∷ []) (next_numbered below is)
+          requests = map_push numbered xs new_one ∙ ap (λ ys. ys ++ numbered new_one ∷ []) u.requests
+              ∙ ap (λ y. take b.sent (numbered_of r) ++ y ∷ []) next_numbered
               ∙ sym (take_more (numbered_of r) b.sent (numbered new_one)
-              (omega (arith, below, length-from_cid r.pair.next_cid r.commands)));
-          kept = λ n d h. each_more (λ i y. LiesInPages r y) 0 xs new_one
-              (λ i e from low. u.kept i e (omega (arith, u.sent))) kept_new n d (omega arith)
+              (omega (arith, below, length-from_cid r.pair.next_cid r.requests)));
+          kept = λ n d h. each_more (λ i y. LiesInPages r i y) 0 xs new_one
+              (λ i e from low. u.kept i e (omega (arith, u.sent)))
+              (subst (λ i. LiesInPages r i new_one) (sym u.sent) kept_new) n d (omega arith)
               (omega (arith, h, u.sent, more_sent));
           own = λ n d h. each_more (λ i y. All (λ p. IsOf r.pair.pages.first r.pair.pages.count p) (own_pages y)) 0 xs
               new_one (λ i e from low. u.own i e (omega (arith, u.sent))) own_of_set n d (omega arith)
@@ -300,35 +312,17 @@ module _ {B : Type 0} {wrote : Write B} {rang : TailWrite B} {turned : BusTurn B
         slots = slots_more;
       }
 
--- each command of the list can be sent
-pub can_at : {n : ℕ} {k : Command} {ks all : List Command} (e : Command) → All CanBeSent all → ks ≡ all
-    → k ≡ get_or ks n e → n < length ks → CanBeSent k
-can_at {n = n} e can same one below =
-    subst CanBeSent (sym (one ∙ ap (λ xs. get_or xs n e) same))
-    (can n e (omega (arith, below, ap (λ (xs : List Command). length xs) same)))
-
--- the data of each command of the list isn't too long
-pub few_at : {n : ℕ} {k : Command} {m : Transfer} {ks all : List Command} (e : Command) → All CanBeSent all → ks ≡ all
-    → k ≡ get_or ks n e → n < length ks → m ≡ transfer_by k → length_of m ≤ most_bytes
-few_at {k = k} {m = m} e can same one below is = most m (shape_as k m (can_at e can same one below).sends is)
-
 -- the next submission, by the number that a loop has reached
 pub submits_at : {B : Type 0} {wrote : Write B} {rang : TailWrite B} {turned : BusTurn B} {start on : B} {r : Run}
     {bells turns : ℕ} {b : Batch} {bus : BusValue} {l l' : QueuePairFields} {now now' n tail : ℕ} {bytes mem : List ℕ}
-    {places : List CommandPages} {o : CommandPages} {g : Geometry} {k : Command} {ks : List Command}
-    (u : IsUnderWay wrote rang turned start r bells turns b bus on l now bytes places) (e : Command) → b.sent ≡ n
-    → b.sent < b.collected + r.geometry.window → turns ≡ b.collected → IsToldInTime r b → g ≡ r.geometry
-    → IsSentIn g k o l l' bytes mem now' tail
-    → ks ≡ r.commands → k ≡ get_or ks n e → n < length ks
+    {places : List CommandPages} {o : CommandPages} {q : Request}
+    (u : IsUnderWay wrote rang turned start r bells turns b bus on l now bytes places) → b.sent ≡ n
+    → b.sent < b.collected + r.geometry.window → turns ≡ b.collected → IsToldInTime r b → n < length r.requests
+    → q ≡ get_or r.requests n q → IsSentIn r.geometry q o l l' bytes mem now' tail
     → IsUnderWay wrote rang turned start r bells turns (record b { sent = b.sent + 1 }) bus on l' now' mem
     (set places (n % 16) o)
-submits_at {wrote = wrote} {rang} {turned} {start} {on} {r} {bells} {turns} {b} {bus} {l = l} {l' = l'} {now' = now'}
-    {n = n} {tail} {bytes = bytes} {mem = mem} {places} {o} {k = k} {ks = ks} u e at more all near is sub same one below
-    =
-    let many = ap (λ (xs : List Command). length xs) same in
+submits_at {wrote = wrote} {rang} {turned} {start} {on} {r} {bells} {turns} {b} {bus} {l' = l'} {now' = now'}
+    {mem = mem} {places} {o} {q} u at more all near below is sub =
     subst (λ i. IsUnderWay wrote rang turned start r bells turns (record b { sent = b.sent + 1 }) bus on l' now' mem
     (set places (i % 16) o)) at
-    (submits u more (can_at e u.can same one below)
-    (subst (λ q. IsSentIn q k o l l' bytes mem now' tail) is sub) all near (omega (arith, many))
-    (λ d. one ∙ get_or_default ks n e d below ∙ ap (λ xs. get_or xs n d) same
-    ∙ ap (λ i. get_or r.commands i d) (sym at)))
+    (submits u more (omega (arith, at, below)) (is ∙ ap (λ i. get_or r.requests i q) (sym at)) sub all near)

@@ -15,7 +15,7 @@ pub use Rattle.nv_driver.specs.Layout.{pages_of_entry, pair_of, pair_pages, pair
 pub use Rattle.nv_driver.specs.QueuePair.{IsLaid, QueuePair, idle_bank, renewed_pair}
 pub use Rattle.nv_driver.specs.Quiet.{IsQuiet, pair_value}
 pub use Rattle.nv_driver.specs.Registers.{mps_of}
-pub use Rattle.nv_driver.specs.Request.{Asked, CanBeSent, GoesBy, IsReadable, IsRequest, Request, padded, request_of}
+pub use Rattle.nv_driver.specs.Request.{Asked, GoesBy, IsReadable, IsRequest, Request, padded, request_of}
 pub use Rattle.nv_driver.specs.Request.{sent_for, transfer_for}
 pub use Rattle.nv_driver.specs.Schedule.{AreApart, AreOthers, AreOutside, Bell, Collect, Delivers, Happens, Holds}
 pub use Rattle.nv_driver.specs.Schedule.{HoldsSent, IsAnswered, IsPrepared, Sent, Setting, StaysNamed, Submit, Tell}

@@ -1,7 +1,9 @@
 -- The value of a driver, by its fields, and what holds for them between two calls.
-use Rattle.std.specs.Prelude.{◌≡◌, ℕ, ◌+◌, ◌*◌, ◌/◌, ◌<◌, ◌≤◌, ◌^◌, All, List, length, map}
+use Rattle.std.specs.Prelude.{◌≡◌, ℕ, ◌+◌, ◌-◌, ◌*◌, ◌/◌, ◌<◌, ◌≤◌, ◌^◌, All, List, length, map}
 use Rattle.std.specs.Prelude.{slice_index_or, slice_set}
+use Rattle.std.specs.FinSet as set
 use Rattle.nv_host.specs.Pages.{PagedBytes}
+use Rattle.nv_host.specs.PageSets.{Pages, consecutive}
 use Rattle.nv_driver.specs.Exchange.{after_one, after_some}
 use Rattle.nv_driver.specs.Geometry.{IsGeometry}
 use Rattle.nv_driver.specs.QueuePair.{QueuePair, renewed_pair}
@@ -42,8 +44,17 @@ HasEntryPages d =
 abbrev pub IsPlaced : Geometry → ℕ → QueuePair → Type 0
 IsPlaced g i l = l ≡ record (pair_of g i) { number = l.number; next_cid = l.next_cid }
 
--- the queue pairs are where they were placed, without outstanding commands, in a memory of whole pages
-pub record IsDriver (g : Geometry) (mem : PagedBytes) (pairs : List QueuePairFields) : Type 0 where
+-- all pages of a memory after those of its controllers
+abbrev pub pages_behind : Geometry → (controllers pages : ℕ) → Pages
+pages_behind g controllers pages = record {
+  first = pages_of g controllers;
+  count = pages - pages_of g controllers;
+  members = set.from_list (consecutive (pages_of g controllers) (pages - pages_of g controllers));
+}
+
+-- the queue pairs are where they were placed, without outstanding commands, in a memory of whole pages, of
+-- which there are more behind them
+pub record IsDriver (g : Geometry) (mem : PagedBytes) (pairs : List QueuePairFields) (rest : Pages) : Type 0 where
   pub geometry : IsGeometry g
   pub page_size : mem.page_size ≡ g.page_size
   pub whole : page_count mem * mem.page_size ≡ length mem.bytes
@@ -52,6 +63,7 @@ pub record IsDriver (g : Geometry) (mem : PagedBytes) (pairs : List QueuePairFie
   pub placed : (i : ℕ) (d : QueuePair) → i < length pairs
       → IsPlaced g i (slice_index_or (map pair_value pairs) i d)
   pub settled : IsSettled mem.page_size mem.bytes (map pair_value pairs)
+  pub more : rest ≡ pages_behind g (length pairs) (page_count mem)
 
 -- ---- a command
 

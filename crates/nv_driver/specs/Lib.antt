@@ -21,6 +21,5 @@ pub mod Alone
 pub mod Driver
 pub mod Linked
 pub mod BringingUp
-pub mod Passing
 pub mod Sending
 pub mod inner

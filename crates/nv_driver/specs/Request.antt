@@ -62,11 +62,6 @@ received_as (Err code) answer = answer
 
 -- ---- commands
 
--- a command that can be sent: each field fits its bits, and its reply can be read from its data
-pub record CanBeSent (k : Command) : Type 0 where
-  pub fits : CommandFits k
-  pub sends : IsSendable k
-
 -- the request of a command: its entry, its transfer, and its data from the host
 abbrev pub request_of : Command → Request
 request_of k = record {

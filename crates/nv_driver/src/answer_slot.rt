@@ -10,7 +10,7 @@ ghost use Rattle.nv_prp.specs.Place.{read_at};
 ghost use Rattle.nv_driver.specs.Layout.{most_bytes};
 ghost use Rattle.nv_driver.specs.Schedule.{answer_from, received_from};
 
-use crate::host_side::HostSide;
+use crate::host_side::Buffers;
 use crate::submitting::DataPlace;
 use nv_command::{Command, Reply, ReplyRoom, Transfer};
 use nv_host::HostMemory;
@@ -63,21 +63,20 @@ impl AnswerSlot {
     /// sent to its place. Section "Completion Queue Entry".
     pub(crate) fn receive<M: HostMemory>(
         &mut self,
-        host: &mut HostSide<M>,
+        mem: &M,
+        buffers: &mut Buffers,
         place: &DataPlace,
         command: &Command,
         completion: &Cqe,
     )
         requires sends { IsSendable command.now }
-        requires buffer { IsBuffer (M.bytes host.old.mem) (M.page_len host.old.mem)
+        requires buffer { IsBuffer (M.bytes mem.now) (M.page_len mem.now)
             place.now.buffer.pages.now place.now.buffer.offset
             (length_of (transfer_by command.now)) }
         ensures answer { self.new ≡ answer_from command.now completion.now (received_from
-            (transfer_by command.now) (M.bytes host.old.mem) (buffer_places
-            (M.page_len host.old.mem) place.now.buffer.pages.now place.now.buffer.offset
+            (transfer_by command.now) (M.bytes mem.now) (buffer_places
+            (M.page_len mem.now) place.now.buffer.pages.now place.now.buffer.offset
             (length_of (transfer_by command.now)))) }
-        ensures mem { host.new.mem ≡ host.old.mem }
-        ensures taken { host.new.taken ≡ host.old.taken }
     {
         if !completion.status.is_success() {
             self.refusal = Some(completion.status);
@@ -88,8 +87,8 @@ impl AnswerSlot {
         match command.transfer() {
             Transfer::ToHost(len) => {
                 let len = len as u32;
-                let (spans, data) = (&mut host.spans, &mut host.data);
-                let sent = read_sent(&host.mem, &place.buffer, len, spans, data);
+                let (spans, data) = (&mut buffers.spans, &mut buffers.data);
+                let sent = read_sent(mem, &place.buffer, len, spans, data);
                 self.room.read(command, dword0, sent);
             }
             Transfer::NoData => self.room.read(command, dword0, &[]),

@@ -1,26 +1,26 @@
-//! A list of commands and their answers, with several commands outstanding.
+//! A list of requests and their answers, with several requests outstanding.
 
-ghost use Rattle.std.specs.Prelude.{◌≡◌, ◌+◌, ◌<◌, All, length, min};
-ghost use Rattle.nv_driver.specs.Batch.{answers_of, state_after};
+ghost use Rattle.std.specs.Prelude.{◌≡◌, ◌+◌, ◌<◌, length, min};
 ghost use Rattle.nv_driver.specs.Exchange.{IsReady, after_some};
-ghost use Rattle.nv_driver.specs.inner.Exchange.{IsLeft, side};
+ghost use Rattle.nv_driver.specs.inner.Exchange.{IsLeft, KeepsOutside, side};
 ghost use Rattle.nv_driver.specs.Quiet.{pair_value};
-ghost use Rattle.nv_driver.specs.Request.{CanBeSent};
-ghost use Rattle.nv_driver.specs.inner.UnderWay.{HasAnswers};
-ghost use Rattle.nv_driver.specs.UnderWay.{IsUnderWay, RunOn, run_of, run_on};
+ghost use Rattle.nv_driver.specs.Schedule.{state_after_all};
+ghost use Rattle.nv_driver.specs.inner.UnderWay.{AreReceived};
+ghost use Rattle.nv_driver.specs.UnderWay.{IsRunOf, requests_in};
+ghost use Rattle.nv_driver.specs.UnderWay.{IsUnderWay, RunOn, numbered_of, run_of, run_on};
 ghost use Rattle.nv_driver.specs.inner.Pace.{IsPaced, IsToldByPace, IsToldInTime, taken_by_turn};
+ghost use Rattle.nv_model.specs.Conditions.{limit_of};
 
 use crate::answer_slot::AnswerSlot;
-use crate::command_pages::CommandPages;
 use crate::host_side::{HostSide, MOST_OUTSTANDING};
 use crate::queue_pair::QueuePair;
+use crate::requests::Requests;
 use crate::ringing::Ringing;
-use crate::submitting::{HostData, Outgoing, submit};
-use nv_bus::Bus;
-use nv_command::Command;
+use crate::submitting::submit;
+use nv_bus::{Bus, Told};
 use nv_host::HostMemory;
 
-/// The progress of a list of commands of one controller: how many were sent, how many answers were
+/// The progress of a list of requests of one controller: how many were sent, how many answers were
 /// collected, and how many of these the head doorbell has reported.
 #[derive(Drop)]
 pub struct Batch {
@@ -31,17 +31,17 @@ pub struct Batch {
 }
 
 impl Batch {
-    /// Submits commands until as many as the geometry allows are outstanding, or none is left, and
+    /// Submits requests until as many as the geometry allows are outstanding, or none is left, and
     /// rings the tail doorbell if it submitted any. Section "Submission Queue y Tail Doorbell".
     fn send<B: Bus + Ringing, M: HostMemory>(
         &mut self,
         bus: &mut B,
         host: &mut HostSide<M>,
         pair: &mut QueuePair,
-        commands: &[Command],
+        requests: Requests,
     )
         ghost begun: { RunOn B }
-        requires commands { commands.now ≡ begun.run.commands }
+        requires requests { IsRunOf begun.run requests }
         requires under_way { IsUnderWay B.was_written B.was_rung B.was_turned begun.start begun.run
             self.old.sent self.old.collected self.old (B.meaning bus.old) bus.old pair.old
             (M.page_len host.old.mem) (M.bytes host.old.mem) host.old.taken }
@@ -50,26 +50,21 @@ impl Batch {
             self.new.sent self.new.collected self.new (B.meaning bus.new) bus.new pair.new
             (M.page_len host.new.mem) (M.bytes host.new.mem) host.new.taken }
         ensures batch { self.new ≡ record self.old {
-          sent = min (self.old.collected + begun.run.geometry.window) (length commands.now);
+          sent = min (self.old.collected + begun.run.geometry.window) (length begun.run.requests);
         } }
     {
         let geometry = pair.geometry();
         let room = usize::from(geometry.window) - (self.sent - self.collected);
-        let end = self.sent + room.min(commands.len() - self.sent);
+        let end = self.sent + room.min(requests.len() - self.sent);
         let mut tail = None;
         for number in self.sent..end {
-            let command = &commands[number];
-            let request = Outgoing {
-                entry: command.entry(0),
-                transfer: command.transfer(),
-                sends: HostData::Command(command),
-            };
-            let len = request.transfer.bytes() as u32;
-            let count = geometry.data_count(len) as usize + 2;
-            let pages = CommandPages::take(&mut pair.pages, count);
-            let place = pages.place(geometry);
-            let next = submit(&mut host.mem, pair, &place, &request, &mut host.spans);
-            host.taken[number % MOST_OUTSTANDING] = pages;
+            let request = requests.outgoing(number);
+            let count = geometry.page_count(request.transfer);
+            let slot = number % MOST_OUTSTANDING;
+            host.taken[slot].take(&mut pair.pages, count);
+            let place = host.taken[slot].place(geometry);
+            let spans = &mut host.buffers.spans;
+            let next = submit(&mut host.mem, pair, &place, &request, spans);
             self.sent += 1;
             tail = Some(next);
         }
@@ -86,23 +81,25 @@ impl Batch {
         bus: &mut B,
         host: &mut HostSide<M>,
         pair: &mut QueuePair,
-        commands: &[Command],
+        requests: Requests,
         answers: &mut [AnswerSlot],
     )
         ghost begun: { RunOn B }
-        requires commands { commands.now ≡ begun.run.commands }
+        requires requests { IsRunOf begun.run requests }
         requires under_way { IsUnderWay B.was_written B.was_rung B.was_turned begun.start begun.run
             self.old.sent self.old.collected self.old (B.meaning bus.old) bus.old pair.old
             (M.page_len host.old.mem) (M.bytes host.old.mem) host.old.taken }
-        requires answers { HasAnswers begun.run self.old.collected answers.old }
-        requires some { self.old.collected < length begun.run.commands }
+        requires received { AreReceived requests begun.run self.old.collected answers.old
+            host.old.taken (M.bytes host.old.mem) host.old.last }
+        requires some { self.old.collected < length begun.run.requests }
         requires full { self.old.sent
-            ≡ min (self.old.collected + begun.run.geometry.window) (length begun.run.commands) }
+            ≡ min (self.old.collected + begun.run.geometry.window) (length begun.run.requests) }
         requires near { IsToldInTime begun.run self.old }
         ensures under_way { IsUnderWay B.was_written B.was_rung B.was_turned begun.start begun.run
             self.new.sent self.new.collected self.new (B.meaning bus.new) bus.new pair.new
             (M.page_len host.new.mem) (M.bytes host.new.mem) host.new.taken }
-        ensures answers { HasAnswers begun.run self.new.collected answers.new }
+        ensures received { AreReceived requests.entry begun.run self.new.collected answers.new
+            host.new.taken (M.bytes host.new.mem) host.new.last }
         ensures near { IsToldInTime begun.run self.new }
         ensures count { self.new.collected ≡ self.old.collected + taken_by_turn begun.run self.old }
         ensures paced { self.old.collected < self.new.collected
@@ -121,10 +118,21 @@ impl Batch {
         for _ in 0..posted {
             let completion = pair.next_completion(&host.mem);
             let number = self.collected;
-            let pages = host.taken[number % MOST_OUTSTANDING];
+            let pages = &host.taken[number % MOST_OUTSTANDING];
             pages.give(&mut pair.pages);
-            let place = pages.place(geometry);
-            answers[number].receive(host, &place, &commands[number], &completion);
+            match requests {
+                Requests::Commands(commands) => {
+                    let place = pages.place(geometry);
+                    let buffers = &mut host.buffers;
+                    let command = &commands[number];
+                    answers[number].receive(&host.mem, buffers, &place, command, &completion);
+                }
+                Requests::Entry { .. } => {}
+            }
+            host.last = Told {
+                dword0: completion.command_specific,
+                status: completion.status,
+            };
             self.collected += 1;
             if self.collected - self.told == pace {
                 pair.tell(bus, self.ctrl);
@@ -134,32 +142,36 @@ impl Batch {
     }
 }
 
-/// Sends commands to a controller, several at a time, and waits for their answers. No command of
+/// Sends requests to a controller, several at a time, and waits for their answers. No request of
 /// its queue pair is outstanding before or after.
 pub(crate) fn exchange_all<B: Bus + Ringing, M: HostMemory>(
     bus: &mut B,
     ctrl: u16,
     host: &mut HostSide<M>,
     pair: &mut QueuePair,
-    commands: &[Command],
+    requests: Requests,
     answers: &mut [AnswerSlot],
 )
     ghost begun: { RunOn B }
     requires run { begun
         ≡ run_on (run_of pair.old.geometry ctrl (B.meaning bus.old) pair.old
-        (M.bytes host.old.mem) commands.now) bus.old }
+        (M.bytes host.old.mem) (requests_in (limit_of (B.meaning bus.old).state ctrl) requests))
+        bus.old }
     requires ready { IsReady pair.old.geometry (B.meaning bus.old) ctrl
         pair.old (M.page_len host.old.mem) (M.bytes host.old.mem) }
-    requires can { All CanBeSent commands.now }
-    requires len { length answers.old ≡ length commands.now }
-    ensures answers { answers.new
-        ≡ answers_of ctrl (B.meaning bus.old).state pair.old.next_cid commands.now }
+    requires requests { IsRunOf begun.run requests }
+    requires none { AreReceived requests begun.run 0 answers.old host.old.taken
+        (M.bytes host.old.mem) host.old.last }
+    ensures received { AreReceived requests.entry begun.run (length begun.run.requests) answers.new
+        host.new.taken (M.bytes host.new.mem) host.new.last }
     ensures state { (B.meaning bus.new).state
-        ≡ state_after ctrl (B.meaning bus.old).state pair.old.next_cid commands.now }
+        ≡ state_after_all ctrl (B.meaning bus.old).state (numbered_of begun.run) }
     ensures paced { IsPaced B.was_written B.was_rung B.was_turned begun.run begun.start bus.new
         (B.meaning bus.new) (M.bytes host.new.mem) }
+    ensures others { KeepsOutside pair.old.geometry.page_size (pair_value pair.old)
+        (M.bytes host.old.mem) (M.bytes host.new.mem) }
     ensures left { IsLeft pair.old.geometry ctrl (length (M.bytes host.old.mem))
-        (after_some (length commands.now) (pair_value pair.old))
+        (after_some (length begun.run.requests) (pair_value pair.old))
         (side (B.meaning bus.old) pair.old (M.page_len host.old.mem) (M.bytes host.old.mem))
         (side (B.meaning bus.new) pair.new (M.page_len host.new.mem) (M.bytes host.new.mem)) }
 {
@@ -169,9 +181,9 @@ pub(crate) fn exchange_all<B: Bus + Ringing, M: HostMemory>(
         collected: 0,
         told: 0,
     };
-    while batch.collected < commands.len() {
-        batch.send(bus, host, pair, commands);
-        batch.turn(bus, host, pair, commands, answers);
+    while batch.collected < requests.len() {
+        batch.send(bus, host, pair, requests);
+        batch.turn(bus, host, pair, requests, answers);
     }
     pair.tell(bus, batch.ctrl);
 }

@@ -1,4 +1,4 @@
-//! The pages that one command has in the host's memory.
+//! The pages that one request has in the host's memory.
 
 ghost use Rattle.std.specs.Prelude.{◌≡◌, ◌≢◌, ◌≤◌, All, AllPairs, false, length};
 ghost use Rattle.std.specs.FinSet as set;
@@ -12,44 +12,43 @@ use crate::checked_geometry::CheckedGeometry;
 use crate::submitting::DataPlace;
 use nv_host::{PageNo, PageSet};
 
-/// The greatest number of pages of one command: five for 16,384 bytes that begin inside a page of
+/// The greatest number of pages of a request: 257 for 1,048,576 bytes that begin inside a page of
 /// 4,096, and two for a list.
-pub(crate) const MOST_COMMAND_PAGES: usize = 7;
+const MOST_PAGES: usize = 259;
 
-/// The pages of a command: two for a list, and then those of its data.
+/// The pages of a request: two for a list, and then those of its data.
 #[derive(Clone, Copy)]
 pub struct CommandPages {
-    pub numbers: [PageNo; MOST_COMMAND_PAGES],
+    pub numbers: [PageNo; MOST_PAGES],
     pub count: usize,
 }
 
 impl CommandPages {
-    /// The pages of a command that has none.
+    /// The pages of a request that has none.
     pub(crate) const NONE: CommandPages = CommandPages {
-        numbers: [0; MOST_COMMAND_PAGES],
+        numbers: [0; MOST_PAGES],
         count: 0,
     };
 
-    /// Takes the `count` lowest pages of a set, in order.
-    pub(crate) fn take(free: &mut PageSet, count: usize) -> CommandPages
-        requires few { count ≤ 7 }
+    /// Takes the `count` lowest pages of a set, in order, in place of those before.
+    pub(crate) fn take(&mut self, free: &mut PageSet, count: usize)
+        requires few { count ≤ 259 }
         requires enough { count ≤ set.len free.old.members }
-        ensures count { result.count ≡ count }
-        ensures seven { length result.numbers ≡ 7 }
-        ensures taken { AreTaken free.old (all_pages result) }
-        ensures lowest { AreLowest free.old (all_pages result) }
-        ensures set { free.new ≡ without free.old (all_pages result) }
+        ensures count { self.new.count ≡ count }
+        ensures long { length self.new.numbers ≡ 259 }
+        ensures taken { AreTaken free.old (all_pages self.new) }
+        ensures lowest { AreLowest free.old (all_pages self.new) }
+        ensures set { free.new ≡ without free.old (all_pages self.new) }
     {
-        let mut numbers = [0; MOST_COMMAND_PAGES];
         for at in 0..count {
-            numbers[at] = free.take().unwrap();
+            self.numbers[at] = free.take().unwrap();
         }
-        CommandPages { numbers, count }
+        self.count = count;
     }
 
     /// Returns the pages to their set, which must have none of them.
     pub(crate) fn give(&self, free: &mut PageSet)
-        requires few { self.now.count ≤ 7 }
+        requires few { self.now.count ≤ 259 }
         requires own { All (λ p. IsOf free.old.first free.old.count p) (all_pages self.now) }
         requires none { All (λ p. set.contains free.old.members p ≡ false) (all_pages self.now) }
         requires distinct { AllPairs (λ p q. p ≢ q) (all_pages self.now) }
@@ -61,9 +60,9 @@ impl CommandPages {
         }
     }
 
-    /// Returns the place of a command's data and list.
+    /// Returns the place of a request's data and list.
     pub(crate) fn place(&self, geometry: CheckedGeometry) -> DataPlace<'_>
-        requires few { self.now.count ≤ 7 }
+        requires few { self.now.count ≤ 259 }
         requires list { 2 ≤ self.now.count }
         ensures place { request_place result ≡ place_in geometry (all_pages self.now) }
     {

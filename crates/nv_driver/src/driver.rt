@@ -15,8 +15,7 @@ ghost use Rattle.nv_driver.specs.Driver.{after_command, after_commands, after_re
 ghost use Rattle.nv_driver.specs.Driver.{HasEntryPages, driver_with, new_driver};
 ghost use Rattle.nv_driver.specs.Layout.{pages_of_entry};
 ghost use Rattle.nv_driver.specs.Linked.{IsBroughtUp, IsLinked};
-ghost use Rattle.nv_driver.specs.Passing.{Passes};
-ghost use Rattle.nv_driver.specs.Sending.{Sends};
+ghost use Rattle.nv_driver.specs.Sending.{Passes, Sends};
 
 use crate::answer_slot::{Answer, AnswerSlot};
 use crate::batch::exchange_all;
@@ -25,18 +24,21 @@ use crate::command_pages::CommandPages;
 use crate::enabling::{enable_all, reset};
 use crate::error::DriverError;
 use crate::geometry::Geometry;
-use crate::host_side::{HostSide, MOST_ENTRY_PAGES, MOST_OUTSTANDING};
-use crate::passthrough::{Passed, exchange_entry};
+use crate::host_side::{Buffers, HostSide, MOST_OUTSTANDING};
+use crate::passthrough::receive;
 use crate::queue_pair::{QueuePair, new_pairs};
+use crate::requests::Requests;
 use crate::ringing::Ringing;
+use crate::submitting::transfer_for;
 use crate::zeroing::Zeroing;
 use nv_bus::{Bus, Told};
 use nv_command::Command;
-use nv_host::{FlatMemory, PagedMemory};
-use nv_layout::Sqe;
+use nv_host::{FlatMemory, PageSet, PagedMemory};
+use nv_layout::{Sqe, Status};
 use nv_prp::Spans;
 use std::alloc::Global;
 use std::marker::Model;
+use std::mem::swap;
 use std::slice::{from_mut, from_ref};
 
 /// The driver of all controllers of a bus: the host's memory, and in it the rings and pages of each
@@ -46,6 +48,8 @@ pub struct Driver {
     host: HostSide<FlatMemory>,
     geometry: CheckedGeometry,
     pairs: Vec<QueuePair>,
+    /// The pages behind those of all controllers.
+    more_pages: PageSet,
 }
 
 impl Model for Driver {
@@ -57,7 +61,7 @@ impl Model for Driver {
 
     ghost view = { λ d. driver_value d.geometry d.host.mem d.pairs.items };
 
-    ghost invariant = { λ d. IsDriver d.geometry d.host.mem d.pairs.items };
+    ghost invariant = { λ d. IsDriver d.geometry d.host.mem d.pairs.items d.more_pages };
 }
 
 impl Driver {
@@ -125,21 +129,29 @@ impl Driver {
     {
         let geometry = CheckedGeometry::new(geometry).map_err(DriverError::Geometry)?;
         let controllers = bus.controllers();
-        let pages = geometry.pages(controllers) + geometry.more_pages(with_entries);
-        let mut mem = FlatMemory::new(alloc, geometry.page_size, pages)?;
+        let first = geometry.pages(controllers);
+        let more = geometry.more_pages(with_entries);
+        let mut mem = FlatMemory::new(alloc, geometry.page_size, first + more)?;
+        let more_pages = PageSet::new(alloc, first, more)?;
         let pairs = new_pairs(alloc, geometry, controllers)?;
         enable_all(bus, &mut mem, &pairs, geometry)?;
         let host = HostSide {
             mem,
-            spans: Spans::new(),
-            pages: [0; MOST_ENTRY_PAGES],
-            data: [0; 16384],
+            buffers: Buffers {
+                spans: Spans::new(),
+                data: [0; 16384],
+            },
             taken: [CommandPages::NONE; MOST_OUTSTANDING],
+            last: Told {
+                dword0: 0,
+                status: Status::from_number(0),
+            },
         };
         Ok(Driver {
             host,
             geometry,
             pairs,
+            more_pages,
         })
     }
 
@@ -218,7 +230,8 @@ impl Driver {
             (B.meaning bus.old) bus.old bus.new }
     {
         let pair = &mut self.pairs[ctrl as usize];
-        exchange_all(bus, ctrl, &mut self.host, pair, commands, answers);
+        let requests = Requests::Commands(commands);
+        exchange_all(bus, ctrl, &mut self.host, pair, requests, answers);
     }
 
     /// Sends an entry to a controller, unchanged except for its command identifier and data
@@ -254,13 +267,22 @@ impl Driver {
         ensures steps { Passes B.was_written B.was_rung B.was_turned self.old ctrl entry.now bytes.now
             (B.meaning bus.old) bus.old bus.new }
     {
-        let passed = Passed {
-            entry,
-            bytes,
-            first_page: self.geometry.pages(self.controllers() as u16),
-        };
         let pair = &mut self.pairs[ctrl as usize];
-        exchange_entry(bus, ctrl, &mut self.host, pair, &passed, out)
+        swap(&mut pair.pages, &mut self.more_pages);
+        let requests = Requests::Entry { entry, bytes };
+        exchange_all(bus, ctrl, &mut self.host, pair, requests, &mut []);
+        swap(&mut pair.pages, &mut self.more_pages);
+        let HostSide {
+            mem,
+            buffers,
+            taken,
+            last,
+        } = &mut self.host;
+        let place = taken[0].place(self.geometry);
+        let transfer = transfer_for(entry);
+        let spans = &mut buffers.spans;
+        receive(mem, &place.buffer, transfer, last.status, spans, out);
+        *last
     }
 
     /// Returns how many controllers the driver has.

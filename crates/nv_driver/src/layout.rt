@@ -1,11 +1,13 @@
 //! Where each controller's rings and pages lie in the host's memory.
 
 ghost use Rattle.std.specs.Prelude.{◌≡◌, ◌+◌, ◌*◌, ◌^◌, ◌<◌, ◌≤◌, if◌then◌else◌};
+ghost use Rattle.nv_bus.specs.Call.{length_of};
 ghost use Rattle.nv_model.specs.Conditions.{greatest_limit};
 ghost use Rattle.nv_driver.specs.Layout.{completion_pages, pages_of_entry, pair_of, pair_pages, pages_of};
 ghost use Rattle.nv_driver.specs.Layout.{data_count, most_bytes, pages_of_command, set_pages, submission_pages};
 
 use crate::checked_geometry::CheckedGeometry;
+use nv_command::Transfer;
 use nv_host::PageNo;
 
 /// The greatest length of a command's data, in bytes.
@@ -60,16 +62,14 @@ impl CheckedGeometry {
         u32::from(self.window) * (MOST_BYTES.div_ceil(self.page_size) + MORE_PAGES)
     }
 
-    /// Returns how many pages `len` bytes of data lie in.
-    pub(crate) fn data_count(self, len: u32) -> u32
-        requires { len ≤ greatest_limit }
-        ensures pages { result ≡ data_count self len }
-        ensures entry { result + 2 ≤ pages_of_entry self.page_size }
-        ensures most { result + 2 ≤ 259 }
-        ensures command { len ≤ most_bytes
-            → (result + 2 ≤ pages_of_command self.page_size) × (result + 2 ≤ 7) }
+    /// Returns how many pages a request has: those that its data lies in, and two for a list.
+    pub(crate) fn page_count(self, transfer: Transfer) -> usize
+        requires { length_of transfer ≤ greatest_limit }
+        ensures pages { result ≡ data_count self (length_of transfer) + 2 }
+        ensures most { result ≤ 259 }
     {
-        (self.offset + len).div_ceil(self.page_size)
+        let len = transfer.bytes() as u32;
+        (self.offset + len).div_ceil(self.page_size) as usize + 2
     }
 
     /// Returns how many pages one controller takes.

@@ -1,94 +1,56 @@
-//! Sends an entry unchanged.
+//! Reads the data that came for an entry that was sent unchanged.
 
-ghost use Rattle.std.specs.List.{range_with_len};
-ghost use Rattle.std.specs.Prelude.{◌≡◌, ◌+◌, ◌*◌, ◌<◌, ◌≤◌, ◌^◌, [], length};
-ghost use Rattle.nv_layout.specs.Sqe.{SqeFits};
-ghost use Rattle.nv_driver.specs.inner.Alone.{IsExchanged};
-ghost use Rattle.nv_driver.specs.Exchange.{IsReady};
-ghost use Rattle.nv_driver.specs.inner.Exchange.{side};
-ghost use Rattle.nv_driver.specs.Layout.{pages_of_entry};
-ghost use Rattle.nv_driver.specs.Passing.{GoesAlone};
-ghost use Rattle.nv_driver.specs.Schedule.{World};
-ghost use Rattle.nv_driver.specs.UnderWay.{run_of};
+ghost use Rattle.std.specs.Prelude.{◌≡◌, ◌≤◌, if◌then◌else◌, length};
+ghost use Rattle.nv_prp.specs.Buffer.{IsBuffer, buffer_places};
+ghost use Rattle.nv_command.specs.Command.{bytes_to_host};
+ghost use Rattle.nv_model.specs.Conditions.{greatest_limit};
+ghost use Rattle.nv_bus.specs.Call.{length_of};
+ghost use Rattle.nv_driver.specs.inner.Alone.{came_with};
+ghost use Rattle.nv_driver.specs.Request.{padded};
+ghost use Rattle.nv_driver.specs.Schedule.{is_success, received_from};
 
-use crate::entry_data::receive;
-use crate::host_side::{HostSide, MOST_ENTRY_PAGES};
-use crate::queue_pair::QueuePair;
-use crate::ringing::Ringing;
-use crate::submitting::{DataPlace, Outgoing, submit};
-use nv_bus::{Bus, Told};
-use nv_host::{HostMemory, PageNo};
-use nv_layout::Sqe;
+use nv_command::Transfer;
+use nv_host::HostMemory;
+use nv_layout::Status;
+use nv_prp::{Buffer, Spans, copy_in};
 
-/// An entry that is sent unchanged, the host's bytes for it, and the first of the pages that its
-/// list and its data may have.
-#[derive(Clone, Copy)]
-pub struct Passed<'a> {
-    pub entry: &'a Sqe,
-    pub bytes: &'a [u8],
-    pub first_page: PageNo,
-}
-
-/// Puts consecutive numbers from the first one on into `pages`, and returns these.
-fn consecutive(pages: &mut [PageNo; MOST_ENTRY_PAGES], first: PageNo, count: usize) -> &[PageNo]
-    requires few { count ≤ 259 }
-    requires numbered { first + count ≤ 2 ^ 32 }
-    ensures { result.now ≡ range_with_len first count }
+/// Returns how many bytes come back with this status: none if the entry was refused.
+fn received_length(transfer: Transfer, status: Status) -> u32
+    requires { length_of transfer ≤ greatest_limit }
+    ensures value { result ≡ (if is_success status then bytes_to_host transfer else 0) }
+    ensures few { result ≤ length_of transfer }
 {
-    for at in 0..count {
-        pages[at] = first + at as u32;
+    if !status.is_success() {
+        return 0;
     }
-    &pages[..count]
+    match transfer {
+        Transfer::NoData => 0,
+        Transfer::ToHost(len) => len as u32,
+        Transfer::FromHost(_) => 0,
+    }
 }
 
-/// Sends an entry to a controller, unchanged except for its command identifier and data pointer,
-/// and waits for its completion. Its list and its data are in consecutive pages that belong to no
-/// queue pair. No command of the queue pair is outstanding before or after.
-pub(crate) fn exchange_entry<B: Bus + Ringing, M: HostMemory>(
-    bus: &mut B,
-    ctrl: u16,
-    host: &mut HostSide<M>,
-    pair: &mut QueuePair,
-    passed: &Passed,
+/// Reads the data that came to a buffer, as much as `out` has room for, and zeroes the rest of
+/// `out`. None came if the entry was refused.
+pub(crate) fn receive<M: HostMemory>(
+    mem: &M,
+    buffer: &Buffer,
+    transfer: Transfer,
+    status: Status,
+    spans: &mut Spans,
     out: &mut [u8],
-) -> Told
-    requires ready { IsReady pair.old.geometry (B.meaning bus.old) ctrl
-        pair.old (M.page_len host.old.mem) (M.bytes host.old.mem) }
-    requires fits { SqeFits passed.now.entry.now }
-    requires behind { pair.old.pages.first + pair.old.pages.count ≤ passed.now.first_page }
-    requires inside { (passed.now.first_page + pages_of_entry pair.old.geometry.page_size)
-        * pair.old.geometry.page_size ≤ length (M.bytes host.old.mem) }
-    requires numbered { passed.now.first_page + pages_of_entry pair.old.geometry.page_size
-        < 2 ^ 32 }
-    ensures exchanged { IsExchanged pair.old.geometry ctrl
-        passed.now.entry.now passed.now.bytes.now passed.now.first_page
-        (side (B.meaning bus.old) pair.old (M.page_len host.old.mem) (M.bytes host.old.mem))
-        (side (B.meaning bus.new) pair.new (M.page_len host.new.mem) (M.bytes host.new.mem))
-        result out.new }
-    ensures steps { (last : World) × GoesAlone B.was_written B.was_rung B.was_turned
-        (run_of pair.old.geometry ctrl (B.meaning bus.old) pair.old (M.bytes host.old.mem) [])
-        passed.now.entry.now passed.now.bytes.now passed.now.first_page bus.old bus.new last }
+)
+    requires few { length_of transfer ≤ greatest_limit }
+    requires buffer { IsBuffer (M.bytes mem.now) (M.page_len mem.now)
+        buffer.now.pages.now buffer.now.offset (length_of transfer) }
+    ensures { out.new ≡ padded (length out.old) (came_with status (received_from transfer
+        (M.bytes mem.now) (buffer_places (M.page_len mem.now) buffer.now.pages.now
+        buffer.now.offset (length_of transfer)))) }
 {
-    let geometry = pair.geometry();
-    let HostSide {
-        mem,
-        spans,
-        pages,
-        ..
-    } = host;
-    let request = Outgoing::of_entry(passed.entry, passed.bytes);
-    let len = request.transfer.bytes() as u32;
-    let count = geometry.data_count(len) as usize + 2;
-    let place = DataPlace::within(geometry, consecutive(pages, passed.first_page, count));
-    let tail = submit(mem, pair, &place, &request, spans);
-    bus.ring(ctrl, mem, tail);
-    bus.turn(ctrl, mem, 1);
-    let completion = pair.next_completion(mem);
-    pair.tell(bus, ctrl);
-    let status = completion.status;
-    receive(mem, &place.buffer, request.transfer, status, spans, out);
-    Told {
-        dword0: completion.command_specific,
-        status,
-    }
+    let len = received_length(transfer, status) as usize;
+    let count = out.len().min(len);
+    buffer.spans(mem, count as u32, spans);
+    let (filled, rest) = out.split_at_mut(count);
+    copy_in(mem, spans, filled);
+    rest.fill(0);
 }

@@ -70,7 +70,7 @@ pub struct Outgoing<'a, 'b> {
 
 /// Returns the direction and the length of an entry's data: none if a controller refuses the entry
 /// before it reads the data pointer.
-fn transfer_for(entry: &Sqe) -> Transfer
+pub(crate) fn transfer_for(entry: &Sqe) -> Transfer
     ensures value { result ≡ transfer_for entry.now }
     ensures room { HasRoom result }
     ensures few { length_of result ≤ greatest_limit }

@@ -1,6 +1,6 @@
 -- Sets of page numbers as sets of numbers.
-use Rattle.std.proofs.Common.{◌≡◌, ◌∙◌, ℕ, zero, suc, ◌+◌, ◌<◌, ◌==◌, ◌||◌, ◌&&◌, Bool, true, false, not, cond, ap}
-use Rattle.std.proofs.Common.{refl, sym, IfSome, MatchOption, None, Option, Some, is_some}
+use Rattle.std.proofs.Common.{◌≡◌, ◌∙◌, ℕ, zero, suc, ◌+◌, ◌<◌, ◌==◌, ◌||◌, ◌&&◌, Bool, true, false, not, ap}
+use Rattle.std.proofs.Common.{arith, sym, IfSome, MatchOption, None, Option, Some, is_some}
 use Rattle.std.specs.Cmp.{nat_cmp_total, unsigned_tied}
 use Rattle.std.specs.Ordering.{nat_cmp}
 use Rattle.std.specs.FinMap as map
@@ -35,29 +35,17 @@ as_set_is : (s : NumberSet) (t : set.FinSet nat_cmp) → ((q : ℕ) → map.cont
 as_set_is s t same =
     set.same_set nat_cmp_total set.nat_cmp-IsAntisymmetric (as_set s) t (λ q. contains-as_set s q ∙ same q)
 
--- a choice between a value and an optional one is a value if the test holds or the optional one is a value
-with_one : (b : Bool) (x : Option (Unit {0})) → is_some (cond b (Some tt) x) ≡ (b || is_some x)
-with_one true x = refl
-with_one false x = refl
-
--- a choice between nothing and an optional value is a value if the test fails and the optional one is a value
-without : (b : Bool) (x : Option (Unit {0})) → is_some (cond b None x) ≡ (not b && is_some x)
-without true x = refl
-without false x = refl
-
 -- inserting a number inserts it into the set of std's too
 pub as_set-insert : (s : NumberSet) (k : ℕ) → as_set (insert s k) ≡ set.insert (as_set s) k
 as_set-insert s k =
-    as_set_is (insert s k) _ (λ q. ap is_some (get_of_insert s k tt q) ∙ with_one (q == k) (map.get s q)
-    ∙ sym (contains_of_insert (as_set s) k q
-    ∙ ap (λ b. (q == k) || b) (contains-as_set s q)))
+    as_set_is (insert s k) _
+    (λ q. grind (arith, get_of_insert s k tt q, contains_of_insert (as_set s) k q, contains-as_set s q))
 
 -- removing a number removes it from the set of std's too
 pub as_set-remove : (s : NumberSet) (k : ℕ) → as_set (map.remove s k) ≡ set.remove (as_set s) k
 as_set-remove s k =
-    as_set_is (map.remove s k) _ (λ q. ap is_some (get_of_remove s k q) ∙ without (q == k) (map.get s q)
-    ∙ sym (contains_of_remove (as_set s) k q
-    ∙ ap (λ b. not (q == k) && b) (contains-as_set s q)))
+    as_set_is (map.remove s k) _
+    (λ q. grind (arith, get_of_remove s k q, contains_of_remove (as_set s) k q, contains-as_set s q))
 
 -- an empty set of numbers is an empty set of std's
 as_set-empty : as_set map.empty ≡ set.empty

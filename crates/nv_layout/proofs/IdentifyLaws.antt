@@ -17,7 +17,7 @@ use Rattle.nv_layout.specs.declared.id_ctrl.IdCtrl.{IdCtrl}
 use Rattle.nv_layout.specs.declared.id_ns.IdNs.{IdNs}
 use Rattle.nv_layout.specs.declared.id_ns.Lbaf.{Lbaf}
 use Rattle.nv_layout.specs.declared.new_namespace.NewNamespace.{NewNamespace}
-use Rattle.nv_layout.proofs.TableLaws.{field_back, length-laid_out, table_back}
+use Rattle.nv_layout.proofs.TableLaws.{length-laid_out, table_back}
 
 -- ---- namespaces
 
@@ -72,21 +72,8 @@ unfolding bytes_of_id_ns id_ns_of_bytes
 id_ns_back r fits =
     let count = length-map r.lbafs number_of_lbaf ∙ fits.formats in
     let each = lbafs_fit r.lbafs fits.each_format in
-    let field = field_back 4096 (id_ns_parts r) refl assumption in
-    λ i. record {
-      nsze = field 0 i;
-      ncap = field 1 i;
-      nuse = field 2 i;
-      nsfeat = field 3 i;
-      nlbaf = field 4 i;
-      flbas = field 5 i;
-      mc = field 6 i;
-      dpc = field 7 i;
-      dps = field 8 i;
-      nmic = field 9 i;
-      nvmcap = field 10 i;
-      lbafs = (ap (map lbaf_of_number) (field 11) ∙ lbafs_back r.lbafs fits.each_format) i;
-    }
+    let fields = table_back 4096 (id_ns_parts r) refl assumption in
+    grind (arith, fields, lbafs_back r.lbafs fits.each_format)
 
 -- ---- namespaces to create
 
@@ -99,14 +86,7 @@ length-bytes_of_new_namespace w = length-laid_out 4096 (new_namespace_parts w) r
 pub new_namespace_back : NewNamespaceReadsBack
 unfolding bytes_of_new_namespace new_namespace_of_bytes
 new_namespace_back w fits =
-    let field = field_back 4096 (new_namespace_parts w) refl assumption in
-    λ i. record {
-      nsze = field 0 i;
-      ncap = field 1 i;
-      flbas = field 2 i;
-      dps = field 3 i;
-      nmic = field 4 i;
-    }
+    let fields = table_back 4096 (new_namespace_parts w) refl assumption in grind (arith, fields)
 
 -- ---- controllers
 
@@ -125,33 +105,4 @@ pub id_ctrl_back : IdCtrlReadsBack
 unfolding bytes_of_id_ctrl id_ctrl_of_bytes
 id_ctrl_back r fits =
     let (small, whole) = ieee_bits r.ieee fits.ieee in
-    let field = field_back 4096 (id_ctrl_parts r) refl assumption in
-    λ i. record {
-      vid = field 0 i;
-      ssvid = field 1 i;
-      sn = field 2 i;
-      mn = field 3 i;
-      fr = field 4 i;
-      rab = field 5 i;
-      ieee = (field 6 ∙ whole) i;
-      cmic = field 7 i;
-      mdts = field 8 i;
-      cntlid = field 9 i;
-      ver = field 10 i;
-      oacs = field 11 i;
-      frmw = field 12 i;
-      lpa = field 13 i;
-      elpe = field 14 i;
-      npss = field 15 i;
-      wctemp = field 16 i;
-      cctemp = field 17 i;
-      tnvmcap = field 18 i;
-      unvmcap = field 19 i;
-      sqes = field 20 i;
-      cqes = field 21 i;
-      nn = field 22 i;
-      oncs = field 23 i;
-      fna = field 24 i;
-      vwc = field 25 i;
-      subnqn = field 26 i;
-    }
+    let fields = table_back 4096 (id_ctrl_parts r) refl assumption in grind (arith, fields, whole)

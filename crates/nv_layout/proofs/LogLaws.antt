@@ -1,6 +1,6 @@
 -- The records of logs are read back, and how many bytes they have.
-use Rattle.std.proofs.Common.{◌≡◌, ◌∙◌, ℕ, ◌==◌, ◌+◌, ◌-◌, ◌*◌, ◌/◌, ◌%◌, ◌≤◌, ◌^◌, ◌<◌, ap, refl, sym, zero, suc}
-use Rattle.std.proofs.Common.{Bool, arith, lit<, List, [], ◌∷◌, ◌++◌, length, get_or, replicate, take}
+use Rattle.std.proofs.Common.{◌≡◌, ◌∙◌, ℕ, ◌+◌, ◌-◌, ◌*◌, ◌/◌, ◌%◌, ◌≤◌, ◌^◌, ◌<◌, ap, refl, sym, zero, suc}
+use Rattle.std.proofs.Common.{rules, Bool, arith, List, [], ◌∷◌, ◌++◌, length, get_or, replicate, take}
 use Rattle.std.proofs.lemmas.List.{get_or-append_right, get_or-replicate, get_or_append_left}
 use Rattle.std.proofs.lemmas.List.{length-append, length-replicate}
 use Rattle.std.proofs.Math.Seq.{take-append_seam}
@@ -13,8 +13,8 @@ use Rattle.nv_layout.specs.Parts.{part, placed, zeros}
 use Rattle.nv_layout.proofs.PartLaws.{get_or-past, same_parts}
 use Rattle.nv_layout.proofs.RecordLaws.{bit_below, flag_back, number_of_status_below, status_back}
 use Rattle.nv_layout.specs.Smart.{SmartReadsBack, bytes_of_smart, smart_of_bytes, smart_parts}
-use Rattle.nv_layout.specs.Status.{number_of_status, status_of_number}
-use Rattle.nv_layout.proofs.TableLaws.{field_back, length-laid_out}
+use Rattle.nv_layout.specs.Status.{number_of_status}
+use Rattle.nv_layout.proofs.TableLaws.{length-laid_out, table_back}
 use Rattle.nv_layout.specs.declared.error_entry.ErrorEntry.{ErrorEntry}
 use Rattle.nv_layout.specs.declared.smart.Smart.{Smart}
 
@@ -29,57 +29,17 @@ length-bytes_of_smart r sensors = length-laid_out 512 (smart_parts r) refl assum
 pub smart_back : SmartReadsBack
 unfolding bytes_of_smart smart_of_bytes
 smart_back r fits =
-    let field = field_back 512 (smart_parts r) refl assumption in
-    λ i. record {
-      critical_warning = field 0 i;
-      temperature = field 1 i;
-      avail_spare = field 2 i;
-      spare_thresh = field 3 i;
-      percent_used = field 4 i;
-      data_units_read = field 5 i;
-      data_units_written = field 6 i;
-      host_read_commands = field 7 i;
-      host_write_commands = field 8 i;
-      controller_busy_time = field 9 i;
-      power_cycles = field 10 i;
-      power_on_hours = field 11 i;
-      unsafe_shutdowns = field 12 i;
-      media_errors = field 13 i;
-      num_err_log_entries = field 14 i;
-      warning_temp_time = field 15 i;
-      critical_comp_time = field 16 i;
-      sensors = field 17 i;
-    }
+    let fields = table_back 512 (smart_parts r) refl assumption in grind (arith, fields)
 
 -- ---- entries of the error log
 
 -- the fields of the entry that holds no error fit
 pub no_entry_fits : ErrorEntryFits no_entry
-no_entry_fits = record {
-  count = lit< tt;
-  sqid = lit< tt;
-  cid = lit< tt;
-  status = record { sc = lit< tt; sct = lit< tt; crd = lit< tt };
-  location = lit< tt;
-  lba = lit< tt;
-  nsid = lit< tt;
-  vendor = lit< tt;
-  specific = lit< tt;
-}
+no_entry_fits = search (rules, arith)
 
 -- an entry that fits its record also fits with any phase tag
 pub fits_with_phase : (e : ErrorEntry) (phase : Bool) → ErrorEntryFits e → ErrorEntryFits (record e { phase = phase })
-fits_with_phase e phase fits = record {
-  count = fits.count;
-  sqid = fits.sqid;
-  cid = fits.cid;
-  status = fits.status;
-  location = fits.location;
-  lba = fits.lba;
-  nsid = fits.nsid;
-  vendor = fits.vendor;
-  specific = fits.specific;
-}
+fits_with_phase e phase fits = assumption
 
 -- an entry of the error log has 64 bytes
 pub length-bytes_of_error_entry : (r : ErrorEntry) → length (bytes_of_error_entry r) ≡ 64
@@ -98,21 +58,8 @@ error_entry_back r fits =
     let (small, phase, status) =
     word_bits (bit r.phase) (number_of_status r.status) (bit_below r.phase)
     (number_of_status_below r.status) in
-    let field = field_back 64 (error_entry_parts r) refl assumption in
-    λ i. record {
-      count = field 0 i;
-      sqid = field 1 i;
-      cid = field 2 i;
-      status = (ap (λ x. status_of_number (bits 1 15 x)) (field 3)
-          ∙ ap status_of_number status
-          ∙ status_back r.status fits.status) i;
-      phase = (ap (λ x. bits 0 1 x == 1) (field 3) ∙ ap (λ x. x == 1) phase ∙ flag_back r.phase) i;
-      location = field 4 i;
-      lba = field 5 i;
-      nsid = field 6 i;
-      vendor = field 7 i;
-      specific = field 8 i;
-    }
+    let fields = table_back 64 (error_entry_parts r) refl assumption in
+    grind (arith, fields, phase, flag_back r.phase, status, status_back r.status fits.status)
 
 -- the bytes of several entries are 64 for each entry
 pub length-entries : (es : List ErrorEntry) → length (bytes_of_entries es) ≡ 64 * length es

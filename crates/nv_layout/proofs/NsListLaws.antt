@@ -1,22 +1,17 @@
 -- Lists of identifiers that end at the first zero.
 use Rattle.std.proofs.Common.{◌≡◌, ◌≢◌, ◌∙◌, ℕ, zero, suc, ◌+◌, ◌-◌, ◌*◌, ◌^◌, ◌<◌, ◌≤◌, ap, refl}
-use Rattle.std.proofs.Common.{sym, not, append_assoc, arith, append-nil, true, false, List, [], ◌∷◌, ◌++◌, drop}
+use Rattle.std.proofs.Common.{sym, not, arith, append-nil, false, List, [], ◌∷◌, ◌++◌, drop}
 use Rattle.std.proofs.Common.{take, length, get_or}
 use Rattle.std.specs.List.{AllByRecursion, before_first, flat_map, prefix_len}
-use Rattle.std.proofs.lemmas.Bool.{false_from_ne_true}
+use Rattle.std.proofs.lemmas.Bool.{eqb-true, false_from_ne_true}
 use Rattle.std.proofs.lemmas.Grind.{flat_map-append}
-use Rattle.std.proofs.lemmas.List.{drop-drop, drop-replicate, drop_all, length-append}
-use Rattle.std.proofs.Math.Seq.{drop-append_seam, take-append_seam}
+use Rattle.std.proofs.lemmas.List.{drop-replicate, drop_all, length-append}
 use Rattle.byteorder.specs.Endian.{little_bytes}
 use Rattle.nv_layout.specs.NsList.{is_zero, padded}
-use Rattle.nv_layout.specs.Parts.{number, number_at, numbers, numbers_at, placed, zeros}
-use Rattle.nv_layout.proofs.PartLaws.{get_or-numbers_at, length-numbers_at, length_each, length_zeros}
+use Rattle.nv_layout.specs.Parts.{number_at, numbers, numbers_at, placed, zeros}
+use Rattle.nv_layout.proofs.PartLaws.{get_or-numbers_at, length-numbers_at, length_zeros}
 
 -- ---- the numbers before the first zero
-
--- if a number passes the test for zero, it is 0
-zero_from_test : (x : ℕ) → is_zero x ≡ true → x ≡ 0
-zero_from_test x t = grind (arith, t)
 
 -- a first number that isn't zero is the first of the numbers before the first zero
 before_first-cons : (x : ℕ) (xs : List ℕ) → is_zero x ≡ false
@@ -39,7 +34,7 @@ is_before_zero (x ∷ xs) (y ∷ ys) size same full end =
     let first : y ≡ x = same 0 (omega arith) in
     let some : y ≢ 0 = full 0 (omega arith) in
     let test : is_zero x ≡ false =
-    false_from_ne_true (is_zero x) (λ t. some (first ∙ zero_from_test x t)) in
+    false_from_ne_true (is_zero x) (λ t. some (first ∙ eqb-true x 0 t)) in
     let rest = is_before_zero xs ys (omega arith)
     (λ k below. let at : get_or ys k 0 ≡ get_or xs k 0 = same (suc k) (omega arith) in at)
     (λ k below. let at : get_or ys k 0 ≢ 0 = full (suc k) (omega arith) in at)
@@ -75,7 +70,7 @@ before_first-append : (xs ys : List ℕ) → AreIdentifiers xs → before_first 
 before_first-append [] ys f e = sym e
 before_first-append (x ∷ xs) ys f e =
     let test : is_zero x ≡ false =
-    false_from_ne_true (is_zero x) (λ t. f.0.0 (zero_from_test x t)) in
+    false_from_ne_true (is_zero x) (λ t. f.0.0 (eqb-true x 0 t)) in
     ap (λ t. x ∷ t) (before_first-append xs ys f.1 e) ∙ before_first-cons x (xs ++ ys) test
 
 -- before the first of n zeros there is no number
@@ -145,29 +140,3 @@ placed-padded count ids h =
     ∙ sym (flat_map-append (little_bytes 4) ids (zeros (count - length ids)))
     ∙ sym (append-nil (flat_map (little_bytes 4) (padded count ids)))
     ∙ ap (λ t. flat_map (little_bytes 4) (padded count ids) ++ t) (sym (none_left (4 * count)))
-
--- one more number that is written after a list's own gives the bytes of the longer list
-pub placed-one_more : (count : ℕ) (ids : List ℕ) (x : ℕ) → length ids < count
-    → placed (placed (zeros (4 * count)) (numbers 0 4 count (padded count ids))) (number (4 * length ids) 4 x)
-    ≡ placed (zeros (4 * count)) (numbers 0 4 count (padded count (ids ++ x ∷ [])))
-unfolding placed
-placed-one_more count ids x h =
-    ap (λ b. placed b (number (4 * length ids) 4 x)) (sym (placed-padded count ids (omega arith)))
-    ∙ over ∙ placed-padded count (ids ++ x ∷ []) (omega (arith, size))
-  where
-    size : length (ids ++ x ∷ []) ≡ length ids + 1
-    size = length-append ids (x ∷ [])
-
-    over : placed (placed (zeros (4 * count)) (numbers 0 4 (length ids) ids)) (number (4 * length ids) 4 x)
-        ≡ placed (zeros (4 * count)) (numbers 0 4 (length (ids ++ x ∷ [])) (ids ++ x ∷ []))
-    over =
-        let written = flat_map (little_bytes 4) ids in
-        let left = drop (4 * length ids) (zeros (4 * count)) in
-        let here : 4 * length ids ≡ length written = sym (length_each 4 ids) in
-        let next : 4 * length ids + 4 ≡ 4 * length (ids ++ x ∷ []) = omega (arith, size) in
-        (λ i. take (here i) (written ++ left) ++ (little_bytes 4 x ++ drop 4 (drop (here i) (written ++ left))))
-        ∙ (λ i. take-append_seam written left i ++ (little_bytes 4 x ++ drop 4 (drop-append_seam written left i)))
-        ∙ sym (append_assoc written (little_bytes 4 x) (drop 4 left))
-        ∙ ap (λ (b : List ℕ). (written ++ b) ++ drop 4 left) (sym (append-nil (little_bytes 4 x)))
-        ∙ (λ i. sym (flat_map-append (little_bytes 4) ids (x ∷ [])) i
-        ++ (drop-drop 4 (4 * length ids) (zeros (4 * count)) ∙ ap (λ m. drop m (zeros (4 * count))) next) i)

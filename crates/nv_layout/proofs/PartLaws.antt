@@ -121,24 +121,7 @@ byte_placed b at x h small =
 
 -- the bytes of a number's lower half, and then those of its upper half, are its bytes
 pub halves : (v : ℕ) → little_bytes 8 (v % 2 ^ 64) ++ little_bytes 8 (v / 2 ^ 64) ≡ little_bytes 16 v
-halves v =
-    let a0 : v % 2 ^ 64 % 256 ≡ v % 256 = omega arith in
-    let a1 : v % 2 ^ 64 / 256 % 256 ≡ v / 256 % 256 = omega arith in
-    let a2 : v % 2 ^ 64 / 256 ^ 2 % 256 ≡ v / 256 ^ 2 % 256 = omega arith in
-    let a3 : v % 2 ^ 64 / 256 ^ 3 % 256 ≡ v / 256 ^ 3 % 256 = omega arith in
-    let a4 : v % 2 ^ 64 / 256 ^ 4 % 256 ≡ v / 256 ^ 4 % 256 = omega arith in
-    let a5 : v % 2 ^ 64 / 256 ^ 5 % 256 ≡ v / 256 ^ 5 % 256 = omega arith in
-    let a6 : v % 2 ^ 64 / 256 ^ 6 % 256 ≡ v / 256 ^ 6 % 256 = omega arith in
-    let a7 : v % 2 ^ 64 / 256 ^ 7 % 256 ≡ v / 256 ^ 7 % 256 = omega arith in
-    let b1 : v / 2 ^ 64 / 256 % 256 ≡ v / 256 ^ 9 % 256 = omega arith in
-    let b2 : v / 2 ^ 64 / 256 ^ 2 % 256 ≡ v / 256 ^ 10 % 256 = omega arith in
-    let b3 : v / 2 ^ 64 / 256 ^ 3 % 256 ≡ v / 256 ^ 11 % 256 = omega arith in
-    let b4 : v / 2 ^ 64 / 256 ^ 4 % 256 ≡ v / 256 ^ 12 % 256 = omega arith in
-    let b5 : v / 2 ^ 64 / 256 ^ 5 % 256 ≡ v / 256 ^ 13 % 256 = omega arith in
-    let b6 : v / 2 ^ 64 / 256 ^ 6 % 256 ≡ v / 256 ^ 14 % 256 = omega arith in
-    let b7 : v / 2 ^ 64 / 256 ^ 7 % 256 ≡ v / 256 ^ 15 % 256 = omega arith in
-    λ i. a0 i ∷ a1 i ∷ a2 i ∷ a3 i ∷ a4 i ∷ a5 i ∷ a6 i ∷ a7 i
-    ∷ v / 2 ^ 64 % 256 ∷ b1 i ∷ b2 i ∷ b3 i ∷ b4 i ∷ b5 i ∷ b6 i ∷ b7 i ∷ []
+halves v = grind arith
 
 -- ---- numbers in a row
 
@@ -167,16 +150,6 @@ numbers_read at width n bytes xs e h =
     same_number_lists xs (numbers_at at width n bytes) (e ∙ sym size)
     (λ k below. h k (omega (arith, e))
     ∙ sym (get_or-numbers_at at width n bytes k (omega (arith, e))))
-
--- the first k of n numbers are the numbers that numbers_at reads for k
-pub take_numbers_at : (k at width n : ℕ) (bytes : List ℕ) → k ≤ n
-    → take k (numbers_at at width n bytes) ≡ numbers_at at width k bytes
-unfolding numbers_at
-take_numbers_at zero at width n bytes h = refl
-take_numbers_at (suc k) at width zero bytes h = absurd (omega arith)
-take_numbers_at (suc k) at width (suc n) bytes h =
-    ap (λ rest. number_at at width bytes ∷ rest) (take_numbers_at k (at + width) width n bytes
-    (omega arith))
 
 -- numbers that are below a limit by their indices are all below it
 pub all_below : (limit : ℕ) (xs : List ℕ) → ((k : ℕ) → k < length xs → get_or xs k 0 < limit)

@@ -16,7 +16,7 @@ use Rattle.nv_layout.specs.declared.cqe.Cqe.{Cqe}
 use Rattle.nv_layout.specs.declared.sqe.Sqe.{Sqe}
 use Rattle.nv_layout.specs.declared.cqe.Status.{Status}
 use Rattle.nv_layout.proofs.NsListLaws.{before_first-padded, length-padded, padded_fits}
-use Rattle.nv_layout.proofs.TableLaws.{field_back, length-laid_out, table_back}
+use Rattle.nv_layout.proofs.TableLaws.{length-laid_out, table_back}
 
 -- ---- flags
 
@@ -51,13 +51,7 @@ status_back s fits =
     let (sc, sct, crd, more, dnr) =
     status_bits s.sc s.sct s.crd (bit s.more) (bit s.dnr)
     fits.sc fits.sct fits.crd (bit_below s.more) (bit_below s.dnr) in
-    λ i. record {
-      sc = sc i;
-      sct = sct i;
-      crd = crd i;
-      more = (ap (λ x. x == 1) more ∙ flag_back s.more) i;
-      dnr = (ap (λ x. x == 1) dnr ∙ flag_back s.dnr) i;
-    }
+    grind (arith, sc, sct, crd, more, flag_back s.more, dnr, flag_back s.dnr)
 
 -- ---- submission queue entries
 
@@ -78,23 +72,8 @@ unfolding bytes_of_sqe sqe_of_bytes
 sqe_back r fits =
     let (small, opcode, fuse, psdt, cid) =
     dword0_bits r.opcode r.fuse r.psdt r.cid fits.opcode fits.fuse fits.psdt fits.cid in
-    let field = field_back 64 (sqe_parts r) refl assumption in
-    λ i. record {
-      opcode = (ap (bits 0 8) (field 0) ∙ opcode) i;
-      fuse = (ap (bits 8 2) (field 0) ∙ fuse) i;
-      psdt = (ap (bits 14 2) (field 0) ∙ psdt) i;
-      cid = (ap (bits 16 16) (field 0) ∙ cid) i;
-      nsid = field 1 i;
-      mptr = field 2 i;
-      prp1 = field 3 i;
-      prp2 = field 4 i;
-      cdw10 = field 5 i;
-      cdw11 = field 6 i;
-      cdw12 = field 7 i;
-      cdw13 = field 8 i;
-      cdw14 = field 9 i;
-      cdw15 = field 10 i;
-    }
+    let fields = table_back 64 (sqe_parts r) refl assumption in
+    grind (arith, fields, opcode, fuse, psdt, cid)
 
 -- ---- completion queue entries
 
@@ -116,17 +95,8 @@ cqe_back r fits =
     let (small, cid, phase, status) =
     dword3_bits r.cid (bit r.phase) (number_of_status r.status)
     fits.cid (bit_below r.phase) (number_of_status_below r.status) in
-    let field = field_back 16 (cqe_parts r) refl assumption in
-    λ i. record {
-      command_specific = field 0 i;
-      sq_head = field 1 i;
-      sq_identifier = field 2 i;
-      cid = (ap (bits 0 16) (field 3) ∙ cid) i;
-      phase = (ap (λ x. bits 16 1 x == 1) (field 3) ∙ ap (λ x. x == 1) phase ∙ flag_back r.phase) i;
-      status = (ap (λ x. status_of_number (bits 17 15 x)) (field 3)
-          ∙ ap status_of_number status
-          ∙ status_back r.status fits.status) i;
-    }
+    let fields = table_back 16 (cqe_parts r) refl assumption in
+    grind (arith, fields, cid, phase, flag_back r.phase, status, status_back r.status fits.status)
 
 -- ---- namespace lists
 

@@ -1,7 +1,7 @@
 -- A table of fields: its bytes hold each field's value.
 use Rattle.std.proofs.Common.{◌≡◌, ◌∙◌, ℕ, Bool, true, zero, suc, ◌&&◌, nat_le, ◌+◌, ◌*◌, ◌^◌, ◌<◌}
 use Rattle.std.proofs.Common.{◌≤◌, ap, refl, sym, arith, append-nil, List, [], ◌∷◌, ◌++◌, take}
-use Rattle.std.proofs.Common.{drop, fold, get_or, length}
+use Rattle.std.proofs.Common.{drop, fold, length}
 use Rattle.std.specs.List.{AllByRecursion, flat_map}
 use Rattle.std.proofs.lemmas.List.{drop-drop, drop-take, take-take}
 use Rattle.std.proofs.Math.Seq.{drop-append_seam, take-append_seam}
@@ -148,20 +148,3 @@ pub table_back : (size : ℕ) (ps : List Part) → is_table 0 size ps ≡ true �
     → AllByRecursion (Holds (laid_out size ps)) ps
 table_back size ps t f =
     values_back _ ps f (all_stand (zeros size) 0 size ps t (all_sized ps f) (length_zeros size))
-
--- so is field k of it
-abbrev pub nothing : Part
-nothing = number 0 0 0
-
--- if the bytes hold every field of a list, they hold field k, or `nothing` past the end of the list
-field_holds : (bytes : List ℕ) (ps : List Part) → AllByRecursion (Holds bytes) ps → (k : ℕ)
-    → Holds bytes (get_or ps k nothing)
-unfolding number_at
-field_holds bytes [] h k = refl
-field_holds bytes (p ∷ ps) h zero = h.0
-field_holds bytes (p ∷ ps) h (suc k) = field_holds bytes ps h.1 k
-
--- the bytes of a table whose fields fit hold field k
-pub field_back : (size : ℕ) (ps : List Part) → is_table 0 size ps ≡ true → AllByRecursion Fits ps
-    → (k : ℕ) → Holds (laid_out size ps) (get_or ps k nothing)
-field_back size ps t f = field_holds (laid_out size ps) ps (table_back size ps t f)

@@ -53,6 +53,7 @@ impl<'a> ErrorEntries<'a> {
     }
 
     /// Returns a number of entries, at most all, after which none holds an error.
+    #[tactic(auto, using(crate::proofs::LogLaws::present_first))]
     pub fn present(&self) -> usize
         ensures within { result ≤ length self.now }
         ensures few { result ≤ 256 }

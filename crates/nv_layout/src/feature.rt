@@ -212,6 +212,7 @@ impl Feature {
         is_for(self.selector_in(dword), selector) && self.has_selector(selector)
     }
 
+    #[tactic(auto, using(crate::proofs::FeatureTableLaws::some_kept))]
     fn sets_some(self, dword: u32) -> bool
         ensures { result ≡ nat_lt 0 (length (selectors_set self dword)) }
     {

@@ -54,7 +54,7 @@ pub use id_ctrl::IdCtrl;
 pub use id_ns::{IdNs, Lbaf};
 pub use narrow::{Below, FourBits, ThreeBits};
 pub use new_namespace::NewNamespace;
-pub use ns_list::{MOST_NSIDS, NamespaceIds, NsList, add_nsid};
+pub use ns_list::{MOST_NSIDS, NamespaceIds, NsList};
 pub use parts::{bits_of, to_bits};
 pub use smart::Smart;
 pub use sqe::Sqe;

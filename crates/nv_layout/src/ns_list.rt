@@ -1,11 +1,10 @@
 //! Namespace lists.
 
-ghost use Rattle.std.specs.Prelude.{◌≡◌, ◌++◌, ◌∷◌, [], ◌<◌, List, ℕ, length};
-ghost use Rattle.nv_layout.specs.Limits.{most_nsids};
+ghost use Rattle.std.specs.Prelude.{◌≡◌};
 ghost use Rattle.nv_layout.specs.NsList.{bytes_of_ns_list, ns_list_of_bytes};
 
 use crate::few::{Few, Lent};
-use crate::parts::{clear, put_u32, put_u32s, u32_at};
+use crate::parts::{clear, put_u32s, u32_at};
 
 /// The greatest number of identifiers in a namespace list.
 pub const MOST_NSIDS: usize = 1024;
@@ -57,14 +56,4 @@ impl Few<u32, MOST_NSIDS> {
             self.push(nsid);
         }
     }
-}
-
-/// Adds an identifier to the bytes of a list, which has `count` identifiers before. Section
-/// "Namespace List".
-pub fn add_nsid(list: &mut [u8; 4096], count: usize, nsid: u32)
-    requires { count < most_nsids }
-    ensures { (ids : List ℕ) → length ids ≡ count → list.old ≡ bytes_of_ns_list ids
-        → list.new ≡ bytes_of_ns_list (ids ++ nsid ∷ []) }
-{
-    put_u32(list, 4 * count, nsid);
 }

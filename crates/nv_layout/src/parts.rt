@@ -16,7 +16,7 @@ pub(crate) fn clear(out: &mut [u8])
     out.fill(0);
 }
 
-#[tactic(auto, unfolding(crate::specs::Parts::placed))]
+#[tactic(auto, using(crate::proofs::PartLaws::byte_placed))]
 pub(crate) fn put_u8(out: &mut [u8], at: usize, value: u8)
     requires { at < length out.old }
     ensures { out.new ≡ placed out.old (number at 1 value) }
@@ -183,6 +183,7 @@ pub fn bits_of(number: u32, low: u32, count: u32) -> u32
 
 /// Returns a number with the lowest `count` bits of a value from bit `low` on, and with zeros
 /// elsewhere.
+#[tactic(auto, using(crate::proofs::PartLaws::to_bits_value))]
 pub fn to_bits(value: u32, low: u32, count: u32) -> u32
     requires low { low < 32 }
     requires count { count < 32 }

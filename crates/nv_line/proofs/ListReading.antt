@@ -15,19 +15,6 @@ pub record IsReadTo (pieces : List Text) (ids : List ℕ) (n : ℕ) : Type 0 whe
   pub room : n ≤ most_cntlids
   pub rest : identifiers_in pieces ≡ option_map (λ ns. ids ++ ns) (identifiers_in (drop n pieces))
 
--- an optional list is the same with no elements put before it
-same_option : (o : Option (List ℕ)) → o ≡ option_map (λ ns. [] ++ ns) o
-same_option (Some ns) = refl
-same_option None = refl
-
--- before the first piece, no identifiers were read
-pub nothing_read : (pieces : List Text) → IsReadTo pieces [] 0
-nothing_read pieces = record {
-  count = refl;
-  room = omega arith;
-  rest = same_option (identifiers_in pieces);
-}
-
 -- the identifiers of the rest are the next piece, if it is a number of 16 bits, and the identifiers after it
 after_piece : (pieces : List Text) (n : ℕ) (p : Text)
     → (n < length pieces) × (p ≡ get_or pieces n p)

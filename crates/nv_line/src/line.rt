@@ -41,8 +41,7 @@ pub fn is_skipped_line(line: &[u8]) -> bool
 pub fn split_words<'a, A: Allocator>(alloc: A, text: &'a str) -> Result<Vec<&'a str, A>, AllocError>
     ensures { IfOk result (λ v. map (λ w. w.now) v.items ≡ words_of text.now) }
 {
-    text.split(' ')
-        .flat_map(|part| part.split('\t'))
+    text.split(|c| c == ' ' || c == '\t')
         .filter(|word| !word.is_empty())
         .collect(alloc)
 }
@@ -51,8 +50,7 @@ pub fn split_words<'a, A: Allocator>(alloc: A, text: &'a str) -> Result<Vec<&'a 
 fn word_at(text: &str, index: usize) -> Option<&str>
     ensures { option_map (λ w. w.now) result ≡ slice_get (words_of text.now) index }
 {
-    text.split(' ')
-        .flat_map(|part| part.split('\t'))
+    text.split(|c| c == ' ' || c == '\t')
         .filter(|word| !word.is_empty())
         .nth(index)
 }

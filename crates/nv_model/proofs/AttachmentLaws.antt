@@ -5,6 +5,7 @@ use Rattle.std.specs.Prelude.{count_by, if◌then◌else◌}
 use Rattle.std.specs.List.{AllByRecursion}
 use Rattle.std.specs.Option.{option_map_or}
 use Rattle.std.specs.FinMap as map_of
+use Rattle.std.proofs.lemmas.Bool.{not-false}
 use Rattle.std.proofs.lemmas.Bool.Decides.{nat_tests}
 use Rattle.std.proofs.lemmas.List.{length-map}
 use Rattle.nv_bits.proofs.NumberLaws.{contains-insert}
@@ -13,7 +14,6 @@ use Rattle.nv_command.proofs.RefusalLaws.{is_refusal-refusal_by}
 use Rattle.nv_model.specs.Attachment.{attach_rows, attached, attachment_rows, detached, fewer}
 use Rattle.nv_model.specs.Attachment.{has_attached, is_listed, is_private, more, unchanged}
 use Rattle.nv_model.specs.Attachment.{with_attachments, with_one}
-use Rattle.nv_model.proofs.ChoiceLaws.{not_false}
 use Rattle.nv_model.proofs.FeatureLaws.{values-with, values-without}
 use Rattle.nv_model.specs.Management.{with_attached, with_nsids, without}
 use Rattle.nv_model.proofs.ManagementLaws.{AllRefuse, attached_keep, left, none_holds}
@@ -31,33 +31,22 @@ has_more : (n : ℕ) (ids : List ℕ) (x : Controller) (q : ℕ)
     ≡ (cond (q == n) (is_listed ids x) false || map_of.contains_key x.attached q)
 has_more n ids x q = at_test (is_listed ids x)
   where
-    same : (b c : Bool) → cond b true c ≡ (cond b true false || c)
-    same true c = refl
-    same false c = refl
-
-    none : (b c : Bool) → c ≡ (cond b false false || c)
-    none true c = refl
-    none false c = refl
-
     at_test : (b : Bool) → map_of.contains_key
         (if b then with_one n x else unchanged x).nsids q
         ≡ (cond (q == n) b false || map_of.contains_key x.attached q)
-    at_test true = contains-insert x.attached n tt q
-        ∙ same (q == n) (map_of.contains_key x.attached q)
-    at_test false = none (q == n) (map_of.contains_key x.attached q)
+    at_test true = grind (arith, contains-insert x.attached n tt q)
+    at_test false = grind arith
 
 -- a disjunction doesn't depend on the order of its parts
 or_comm : (a b : Bool) → (a || b) ≡ (b || a)
-or_comm true true = refl
-or_comm true false = refl
-or_comm false true = refl
-or_comm false false = refl
+or_comm a b = grind arith
 
 -- an attach that isn't refused leaves a well-formed subsystem well formed
 attach_keeps : (s : State) (n : ℕ) (ids : List ℕ) → IsWellFormed s
     → first_refusal (attach_rows s n ids) ≡ None → IsWellFormed (attached s n ids)
 attach_keeps s n ids w accepted = attached_keep s (more n ids) s.namespaces w (record {
-  allocated = λ x is q t. at_nsid x is q (q == n) refl (sym (has_more n ids x q) ∙ t);
+  allocated = λ x is q t.
+      grind (arith, nat_tests, has_more n ids x q, t, is.attached q, not-false (is_allocated s n) rows.1.0);
   namespaces = λ q x e. let old = w.namespaces q x e in
       record { nsid = old.nsid; format = old.format; private = λ p. private q x e p (q == n) refl };
   values = λ x is. with_values x is (is_listed ids x);
@@ -74,16 +63,8 @@ attach_keeps s n ids w accepted = attached_keep s (more n ids) s.namespaces w (r
         values-with x.rules x.identity.numbers.vwc x.attached x.values is.values is.rules n
     with_values x is false = is.values
 
-    at_nsid : (x : Controller) → IsController s.namespaces x → (q : ℕ) (b : Bool) → (q == n) ≡ b
-        → (cond b (is_listed ids x) false || map_of.contains_key x.attached q) ≡ true
-        → map_of.contains_key s.namespaces q ≡ true
-    at_nsid x is q true e t = let same : q ≡ n = grind (arith, nat_tests) in
-        ap (map_of.contains_key s.namespaces) same ∙ not_false (is_allocated s n) rows.1.0
-    at_nsid x is q false e t = is.attached q t
-
     few : (b c : Bool) → b ≡ true → (b && c) ≡ false → c ≡ false
-    few true c h e = e
-    few false c h e = absurd (cc h)
+    few b c h e = grind arith
 
     private : (q : ℕ) (x : Namespace) → map_of.get s.namespaces q ≡ Some x → x.shared ≡ false
         → (b : Bool) → (q == n) ≡ b

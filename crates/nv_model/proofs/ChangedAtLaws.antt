@@ -1,7 +1,8 @@
 -- A list that is changed at one index.
 use Rattle.std.proofs.Common.{◌≡◌, ℕ, zero, suc, ◌+◌, ◌<◌, ap, refl, arith, Bool, cond, List, []}
 use Rattle.std.proofs.Common.{◌∷◌, fold, length, map, set, get_or}
-use Rattle.std.specs.Prelude.{All, count_by}
+use Rattle.std.specs.Prelude.{All, count_by, slice_get}
+use Rattle.std.specs.Option.{option_map_or}
 use Rattle.nv_model.specs.State.{changed_at}
 
 -- writing an element whose view is f of the old one's changes the list of views by f at that index
@@ -37,6 +38,16 @@ pub All-changed_at : {Y : Type 0} (P : Y → Type 0) (f : Y → Y) → ((y : Y) 
 All-changed_at P f keeps ys i all k d h =
     each_place (λ a b. P a → P b) f (λ y p. p) keeps ys i k d
     (all k d (omega (arith, length-changed_at f ys i)))
+
+-- what is read of an element doesn't depend on a change that keeps it
+pub slice_get-changed_at : {X Y : Type 0} (view : X → Y) (none : Y) (f : X → X) → ((x : X) → view (f x) ≡ view x)
+    → (xs : List X) (i k : ℕ) → option_map_or view (slice_get (changed_at xs i f) k) none
+    ≡ option_map_or view (slice_get xs k) none
+slice_get-changed_at view none f same [] i k = refl
+slice_get-changed_at view none f same (x ∷ xs) zero zero = same x
+slice_get-changed_at view none f same (x ∷ xs) zero (suc k) = refl
+slice_get-changed_at view none f same (x ∷ xs) (suc i) zero = refl
+slice_get-changed_at view none f same (x ∷ xs) (suc i) (suc k) = slice_get-changed_at view none f same xs i k
 
 -- a sum over the elements doesn't depend on a change that leaves what is added up as it is
 fold-changed_at : {Y : Type 0} (h : Y → ℕ) (f : Y → Y) → ((y : Y) → h (f y) ≡ h y)

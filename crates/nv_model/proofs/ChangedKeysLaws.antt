@@ -1,6 +1,6 @@
 -- What is found in a map after the values of some keys are changed.
-use Rattle.std.proofs.Common.{◌≡◌, ◌∙◌, ◌||◌, Bool, true, false, cond, List, [], ◌∷◌, map, Option}
-use Rattle.std.proofs.Common.{Some, None, refl, sym, ap}
+use Rattle.std.proofs.Common.{◌≡◌, ◌∙◌, ◌||◌, Bool, true, cond, List, [], ◌∷◌, map, Option}
+use Rattle.std.proofs.Common.{Some, None, arith, refl, sym, ap}
 use Rattle.std.specs.Prelude.{option_map, if◌then◌else◌}
 use Rattle.std.specs.List.{fold, list_any}
 use Rattle.std.specs.Option.{option_map_or}
@@ -22,29 +22,16 @@ module _ {K X : Type 0} {R : K → K → Ordering} (total : IsTotalOrder R) (sam
   abbrev is_in : List K → K → Bool
   is_in keys q = list_any (eq_by_cmp R q) keys
 
+  -- keys that pass the test for the same key are equal
+  tied : (q k : K) → eq_by_cmp R q k ≡ true → q ≡ k
+  tied q k e = same q k ((Equal-is (R q k)).0 e)
+
   -- in entries whose values at some keys are changed, a key of these has its value changed, and any other as before
   found : (keys : List K) (es : List (K × X)) (q : K)
       → find R q (map (λ e. (e.0, if is_in keys e.0 then change e.1 else e.1)) es)
       ≡ changed_if (is_in keys q) change (find R q es)
-  found keys [] q = none (is_in keys q)
-    where
-      none : (b : Bool) → None ≡ changed_if b change None
-      none true = refl
-      none false = refl
-  found keys (e ∷ es) q = at_test (eq_by_cmp R q e.0) _ _ refl (found keys es q)
-    where
-      at_key : (b : Bool) → Some (if b then change e.1 else e.1) ≡ changed_if b change (Some e.1)
-      at_key true = refl
-      at_key false = refl
-
-      at_test : (b : Bool) (o p : Option X) → eq_by_cmp R q e.0 ≡ b → o
-          ≡ changed_if (is_in keys q) change p
-          → cond b (Some (if is_in keys e.0 then change e.1 else e.1)) o
-          ≡ changed_if (is_in keys q) change (cond b (Some e.1) p)
-      at_test true o p tied later = at_key (is_in keys e.0)
-          ∙ ap (λ k. changed_if (is_in keys k) change (Some e.1))
-          (sym (same q e.0 ((Equal-is (R q e.0)).0 tied)))
-      at_test false o p other later = later
+  found keys [] q = grind arith
+  found keys (e ∷ es) q = grind (arith, tied q e.0, found keys es q)
 
   -- in a map changed at some keys, a key of these has its value changed, and any other has its own
   pub get-changed_at_keys : (keys : List K) (m : FinMap R X) (q : K)
@@ -66,25 +53,11 @@ module _ {K X : Type 0} {R : K → K → Ordering} (total : IsTotalOrder R) (sam
       → map_of.get (changed_at_one m k) q ≡ changed_if (eq_by_cmp R q k) change (map_of.get m q)
   get-changed_at_one m k q = by (map_of.get m k) refl
     where
-      at_none : (b : Bool) → eq_by_cmp R q k ≡ b → map_of.get m k ≡ None
-          → map_of.get m q ≡ changed_if b change (map_of.get m q)
-      at_none true tied none =
-          let here = ap (map_of.get m) (same q k ((Equal-is (R q k)).0 tied)) ∙ none in
-          here ∙ sym (ap (option_map change) here)
-      at_none false other none = refl
-
-      at_some : (b : Bool) (x : X) → eq_by_cmp R q k ≡ b → map_of.get m k ≡ Some x
-          → cond b (Some (change x)) (map_of.get m q) ≡ changed_if b change (map_of.get m q)
-      at_some true x tied has =
-          sym (ap (option_map change) (ap (map_of.get m) (same q k ((Equal-is (R q k)).0 tied))
-          ∙ has))
-      at_some false x other has = refl
-
       by : (o : Option X) → map_of.get m k ≡ o
           → map_of.get (option_map_or (λ x. map_of.insert m k (change x)) o m) q
           ≡ changed_if (eq_by_cmp R q k) change (map_of.get m q)
-      by None e = at_none (eq_by_cmp R q k) refl e
-      by (Some x) e = get-insert total m k (change x) q ∙ at_some (eq_by_cmp R q k) x refl e
+      by None e = grind (arith, tied q k, e)
+      by (Some x) e = grind (arith, tied q k, get-insert total m k (change x) q, e)
 
   -- a change that has no effect the second time can be made key by key
   pub changed_at_more : ((x : X) → change (change x) ≡ change x)
@@ -102,10 +75,7 @@ module _ {K X : Type 0} {R : K → K → Ordering} (total : IsTotalOrder R) (sam
 
       both : (a b : Bool) (o : Option X) → changed_if b change (changed_if a change o)
           ≡ changed_if (a || b) change o
-      both true true o = twice o
-      both true false o = refl
-      both false true o = refl
-      both false false o = refl
+      both a b o = grind (arith, twice o)
 
   -- changing a map at one key after another changes it at all of them, if a second change has no effect
   pub folded : ((x : X) → change (change x) ≡ change x) → (keys : List K) (m : FinMap R X)

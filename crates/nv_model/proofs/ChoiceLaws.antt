@@ -1,5 +1,5 @@
 -- Choices that depend on a test.
-use Rattle.std.proofs.Common.{◌≡◌, Bool, true, false, not, refl}
+use Rattle.std.proofs.Common.{Bool, true, false}
 use Rattle.std.specs.Prelude.{if◌then◌else◌}
 
 -- what holds for both holds for the one that is chosen
@@ -7,8 +7,3 @@ pub chosen_fits : {A : Type 0} (P : A → Type 0) (b : Bool) (x y : A) → P x �
     → P (if b then x else y)
 chosen_fits P true x y p q = p
 chosen_fits P false x y p q = q
-
--- a truth value whose negation is false is true
-pub not_false : (b : Bool) → not b ≡ false → b ≡ true
-not_false true h = refl
-not_false false h = absurd (cc h)

@@ -1,7 +1,8 @@
 -- The values of features stay well formed when NSIDs are attached and detached, and when values are written.
-use Rattle.std.proofs.Common.{◌≡◌, ◌∙◌, ℕ, ◌==◌, ◌&&◌, ◌||◌, Bool, true, false, cond, Option, Some}
+use Rattle.std.proofs.Common.{◌≡◌, ◌∙◌, ℕ, ◌==◌, ◌&&◌, Bool, true, false, cond, Option, Some}
 use Rattle.std.proofs.Common.{None, is_some, refl, sym, ap, subst, arith}
 use Rattle.std.specs.Prelude.{IsSomeAnd, unwrap_or, if◌then◌else◌}
+use Rattle.std.proofs.lemmas.Bool.{and_from, eqb-true, false_from_ne_true}
 use Rattle.std.proofs.lemmas.Bool.Decides.{nat_tests}
 use Rattle.std.specs.Ordering.{nat_cmp}
 use Rattle.std.specs.FinMap as map_of
@@ -10,7 +11,7 @@ use Rattle.std.specs.Option.{option_map_or}
 use Rattle.nv_bits.proofs.NumberLaws.{contains-insert, contains-remove}
 use Rattle.nv_layout.specs.Feature.{feature_of, is_selector, is_value, row_of}
 use Rattle.nv_layout.proofs.FeatureTableLaws.{default_is_value, feature_at}
-use Rattle.nv_layout.proofs.FeatureTableLaws.{feature_with, of_namespaces, other_identifier}
+use Rattle.nv_layout.proofs.FeatureTableLaws.{feature_with}
 use Rattle.nv_layout.specs.declared.feature.Feature.{Feature}
 use Rattle.nv_layout.specs.declared.feature.Feature.TheVariants as feature
 use Rattle.nv_model.specs.Values.{default_at}
@@ -28,41 +29,21 @@ use Rattle.nv_model.specs.declared.feature_value.FeatureValue.{FeatureValue}
 
 -- ---- which keys have a value after a change
 
--- a choice between a value and an optional one is a value if the test holds or the optional one is a value
-some_cond : {A : Type 0} (b : Bool) (x : A) (o : Option A) → is_some (cond b (Some x) o)
-    ≡ cond b true (is_some o)
-some_cond true x o = refl
-some_cond false x o = refl
-
--- a choice between nothing and an optional value is a value if the test fails and the optional one is a value
-none_cond : {A : Type 0} (b : Bool) (o : Option A) → is_some (cond b None o)
-    ≡ cond b false (is_some o)
-none_cond true o = refl
-none_cond false o = refl
-
--- a choice between an optional value and nothing is a value if the test holds and the optional one is a value
-else_none : {A : Type 0} (b : Bool) (o : Option A) → is_some (cond b o None)
-    ≡ cond b (is_some o) false
-else_none true o = refl
-else_none false o = refl
-
 -- after a value is inserted under k, there is one under k and under each key that had one
 pub has_inserted : (m : FeatureValues) (k : ValueKey) (x : FeatureValue) (q : ValueKey)
     → map_of.contains_key (map_of.insert m k x) q ≡ cond (is_key q k) true (map_of.contains_key m q)
-has_inserted m k x q =
-    ap is_some (value_of_insert m k x q) ∙ some_cond (is_key q k) x (map_of.get m q)
+has_inserted m k x q = grind (arith, value_of_insert m k x q)
 
 -- after the value under k is removed, there is none under k, and one under each other key that had one
 has_removed : (m : FeatureValues) (k q : ValueKey)
     → map_of.contains_key (map_of.remove m k) q ≡ cond (is_key q k) false (map_of.contains_key m q)
-has_removed m k q = ap is_some (value_of_remove m k q) ∙ none_cond (is_key q k) (map_of.get m q)
+has_removed m k q = grind (arith, value_of_remove m k q)
 
 -- after the keys of namespaces are removed, there is a value under each other key that had one
 has_retained : (m : FeatureValues) (q : ValueKey)
     → map_of.contains_key (map_of.retain_keys m is_alone) q
     ≡ cond (is_alone q) (map_of.contains_key m q) false
-has_retained m q =
-    ap is_some (value_of_retain m is_alone q) ∙ else_none (is_alone q) (map_of.get m q)
+has_retained m q = grind (arith, value_of_retain m is_alone q)
 
 -- ---- each value is one that its feature may have
 
@@ -83,23 +64,7 @@ sound-insert values k x all fits q y e =
         ap (λ p. is_value_at p y) (same_key q k h) ∙ ap (is_value_at k) (sym same) ∙ fits
     at_test false h e = all q y e
 
--- if a choice between nothing and an optional value is x, the optional value is x
-was_there : (b : Bool) (o : Option FeatureValue) (x : FeatureValue) → cond b None o ≡ Some x
-    → o ≡ Some x
-was_there true o x e = absurd (cc e)
-was_there false o x e = e
-
--- if a choice between an optional value and nothing is x, the optional value is x
-is_there : (b : Bool) (o : Option FeatureValue) (x : FeatureValue) → cond b o None ≡ Some x
-    → o ≡ Some x
-is_there true o x e = e
-is_there false o x e = absurd (cc e)
-
 -- ---- defaults
-
--- the conjunction of a true value and true is true
-and_true : (b : Bool) → b ≡ true → (b && true) ≡ true
-and_true b e = ap (λ c. c && true) e
 
 -- the default of a feature, by its rule or by the default rule, is a value of it
 pub default_is_sound : (rules : FeatureRules) → AreRules rules → (f : Feature) (selector : ℕ)
@@ -129,7 +94,7 @@ sound_at f n s x e = ap (λ o. option_map_or (λ f. may_have f x) o false) (feat
 pub first_is_sound : (rules : FeatureRules) → AreRules rules → (f : Feature) (n s : ℕ)
     → is_value_at (key_of f n s) (first_value rules (key_of f n s)) ≡ true
 first_is_sound rules are f n s = sound_at f n s (first_value rules (key_of f n s))
-    (and_true (is_value f (default_of (rule_of rules f) s)) (default_is_sound rules are f s))
+    (and_from _ true (default_is_sound rules are f s) refl)
 
 -- ---- NSIDs are attached and detached
 
@@ -154,26 +119,6 @@ module _ (rules : FeatureRules) (vwc : ℕ) where
       ap (λ b. cond b now (has_value rules vwc attached q)) (by_numbers q (recovery_key n))
       ∙ by (feature_of q.fid) refl
     where
-      turned : (q.selector == 0) ≡ (0 == q.selector)
-      turned = grind (arith, nat_tests)
-
-      tests_first : (a s c : Bool) → cond (a && s) now ((s || false) && c)
-          ≡ ((s || false) && cond a now c)
-      tests_first true true c = refl
-      tests_first true false c = refl
-      tests_first false true c = refl
-      tests_first false false c = refl
-
-      recovery : (q.fid == 5) ≡ true
-          → cond ((q.fid == 5) && ((q.nsid == n) && (q.selector == 0))) now
-          (of q attached (Some feature.ErrorRecovery))
-          ≡ of q moved (Some feature.ErrorRecovery)
-      recovery e =
-          (λ i. cond (e i && ((q.nsid == n) && turned i)) now
-          (of q attached (Some feature.ErrorRecovery)))
-          ∙ tests_first (q.nsid == n) (0 == q.selector) (map_of.contains_key attached q.nsid)
-          ∙ ap (λ b. ((0 == q.selector) || false) && b) (sym (is q.nsid))
-
       other : (o : Option Feature) → (q.fid == 5) ≡ false → of q attached o ≡ of q moved o
           → cond ((q.fid == 5) && ((q.nsid == n) && (q.selector == 0))) now (of q attached o)
           ≡ of q moved o
@@ -182,45 +127,17 @@ module _ (rules : FeatureRules) (vwc : ℕ) where
           ∙ same
 
       none : feature_of q.fid ≡ None → (q.fid == 5) ≡ false
-      none e = at_test (q.fid == 5) refl
-        where
-          at_test : (b : Bool) → (q.fid == 5) ≡ b → b ≡ false
-          at_test true h =
-              let here : q.fid ≡ 5 = grind (arith, nat_tests) in
-              let some : None ≡ Some feature.ErrorRecovery = sym e ∙ ap feature_of here in
-              absurd (cc some)
-          at_test false h = refl
-
-      at_feature : (f : Feature) (b : Bool) → feature_of q.fid ≡ Some f
-          → (row_of f).per_namespace ≡ b
-          → cond ((q.fid == 5) && ((q.nsid == n) && (q.selector == 0))) now
-          (of q attached (Some f)) ≡ of q moved (Some f)
-      at_feature f true e per =
-          let same = of_namespaces f per in
-          let here : q.fid ≡ 5 = feature_with q.fid f e ∙ ap (λ g. (row_of g).fid) same in
-          let is_five : (q.fid == 5) ≡ true = grind (arith, nat_tests) in
-          subst (λ g. cond ((q.fid == 5) && ((q.nsid == n) && (q.selector == 0))) now
-          (of q attached (Some g)) ≡ of q moved (Some g))
-          (sym same) (recovery is_five)
-      at_feature f false e per =
-          other (Some f) (ap (λ n. n == 5) (feature_with q.fid f e) ∙ other_identifier f per)
-          (λ i. is_supported rules vwc f && (is_selector f q.selector
-          && (alike per i)))
-        where
-          alike : (row_of f).per_namespace ≡ false
-              → (if (row_of f).per_namespace then map_of.contains_key attached q.nsid
-              else q.nsid == 0)
-              ≡ (if (row_of f).per_namespace then map_of.contains_key moved q.nsid
-              else q.nsid == 0)
-          alike per =
-              ap (λ b. if b then map_of.contains_key attached q.nsid else q.nsid == 0) per
-              ∙ sym (ap (λ b. if b then map_of.contains_key moved q.nsid else q.nsid == 0) per)
+      none e = false_from_ne_true (q.fid == 5) (λ h.
+          let some : None ≡ Some feature.ErrorRecovery = sym e ∙ ap feature_of (eqb-true q.fid 5 h) in
+          cc some)
 
       by : (o : Option Feature) → feature_of q.fid ≡ o
           → cond ((q.fid == 5) && ((q.nsid == n) && (q.selector == 0))) now (of q attached o)
           ≡ of q moved o
       by None e = other None (none e) refl
-      by (Some f) e = at_feature f (row_of f).per_namespace e refl
+      by (Some feature.ErrorRecovery) e =
+          grind (arith, nat_tests, feature_with q.fid feature.ErrorRecovery e, is q.nsid)
+      by (Some f) e = other (Some f) (ap (λ fid. fid == 5) (feature_with q.fid f e)) refl
 
   -- without any NSID, only keys without one have a value
   none_attached : (attached : Nsids) → map_of.contains_key attached 0 ≡ false → (q : ValueKey)
@@ -231,25 +148,12 @@ module _ (rules : FeatureRules) (vwc : ℕ) where
       no_key : map_of.contains_key no_nsids q.nsid ≡ false
       no_key = ap is_some (get-empty nat_cmp q.nsid)
 
-      nothing : (b : Bool) → cond b false false ≡ false
-      nothing true = refl
-      nothing false = refl
-
-      nowhere : (a b : Bool) → false ≡ (a && (b && false))
-      nowhere true true = refl
-      nowhere true false = refl
-      nowhere false b = refl
+      with_value : (a b : Bool) → cond (q.nsid == 0) (a && (b && map_of.contains_key attached q.nsid)) false
+          ≡ (a && (b && map_of.contains_key no_nsids q.nsid))
+      with_value a b = grind (arith, nat_tests, first, no_key)
 
       at_alone : (a b t : Bool) → cond t (a && (b && t)) false ≡ (a && (b && t))
-      at_alone a b true = refl
-      at_alone a b false = nowhere a b
-
-      in_namespaces : (a b t : Bool) → (q.nsid == 0) ≡ t
-          → cond t (a && (b && map_of.contains_key attached q.nsid)) false ≡ (a && (b && false))
-      in_namespaces a b true e =
-          let here : q.nsid ≡ 0 = grind (arith, nat_tests) in
-          ap (λ c. a && (b && c)) (ap (map_of.contains_key attached) here ∙ first)
-      in_namespaces a b false e = nowhere a b
+      at_alone a b t = grind arith
 
       at_feature : (f : Feature) (p : Bool)
           → cond (q.nsid == 0) (is_supported rules vwc f && (is_selector f q.selector
@@ -257,9 +161,7 @@ module _ (rules : FeatureRules) (vwc : ℕ) where
           ≡ (is_supported rules vwc f && (is_selector f q.selector
           && (if p then map_of.contains_key no_nsids q.nsid
           else q.nsid == 0)))
-      at_feature f true =
-          in_namespaces (is_supported rules vwc f) (is_selector f q.selector) (q.nsid == 0) refl
-          ∙ ap (λ c. is_supported rules vwc f && (is_selector f q.selector && c)) (sym no_key)
+      at_feature f true = with_value (is_supported rules vwc f) (is_selector f q.selector)
       at_feature f false =
           at_alone (is_supported rules vwc f) (is_selector f q.selector) (q.nsid == 0)
 
@@ -271,7 +173,7 @@ module _ (rules : FeatureRules) (vwc : ℕ) where
           && (if (row_of f).per_namespace
           then map_of.contains_key no_nsids q.nsid
           else q.nsid == 0))) o false
-      by None = nothing (q.nsid == 0)
+      by None = grind arith
       by (Some f) = at_feature f (row_of f).per_namespace
 
 module _ (rules : FeatureRules) (vwc : ℕ) (attached : Nsids) (values : FeatureValues)
@@ -296,8 +198,7 @@ module _ (rules : FeatureRules) (vwc : ℕ) (attached : Nsids) (values : Feature
         ∙ ap (cond (is_key q (recovery_key n)) false) (are.keys q)
         ∙ recovery_moved rules vwc attached (map_of.remove attached n) n false
         (contains-remove attached n) q;
-    sound = λ q x e. are.sound q x (was_there (is_key q (recovery_key n)) (map_of.get values q) x
-        (sym (value_of_remove values (recovery_key n) q) ∙ e));
+    sound = λ q x e. are.sound q x (grind (arith, value_of_remove values (recovery_key n) q, e));
   }
 
   -- when all NSIDs are detached and what namespaces have is removed, exactly the keys that are due have values
@@ -306,19 +207,13 @@ module _ (rules : FeatureRules) (vwc : ℕ) (attached : Nsids) (values : Feature
   values-without_any first = record {
     keys = λ q. has_retained values q ∙ ap (λ b. cond (is_alone q) b false) (are.keys q)
         ∙ none_attached rules vwc attached first q;
-    sound = λ q x e. are.sound q x (is_there (is_alone q) (map_of.get values q) x
-        (sym (value_of_retain values is_alone q) ∙ e));
+    sound = λ q x e. are.sound q x (grind (arith, value_of_retain values is_alone q, e));
   }
 
   -- when an existing value is overwritten by a sound one, exactly the keys that are due have values
   pub values-written : (k : ValueKey) (x : FeatureValue) → map_of.contains_key values k ≡ true
       → is_value_at k x ≡ true → AreValues rules vwc attached (map_of.insert values k x)
   values-written k x there fits = record {
-    keys = λ q. has_inserted values k x q ∙ at_test q (is_key q k) refl ∙ are.keys q;
+    keys = λ q. grind (arith, has_inserted values k x q, same_key q k, there) ∙ are.keys q;
     sound = sound-insert values k x are.sound fits;
   }
-    where
-      at_test : (q : ValueKey) (b : Bool) → is_key q k ≡ b
-          → cond b true (map_of.contains_key values q) ≡ map_of.contains_key values q
-      at_test q true e = sym (ap (map_of.contains_key values) (same_key q k e) ∙ there)
-      at_test q false e = refl

@@ -1,14 +1,14 @@
 -- A format leaves a well-formed subsystem well formed.
-use Rattle.std.proofs.Common.{rules, ◌≡◌, ◌∙◌, ℕ, ◌-◌, ◌==◌, ◌≤◌, ◌^◌, ◌||◌, Bool, true, false}
+use Rattle.std.proofs.Common.{rules, ◌≡◌, ◌∙◌, ℕ, ◌-◌, ◌==◌, ◌≤◌, ◌^◌, Bool, true, false}
 use Rattle.std.proofs.Common.{cond, List, [], ◌∷◌, Option, Some, None, nat_lt, refl, sym, ap, subst}
 use Rattle.std.proofs.Common.{arith}
 use Rattle.std.specs.Prelude.{IsSomeAnd, slice_get}
 use Rattle.std.specs.List.{AllByRecursion, fold, list_any}
 use Rattle.std.specs.Option.{option_map_or}
 use Rattle.std.specs.FinMap as map_of
+use Rattle.std.proofs.lemmas.Bool.{not-false, or_parts}
 use Rattle.std.proofs.lemmas.Bool.Decides.{nat_tests}
-use Rattle.std.proofs.lemmas.List.Elements.{All-weaker}
-use Rattle.nv_bits.proofs.NumberLaws.{contains-insert, get_of_insert}
+use Rattle.nv_bits.proofs.NumberLaws.{get_of_insert}
 use Rattle.nv_model.specs.Ranges.{IsInFormat}
 use Rattle.nv_model.specs.Conditions.{may_extend, can_have, format_at}
 use Rattle.nv_model.specs.declared.format.Format.{Format}
@@ -21,13 +21,12 @@ use Rattle.std.specs.Cmp.{nat_cmp_total}
 use Rattle.std.specs.FinMap.{nat_cmp-IsAntisymmetric}
 use Rattle.nv_model.specs.Change.{changed_at_keys}
 use Rattle.nv_model.proofs.ChangedKeysLaws.{folded}
-use Rattle.nv_model.proofs.ChoiceLaws.{not_false}
-use Rattle.nv_model.proofs.ManagementLaws.{AllRefuse, extends_by, none_holds}
+use Rattle.nv_model.proofs.ManagementLaws.{AllRefuse, controllers_with, extends_by, none_holds}
 use Rattle.nv_model.specs.Conditions.{concerned}
 use Rattle.nv_model.specs.Conditions.{first_refusal}
 use Rattle.nv_model.specs.State.{Namespaces, State}
 use Rattle.nv_model.proofs.UsedLaws.{used-change}
-use Rattle.nv_model.specs.WellFormed.{IsController, IsNamespace, IsWellFormed}
+use Rattle.nv_model.specs.WellFormed.{IsNamespace, IsWellFormed}
 
 -- each row of a format has a refusal
 pub format_rows_fit : (s : State) (c : ℕ) (f : NewFormat) → AllRefuse (format_rows s c f)
@@ -75,25 +74,12 @@ module _ (format : Format) (lbaf : ℕ) (mset : Bool) where
       })
   one_keeps s n None at can room w = w
   one_keeps s n (Some x) at can room w =
-      let to : Namespaces = map_of.insert s.namespaces n (as_format x) in
       record {
         keys = w.keys;
         format_count = w.format_count;
         formats = w.formats;
         controller_count = w.controller_count;
-        controllers = All-weaker (IsController s.namespaces) (IsController to)
-            (λ c is. record {
-              identity = is.identity;
-              rules = is.rules;
-              smart = is.smart;
-              log = is.log;
-              entries = is.entries;
-              refusals = is.refusals;
-              commands = is.commands;
-              attached = λ q t. contains-insert s.namespaces n (as_format x) q
-                  ∙ kept (q == n) (is.attached q t);
-              values = is.values;
-            }) s.controllers w.controllers;
+        controllers = controllers_with s.namespaces n (as_format x) s.controllers w.controllers;
         cntlids = w.cntlids;
         namespaces = λ q y e. named q y (q == n) refl
             (sym (get_of_insert s.namespaces n (as_format x) q) ∙ e);
@@ -104,10 +90,6 @@ module _ (format : Format) (lbaf : ℕ) (mset : Bool) where
         );
       }
     where
-      kept : (b : Bool) {t : Bool} → t ≡ true → cond b true t ≡ true
-      kept true h = refl
-      kept false h = h
-
       fits_format : IsInFormat s.mc format (as_format x)
       fits_format =
           let old = w.namespaces n x at in
@@ -132,8 +114,7 @@ module _ (format : Format) (lbaf : ℕ) (mset : Bool) where
                 (sym can.found) fits_format;
             private = old.private;
           }))
-      named q y false is e = let old = w.namespaces q y e in
-          record { nsid = old.nsid; format = old.format; private = old.private }
+      named q y false is e = assumption (w.namespaces q y e)
 
   -- ---- one after another
 
@@ -142,20 +123,13 @@ module _ (format : Format) (lbaf : ℕ) (mset : Bool) where
       → is_below (with_one s n) size q ≡ false
   room_stays s n q size room = by (map_of.get s.namespaces n) refl
     where
-      at_test : (x : Namespace) (b : Bool) → (q == n) ≡ b → map_of.get s.namespaces n ≡ Some x
-          → below size (cond b (Some (as_format x)) (map_of.get s.namespaces q)) ≡ false
-      at_test x true e found =
-          let here : q ≡ n = grind (arith, nat_tests) in
-          sym (ap (below size) (ap (map_of.get s.namespaces) here ∙ found)) ∙ room
-      at_test x false e found = room
-
       by : (o : Option Namespace) → map_of.get s.namespaces n ≡ o → below size
           (map_of.get
           (option_map_or (λ x. map_of.insert s.namespaces n (as_format x)) o s.namespaces) q)
           ≡ false
       by None found = room
-      by (Some x) found = ap (below size) (get_of_insert s.namespaces n (as_format x) q)
-          ∙ at_test x (q == n) refl found
+      by (Some x) found =
+          grind (arith, nat_tests, get_of_insert s.namespaces n (as_format x) q, found, room)
 
   -- bringing several namespaces with such room into the format leaves the subsystem well formed
   all_keep : (ns : List ℕ) (s : State) → CanHave s
@@ -175,12 +149,7 @@ module _ (format : Format) (lbaf : ℕ) (mset : Bool) where
 none_passes : (p : ℕ → Bool) (ns : List ℕ) → list_any p ns ≡ false
     → AllByRecursion (λ n. p n ≡ false) ns
 none_passes p [] h = tt
-none_passes p (n ∷ ns) h = both (p n) (list_any p ns) h (none_passes p ns)
-  where
-    both : (a b : Bool) → (a || b) ≡ false → (b ≡ false → AllByRecursion (λ n. p n ≡ false) ns)
-        → (a ≡ false) × AllByRecursion (λ n. p n ≡ false) ns
-    both true b h rest = absurd (cc h)
-    both false b h rest = (refl, rest h)
+none_passes p (n ∷ ns) h = let parts = or_parts (p n) _ h in (parts.0, none_passes p ns parts.1)
 
 -- ---- a format
 
@@ -211,4 +180,4 @@ pub format_keeps : (s : State) (c : ℕ) (f : NewFormat) → IsWellFormed s
 format_keeps s c f w accepted =
     let rows = none_holds (format_rows s c f) accepted in
     format_by s (concerned s c f.nsid) f (format_at s f.lbaf) refl
-    (not_false (can_have s f.lbaf f.mset) rows.1.1.0) rows.1.1.1.1.0 w
+    (not-false (can_have s f.lbaf f.mset) rows.1.1.0) rows.1.1.1.1.0 w

@@ -1,8 +1,8 @@
 -- The Identify data of a namespace fits its record.
-use Rattle.std.proofs.Common.{◌≡◌, ◌∙◌, ℕ, zero, suc, ◌+◌, ◌-◌, ◌/◌, ◌<◌, ◌≤◌, ◌^◌, refl, arith}
-use Rattle.std.proofs.Common.{lit<, true, false, List, [], ◌∷◌, ◌++◌, length, map, get_or, Option}
+use Rattle.std.proofs.Common.{rules, ◌≡◌, ◌∙◌, ℕ, zero, suc, ◌-◌, ◌/◌, ◌<◌, ◌≤◌, ◌^◌, arith}
+use Rattle.std.proofs.Common.{lit<, List, [], ◌∷◌, ◌++◌, length, map, get_or, Option}
 use Rattle.std.proofs.Common.{Some, None}
-use Rattle.std.specs.Prelude.{All, replicate, slice_get, if◌then◌else◌}
+use Rattle.std.specs.Prelude.{All, replicate, slice_get}
 use Rattle.std.specs.List.{AllByRecursion}
 use Rattle.std.specs.Option.{option_map_or}
 use Rattle.std.proofs.lemmas.List.{length-append, length-map, length-replicate}
@@ -17,7 +17,7 @@ use Rattle.nv_model.specs.declared.namespace.Namespace.{Namespace}
 
 -- an LBA format of zeros fits its record
 no_lbaf_fits : LbafFits no_lbaf
-no_lbaf_fits = record { ms = lit< tt; lbads = lit< tt; rp = lit< tt }
+no_lbaf_fits = search rules
 
 -- LBA formats of zeros fit their records
 blanks_fit : (n : ℕ) → AllByRecursion LbafFits (replicate n no_lbaf)
@@ -30,13 +30,9 @@ formats_fit : (fs : List Format) (n : ℕ) → All IsFormat fs → AllByRecursio
 formats_fit [] n h = blanks_fit n
 formats_fit (f ∷ fs) n h =
     let at : IsFormat f = h 0 f (omega arith) in (
-      record {
-        ms = omega (arith, at.ms);
-        lbads = omega (arith, at.lbads.1);
-        rp = omega (arith, at.rp);
-      },
-      formats_fit fs n (λ k d l. let later : IsFormat (get_or fs k d) = h (suc k) d (omega arith) in
-          later),
+      search (rules, arith, at),
+      formats_fit fs n (λ k d l. let later : IsFormat (get_or fs k d) =
+          h (suc k) d (omega arith) in later),
     )
 
 -- there are sixteen formats with the zeros after them
@@ -47,40 +43,13 @@ length_lbafs fs h = length-append (map lbaf_of fs) (replicate (16 - length fs) n
 
 -- the Identify data of a namespace that doesn't exist fits its record
 pub blank_fits : IdNsFits blank
-blank_fits = record {
-  nsze = lit< tt;
-  ncap = lit< tt;
-  nuse = lit< tt;
-  nsfeat = lit< tt;
-  nlbaf = lit< tt;
-  flbas = lit< tt;
-  mc = lit< tt;
-  dpc = lit< tt;
-  dps = lit< tt;
-  nmic = lit< tt;
-  nvmcap = lit< tt;
-  formats = refl;
-  each_format = blanks_fit 16;
-}
+blank_fits = search (rules, arith, blanks_fit 16)
 
 -- the Identify data that all namespaces have in common fits its record
 pub common_fits : (fs : List Format) (mc : ℕ) → mc ≤ 3 → length fs ≤ 16 → All IsFormat fs
     → IdNsFits (common_of fs mc)
-common_fits fs mc m few h = record {
-  nsze = lit< tt;
-  ncap = lit< tt;
-  nuse = lit< tt;
-  nsfeat = lit< tt;
-  nlbaf = omega arith;
-  flbas = lit< tt;
-  mc = omega arith;
-  dpc = lit< tt;
-  dps = lit< tt;
-  nmic = lit< tt;
-  nvmcap = lit< tt;
-  formats = length_lbafs fs few;
-  each_format = formats_fit fs (16 - length fs) h;
-}
+common_fits fs mc m few h =
+    search (rules, arith, m, few, length_lbafs fs few, formats_fit fs (16 - length fs) h)
 
 -- a capacity of 64 bits in logical blocks has 64 bits
 blocks_of : (o : Option Format) (capacity : ℕ) → capacity < 2 ^ 64
@@ -90,11 +59,7 @@ blocks_of (Some f) capacity h = omega (arith, div-le_self capacity (2 ^ f.lbads)
 
 -- FLBAS has eight bits if the index of the format is below 16
 flbas_fits : (x : Namespace) → x.format < 16 → flbas_of x < 2 ^ 8
-flbas_fits x h = elim x.extended as (λ b. x.format + (if b then 16 else 0) < 2 ^ 8) [
-  | true
-      ↦ omega arith
-  | false ↦ omega arith
-]
+flbas_fits x h = grind arith
 
 -- the Identify data of a namespace with a format below 16 and a capacity of 64 bits fits its record
 pub id_ns_fits : (fs : List Format) (mc : ℕ) (x : Namespace) → mc ≤ 3 → length fs ≤ 16
@@ -102,18 +67,5 @@ pub id_ns_fits : (fs : List Format) (mc : ℕ) (x : Namespace) → mc ≤ 3 → 
 id_ns_fits fs mc x m few h f c =
     let common = common_fits fs mc m few h in
     let size = blocks_of (slice_get fs x.format) x.capacity c in
-    record {
-      nsze = size;
-      ncap = size;
-      nuse = common.nuse;
-      nsfeat = common.nsfeat;
-      nlbaf = common.nlbaf;
-      flbas = flbas_fits x f;
-      mc = common.mc;
-      dpc = common.dpc;
-      dps = common.dps;
-      nmic = chosen_fits (λ n. n < 2 ^ 8) x.shared 1 0 (lit< tt) (lit< tt);
-      nvmcap = omega arith;
-      formats = common.formats;
-      each_format = common.each_format;
-    }
+    let nmic = chosen_fits (λ n. n < 2 ^ 8) x.shared 1 0 (lit< tt) (lit< tt) in
+    search (rules, arith, common, size, flbas_fits x f, nmic, c)

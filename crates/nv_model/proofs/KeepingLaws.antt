@@ -1,11 +1,19 @@
 -- A change of one controller leaves a well-formed subsystem well formed.
-use Rattle.std.proofs.Common.{◌≡◌, ◌∙◌, ℕ, ◌≤◌, ap, sym, refl, subst, arith}
+use Rattle.std.proofs.Common.{◌≡◌, ◌∙◌, ℕ, ◌≤◌, Some, ap, sym, refl, subst, arith}
 use Rattle.std.specs.FinMap as map_of
+use Rattle.std.proofs.lemmas.Option.{get_or_from_slice_get, slice_get_within}
 use Rattle.nv_model.specs.State.{Identity}
 use Rattle.nv_model.proofs.ChangedAtLaws.{All-changed_at, count_by-changed_at, each_place}
 use Rattle.nv_model.proofs.ChangedAtLaws.{length-changed_at}
-use Rattle.nv_model.specs.State.{Controller, Namespaces, Nsids, State, with_controller}
+use Rattle.nv_model.specs.State.{Controller, Namespaces, Nsids, State, controller_at, with_controller}
 use Rattle.nv_model.specs.WellFormed.{IsController, IsWellFormed}
+
+-- each controller of a well-formed subsystem is one that IsController allows
+pub is_controller : (s : State) (c : ℕ) → IsWellFormed s → (x : Controller) → controller_at s c ≡ Some x
+    → IsController s.namespaces x
+is_controller s c w x e =
+    subst (IsController s.namespaces) (get_or_from_slice_get s.controllers c x x e)
+    (w.controllers c x (slice_get_within s.controllers c x e))
 
 -- what a command preserves of each controller
 pub record KeepsController (f : Controller → Controller) : Type 0 where

@@ -12,6 +12,7 @@ use Rattle.nv_command.specs.declared.command.Command.{Command}
 use Rattle.nv_command.specs.declared.command.Command.TheVariants.{Attachment, Create, Delete}
 use Rattle.nv_command.specs.declared.command.Command.TheVariants.{SetFeature}
 use Rattle.nv_command.specs.declared.refusal.Refusal.{Refusal}
+use Rattle.nv_model.proofs.ChangedAtLaws.{slice_get-changed_at}
 use Rattle.nv_model.specs.Attachment.{fewer, more}
 use Rattle.nv_model.specs.Meaning.{effect_of}
 use Rattle.nv_model.specs.Features.{changed_nsids, with_values}
@@ -71,11 +72,8 @@ of_each f same (x ∷ xs) (suc d) = of_each f same xs d
 -- changing one controller without its identity doesn't change MDTS
 of_one : (f : Controller → Controller) → KeepsIdentity f → (xs : List Controller) (c d : ℕ)
     → mdts_in (changed_at xs c f) d ≡ mdts_in xs d
-of_one f same [] c d = refl
-of_one f same (x ∷ xs) zero zero = ap (λ (i : Identity). i.numbers.mdts) (same x)
-of_one f same (x ∷ xs) zero (suc d) = refl
-of_one f same (x ∷ xs) (suc c) zero = refl
-of_one f same (x ∷ xs) (suc c) (suc d) = of_one f same xs c d
+of_one f same xs c d =
+    slice_get-changed_at (λ x. x.identity.numbers.mdts) 0 f (λ x. ap (λ i. i.numbers.mdts) (same x)) xs c d
 
 -- the effect of a command doesn't change MDTS
 effect_mdts : (s : State) (c : ℕ) (k : Command) (d : ℕ) → mdts_of (effect_of s c k) d ≡ mdts_of s d

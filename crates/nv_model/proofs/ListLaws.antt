@@ -1,54 +1,29 @@
 -- A list of NSIDs that is returned fits a namespace list.
-use Rattle.std.proofs.Common.{◌≡◌, ◌≢◌, ◌∙◌, ℕ, ◌+◌, ◌-◌, ◌<◌, ◌≤◌, ◌^◌, ◌&&◌, ◌||◌, ap, refl}
+use Rattle.std.proofs.Common.{◌≡◌, ◌≢◌, ◌∙◌, ℕ, ◌+◌, ◌-◌, ◌<◌, ◌≤◌, ◌^◌, ◌&&◌}
 use Rattle.std.proofs.Common.{arith, Bool, true, false, cond, nat_lt, List, [], ◌∷◌, length, map}
 use Rattle.std.proofs.Math.Dec.{T}
 use Rattle.std.specs.List.{AllByRecursion, list_any}
-use Rattle.std.specs.Ordering.{MatchOrdering, eq_by_cmp, is_lt, nat_cmp}
-use Rattle.std.specs.declared.cmp.Ordering.{Ordering}
-use Rattle.std.specs.declared.cmp.Ordering.TheVariants.{Less, Equal, Greater}
+use Rattle.std.specs.Ordering.{eq_by_cmp, is_lt, nat_cmp}
 use Rattle.std.specs.FinMap as map_of
 use Rattle.std.specs.FinMap.{contains_key-keys, entries_sorted, is_sorted}
-use Rattle.std.specs.Cmp.{ranks, unsigned_tied}
+use Rattle.std.specs.Cmp.{unsigned_tied}
+use Rattle.std.proofs.lemmas.Bool.{or_left, or_right}
 use Rattle.std.proofs.lemmas.Bool.Decides.{nat_tests}
 use Rattle.std.proofs.lemmas.List.{length-map}
 use Rattle.std.proofs.lemmas.List.Sums.{count_by-le-length, length-filter}
 use Rattle.nv_command.specs.Reply.{IsNsidList}
+use Rattle.nv_bits.proofs.NumberLaws.{left, less, right}
 use Rattle.nv_bits.specs.Above.{above}
 use Rattle.nv_layout.specs.Limits.{most_nsids}
-
--- if a conjunction holds, its first part holds
-first : (a b : Bool) → T (a && b) → T a
-first true b p = tt
-first false b p = p
-
--- if a conjunction holds, its second part holds
-second : (a b : Bool) → T (a && b) → T b
-second true b p = p
-second false b p = absurd p
 
 -- if two truth values hold, so does their conjunction
 both : (a b : Bool) → T a → T b → T (a && b)
 both true b p q = q
 both false b p q = p
 
--- if an order that decides how m and n compare is Less, then m < n
-before : (o : Ordering) (m n : ℕ) → MatchOrdering o (m < n) (m ≡ n) (n < m) → T (is_lt o) → m < n
-before Less m n h t = h
-before Equal m n h t = absurd t
-before Greater m n h t = absurd t
-
--- if the order of numbers says that m is less than n, then m < n
-less : (m n : ℕ) → T (is_lt (nat_cmp m n)) → m < n
-less m n h = before (nat_cmp m n) m n (ranks m n) h
-
 -- each number is equal to itself in the order of numbers
 ties : (n : ℕ) → eq_by_cmp nat_cmp n n ≡ true
 ties n = unsigned_tied n n ∙ grind (arith, nat_tests)
-
--- the disjunction of any value and true is true
-or-true : (a : Bool) → (a || true) ≡ true
-or-true true = refl
-or-true false = refl
 
 -- there are no more numbers above another one than numbers in all
 above_few : (after : ℕ) (ns : List ℕ) → length (above after ns) ≤ length ns
@@ -69,13 +44,13 @@ module _ {X : Type 0} where
       → AllByRecursion (λ e. k < e.0) es
   keys_above k x [] h = tt
   keys_above k x (e ∷ es) h =
-      let front = first (is_lt (nat_cmp k e.0) && below_all k es) (below_all e.0 es
+      let front = left (is_lt (nat_cmp k e.0) && below_all k es) (below_all e.0 es
       && is_sorted nat_cmp es) h in
-      let back = second (is_lt (nat_cmp k e.0) && below_all k es) (below_all e.0 es
+      let back = right (is_lt (nat_cmp k e.0) && below_all k es) (below_all e.0 es
       && is_sorted nat_cmp es) h in (
-        less k e.0 (first (is_lt (nat_cmp k e.0)) (below_all k es) front),
+        less k e.0 (left (is_lt (nat_cmp k e.0)) (below_all k es) front),
         keys_above k x es (both (below_all k es) (is_sorted nat_cmp es)
-            (second (is_lt (nat_cmp k e.0)) (below_all k es) front) (second (below_all e.0 es)
+            (right (is_lt (nat_cmp k e.0)) (below_all k es) front) (right (below_all e.0 es)
             (is_sorted nat_cmp es) back)),
       )
 
@@ -96,7 +71,7 @@ module _ {X : Type 0} where
       × (e.0 ≤ nn)) es → length es ≤ (nn + 1) - lo
   few lo nn [] h a = omega arith
   few lo nn (e ∷ es) h a =
-      let rest = few (e.0 + 1) nn es (second (below_all e.0 es) (is_sorted nat_cmp es) h)
+      let rest = few (e.0 + 1) nn es (right (below_all e.0 es) (is_sorted nat_cmp es) h)
       (raised e.0 nn es (keys_above e.0 e.1 es h) (tops lo nn es a.1)) in
       omega (arith, rest, a.0.0, a.0.1)
 
@@ -106,9 +81,8 @@ module _ {X : Type 0} where
       → AllByRecursion (λ e. B e.0) es
   each_key B [] h = tt
   each_key B (e ∷ es) h = (
-    h e.0 (ap (λ b. b || list_any (eq_by_cmp nat_cmp e.0) (map (λ e. e.0) es)) (ties e.0)),
-    each_key B es (λ n t. h n (ap (λ b. eq_by_cmp nat_cmp n e.0 || b) t
-        ∙ or-true (eq_by_cmp nat_cmp n e.0))),
+    h e.0 (or_left _ (list_any (eq_by_cmp nat_cmp e.0) (map (λ e. e.0) es)) (ties e.0)),
+    each_key B es (λ n t. h n (or_right (eq_by_cmp nat_cmp n e.0) _ t)),
   )
 
   -- keys from 1 to nn that are above a number are identifiers of 32 bits other than 0

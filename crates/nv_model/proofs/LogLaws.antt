@@ -39,28 +39,8 @@ entries_fit (e ∷ es) n all = (
 health_fits : (base : SmartBase) (refusals : ℕ) → IsSmart base → refusals < 2 ^ 64
     → SmartFits (health_of base refusals)
 health_fits base refusals s few =
-    let n = s.counters in
-    record {
-      critical_warning = omega (arith, s.critical_warning);
-      temperature = omega (arith, s.temperature);
-      avail_spare = omega (arith, s.avail_spare);
-      spare_thresh = omega (arith, s.spare_thresh);
-      percent_used = omega (arith, s.percent_used);
-      data_units_read = omega (arith, n.data_units_read);
-      data_units_written = omega (arith, n.data_units_written);
-      host_read_commands = omega (arith, n.host_read_commands);
-      host_write_commands = omega (arith, n.host_write_commands);
-      controller_busy_time = omega (arith, n.controller_busy_time);
-      power_cycles = omega (arith, n.power_cycles);
-      power_on_hours = omega (arith, n.power_on_hours);
-      unsafe_shutdowns = omega (arith, n.unsafe_shutdowns);
-      media_errors = omega (arith, n.media_errors);
-      num_err_log_entries = omega (arith, few);
-      warning_temp_time = omega (arith, s.warning_temp_time);
-      critical_comp_time = omega (arith, s.critical_comp_time);
-      sensor_count = s.sensors.0;
-      each_sensor = all_below (2 ^ 16) base.sensors (λ k h. let low = s.sensors.1 k 0 h in omega (arith, low));
-    }
+    let sensors = all_below (2 ^ 16) base.sensors (λ k h. let low = s.sensors.1 k 0 h in omega (arith, low)) in
+    search (rules, arith, s, s.counters, few, sensors)
 
 -- a health log about which the file says nothing is in range
 zero_is_smart : IsSmart zero_smart

@@ -1,24 +1,25 @@
 -- The commands of `list` are accepted, and change only how many commands a controller took.
-use Rattle.std.proofs.Common.{◌≡◌, ◌∙◌, ℕ, zero, suc, ◌≤◌, arith, ap, subst, refl, true, List, []}
+use Rattle.std.proofs.Common.{◌≡◌, ◌∙◌, ℕ, ◌≤◌, arith, ap, refl, true, []}
 use Rattle.std.proofs.Common.{◌∷◌, Option, Some, None, Ok, is_some}
-use Rattle.std.specs.Prelude.{All, nat_le, ◌&&◌, ◌||◌, ◌==◌, not, slice_get}
+use Rattle.std.specs.Prelude.{All, nat_le, ◌&&◌, ◌||◌, ◌==◌, not}
 use Rattle.std.specs.Option.{option_map_or}
 use Rattle.std.specs.FinMap as map_of
 use Rattle.std.specs.FinMap.{contains_key-keys}
 use Rattle.std.proofs.lemmas.Bool.Decides.{nat_tests}
 use Rattle.std.proofs.lemmas.Cmp.{eq_by_cmp_equiv, nat_cmp_total}
 use Rattle.std.proofs.lemmas.Map.Views.{All-from_any}
-use Rattle.std.proofs.lemmas.Option.{get_or_from_slice_get, slice_get_within}
 use Rattle.nv_command.specs.Received.{answer_received}
 use Rattle.nv_command.specs.Nsid.{broadcast_nsid}
 use Rattle.nv_command.specs.declared.command.Command.{Command}
 use Rattle.nv_command.specs.declared.command.Command.TheVariants.{IdentifyController}
 use Rattle.nv_command.specs.declared.command.Command.TheVariants.{IdentifyNamespace, ActiveList}
 use Rattle.nv_command.specs.declared.status_code.StatusCode.TheVariants.{InvalidNamespaceOrFormat}
+use Rattle.nv_model.proofs.ChangedAtLaws.{slice_get-changed_at}
+use Rattle.nv_model.proofs.KeepingLaws.{is_controller}
 use Rattle.nv_model.specs.Conditions.{active_nsids}
 use Rattle.nv_model.specs.Meaning.{reply_of}
 use Rattle.nv_model.specs.Conditions.{first_refusal, row}
-use Rattle.nv_model.specs.State.{Controller, State, ascending, changed_at, controller_at}
+use Rattle.nv_model.specs.State.{Controller, State, ascending, controller_at}
 use Rattle.nv_model.specs.Step.{Step, next_count, step, step_by, with_command}
 use Rattle.nv_model.specs.WellFormed.{IsController, IsWellFormed}
 
@@ -52,8 +53,7 @@ looked s c cid (namespace {n} h) =
 as_it_is : (nn : ℕ) {k : Command} (s : State) (c : ℕ) → IsLookup nn k
     → answer_received k (Ok (reply_of s c k)) ≡ Ok (reply_of s c k)
 as_it_is nn s c controller = refl
-as_it_is nn s c attached = refl
-as_it_is nn s c (namespace h) = refl
+as_it_is nn s c h = refl
 
 -- the reply to a command of `list`, as the step returns it, is received unchanged
 pub looked_received : (s : State) {k : Command} (c cid : ℕ) → IsLookup s.nn k
@@ -68,27 +68,13 @@ pub record IsAlike (s now : State) : Type 0 where
   pub nn : now.nn ≡ s.nn
   pub active : (c : ℕ) → active_nsids now c ≡ active_nsids s c
 
--- the NSIDs that are attached to controller c among these controllers
-attached_at : List Controller → ℕ → List ℕ
-attached_at xs c = option_map_or (λ x. ascending x.attached) (slice_get xs c) []
-
--- counting a command of one controller changes no attached NSIDs
-same_attached : (xs : List Controller) (c d : ℕ)
-    → attached_at (changed_at xs c (λ x. record x { commands = next_count x.commands })) d
-    ≡ attached_at xs d
-unfolding attached_at
-same_attached [] c d = refl
-same_attached (x ∷ xs) zero zero = refl
-same_attached (x ∷ xs) zero (suc d) = refl
-same_attached (x ∷ xs) (suc c) zero = refl
-same_attached (x ∷ xs) (suc c) (suc d) = same_attached xs c d
-
 -- a state in which a command was counted is alike
 counted : (s now : State) (c : ℕ) → now ≡ with_command s c → IsAlike s now
-unfolding attached_at
 counted s now c e = record {
   nn = ap (λ (x : State). x.nn) e;
-  active = λ d. ap (λ (x : State). active_nsids x d) e ∙ same_attached s.controllers c d;
+  active = λ d. ap (λ (x : State). active_nsids x d) e
+      ∙ slice_get-changed_at (λ x. ascending x.attached) [] (λ x. record x { commands = next_count x.commands })
+      (λ x. refl) s.controllers c d;
 }
 
 -- a command of `list` leaves a state that is alike
@@ -126,5 +112,4 @@ attached_inside s w (Some x) is =
 pub active_inside : (s : State) (c : ℕ) → IsWellFormed s → All (IsInside s.nn) (active_nsids s c)
 active_inside s c w =
     attached_inside s w (controller_at s c)
-    (λ x e. subst (IsController s.namespaces) (get_or_from_slice_get s.controllers c x x e)
-    (w.controllers c x (slice_get_within s.controllers c x e)))
+    (is_controller s c w)

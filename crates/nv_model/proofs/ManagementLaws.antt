@@ -3,12 +3,13 @@ use Rattle.std.proofs.Common.{rules, ◌≡◌, ◌≢◌, ◌∙◌, ℕ, zero,
 use Rattle.std.proofs.Common.{◌^◌, ◌||◌, ◌&&◌, Bool, true, false, not, cond, List, [], ◌∷◌, length}
 use Rattle.std.proofs.Common.{Option, Some, None, is_some, bit_and, nat_lt, refl, sym, ap, subst}
 use Rattle.std.proofs.Common.{arith, lit<}
-use Rattle.std.specs.Prelude.{IsSomeAnd, count_by, if◌then◌else◌, unwrap_or}
+use Rattle.std.specs.Prelude.{All, IsSomeAnd, count_by, if◌then◌else◌, unwrap_or}
 use Rattle.std.specs.List.{AllByRecursion, find, range_with_len}
 use Rattle.std.specs.Option.{option_map_or}
 use Rattle.std.specs.FinMap as map_of
 use Rattle.std.specs.FinMap.{get-empty}
 use Rattle.std.specs.Ordering.{nat_cmp}
+use Rattle.std.proofs.lemmas.Bool.{not-false, not-true}
 use Rattle.std.proofs.lemmas.Bool.Decides.{nat_tests}
 use Rattle.std.proofs.lemmas.List.{length-map}
 use Rattle.std.proofs.lemmas.List.Elements.{All-map, All-weaker}
@@ -25,7 +26,6 @@ use Rattle.nv_command.proofs.RefusalLaws.{is_refusal-refusal_by}
 use Rattle.nv_command.specs.Nsid.{broadcast_nsid}
 use Rattle.nv_command.specs.declared.status_code.StatusCode.TheVariants.{NamespaceInsufficientCapacity}
 use Rattle.nv_model.specs.WellFormed.{unallocated, used}
-use Rattle.nv_model.proofs.ChoiceLaws.{not_false}
 use Rattle.nv_model.specs.Management.{Attached, bytes_needed, capacity_refusal, create_rows}
 use Rattle.nv_model.specs.Management.{created, created_nsid, delete_rows, deleted, format_index}
 use Rattle.nv_model.specs.Management.{is_extended, new_namespace, with_attached, with_nsids}
@@ -46,13 +46,7 @@ use Rattle.nv_layout.specs.Limits.{most_nsids}
 pub none_holds : (rows : List Row) → first_refusal rows ≡ None
     → AllByRecursion (λ r. r.when ≡ false) rows
 none_holds [] e = tt
-none_holds (r ∷ rows) e = at_test r.when refl e (none_holds rows)
-  where
-    at_test : (b : Bool) → r.when ≡ b → (if b then Some r.refusal else first_refusal rows) ≡ None
-        → (first_refusal rows ≡ None → AllByRecursion (λ r. r.when ≡ false) rows)
-        → (r.when ≡ false) × AllByRecursion (λ r. r.when ≡ false) rows
-    at_test true h e rest = absurd (cc e)
-    at_test false h e rest = (h, rest e)
+none_holds (r ∷ rows) e = let no : r.when ≡ false = grind (arith, e) in (no, none_holds rows (rw no at e))
 
 -- the refusal for too little capacity is a refusal, whatever number of bytes it tells
 capacity_refused : (bytes : ℕ) → IsRefusal (capacity_refusal bytes)
@@ -78,27 +72,14 @@ delete_rows_fit s n = search (rules, is_refusal-refusal_by)
 first_of : (p : ℕ → Bool) (first count n : ℕ) → find p (range_with_len first count) ≡ Some n
     → ((first ≤ n) × (n < first + count)) × (p n ≡ true)
 first_of p first zero n e = absurd (cc e)
-first_of p first (suc count) n e = at_test (p first) refl e (first_of p (first + 1) count n)
-  where
-    at_test : (b : Bool) → p first ≡ b → cond b (Some first)
-        (find p (range_with_len (first + 1) count)) ≡ Some n
-        → (find p (range_with_len (first + 1) count) ≡ Some n
-        → ((first + 1 ≤ n) × (n < first + 1 + count)) × (p n ≡ true))
-        → ((first ≤ n) × (n < first + suc count)) × (p n ≡ true)
-    at_test true h e rest = let same : first ≡ n = cc e in
-        ((omega arith, omega arith), subst (λ m. p m ≡ true) same h)
-    at_test false h e rest = let r = rest e in ((omega (arith, r.0.0), omega (arith, r.0.1)), r.1)
+first_of p first (suc count) n e = grind (arith, first_of p (first + 1) count n)
 
 -- the free NSID is from 1 to NN, and no namespace has it
 pub free_is : (s : State) (n : ℕ) → free_nsid s ≡ Some n
     → ((1 ≤ n) × (n ≤ s.nn)) × (is_allocated s n ≡ false)
 free_is s n e =
     let is = first_of (λ q. not (is_allocated s q)) 1 s.nn n e in
-    ((is.0.0, omega (arith, is.0.1)), not_true (is_allocated s n) is.1)
-  where
-    not_true : (b : Bool) → not b ≡ true → b ≡ false
-    not_true true h = absurd (cc h)
-    not_true false h = refl
+    ((is.0.0, omega (arith, is.0.1)), not-true (is_allocated s n) is.1)
 
 -- the NSID that a create returns is a number of 32 bits
 pub created_nsid_fits : (s : State) → s.nn ≤ most_nsids → created_nsid s < 2 ^ 32
@@ -119,8 +100,7 @@ none_of (Some x) e = absurd (cc e)
 pub extends_by : (ms mc : ℕ) (e : Bool) → (not e || (nat_lt 0 ms && (bit_and mc 1 == 1))) ≡ true
     → e ≡ true
     → (0 < ms) × (bit_and mc 1 ≡ 1)
-extends_by ms mc true h e = grind (arith, nat_tests)
-extends_by ms mc false h e = absurd (cc e)
+extends_by ms mc e h t = grind (arith, nat_tests)
 
 -- n blocks of b bytes each, of which there is at least one, have at least b bytes
 some_blocks : (n b : ℕ) → 0 < n → b ≤ n * b
@@ -134,7 +114,7 @@ in_format : (mc bytes nsze format : ℕ) (extended shared : Bool) (o : Option Fo
     (record { capacity = bytes; format = format; extended = extended; shared = shared }))
 in_format mc bytes nsze format extended shared None h some is few = absurd (cc h)
 in_format mc bytes nsze format extended shared (Some f) h some is few =
-    let can : may_extend mc f extended ≡ true = not_false (may_extend mc f extended) h in
+    let can : may_extend mc f extended ≡ true = not-false (may_extend mc f extended) h in
     record {
       capacity = (omega (arith, some_blocks nsze (2 ^ f.lbads) some), omega arith);
       extended = extends_by f.ms mc extended can;
@@ -149,6 +129,17 @@ none_attached s n w free =
     (λ c is. untrue (map_of.contains_key c.attached n)
     (λ t. let both : true ≡ false = sym (is.attached n t) ∙ free in absurd (cc both))) s.controllers
     w.controllers)
+
+-- controllers of a subsystem are also ones of it with a namespace more, or with another one in its place
+pub controllers_with : (ns : Namespaces) (n : ℕ) (x : Namespace) (cs : List Controller)
+    → All (IsController ns) cs → All (IsController (map_of.insert ns n x)) cs
+controllers_with ns n x cs all =
+    All-weaker (IsController ns) (IsController (map_of.insert ns n x))
+    (λ c is.
+    let there : (q : ℕ) → map_of.contains_key c.attached q ≡ true
+    → map_of.contains_key (map_of.insert ns n x) q ≡ true
+    = λ q t. grind (arith, contains-insert ns n x q, is.attached q t) in
+    assumption) cs all
 
 -- a create with a free NSID or with none, if no row refuses it, leaves the subsystem well formed
 create_by : (s : State) (w : NewNamespace) (o : Option ℕ) → free_nsid s ≡ o → IsWellFormed s
@@ -168,18 +159,7 @@ create_by s w (Some n) e well accepted =
       format_count = well.format_count;
       formats = well.formats;
       controller_count = well.controller_count;
-      controllers = All-weaker (IsController s.namespaces) (IsController to)
-          (λ c is. record {
-            identity = is.identity;
-            rules = is.rules;
-            smart = is.smart;
-            log = is.log;
-            entries = is.entries;
-            refusals = is.refusals;
-            commands = is.commands;
-            attached = λ q t. contains-insert s.namespaces n x q ∙ kept (q == n) (is.attached q t);
-            values = is.values;
-          }) s.controllers well.controllers;
+      controllers = controllers_with s.namespaces n x s.controllers well.controllers;
       cntlids = well.cntlids;
       namespaces = λ q y at. named q y (q == n) refl (sym (get_of_insert s.namespaces n x q) ∙ at);
       capacities = omega (
@@ -196,10 +176,6 @@ create_by s w (Some n) e well accepted =
 
     blocks : (w.nsze == 0) ≡ false → 0 < w.nsze
     blocks h = grind (arith, nat_tests)
-
-    kept : (b : Bool) {t : Bool} → t ≡ true → cond b true t ≡ true
-    kept true h = refl
-    kept false h = h
 
     named : (q : ℕ) (y : Namespace) (t : Bool) → (q == n) ≡ t
         → cond t (Some (new_namespace s w)) (map_of.get s.namespaces q) ≡ Some y
@@ -219,8 +195,7 @@ create_by s w (Some n) e well accepted =
               (blocks rows.1.1.0) refl (omega (arith, fits, well.keys.tnvmcap));
           private = λ p. omega (arith, none_attached s q well (ap (is_allocated s) here ∙ free.1));
         })
-    named q y false is at = let old = well.namespaces q y at in
-        record { nsid = old.nsid; format = old.format; private = old.private }
+    named q y false is at = assumption (well.namespaces q y at)
 
 -- a create that isn't refused leaves a well-formed subsystem well formed
 pub create_keeps : (s : State) (w : NewNamespace) → IsWellFormed s
@@ -250,17 +225,7 @@ attached_keep s change to w are = record {
       (sym (length-map s.controllers (with_nsids change))) w.controller_count;
   controllers = All-map (IsController to) (with_nsids change) s.controllers
       (All-weaker (IsController s.namespaces) (λ x. IsController to (with_nsids change x))
-      (λ x is. record {
-        identity = is.identity;
-        rules = is.rules;
-        smart = is.smart;
-        log = is.log;
-        entries = is.entries;
-        refusals = is.refusals;
-        commands = is.commands;
-        attached = are.allocated x is;
-        values = are.values x is;
-      })
+      (λ x is. assumption (are.allocated x is, are.values x is))
       s.controllers w.controllers);
   cntlids = pairs_map (λ x y. x.identity.cntlid ≢ y.identity.cntlid)
       (with_nsids change) s.controllers w.cntlids;
@@ -271,12 +236,7 @@ attached_keep s change to w are = record {
 -- a number that is left after a removal was there before, and is another one
 pub left : {A : Type 0} (m : NumberMap A) (n q : ℕ) → map_of.contains_key (map_of.remove m n) q
     ≡ true → ((q == n) ≡ false) × (map_of.contains_key m q ≡ true)
-left m n q t = at_test (q == n) refl (sym (contains-remove m n q) ∙ t)
-  where
-    at_test : (b : Bool) → (q == n) ≡ b → cond b false (map_of.contains_key m q) ≡ true
-        → ((q == n) ≡ false) × (map_of.contains_key m q ≡ true)
-    at_test true h e = absurd (cc e)
-    at_test false h e = (h, e)
+left m n q t = let is = contains-remove m n q in (grind (arith, is, t), grind (arith, is, t))
 
 -- removing a namespace uses no more capacity than before
 used-remove_le : (m : Namespaces) (n : ℕ) (o : Option Namespace) → map_of.get m n ≡ o

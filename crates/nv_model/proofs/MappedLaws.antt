@@ -53,8 +53,7 @@ count_by-map p f q same (x ∷ xs) =
 
 -- if a implies b, then a counts for no more than b
 no_more : (a b : Bool) → (a ≡ true → b ≡ true) → cond a 1 0 ≤ cond b 1 0
-no_more true b h = let e = h refl in rw e (omega arith)
-no_more false b h = omega arith
+no_more a b h = grind arith
 
 -- if each element whose image passes p passes q, no more images pass p than elements pass q
 pub count_by-map_le : {X Y : Type 0} (p : Y → Bool) (f : X → Y) (q : X → Bool)

@@ -1,19 +1,14 @@
 -- The meaning of each command is sound: the one table of facts about refusals, replies and effects.
-use Rattle.std.proofs.Common.{◌≡◌, ℕ, ◌≤◌, ◌==◌, arith, refl, subst, List, [], Bool, true, false}
-use Rattle.std.proofs.Common.{Option, Some, None, is_some, length}
+use Rattle.std.proofs.Common.{◌≡◌, ℕ, ◌≤◌, ◌==◌, arith, refl, [], true}
+use Rattle.std.proofs.Common.{List, Option, Some, None, is_some, length}
 use Rattle.std.specs.FinMap as map_of
-use Rattle.std.specs.List.{AllByRecursion}
 use Rattle.std.specs.Option.{option_map_or}
-use Rattle.std.proofs.lemmas.Option.{get_or_from_slice_get, slice_get_within}
-use Rattle.std.specs.Prelude.{if◌then◌else◌, slice_get}
+use Rattle.std.specs.Prelude.{slice_get}
 use Rattle.nv_layout.specs.IdNs.{IdNsFits}
-use Rattle.nv_layout.specs.declared.error_entry.ErrorEntry.{ErrorEntry}
-use Rattle.nv_layout.specs.declared.smart.Smart.{Smart}
 use Rattle.nv_command.specs.Form.{form_of}
 use Rattle.nv_command.specs.LogPage.{log_asked, log_kind}
 use Rattle.nv_command.specs.declared.log_page.LogPage.{LogPage}
 use Rattle.nv_command.specs.declared.log_page.LogPage.TheVariants.{ErrorInformation, Health}
-use Rattle.nv_command.specs.Refusal.{IsRefusal}
 use Rattle.nv_command.proofs.RefusalLaws.{is_refusal-refusal_by}
 use Rattle.nv_command.specs.Reply.{FitsRecord, IsNsidList, kind_of}
 use Rattle.nv_command.specs.declared.command.Command.{Command}
@@ -25,7 +20,7 @@ use Rattle.nv_command.specs.declared.command.Command.TheVariants.{Attachment, Fo
 use Rattle.nv_command.specs.declared.command.Command.TheVariants.{SetFeature, GetLog}
 use Rattle.nv_command.specs.Nsid.{broadcast_nsid}
 use Rattle.nv_command.specs.declared.transfer.ReplyKind.{ReplyKind}
-use Rattle.nv_command.specs.declared.reply.Reply.TheVariants as reply
+use Rattle.nv_command.specs.declared.reply.Reply.{Reply}
 use Rattle.nv_command.specs.declared.status_code.StatusCode.TheVariants.{InvalidNamespaceOrFormat}
 use Rattle.nv_bits.specs.Above.{above}
 use Rattle.nv_model.proofs.AttachmentLaws.{attachment_controllers, attachment_keeps}
@@ -33,16 +28,18 @@ use Rattle.nv_model.proofs.AttachmentLaws.{attachment_rows_fit}
 use Rattle.nv_model.proofs.ChoiceLaws.{chosen_fits}
 use Rattle.nv_model.proofs.FormatLaws.{format_keeps, format_rows_fit}
 use Rattle.nv_model.specs.Identify.{blank, id_ns_of}
+use Rattle.nv_model.proofs.KeepingLaws.{is_controller}
 use Rattle.nv_model.proofs.IdentifyControllerLaws.{id_ctrl_fits}
 use Rattle.nv_model.proofs.IdentifyLaws.{blank_fits, common_fits, id_ns_fits}
 use Rattle.nv_model.proofs.InFormatLaws.{capacity_fits, format_below}
 use Rattle.nv_model.proofs.ListLaws.{keys_fit}
 use Rattle.nv_model.proofs.LogLaws.{errors_fit, log_rows_fit, smart_fits}
 use Rattle.nv_model.specs.Logs.{log_reply}
-use Rattle.nv_model.proofs.ManagementLaws.{create_keeps, create_rows_fit, created_controllers}
+use Rattle.nv_model.proofs.ManagementLaws.{AllRefuse, create_keeps, create_rows_fit, created_controllers}
 use Rattle.nv_model.proofs.ManagementLaws.{created_nsid_fits, delete_keeps, delete_rows_fit}
 use Rattle.nv_model.proofs.ManagementLaws.{deleted_controllers}
-use Rattle.nv_model.specs.Meaning.{Meaning, meaning_of}
+use Rattle.nv_model.specs.Conditions.{Row}
+use Rattle.nv_model.specs.Meaning.{Meaning, meaning_of, telling}
 use Rattle.nv_model.specs.Conditions.{is_active}
 use Rattle.nv_model.specs.Conditions.{first_refusal}
 use Rattle.nv_model.proofs.SetFeatureLaws.{feature_controllers, feature_keeps}
@@ -92,66 +89,51 @@ is_log_reply : (s : State) (c : ℕ) (page : LogPage) → kind_of (log_reply s c
 is_log_reply s c ErrorInformation = refl
 is_log_reply s c Health = refl
 
--- each controller of a well-formed subsystem is one that IsController allows
-is_controller : (s : State) (c : ℕ) → IsWellFormed s → (x : Controller) → controller_at s c ≡ Some x
-    → IsController s.namespaces x
-is_controller s c w x e =
-    subst (IsController s.namespaces) (get_or_from_slice_get s.controllers c x x e)
-    (w.controllers c x (slice_get_within s.controllers c x e))
-
 -- ---- meanings
 
 -- its rows refuse; its reply is of this kind, and in a well-formed subsystem fits its record; what
 -- it changes preserves well-formedness, and adds or removes no controller
 pub record IsSound (kind : ReplyKind) (m : Meaning) : Type 0 where
-  pub rows : (s : State) (c : ℕ) → AllByRecursion (λ row. IsRefusal row.refusal) (m.rows s c)
+  pub rows : (s : State) (c : ℕ) → AllRefuse (m.rows s c)
   pub is_reply : (s : State) (c : ℕ) → kind_of (m.reply s c) ≡ kind
   pub fits : (s : State) (c : ℕ) → IsWellFormed s → FitsRecord (m.reply s c)
   pub keeps : (s : State) (c : ℕ) → first_refusal (m.rows s c) ≡ None → IsWellFormed s
       → IsWellFormed (m.effect s c)
   pub controllers : (s : State) (c : ℕ) → length (m.effect s c).controllers ≡ length s.controllers
 
+-- a meaning that tells something is sound if its rows refuse, and its replies are of this kind and fit their records
+tells : (kind : ReplyKind) (rows : State → ℕ → List Row) (told : State → ℕ → Reply)
+    → ((s : State) (c : ℕ) → AllRefuse (rows s c))
+    → ((s : State) (c : ℕ) → kind_of (told s c) ≡ kind)
+    → ((s : State) (c : ℕ) → IsWellFormed s → FitsRecord (told s c)) → IsSound kind (telling rows told)
+tells kind rows told refuse is fits = assumption
+
 -- the meaning of each command is sound
 pub sound : (k : Command) → IsSound (form_of k).reply (meaning_of k)
-sound IdentifyController = record {
-  rows = λ s c. tt;
-  is_reply = λ s c. refl;
-  fits = λ s c w. id_ctrl_fits s w (controller_at s c) (is_controller s c w);
-  keeps = λ s c accepted w. w;
-  controllers = λ s c. refl;
-}
-sound (IdentifyNamespace n) = record {
-  rows = λ s c. (is_refusal-refusal_by InvalidNamespaceOrFormat, tt);
-  is_reply = λ s c. refl;
-  fits = λ s c w. chosen_fits IdNsFits (n == broadcast_nsid) _ _
-      (common_fits s.formats s.mc w.keys.mc w.format_count.1 w.formats)
-      (chosen_fits IdNsFits (is_active s c n) _ _
-      (allocated_fits s w n (map_of.get s.namespaces n) refl) blank_fits);
-  keeps = λ s c accepted w. w;
-  controllers = λ s c. refl;
-}
-sound (AllocatedNamespace n) = record {
-  rows = λ s c. (is_refusal-refusal_by InvalidNamespaceOrFormat, tt);
-  is_reply = λ s c. refl;
-  fits = λ s c w. allocated_fits s w n (map_of.get s.namespaces n) refl;
-  keeps = λ s c accepted w. w;
-  controllers = λ s c. refl;
-}
-sound (ActiveList after) = record {
-  rows = λ s c. (is_refusal-refusal_by InvalidNamespaceOrFormat, tt);
-  is_reply = λ s c. refl;
-  fits = λ s c w. list_fits s after w (controller_at s c) (is_controller s c w);
-  keeps = λ s c accepted w. w;
-  controllers = λ s c. refl;
-}
-sound (AllocatedList after) = record {
-  rows = λ s c. (is_refusal-refusal_by InvalidNamespaceOrFormat, tt);
-  is_reply = λ s c. refl;
-  fits = λ s c w. keys_fit after s.nn s.namespaces w.keys.nn.1
-      (λ n t. inside s w n (map_of.get s.namespaces n) refl t);
-  keeps = λ s c accepted w. w;
-  controllers = λ s c. refl;
-}
+sound IdentifyController =
+    tells _ _ _ (λ s c. tt) (λ s c. refl)
+    (λ s c w. id_ctrl_fits s w (controller_at s c) (is_controller s c w))
+sound (IdentifyNamespace n) =
+    tells _ _ _ (λ s c. (is_refusal-refusal_by InvalidNamespaceOrFormat, tt)) (λ s c. refl)
+    (λ s c w. chosen_fits IdNsFits (n == broadcast_nsid) _ _
+    (common_fits s.formats s.mc w.keys.mc w.format_count.1 w.formats)
+    (chosen_fits IdNsFits (is_active s c n) _ _
+    (allocated_fits s w n (map_of.get s.namespaces n) refl) blank_fits))
+sound (AllocatedNamespace n) =
+    tells _ _ _ (λ s c. (is_refusal-refusal_by InvalidNamespaceOrFormat, tt)) (λ s c. refl)
+    (λ s c w. allocated_fits s w n (map_of.get s.namespaces n) refl)
+sound (ActiveList after) =
+    tells _ _ _ (λ s c. (is_refusal-refusal_by InvalidNamespaceOrFormat, tt)) (λ s c. refl)
+    (λ s c w. list_fits s after w (controller_at s c) (is_controller s c w))
+sound (AllocatedList after) =
+    tells _ _ _ (λ s c. (is_refusal-refusal_by InvalidNamespaceOrFormat, tt)) (λ s c. refl)
+    (λ s c w. keys_fit after s.nn s.namespaces w.keys.nn.1
+    (λ n t. inside s w n (map_of.get s.namespaces n) refl t))
+sound (GetFeature q) =
+    tells _ _ _ (λ s c. get_feature_rows_fit s c q) (λ s c. refl) (λ s c w. feature_number_fits s c q w)
+sound (GetLog q) =
+    tells _ _ _ (λ s c. log_rows_fit s c q) (λ s c. is_log_reply s c (log_asked q.lid))
+    (λ s c w. logs_fit s c (log_asked q.lid) (is_controller s c w))
 sound (Create x) = record {
   rows = λ s c. create_rows_fit s x;
   is_reply = λ s c. refl;
@@ -180,24 +162,10 @@ sound (Format f) = record {
   keeps = λ s c accepted w. format_keeps s c f w accepted;
   controllers = λ s c. refl;
 }
-sound (GetFeature q) = record {
-  rows = λ s c. get_feature_rows_fit s c q;
-  is_reply = λ s c. refl;
-  fits = λ s c w. feature_number_fits s c q w;
-  keeps = λ s c accepted w. w;
-  controllers = λ s c. refl;
-}
 sound (SetFeature x) = record {
   rows = λ s c. set_feature_rows_fit s c x;
   is_reply = λ s c. refl;
   fits = λ s c w. tt;
   keeps = λ s c accepted w. feature_keeps s c x w accepted;
   controllers = λ s c. feature_controllers s c x;
-}
-sound (GetLog q) = record {
-  rows = λ s c. log_rows_fit s c q;
-  is_reply = λ s c. is_log_reply s c (log_asked q.lid);
-  fits = λ s c w. logs_fit s c (log_asked q.lid) (is_controller s c w);
-  keeps = λ s c accepted w. w;
-  controllers = λ s c. refl;
 }

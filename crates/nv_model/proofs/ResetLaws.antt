@@ -1,10 +1,10 @@
 -- A reset leaves a well-formed subsystem well formed, and adds or removes no controller.
-use Rattle.std.proofs.Common.{◌≡◌, ◌∙◌, ℕ, zero, suc, ◌+◌, ◌&&◌, Bool, true, false, cond, List, []}
+use Rattle.std.proofs.Common.{◌≡◌, ◌∙◌, ℕ, zero, suc, ◌+◌, Bool, true, false, List, []}
 use Rattle.std.proofs.Common.{◌∷◌, map, length, Option, Some, None, is_some, refl, sym, ap, subst}
 use Rattle.std.proofs.Common.{arith}
 use Rattle.std.proofs.Math.Numerals.{suc-eq-add-one}
-use Rattle.std.proofs.lemmas.Bool.{and_parts}
-use Rattle.std.specs.Prelude.{option_map, replicate, slice_index_or, unwrap_or, if◌then◌else◌}
+use Rattle.std.proofs.lemmas.Bool.{and_from, and_parts}
+use Rattle.std.specs.Prelude.{option_map, slice_index_or, unwrap_or, if◌then◌else◌}
 use Rattle.std.specs.List.{fold, range_with_len}
 use Rattle.std.specs.Option.{option_map_or}
 use Rattle.std.specs.FinMap as map_of
@@ -20,8 +20,8 @@ use Rattle.nv_model.proofs.KeepingLaws.{KeepsController, keeps}
 use Rattle.nv_model.specs.Step.{all_restored, reset, reset_if, reset_where, with_restored}
 use Rattle.nv_model.specs.State.{State}
 use Rattle.nv_model.specs.Values.{FeatureValues, ValueKey, key_cmp}
-use Rattle.nv_model.proofs.ValueLaws.{is_key, key_cmp_total, same_key}
-use Rattle.nv_model.specs.WellFormed.{AreRules, IsWellFormed, is_value_at, may_have}
+use Rattle.nv_model.proofs.ValueLaws.{key_cmp_total, same_key}
+use Rattle.nv_model.specs.WellFormed.{AreRules, AreValues, IsWellFormed, is_value_at, may_have}
 use Rattle.nv_model.specs.declared.feature_value.FeatureValue.{FeatureValue}
 
 -- ---- the value of each key
@@ -31,12 +31,7 @@ found : (g : ValueKey → FeatureValue → FeatureValue) (es : List (ValueKey ×
     (k : ValueKey)
     → find key_cmp k (map (λ e. (e.0, g e.0 e.1)) es) ≡ option_map (g k) (find key_cmp k es)
 found g [] k = refl
-found g (e ∷ es) k = at_test (is_key k e.0) _ _ refl (found g es k)
-  where
-    at_test : (b : Bool) (o p : Option FeatureValue) → is_key k e.0 ≡ b → o ≡ option_map (g k) p
-        → cond b (Some (g e.0 e.1)) o ≡ option_map (g k) (cond b (Some e.1) p)
-    at_test true o p same later = ap (λ q. Some (g q e.1)) (sym (same_key k e.0 same))
-    at_test false o p same later = later
+found g (e ∷ es) k = grind (arith, same_key k e.0, found g es k)
 
 -- after a reset, a key has its value restored from the saved one or the default
 pub get-all_restored : (rules : FeatureRules) (values : FeatureValues) (k : ValueKey)
@@ -63,10 +58,6 @@ module _ (rules : FeatureRules) (are : AreRules rules) where
       ap (is_value f) is ∙ default_is_sound rules are f selector
   current_is_sound f selector d (Some v) is fits = fits
 
-  -- the conjunction of two true values is true
-  both : (a b : Bool) → a ≡ true → b ≡ true → (a && b) ≡ true
-  both a b e h = λ i. e i && h i
-
   -- a sound value stays sound when it is restored
   one_is_sound : (k : ValueKey) (x : FeatureValue) → is_value_at k x ≡ true
       → is_value_at k (restored (first_value rules k).current x) ≡ true
@@ -81,7 +72,7 @@ module _ (rules : FeatureRules) (are : AreRules rules) where
           let saved = (and_parts (is_value f x.current) _ fits).1 in
           let is = ap (λ fid. default_of (rule_for rules fid) k.selector)
           (feature_with k.fid f e) in
-          both _ _ (current_is_sound f k.selector _ x.saved is saved) saved
+          and_from _ _ (current_is_sound f k.selector _ x.saved is saved) saved
 
   -- sound values stay sound when they are restored
   all_sound : (values : FeatureValues) → AreSound values → AreSound (all_restored rules values)
@@ -101,22 +92,15 @@ restoring_keeps : KeepsController with_restored
 restoring_keeps = record {
   identity = λ x. refl;
   attached = λ x. refl;
-  sound = λ s x h. record {
-    identity = h.identity;
-    rules = h.rules;
-    smart = h.smart;
-    log = h.log;
-    entries = h.entries;
-    refusals = h.refusals;
-    commands = h.commands;
-    attached = h.attached;
-    values = record {
-      keys = λ k. ap is_some (get-all_restored x.rules x.values k)
-          ∙ has_restored (first_value x.rules k).current (map_of.get x.values k)
-          ∙ h.values.keys k;
-      sound = all_sound x.rules h.rules x.values h.values.sound;
-    };
-  };
+  sound = λ s x h.
+      let restored : AreValues x.rules x.identity.numbers.vwc x.attached (all_restored x.rules x.values) =
+      record {
+        keys = λ k. ap is_some (get-all_restored x.rules x.values k)
+            ∙ has_restored (first_value x.rules k).current (map_of.get x.values k)
+            ∙ h.values.keys k;
+        sound = all_sound x.rules h.rules x.values h.values.sound;
+      } in
+      assumption;
 }
 
 -- a reset leaves a well-formed subsystem well formed
@@ -156,14 +140,6 @@ module _ (enabled : List Bool) where
   length-each (c ∷ cs) s = length-each cs (reset_if enabled s c)
       ∙ length-reset_if (slice_index_or enabled c false) s c
 
-  -- if no controller is enabled, resets of the enabled ones of some controllers change nothing
-  each_same : ((c : ℕ) → slice_index_or enabled c false ≡ false) → (cs : List ℕ) (s : State)
-      → fold (reset_if enabled) s cs ≡ s
-  each_same off [] s = refl
-  each_same off (c ∷ cs) s =
-      ap (λ b. fold (reset_if enabled) (if b then reset s c else s) cs) (off c)
-      ∙ each_same off cs s
-
   -- resets of all enabled controllers leave a well-formed subsystem well formed
   pub reset_where_keeps : (s : State) → IsWellFormed s → IsWellFormed (reset_where enabled s)
   reset_where_keeps s w = each_keeps (range_with_len 0 (length enabled)) s w
@@ -172,11 +148,6 @@ module _ (enabled : List Bool) where
   pub length-reset_where : (s : State)
       → length (reset_where enabled s).controllers ≡ length s.controllers
   length-reset_where s = length-each (range_with_len 0 (length enabled)) s
-
-  -- if no controller is enabled, resets of the enabled ones change nothing
-  pub reset_nowhere : ((c : ℕ) → slice_index_or enabled c false ≡ false) → (s : State)
-      → reset_where enabled s ≡ s
-  reset_nowhere off s = each_same off (range_with_len 0 (length enabled)) s
 
   -- ---- the enabled ones of the first n controllers, for a loop over all
 
@@ -206,12 +177,3 @@ module _ (enabled : List Bool) where
     where
       last : 0 + n ≡ n
       last = omega arith
-
--- with n controllers of which none is enabled, resets of the enabled ones change nothing
-pub reset_where_off : (n : ℕ) (s : State) → reset_where (replicate n false) s ≡ s
-reset_where_off n s = reset_nowhere (replicate n false) (off n) s
-  where
-    off : (n c : ℕ) → slice_index_or (replicate n false) c false ≡ false
-    off zero c = refl
-    off (suc n) zero = refl
-    off (suc n) (suc c) = off n c

@@ -1,12 +1,12 @@
 -- Get Features and Set Features leave a well-formed subsystem well formed, and their replies fit.
-use Rattle.std.proofs.Common.{rules, ◌≡◌, ◌∙◌, ℕ, ◌+◌, ◌==◌, ◌<◌, ◌^◌, ◌&&◌, Bool, true, false}
+use Rattle.std.proofs.Common.{rules, ◌≡◌, ◌∙◌, ℕ, ◌+◌, ◌==◌, ◌<◌, ◌^◌, Bool, true, false}
 use Rattle.std.proofs.Common.{List, [], ◌∷◌, length, Option, Some, None, is_some, refl, sym, ap}
-use Rattle.std.proofs.Common.{subst, lit<, map}
+use Rattle.std.proofs.Common.{arith, subst, lit<, map}
 use Rattle.std.specs.Prelude.{if◌then◌else◌, option_map, unwrap_or}
 use Rattle.std.specs.List.{fold}
 use Rattle.std.specs.Option.{option_map_or}
 use Rattle.std.specs.FinMap as map_of
-use Rattle.std.proofs.lemmas.Option.{get_or_from_slice_get, slice_get_within}
+use Rattle.std.proofs.lemmas.Bool.{and_parts, not-false}
 use Rattle.nv_layout.specs.Feature.{feature_of, is_accepted, is_get_selector, is_value, row_of}
 use Rattle.nv_layout.specs.Feature.{selector_in, stored}
 use Rattle.nv_layout.proofs.FeatureTableLaws.{feature_at, stored_is_value, value_fits}
@@ -17,7 +17,7 @@ use Rattle.nv_command.specs.declared.features.FeatureQuery.{FeatureQuery}
 use Rattle.nv_command.specs.declared.features.FeatureSetting.{FeatureSetting}
 use Rattle.nv_model.specs.Change.{changed, changed_at}
 use Rattle.nv_model.proofs.ChangedAtLaws.{length-changed_at}
-use Rattle.nv_model.proofs.ChoiceLaws.{chosen_fits, not_false}
+use Rattle.nv_model.proofs.ChoiceLaws.{chosen_fits}
 use Rattle.nv_model.proofs.FeatureLaws.{default_is_sound, sound_at, values-written}
 use Rattle.nv_model.specs.Values.{FeatureRules, rule_of}
 use Rattle.nv_model.specs.Features.{changed_nsids, feature_number, get_feature_rows}
@@ -25,7 +25,7 @@ use Rattle.nv_model.specs.Features.{get_rows, is_set}
 use Rattle.nv_model.specs.Features.{selected, set_feature_rows, set_rows, supported_at, told}
 use Rattle.nv_model.specs.Features.{with_feature, with_value, with_values, write}
 use Rattle.nv_model.specs.Values.{default_of, written}
-use Rattle.nv_model.proofs.KeepingLaws.{KeepsController, keeps}
+use Rattle.nv_model.proofs.KeepingLaws.{KeepsController, is_controller, keeps}
 use Rattle.nv_model.proofs.ManagementLaws.{AllRefuse, none_holds}
 use Rattle.nv_command.specs.declared.status_code.StatusCode.TheVariants.{InvalidFieldInCommand}
 use Rattle.nv_model.specs.Conditions.{first_refusal, row}
@@ -71,11 +71,6 @@ set_feature_rows_fit s c x =
     (search (rules, is_refusal-refusal_by))
 
 -- ---- a set
-
--- if a conjunction is true, both its parts are
-and_parts : (a b : Bool) → (a && b) ≡ true → (a ≡ true) × (b ≡ true)
-and_parts true b e = (refl, e)
-and_parts false b e = absurd (cc e)
 
 -- a value that is sound under a key of a feature is one that the feature may have
 sound_value : (f : Feature) (n s : ℕ) (x : FeatureValue) → is_value_at (key_of f n s) x ≡ true
@@ -136,18 +131,8 @@ set_keeps : (f : Feature) (value : ℕ) (save : Bool) (ns : List ℕ) → is_acc
 set_keeps f value save ns fits = record {
   identity = λ x. refl;
   attached = λ x. refl;
-  sound = λ s x h. record {
-    identity = h.identity;
-    rules = h.rules;
-    smart = h.smart;
-    log = h.log;
-    entries = h.entries;
-    refusals = h.refusals;
-    commands = h.commands;
-    attached = h.attached;
-    values =
-        all_values f value save fits x.rules x.identity.numbers.vwc x.attached ns x.values h.values;
-  };
+  sound = λ s x h.
+      assumption (all_values f value save fits x.rules x.identity.numbers.vwc x.attached ns x.values h.values);
 }
 
 -- an accepted set has a dword that the feature accepts
@@ -166,7 +151,7 @@ module _ (s : State) (c : ℕ) (x : FeatureSetting) where
         → is_accepted f x.value ≡ true
     by_support true g accepted same =
         let rows = none_holds (set_rows s c x g) accepted in
-        subst (λ h. is_accepted h x.value ≡ true) same (not_false (is_accepted g x.value) rows.0)
+        subst (λ h. is_accepted h x.value ≡ true) same (not-false (is_accepted g x.value) rows.0)
     by_support false g accepted same = absurd (cc accepted)
 
     -- a Set that a controller accepts for a feature, if there is one, has a dword that the feature accepts
@@ -213,14 +198,7 @@ module _ (s : State) (c : ℕ) (x : FeatureSetting) where
 -- the capabilities of a feature are a number of 32 bits
 capabilities_fit : (a b c : Bool)
     → (if a then 1 else 0) + (if b then 2 else 0) + (if c then 4 else 0) < 2 ^ 32
-capabilities_fit true true true = lit< tt
-capabilities_fit true true false = lit< tt
-capabilities_fit true false true = lit< tt
-capabilities_fit true false false = lit< tt
-capabilities_fit false true true = lit< tt
-capabilities_fit false true false = lit< tt
-capabilities_fit false false true = lit< tt
-capabilities_fit false false false = lit< tt
+capabilities_fit a b c = grind arith
 
 -- what a select names for a sound value and default is a number of 32 bits
 selected_fits : (rule : FeatureRule) (f : Feature) (sel selector : ℕ) (x : FeatureValue)
@@ -259,15 +237,10 @@ pub feature_number_fits : (s : State) (c : ℕ) (q : FeatureQuery) → IsWellFor
     → feature_number s c q < 2 ^ 32
 feature_number_fits s c q w = by_feature (feature_of q.fid)
   where
-    is_controller : (x : Controller) → controller_at s c ≡ Some x → IsController s.namespaces x
-    is_controller x e =
-        subst (IsController s.namespaces) (get_or_from_slice_get s.controllers c x x e)
-        (w.controllers c x (slice_get_within s.controllers c x e))
-
     by_controller : (f : Feature) (o : Option Controller) → controller_at s c ≡ o
         → option_map_or (told q f) o 0 < 2 ^ 32
     by_controller f None e = lit< tt
-    by_controller f (Some x) e = told_fits s x (is_controller x e) q f
+    by_controller f (Some x) e = told_fits s x (is_controller s c w x e) q f
 
     by_feature : (o : Option Feature)
         → option_map_or (λ f. option_map_or (told q f) (controller_at s c) 0) o 0 < 2 ^ 32

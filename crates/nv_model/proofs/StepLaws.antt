@@ -1,9 +1,9 @@
 -- A command leaves a well-formed subsystem well formed.
-use Rattle.std.proofs.Common.{◌≡◌, ◌∙◌, ℕ, ◌+◌, ◌<◌, ◌≤◌, ◌^◌, lit<, refl, subst, arith, suc, Bool}
+use Rattle.std.proofs.Common.{rules, ◌≡◌, ◌∙◌, ℕ, ◌+◌, ◌<◌, ◌≤◌, ◌^◌, refl, subst, arith, suc, Bool}
 use Rattle.std.proofs.Common.{true, false, List, [], ◌∷◌, length, take, Option, Some, None, min}
 use Rattle.std.proofs.lemmas.List.{length-take}
 use Rattle.std.proofs.lemmas.List.Elements.{All-cons, All-take}
-use Rattle.std.specs.Prelude.{All, if◌then◌else◌}
+use Rattle.std.specs.Prelude.{if◌then◌else◌}
 use Rattle.std.specs.List.{AllByRecursion}
 use Rattle.nv_model.specs.State.{State}
 use Rattle.nv_model.specs.Ranges.{greatest_count}
@@ -33,17 +33,7 @@ pub counting_keeps : KeepsController (λ x. record x { commands = next_count x.c
 counting_keeps = record {
   identity = λ x. refl;
   attached = λ x. refl;
-  sound = λ s x h. record {
-    identity = h.identity;
-    rules = h.rules;
-    smart = h.smart;
-    log = h.log;
-    entries = h.entries;
-    refusals = h.refusals;
-    commands = next_count-le x.commands;
-    attached = h.attached;
-    values = h.values;
-  };
+  sound = λ s x h. assumption (next_count-le x.commands);
 }
 
 -- the log after a refusal has as many entries as there were refusals, but at most as many as are kept
@@ -54,27 +44,11 @@ length-with_refusal most refusals e log some few low len =
     length-take most (e ∷ log) ∙ (let up : length (e ∷ log) ≡ suc (length log) = refl in
     omega arith)
 
--- the entries of the log after a refusal fit their records
-all_entries : (most : ℕ) (e : ErrorEntry) (log : List ErrorEntry) → ErrorEntryFits e
-    → All ErrorEntryFits log → All ErrorEntryFits (take most (e ∷ log))
-all_entries most e log h all =
-    All-take ErrorEntryFits most (e ∷ log) (All-cons ErrorEntryFits e log h all)
-
 -- the entry of a refusal fits its record
 entry_fits : (count cid nsid : ℕ) (r : Refusal) → count ≤ greatest_count → nsid < 2 ^ 32
     → cid < 2 ^ 16
     → IsRefusal r → ErrorEntryFits (log_entry count cid nsid r)
-entry_fits count cid nsid r low a b fits = record {
-  count = omega (arith, low);
-  sqid = lit< tt;
-  cid = b;
-  status = fits.status;
-  location = lit< tt;
-  lba = lit< tt;
-  nsid = a;
-  vendor = lit< tt;
-  specific = omega (arith, fits.specific);
-}
+entry_fits count cid nsid r low a b fits = search (rules, arith, low, a, b, fits)
 
 -- logging a refusal keeps a controller
 pub booking_keeps : (nsid cid : ℕ) (r : Refusal) → nsid < 2 ^ 32 → cid < 2 ^ 16 → IsRefusal r
@@ -82,20 +56,17 @@ pub booking_keeps : (nsid cid : ℕ) (r : Refusal) → nsid < 2 ^ 32 → cid < 2
 booking_keeps nsid cid r a b fits = record {
   identity = λ x. refl;
   attached = λ x. refl;
-  sound = λ s x h. record {
-    identity = h.identity;
-    rules = h.rules;
-    smart = h.smart;
-    log = length-with_refusal (x.identity.numbers.elpe + 1) x.refusals _ x.log (omega arith)
-        (omega (arith, h.identity.numbers.elpe)) h.refusals h.log;
-    entries = all_entries (x.identity.numbers.elpe + 1) (log_entry (next_count x.refusals) cid nsid
-        r) x.log (entry_fits (next_count x.refusals) cid nsid r (next_count-le x.refusals) a b fits)
-        h.entries;
-    refusals = next_count-le x.refusals;
-    commands = h.commands;
-    attached = h.attached;
-    values = h.values;
-  };
+  sound = λ s x h.
+      let most = x.identity.numbers.elpe + 1 in
+      let count = next_count x.refusals in
+      let e = log_entry count cid nsid r in
+      let fits = entry_fits count cid nsid r (next_count-le x.refusals) a b fits in
+      assumption (
+        length-with_refusal most x.refusals e x.log (omega arith) (omega (arith, h.identity.numbers.elpe))
+            h.refusals h.log,
+        All-take ErrorEntryFits most (e ∷ x.log) (All-cons ErrorEntryFits e x.log fits h.entries),
+        next_count-le x.refusals,
+      );
 }
 
 -- counting a command leaves a well-formed subsystem well formed

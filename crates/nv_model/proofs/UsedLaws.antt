@@ -1,6 +1,6 @@
 -- The capacity that is in use when a namespace is added or removed.
-use Rattle.std.proofs.Common.{◌≡◌, ◌∙◌, ℕ, ◌+◌, ◌==◌, List, [], ◌∷◌, map, length, cond, Bool, true}
-use Rattle.std.proofs.Common.{false, Option, Some, None, refl, sym, ap, arith, Ordering}
+use Rattle.std.proofs.Common.{◌≡◌, ◌∙◌, ℕ, ◌+◌, List, [], ◌∷◌, map, length, cond}
+use Rattle.std.proofs.Common.{Some, None, refl, sym, ap, arith, Ordering}
 use Rattle.std.specs.Prelude.{sum_by}
 use Rattle.std.specs.Ordering.{nat_cmp}
 use Rattle.std.specs.declared.cmp.Ordering.TheVariants.{Less, Equal, Greater}
@@ -54,14 +54,7 @@ used-insert m k v none = ap total (entries-insert nat_cmp_total m k v)
 put_back : (m : Namespaces) (n : ℕ) (v : Namespace) → map_of.get m n ≡ Some v
     → map_of.insert (map_of.remove m n) n v ≡ m
 put_back m n v found =
-    same_numbers _ m (λ q. get_of_insert (map_of.remove m n) n v q
-    ∙ ap (cond (q == n) (Some v)) (get_of_remove m n q) ∙ at_test q (q == n) refl)
-  where
-    at_test : (q : ℕ) (t : Bool) → (q == n) ≡ t → cond t (Some v) (cond t None (map_of.get m q))
-        ≡ map_of.get m q
-    at_test q true e = let same : q ≡ n = grind (arith, nat_tests) in
-        sym (ap (map_of.get m) same ∙ found)
-    at_test q false e = refl
+    same_numbers _ m (λ q. grind (arith, nat_tests, get_of_insert (map_of.remove m n) n v q, get_of_remove m n q, found))
 
 -- a namespace that is removed frees its capacity
 pub used-remove : (m : Namespaces) (n : ℕ) (v : Namespace) → map_of.get m n ≡ Some v
@@ -76,9 +69,7 @@ pub used-change : (m : Namespaces) (n : ℕ) (v w : Namespace) → map_of.get m 
     → w.capacity ≡ v.capacity → used (map_of.insert m n w) ≡ used m
 used-change m n v w found same =
     let again : map_of.insert m n w ≡ map_of.insert (map_of.remove m n) n w = same_numbers _ _
-    (λ q. get_of_insert m n w q ∙ shadowed (q == n) (map_of.get m q)
-    ∙ sym (get_of_insert (map_of.remove m n) n w q
-    ∙ ap (cond (q == n) (Some w)) (get_of_remove m n q))) in
+    (λ q. grind (arith, get_of_insert m n w q, get_of_insert (map_of.remove m n) n w q, get_of_remove m n q)) in
     omega (
       arith,
       ap used again,
@@ -86,11 +77,6 @@ used-change m n v w found same =
           (get_of_remove m n n ∙ ap (λ b. cond b None (map_of.get m n)) (eq-eqb n n refl)),
       used-remove m n v found,
     )
-  where
-    shadowed : (b : Bool) (o : Option Namespace) → cond b (Some w) o
-        ≡ cond b (Some w) (cond b None o)
-    shadowed true o = refl
-    shadowed false o = refl
 
 -- the sum of the capacities of no entries is 0
 none_used : (es : List (ℕ × Namespace)) → length es ≡ 0 → total es ≡ 0

@@ -1,10 +1,9 @@
 -- Laws of the values of features under their keys.
-use Rattle.std.proofs.Common.{◌≡◌, ◌∙◌, ℕ, ◌==◌, ◌&&◌, Bool, true, false, cond}
-use Rattle.std.proofs.Common.{Option, Some, None, refl, sym, ap, arith, Ordering}
-use Rattle.std.proofs.lemmas.Bool.Decides.{nat_tests}
+use Rattle.std.proofs.Common.{◌≡◌, ◌∙◌, ◌==◌, ◌&&◌, Bool, true, cond}
+use Rattle.std.proofs.Common.{Option, Some, None, sym, ap, arith, Ordering}
 use Rattle.std.specs.Option.{option_map_or}
 use Rattle.std.specs.Ordering.{eq_by_cmp, is_eq, nat_cmp, ordering_then}
-use Rattle.std.specs.declared.cmp.Ordering.TheVariants.{Less, Equal, Greater}
+use Rattle.std.specs.declared.cmp.Ordering.TheVariants.{Equal}
 use Rattle.std.specs.Cmp.{Equal-is, IsTotalOrder, unsigned_tied}
 use Rattle.std.specs.Cmp.Lexicographic.{nat_list_cmp_total}
 use Rattle.std.specs.FinMap as map_of
@@ -45,13 +44,7 @@ same_key q k e = key_cmp-IsAntisymmetric q k ((Equal-is (key_cmp q k)).0 e)
 then_equal : (r s t : Ordering)
     → is_eq (ordering_then r (ordering_then s (ordering_then t Equal)))
     ≡ (is_eq r && (is_eq s && is_eq t))
-then_equal Less s t = refl
-then_equal Equal Less t = refl
-then_equal Equal Equal Less = refl
-then_equal Equal Equal Equal = refl
-then_equal Equal Equal Greater = refl
-then_equal Equal Greater t = refl
-then_equal Greater s t = refl
+then_equal r s t = grind arith
 
 -- two keys are the same if their three numbers are
 pub by_numbers : (q k : ValueKey) → is_key q k
@@ -60,13 +53,6 @@ by_numbers q k = then_equal (nat_cmp q.fid k.fid) (nat_cmp q.nsid k.nsid)
     (nat_cmp q.selector k.selector)
     ∙ λ i. unsigned_tied q.fid k.fid i
     && (unsigned_tied q.nsid k.nsid i && unsigned_tied q.selector k.selector i)
-
--- a key is the same as itself
-pub is_itself : (k : ValueKey) → is_key k k ≡ true
-is_itself k = by_numbers k k ∙ λ i. same k.fid i && (same k.nsid i && same k.selector i)
-  where
-    same : (n : ℕ) → (n == n) ≡ true
-    same n = grind (arith, nat_tests)
 
 -- ---- what is found after a change
 
@@ -95,21 +81,11 @@ same_values m n = same_map key_cmp_total key_cmp-IsAntisymmetric m n
 pub removed_absent : (m : FeatureValues) (k : ValueKey) → map_of.get m k ≡ None
     → map_of.remove m k ≡ m
 removed_absent m k none =
-    same_values _ m (λ q. value_of_remove m k q ∙ at_test q (is_key q k) refl)
-  where
-    at_test : (q : ValueKey) (b : Bool) → is_key q k ≡ b → cond b None (map_of.get m q)
-        ≡ map_of.get m q
-    at_test q true e = sym (ap (map_of.get m) (same_key q k e) ∙ none)
-    at_test q false e = refl
+    same_values _ m (λ q. grind (arith, value_of_remove m k q, same_key q k, none))
 
 -- writing a value that is there changes nothing
 pub put_back : (m : FeatureValues) (k : ValueKey) (o : Option FeatureValue) → map_of.get m k ≡ o
     → option_map_or (map_of.insert m k) o (map_of.remove m k) ≡ m
 put_back m k None e = removed_absent m k e
 put_back m k (Some x) e =
-    same_values _ m (λ q. value_of_insert m k x q ∙ at_test q (is_key q k) refl)
-  where
-    at_test : (q : ValueKey) (b : Bool) → is_key q k ≡ b → cond b (Some x) (map_of.get m q)
-        ≡ map_of.get m q
-    at_test q true t = sym (ap (map_of.get m) (same_key q k t) ∙ e)
-    at_test q false t = refl
+    same_values _ m (λ q. grind (arith, value_of_insert m k x q, same_key q k, e))

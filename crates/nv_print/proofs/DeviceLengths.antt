@@ -1,6 +1,7 @@
 -- How long the text and the JSON of a device are.
 use Rattle.std.proofs.Common.{◌≡◌, ℕ, zero, suc, ◌+◌, ◌*◌, ◌/◌, ◌%◌, ◌^◌, ◌<◌, ◌≤◌, arith, Bool, true, false, refl}
-use Rattle.std.proofs.Common.{List, [], ◌∷◌, ◌++◌, length, length-append, get_or}
+use Rattle.std.proofs.Common.{List, [], ◌∷◌, ◌++◌, length, length-append}
+use Rattle.std.proofs.lemmas.Grind.{common_steps}
 use Rattle.std.specs.Prelude.{codes, ◌==◌, nat_le, if◌then◌else◌}
 use Rattle.std.specs.Fmt.{decimal, digit_glyph, digits, digits_onto}
 use Rattle.std.specs.List.{All, list_all, take_while}
@@ -11,7 +12,6 @@ use Rattle.json.specs.Print.{escape, escape_byte, quoted}
 use Rattle.serde_json.specs.Written.{compact_text}
 use Rattle.nv_print.specs.Devices.{device_line, fields_of_device, node_of}
 use Rattle.nv_print.specs.Field.{object_of}
-use Rattle.nv_print.specs.Text.{left, right}
 use Rattle.nv_print.specs.Text.{is_printable, printable}
 use Rattle.nv_print.specs.declared.device.ListedDevice.{ListedDevice}
 use Rattle.nv_print.proofs.JsonLengths.{object_length}
@@ -22,23 +22,11 @@ use Rattle.nv_print.proofs.PrintableLaws.{each_printable}
 
 -- the node of any namespace has at most 138 bytes
 node_length : (controller nsid : ℕ) → length (node_of controller nsid) ≤ 138
-node_length controller nsid =
-    omega (
-      arith,
-      decimal_length controller,
-      decimal_length nsid,
-      length-append (decimal controller) (codes "n" ++ decimal nsid),
-    )
+node_length controller nsid = grind (arith, common_steps, decimal_length, length-append)
 
 -- the node of a namespace with numbers of 64 bits has at most 64 bytes
 pub node_short : (controller nsid : ℕ) → controller < 2 ^ 64 → nsid < 2 ^ 64 → length (node_of controller nsid) ≤ 64
-node_short controller nsid c n =
-    omega (
-      arith,
-      decimal_short controller c,
-      decimal_short nsid n,
-      length-append (decimal controller) (codes "n" ++ decimal nsid),
-    )
+node_short controller nsid c n = grind (arith, common_steps, decimal_short, length-append)
 
 -- six columns with a space between them and a newline are six bytes longer than the columns
 columns_length : (a b c d e f : List ℕ)
@@ -49,24 +37,15 @@ columns_length a b c d e f = simp length-append (omega arith)
 -- the line of a device with a serial number of 20 bytes and a model of 40 has at most 512 bytes
 pub device_line_length : (d : ListedDevice) → length d.serial ≡ 20 → length d.model ≡ 40 → length (device_line d) ≤ 512
 device_line_length d has_20 has_40 =
-    let serial = printable d.serial in
-    let model = printable d.model in
-    omega (
+    grind (
       arith,
-      columns_length (left 18 (node_of d.controller d.nsid)) (left 20 serial) (left 40 model)
-          (right 10 (decimal d.nsid)) (right 20 (decimal d.bytes)) (right 6 (decimal d.block_size)),
-      left_length 18 (node_of d.controller d.nsid),
-      left_length 20 serial,
-      left_length 40 model,
-      right_length 10 (decimal d.nsid),
-      right_length 20 (decimal d.bytes),
-      right_length 6 (decimal d.block_size),
-      node_length d.controller d.nsid,
-      printable_length d.serial,
-      printable_length d.model,
-      decimal_length d.nsid,
-      decimal_length d.bytes,
-      decimal_length d.block_size,
+      common_steps,
+      columns_length,
+      left_length,
+      right_length,
+      node_length,
+      printable_length,
+      decimal_length,
     )
 
 -- ---- its JSON
@@ -121,9 +100,7 @@ decimal_plain n = digits_plain 64 10 false n [] (λ k d l. absurd (omega arith))
 
 -- a text that passes the test for control characters has none
 literal_plain : (s : List ℕ) → list_all (λ b. nat_le 32 b) s ≡ true → IsPlain s
-literal_plain s e k d h =
-    let at : nat_le 32 (get_or s k d) ≡ true = AllPass-from_list_all (λ b. nat_le 32 b) s e k d h in
-    grind (arith, nat_tests)
+literal_plain s e k d h = grind (arith, common_steps, AllPass-from_list_all, nat_tests)
 
 -- the node of a namespace has no control characters
 node_plain : (controller nsid : ℕ) → IsPlain (node_of controller nsid)

@@ -1,13 +1,13 @@
 -- How long the text and the JSON of fields are.
-use Rattle.std.proofs.Common.{ℕ, ◌+◌, ◌*◌, ◌≤◌, arith, List, [], ◌∷◌, ◌++◌, length, length-append}
-use Rattle.std.specs.Prelude.{codes, flat_map}
+use Rattle.std.proofs.Common.{ℕ, ◌+◌, ◌*◌, ◌≤◌, arith, List, [], ◌∷◌, length, length-append}
+use Rattle.std.proofs.lemmas.Grind.{common_steps}
+use Rattle.std.specs.Prelude.{flat_map}
 use Rattle.std.specs.Fmt.{decimal}
 use Rattle.serde_json.specs.Written.{compact_text}
 use Rattle.nv_print.specs.Field.{Field, Shape, as_text, in_decimal, in_hexadecimal, in_six_digits, wide, field_line}
 use Rattle.nv_print.specs.Field.{fields_text, object_of, shape_data, shape_text}
 use Rattle.nv_print.specs.Text.{six_digits}
 use Rattle.nv_print.specs.Records.{field_within}
-use Rattle.nv_print.specs.Text.{left}
 use Rattle.nv_print.proofs.JsonLengths.{members_length, object_length}
 use Rattle.nv_print.proofs.Lengths.{decimal_length, hexadecimal_length, left_length, quoted_length, six_digits_length}
 
@@ -31,13 +31,7 @@ shape_text-width (as_text t) = omega arith
 
 -- the line of a field is at most 23 bytes longer than its key and the width of its value
 pub field_line-length : (f : Field) → length (field_line f) ≤ 23 + (length f.key + shape_width f.shape)
-field_line-length f = omega (
-  arith,
-  left_length 20 f.key,
-  shape_text-width f.shape,
-  length-append (left 20 f.key) (codes ": " ++ (shape_text f.shape ++ 10 ∷ [])),
-  length-append (shape_text f.shape) (10 ∷ []),
-)
+field_line-length f = grind (arith, common_steps, left_length, shape_text-width, length-append)
 
 -- the greatest length of the lines of fields
 abbrev pub fields_width : List Field → ℕ

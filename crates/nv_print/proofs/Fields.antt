@@ -1,6 +1,8 @@
 -- Texts to which one more field is added.
 use Rattle.std.proofs.Common.{◌≡◌, ◌∙◌, ℕ, ◌+◌, ◌<◌, ap, ap₂, append_assoc, sym, List, [], ◌∷◌, ◌++◌, length, take}
 use Rattle.std.proofs.Common.{get_or}
+use Rattle.std.proofs.Common.{arith}
+use Rattle.std.proofs.lemmas.Grind.{common_steps}
 use Rattle.std.proofs.lemmas.List.{flat_map_more, take_more}
 use Rattle.std.specs.Prelude.{flat_map}
 use Rattle.nv_print.specs.Field.{Field}
@@ -39,10 +41,7 @@ six_more text a b c d e f = five_more (text ++ a) b c d e f ∙ append_assoc tex
 pub format_more : (text word number colon fields mark end : List ℕ)
     → (((((text ++ word) ++ number) ++ colon) ++ fields) ++ mark) ++ end
     ≡ text ++ ((word ++ (number ++ colon)) ++ (fields ++ (mark ++ end)))
-format_more text word number colon fields mark end =
-    three_more (((text ++ word) ++ number) ++ colon) fields mark end
-    ∙ ap (λ t. t ++ (fields ++ (mark ++ end))) (three_more text word number colon)
-    ∙ append_assoc text (word ++ (number ++ colon)) (fields ++ (mark ++ end))
+format_more text word number colon fields mark end = grind (arith, common_steps, three_more, append_assoc)
 
 -- a text to which the columns of a device were added has the device's line after it
 pub columns_more : (text a b c d e f : List ℕ)
@@ -66,16 +65,9 @@ flat_map_next f text xs i d h = flat_map_more f text (take i xs) (get_or xs i d)
 -- a text to which the parts of a field's line were added has the line after it
 pub line_more : (text key room colon value end : List ℕ)
     → (((text ++ key) ++ (room ++ colon)) ++ value) ++ end ≡ text ++ ((key ++ room) ++ (colon ++ (value ++ end)))
-line_more text key room colon value end =
-    three_more (text ++ key) (room ++ colon) value end
-    ∙ append_assoc text key ((room ++ colon) ++ (value ++ end))
-    ∙ ap (λ rest. text ++ rest)
-    (ap (λ rest. key ++ rest) (append_assoc room colon (value ++ end))
-    ∙ sym (append_assoc key room (colon ++ (value ++ end))))
+line_more text key room colon value end = grind (arith, common_steps, three_more, append_assoc)
 
 -- a text to which the parts of a field within a line were added has the field after it
 pub within_more : (text key value : List ℕ)
     → (((text ++ 32 ∷ []) ++ key) ++ 58 ∷ []) ++ value ≡ text ++ (32 ∷ (key ++ 58 ∷ value))
-within_more text key value =
-    three_more (text ++ 32 ∷ []) key (58 ∷ []) value
-    ∙ append_assoc text (32 ∷ []) (key ++ 58 ∷ value)
+within_more text key value = grind (arith, common_steps, three_more, append_assoc)

@@ -1,6 +1,7 @@
 -- Hexadecimal digits, written from the last to the first.
-use Rattle.std.proofs.Common.{◌≡◌, ◌∙◌, ℕ, zero, suc, ◌-◌, ◌/◌, ◌%◌, ◌<◌, ◌≤◌, ap, arith, refl, Bool, true, false}
+use Rattle.std.proofs.Common.{◌≡◌, ℕ, zero, suc, ◌-◌, ◌/◌, ◌%◌, ◌<◌, ◌≤◌, ap, arith, refl, Bool, true, false}
 use Rattle.std.proofs.Common.{List, [], ◌∷◌, drop, length, length-set, set, take}
+use Rattle.std.proofs.lemmas.Grind.{common_steps}
 use Rattle.std.specs.Prelude.{◌==◌, if◌then◌else◌, replicate}
 use Rattle.std.specs.Fmt.{digit_glyph, digits, digits_onto}
 use Rattle.std.specs.Str.{IsAscii, IsUtf8}
@@ -55,15 +56,7 @@ pub prefixed : (room : List ℕ) (start n : ℕ) → 2 ≤ start → start ≤ 6
     → drop start room ≡ digits 16 false n
     → take (66 - (start - 1 - 1)) (drop (start - 1 - 1) (set (set room (start - 1) 120) (start - 1 - 1) 48))
     ≡ hexadecimal n
-prefixed room start n after within len is =
-    let x : List ℕ = set room (start - 1) 120 in
-    let all : List ℕ = set x (start - 1 - 1) 48 in
-    let room_x : length x ≡ 66 = length-set room (start - 1) 120 ∙ len in
-    let room_all : length all ≡ 66 = length-set x (start - 1 - 1) 48 ∙ room_x in
-    take_all (66 - (start - 1 - 1)) (drop (start - 1 - 1) all)
-    (omega (arith, length-drop (start - 1 - 1) all, room_all))
-    ∙ put_before x (start - 1) 48 (omega arith) (omega (arith, room_x))
-    ∙ ap (λ t. 48 ∷ t) (put_before room start 120 (omega arith) (omega (arith, len)) ∙ ap (λ t. 120 ∷ t) is)
+prefixed room start n after within len is = grind (arith, common_steps, length-set, take_all, length-drop, put_before)
 
 -- ---- they are ASCII
 

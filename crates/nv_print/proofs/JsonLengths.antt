@@ -1,6 +1,7 @@
 -- How long the compact text of JSON is.
 use Rattle.std.proofs.Common.{◌≡◌, ℕ, suc, ◌+◌, ◌*◌, ◌≤◌, arith, Bool, true, false, List, [], ◌∷◌, ◌++◌, length}
 use Rattle.std.proofs.Common.{length-append, map, nat_cmp, Ordering, Less, Equal, Greater}
+use Rattle.std.proofs.lemmas.Grind.{common_steps}
 use Rattle.std.specs.List.{All}
 use Rattle.std.specs.Cmp.Lexicographic.{slice_cmp}
 use Rattle.std.specs.Ordering.{match_ordering}
@@ -25,12 +26,7 @@ one_member : (later : Bool) (k : List ℕ) (d : Data) (ms : Members)
     → length (members_text later (member k d ms))
     ≡ length (comma_if later) +
     (length (quoted k) + (1 + (length (compact_text d) + length (members_text true ms))))
-one_member later k d ms = omega (
-  arith,
-  length-append (comma_if later) (quoted k ++ 58 ∷ (compact_text d ++ members_text true ms)),
-  length-append (quoted k) (58 ∷ (compact_text d ++ members_text true ms)),
-  length-append (compact_text d) (members_text true ms),
-)
+one_member later k d ms = grind (arith, common_steps, length-append)
 
 -- a member that is put before, in place of or after another one adds at most its own length
 placed : (o : Ordering) (later : Bool) (k l : List ℕ) (d e : Data) (ms rest : Members)
@@ -89,10 +85,4 @@ pub list_object_length : {A : Type 0} (key : List ℕ) (data_of : A → Data) (m
     → All (λ x. length (compact_text (data_of x)) ≤ most) xs
     → length (compact_text (object (put key (array (items_of (map data_of xs))) no_members)))
     ≤ 8 + (6 * length key + (most + 1) * length xs)
-list_object_length key data_of most xs each =
-    omega (
-      arith,
-      put_length false key (array (items_of (map data_of xs))) no_members,
-      items_length data_of most false xs each,
-      quoted_length key,
-    )
+list_object_length key data_of most xs each = grind (arith, common_steps, put_length, items_length, quoted_length)

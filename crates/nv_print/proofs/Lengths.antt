@@ -1,7 +1,8 @@
 -- How long texts are.
 use Rattle.std.proofs.Common.{◌≡◌, ◌∙◌, ℕ, zero, suc, ◌+◌, ◌-◌, ◌*◌, ◌/◌, ◌%◌, ◌^◌, ◌<◌, ◌≤◌, arith, Bool, true, false}
 use Rattle.std.proofs.Common.{ap, List, [], ◌∷◌, length, length-append}
-use Rattle.std.specs.Prelude.{◌==◌, replicate, if◌then◌else◌}
+use Rattle.std.proofs.lemmas.Grind.{common_steps}
+use Rattle.std.specs.Prelude.{◌==◌, if◌then◌else◌}
 use Rattle.std.specs.Fmt.{decimal, digit_glyph, digits, digits_onto}
 use Rattle.std.proofs.lemmas.Fmt.{length-decimal-le}
 use Rattle.std.proofs.lemmas.List.{length-replicate, length-take}
@@ -39,13 +40,7 @@ hexadecimal_length n = omega (arith, digits_length 16 false n)
 
 -- a number of six hexadecimal digits or more has at most 64 bytes
 pub six_digits_length : (n : ℕ) → length (six_digits n) ≤ 64
-six_digits_length n =
-    omega (
-      arith,
-      digits_length 16 false n,
-      length-append (replicate {A = ℕ} (6 - length (digits 16 false n)) 48) (digits 16 false n),
-      length-replicate {A = ℕ} (6 - length (digits 16 false n)) 48,
-    )
+six_digits_length n = grind (arith, common_steps, digits_length, length-append, length-replicate)
 
 -- a text at the left of a column has the width of the column, or its own length if that is greater
 pub left_length : (width : ℕ) (text : List ℕ) → length (left width text) ≡ length text + (width - length text)

@@ -1,8 +1,8 @@
 -- How long the texts and the JSON of lists are.
 use Rattle.std.proofs.Common.{ℕ, suc, ◌+◌, ◌*◌, ◌^◌, ◌<◌, ◌≤◌, arith, Bool, true, false, List, [], ◌∷◌, ◌++◌, length}
 use Rattle.std.proofs.Common.{length-append, map, min, get_or, ◌%◌}
-use Rattle.std.specs.Prelude.{codes, ◌==◌, filter, flat_map, if◌then◌else◌, ⊤}
-use Rattle.std.specs.Fmt.{decimal}
+use Rattle.std.proofs.lemmas.Grind.{common_steps}
+use Rattle.std.specs.Prelude.{codes, ◌==◌, filter, if◌then◌else◌, ⊤}
 use Rattle.std.specs.List.{All}
 use Rattle.std.proofs.lemmas.List.{length-take}
 use Rattle.serde_json.specs.Data.{Data, array, no_members, number, unsigned}
@@ -13,13 +13,12 @@ use Rattle.nv_layout.specs.declared.error_entry.ErrorEntry.{ErrorEntry}
 use Rattle.nv_layout.specs.declared.id_ns.IdNs.{IdNs}
 use Rattle.nv_layout.specs.declared.id_ns.Lbaf.{Lbaf}
 use Rattle.nv_print.specs.Field.{field, field_line, fields_text, in_decimal, members_of, object_of}
-use Rattle.nv_print.specs.Text.{hexadecimal}
-use Rattle.nv_print.specs.Records.{field_within, fields_of_id_ns, fields_of_lbaf, formats_of}
-use Rattle.nv_print.specs.Records.{lbaf_key, lbaf_line, mark_of, namespace_data, namespace_text}
+use Rattle.nv_print.specs.Records.{fields_of_id_ns, fields_of_lbaf, formats_of}
+use Rattle.nv_print.specs.Records.{lbaf_line, mark_of, namespace_data, namespace_text}
 use Rattle.nv_print.specs.Records.{entries_data, entries_text, entry_text, fields_of_entry}
 use Rattle.nv_print.specs.Records.{holds_error}
 use Rattle.nv_print.specs.Records.{nsid_line, nsids_data, nsids_text}
-use Rattle.nv_print.specs.Text.{lines_of, right}
+use Rattle.nv_print.specs.Text.{lines_of}
 use Rattle.nv_print.proofs.FieldLengths.{field_line-length, members_length-width, within_length}
 use Rattle.nv_print.proofs.JsonLengths.{items_length, list_object_length, put_length, with_fields_length}
 use Rattle.nv_print.proofs.Lengths.{decimal_length, decimal_short, hexadecimal_short, quoted_length, right_length}
@@ -41,14 +40,8 @@ lines_length line fits limit most each i (x ∷ xs) within all =
 
 -- the line of an NSID has at most 42 bytes
 nsid_line_length : (i nsid : ℕ) → i < 2 ^ 64 → nsid < 2 ^ 64 → length (nsid_line i nsid) ≤ 42
-nsid_line_length i nsid hi hn = omega (
-  arith,
-  right_length 4 (decimal i),
-  decimal_short i hi,
-  hexadecimal_short nsid hn,
-  length-append (right 4 (decimal i)) (codes "]:" ++ (hexadecimal nsid ++ 10 ∷ [])),
-  length-append (hexadecimal nsid) (10 ∷ []),
-)
+nsid_line_length i nsid hi hn =
+    grind (arith, common_steps, right_length, decimal_short, hexadecimal_short, length-append)
 
 -- the lines of a namespace list have at most 65,536 bytes
 pub nsids_text_length : (nsids : List ℕ) → length nsids ≤ most_nsids → All (λ n. n < 2 ^ 64) nsids
@@ -79,20 +72,7 @@ mark_length in_use i = at_test (in_use == i)
 -- the line of a format has at most 400 bytes
 lbaf_line_length : (in_use i : ℕ) (f : Lbaf) → length (lbaf_line in_use i f) ≤ 400
 lbaf_line_length in_use i f =
-    let rest : List ℕ = mark_of in_use i ++ 10 ∷ [] in
-    let fields : List ℕ = flat_map field_within (fields_of_lbaf f) in
-    omega (
-      arith,
-      right_length 2 (decimal i),
-      decimal_length i,
-      within_length (fields_of_lbaf f),
-      lbaf_width f,
-      mark_length in_use i,
-      length-append (lbaf_key i) (fields ++ rest),
-      length-append (right 2 (decimal i)) (codes "             :"),
-      length-append fields rest,
-      length-append (mark_of in_use i) (10 ∷ []),
-    )
+    grind (arith, common_steps, right_length, decimal_length, within_length, lbaf_width, mark_length, length-append)
 
 -- a namespace has at most 16 formats to show
 formats_length : (r : IdNs) → length (formats_of r) ≤ 16

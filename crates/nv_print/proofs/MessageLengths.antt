@@ -1,12 +1,11 @@
 -- How long messages are.
-use Rattle.std.proofs.Common.{◌≤◌, arith, Option, None, Some, [], ◌∷◌, ◌++◌, length, length-append}
+use Rattle.std.proofs.Common.{◌≤◌, arith, Option, None, Some, length, length-append}
+use Rattle.std.proofs.lemmas.Grind.{common_steps}
 use Rattle.std.specs.Prelude.{codes}
 use Rattle.std.specs.Option.{option_map_or}
-use Rattle.std.specs.Fmt.{decimal}
-use Rattle.nv_command.specs.StatusCode.{first_code, name_of_code, name_of_status, status_codes}
+use Rattle.nv_command.specs.StatusCode.{name_of_code}
 use Rattle.nv_command.specs.declared.status_code.StatusCode.{StatusCode}
 use Rattle.nv_command.specs.declared.status_code.StatusCode.TheVariants as code
-use Rattle.nv_layout.specs.Status.{number_of_status, status_text}
 use Rattle.nv_layout.specs.declared.cqe.Status.{Status}
 use Rattle.nv_line.specs.LineFault.{fault_text}
 use Rattle.nv_line.specs.OptionName.{name_of}
@@ -43,13 +42,7 @@ fault_length _ = omega arith
 
 -- the text of a refusal has at most 200 bytes
 refusal_length : (s : Status) → length (refusal_text s) ≤ 200
-refusal_length s = omega (
-  arith,
-  named_length (first_code status_codes s),
-  hexadecimal_length (number_of_status s),
-  length-append (name_of_status s) (codes " (" ++ (status_text s ++ codes ")")),
-  length-append (status_text s) (codes ")"),
-)
+refusal_length s = grind (arith, common_steps, named_length, hexadecimal_length, length-append)
 
 -- the text of any cause has at most 200 bytes
 cause_length : (c : FaultCause) → length (cause_text c) ≤ 200
@@ -58,10 +51,4 @@ cause_length (cause.Refused s) = refusal_length s
 
 -- a message has at most 65,536 bytes
 pub message_length : (f : Fault) → length (message_of f) ≤ 65536
-message_length f = omega (
-  arith,
-  cause_length f.cause,
-  decimal_length f.line,
-  length-append (decimal f.line) (codes ": " ++ (cause_text f.cause ++ 10 ∷ [])),
-  length-append (cause_text f.cause) (10 ∷ []),
-)
+message_length f = grind (arith, common_steps, cause_length, decimal_length, length-append)

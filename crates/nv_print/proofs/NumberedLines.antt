@@ -1,6 +1,7 @@
 -- Lines, one after another.
 use Rattle.std.proofs.Common.{◌≡◌, ◌∙◌, ℕ, zero, suc, ◌+◌, ◌<◌, ap, sym, arith, List, [], ◌∷◌, ◌++◌, append_assoc}
 use Rattle.std.proofs.Common.{append-nil, length, take, get_or}
+use Rattle.std.proofs.lemmas.Grind.{common_steps}
 use Rattle.nv_print.specs.Text.{lines_of}
 
 module _ {A : Type 0} (line : ℕ → A → List ℕ) where
@@ -19,15 +20,9 @@ module _ {A : Type 0} (line : ℕ → A → List ℕ) where
   -- the lines of the first i + 1 elements are the lines of the first i and the line of element i
   pub lines_of_next : (xs : List A) (i : ℕ) (d : A) → i < length xs
       → lines_of line 0 (take (i + 1) xs) ≡ lines_of line 0 (take i xs) ++ line i (get_or xs i d)
-  lines_of_next xs i d h =
-      let next : i + 1 ≡ suc i = omega arith in
-      let at : 0 + i ≡ i = omega arith in
-      ap (λ n. lines_of line 0 (take n xs)) next ∙ next_from 0 xs i d h
-      ∙ ap (λ n. lines_of line 0 (take i xs) ++ line n (get_or xs i d)) at
+  lines_of_next xs i d h = grind (arith, common_steps, next_from)
 
   -- a text with the lines of i elements after it, and the line of element i, has the lines of i + 1 elements after it
   pub text_and_line_next : (text : List ℕ) (xs : List A) (i : ℕ) (d : A) → i < length xs
       → (text ++ lines_of line 0 (take i xs)) ++ line i (get_or xs i d) ≡ text ++ lines_of line 0 (take (i + 1) xs)
-  text_and_line_next text xs i d h =
-      append_assoc text (lines_of line 0 (take i xs)) (line i (get_or xs i d))
-      ∙ ap (λ t. text ++ t) (sym (lines_of_next xs i d h))
+  text_and_line_next text xs i d h = grind (arith, common_steps, append_assoc, lines_of_next)

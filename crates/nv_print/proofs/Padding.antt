@@ -1,6 +1,7 @@
 -- Spaces in columns, and the text after a key.
-use Rattle.std.proofs.Common.{◌≡◌, ◌∙◌, ℕ, ◌+◌, ◌-◌, ◌≤◌, zero, suc, ap, sym, refl, arith, List, []}
+use Rattle.std.proofs.Common.{◌≡◌, ◌∙◌, ℕ, ◌+◌, ◌-◌, ◌≤◌, zero, suc, ap, refl, arith, List, []}
 use Rattle.std.proofs.Common.{◌∷◌, ◌++◌, append_assoc, drop, length, length-append, take}
+use Rattle.std.proofs.lemmas.Grind.{common_steps}
 use Rattle.std.specs.Prelude.{codes, replicate}
 use Rattle.std.specs.Str.{IsAscii, IsCharBoundary}
 use Rattle.std.proofs.lemmas.List.{drop-append-le, drop-replicate, take-replicate}
@@ -34,38 +35,24 @@ one_more (suc n) =
 -- a text to which another and spaces were added has it at the left of a column, and a space, after it
 pub left_more : (text shown : List ℕ) (width : ℕ)
     → (text ++ shown) ++ replicate ((width - length shown) + 1) 32 ≡ text ++ (left width shown ++ 32 ∷ [])
-left_more text shown width =
-    append_assoc text shown (replicate ((width - length shown) + 1) 32)
-    ∙ ap (λ t. text ++ t)
-    (ap (λ t. shown ++ t) (one_more (width - length shown))
-    ∙ sym (append_assoc shown (replicate (width - length shown) 32) (32 ∷ [])))
+left_more text shown width = grind (arith, common_steps, append_assoc, one_more)
 
 -- the same, where the length of what was added is the difference of the lengths of the texts
 pub node_more : (text shown : List ℕ) (gap : ℕ) → gap ≡ (18 - (length (text ++ shown) - length text)) + 1
     → (text ++ shown) ++ replicate gap 32 ≡ text ++ (left 18 shown ++ 32 ∷ [])
-node_more text shown gap is =
-    let same : gap ≡ (18 - length shown) + 1 = omega (arith, is, length-append text shown) in
-    ap (λ (n : ℕ). (text ++ shown) ++ replicate {A = ℕ} n 32) same ∙ left_more text shown 18
+node_more text shown gap is = grind (arith, common_steps, length-append, left_more)
 
 -- a text to which spaces and another text were added has a space, and it at the right of a column, after it
 pub column_more : (text shown : List ℕ) (width : ℕ)
     → (text ++ replicate ((width - length shown) + 1) 32) ++ shown ≡ text ++ (32 ∷ right width shown)
-column_more text shown width =
-    let more : (width - length shown) + 1 ≡ suc (width - length shown) = omega arith in
-    append_assoc text (replicate ((width - length shown) + 1) 32) shown
-    ∙ ap (λ (n : ℕ). text ++ (replicate {A = ℕ} n 32 ++ shown)) more
+column_more text shown width = grind (arith, common_steps, append_assoc)
 
 -- ---- between a key and its value
 
 -- the widest gap can be cut at each of its places
 pub gap_cut : (n : ℕ) → IsCharBoundary (codes "                    : ") (20 - n)
 gap_cut n =
-    let mark : IsAscii (codes ": ") =
-    IsAscii-cons 58 (32 ∷ []) (omega arith) (IsAscii-cons 32 [] (omega arith) IsAscii-nil) in
-    let ascii : IsAscii (replicate 20 32 ++ codes ": ") =
-    IsAscii-append (replicate 20 32) (codes ": ") (spaces_ascii 20) mark in
-    let within : 20 - n ≤ 22 = omega arith in
-    IsCharBoundary-from_ascii (codes "                    : ") (20 - n) ascii within
+    grind (arith, common_steps, IsAscii-cons, IsAscii-nil, IsAscii-append, spaces_ascii, IsCharBoundary-from_ascii)
 
 -- what is left of the gap after a key of k characters is the spaces up to 20 and a colon
 pub gap_is : (room k : ℕ) → room ≡ 20 - k

@@ -1,9 +1,10 @@
 -- The part of a text that is shown.
 use Rattle.std.proofs.Common.{◌≡◌, ◌∙◌, ◌⊎◌, inl, inr, refl, ℕ, zero, suc, ◌+◌, ◌-◌, ◌<◌, ap, arith, Bool, false, true}
 use Rattle.std.proofs.Common.{List, [], ◌∷◌, ◌++◌, append-nil, append_assoc, length, length-append, take, get_or, sym}
+use Rattle.std.proofs.lemmas.Grind.{common_steps}
 use Rattle.std.specs.Prelude.{◌==◌, cond, not, replicate}
 use Rattle.std.specs.Char.{is_ascii_whitespace}
-use Rattle.std.specs.List.{prefix_len, suffix_len, take_while}
+use Rattle.std.specs.List.{suffix_len, take_while}
 use Rattle.std.specs.Str.{IsAscii, IsTrimAsciiEnd, IsUtf8}
 use Rattle.std.proofs.lemmas.Bool.Decides.{nat_tests}
 use Rattle.std.proofs.lemmas.List.{get_or-take, replicate-append-replicate, reverse-append, take-append-le}
@@ -16,9 +17,7 @@ use Rattle.nv_print.specs.Text.{is_printable, printable, without_trailing_spaces
 -- each byte of the printable beginning of some bytes is printable
 pub each_printable : (bs : List ℕ) (k d : ℕ) → k < length (take_while is_printable bs)
     → is_printable (get_or (take_while is_printable bs) k d) ≡ true
-each_printable bs k d h =
-    let short : k < prefix_len is_printable bs = omega (arith, length-prefix_len is_printable bs) in
-    ap is_printable (get_or-take _ bs k d short) ∙ prefix_len_passes is_printable bs k d short
+each_printable bs k d h = grind (arith, common_steps, length-prefix_len, get_or-take, prefix_len_passes)
 
 -- a printable byte is ASCII
 low : (b : ℕ) → is_printable b ≡ true → b < 128
@@ -69,20 +68,11 @@ space_more (y ∷ bs) =
 
 -- a space at the end is cut off
 space_cut : (text : List ℕ) → without_trailing_spaces (text ++ 32 ∷ []) ≡ without_trailing_spaces text
-space_cut text =
-    let spaces : suffix_len (λ b. b == 32) (text ++ 32 ∷ []) ≡ 1 + suffix_len (λ b. b == 32) text
-    = ap (prefix_len (λ b. b == 32)) (reverse-append text (32 ∷ [])) in
-    let left : length (text ++ 32 ∷ []) - suffix_len (λ b. b == 32) (text ++ 32 ∷ [])
-    ≡ length text - suffix_len (λ b. b == 32) text
-    = omega (arith, spaces, length-append text (32 ∷ [])) in
-    ap (λ n. take n (text ++ 32 ∷ [])) left ∙ take-append-le _ text (32 ∷ []) (omega arith)
+space_cut text = grind (arith, common_steps, reverse-append, length-append, take-append-le)
 
 -- one more space at the end doesn't change the printable part
 printable_space : (bs : List ℕ) → printable (bs ++ 32 ∷ []) ≡ printable bs
-printable_space bs = elim (space_more bs) [
-  | inl same ↦ ap without_trailing_spaces same
-  | inr more ↦ ap without_trailing_spaces more ∙ space_cut (take_while is_printable bs)
-]
+printable_space bs = grind (arith, common_steps, space_more, space_cut)
 
 -- spaces at the end don't change the printable part
 pub printable_padded : (k : ℕ) (bs : List ℕ) → printable (bs ++ replicate k 32) ≡ printable bs

@@ -1,6 +1,8 @@
 -- The tokens of objects and of lists, from those of their parts.
 use Rattle.std.proofs.Common.{◌≡◌, ◌∙◌, ℕ, ◌+◌, ◌<◌, ap, append_assoc, refl, subst, sym, Bool, true, false}
 use Rattle.std.proofs.Common.{List, [], ◌∷◌, ◌++◌, get_or, length, map, take}
+use Rattle.std.proofs.Common.{arith}
+use Rattle.std.proofs.lemmas.Grind.{common_steps}
 use Rattle.std.specs.Prelude.{codes, filter, flat_map, if◌then◌else◌}
 use Rattle.std.proofs.lemmas.List.Folds.{flat_map-map}
 use Rattle.json.specs.Token as json
@@ -31,10 +33,7 @@ both_added ts us old mid new first second =
 pub next_added : {A : Type 0} (f : A → List Token) (xs : List A) (i : ℕ) (d : A) (old mid new : Written) → i < length xs
     → Adds (flat_map f (take i xs)) old mid → Adds (f (get_or xs i d)) mid new
     → Adds (flat_map f (take (i + 1) xs)) old new
-next_added f xs i d old mid new h these this = (
-  this.0 ∙ these.0,
-  this.1 ∙ ap (λ all. all ++ f (get_or xs i d)) these.1 ∙ flat_map_next f old.tokens xs i d h,
-)
+next_added f xs i d old mid new h these this = grind (arith, common_steps, flat_map_next)
 
 -- ---- objects
 
@@ -70,13 +69,7 @@ pub device_added : (d : ListedDevice) (old opened a b c e f g new : Written) →
     → Adds (json.end_object ∷ []) g new → Adds (data_tokens (object_of (fields_of_device d))) old new
 unfolding fields_of_device
 device_added d old opened a b c e f g new begun block_size bytes model nsid node serial ended =
-    both_added (json.begin_object ∷ []) _ old opened new begun
-    (both_added _ _ opened a new block_size
-    (both_added _ _ a b new bytes
-    (both_added _ _ b c new model
-    (both_added _ _ c e new nsid
-    (both_added _ _ e f new node
-    (both_added _ _ f g new serial ended))))))
+    grind (arith, common_steps, both_added)
 
 -- ---- lists
 
@@ -91,10 +84,7 @@ items (d ∷ ds) =
 list_before : {A : Type 0} (data_of : A → Data) (xs : List A) (more : List Token)
     → flat_map (λ x. data_tokens (data_of x)) xs ++ json.end_array ∷ more
     ≡ items_tokens (items_outline (items_of (map data_of xs))) ++ more
-list_before data_of xs more =
-    ap (λ ts. ts ++ json.end_array ∷ more) (sym (flat_map-map data_tokens data_of xs))
-    ∙ sym (append_assoc (flat_map data_tokens (map data_of xs)) (json.end_array ∷ []) more)
-    ∙ ap (λ ts. ts ++ more) (sym (items (map data_of xs)))
+list_before data_of xs more = grind (arith, common_steps, flat_map-map, append_assoc, items)
 
 -- a key, the tokens of a list in brackets and more tokens are the tokens of that member and then more
 member_added : {A : Type 0} (key : List ℕ) (data_of : A → Data) (xs : List A) (more : List Token)
@@ -103,11 +93,7 @@ member_added : {A : Type 0} (key : List ℕ) (data_of : A → Data) (xs : List A
     → Adds (json.end_array ∷ []) last after → Adds more after new
     → Adds (json.key key ∷ (data_tokens (array (items_of (map data_of xs))) ++ more)) old new
 member_added key data_of xs more old named first last after new name begun added ended others =
-    subst (λ ts. Adds (json.key key ∷ json.begin_array ∷ ts) old new) (list_before data_of xs more)
-    (both_added (json.key key ∷ []) _ old named new name
-    (both_added (json.begin_array ∷ []) _ named first new begun
-    (both_added (flat_map (λ x. data_tokens (data_of x)) xs) _ first last new added
-    (both_added (json.end_array ∷ []) more last after new ended others))))
+    grind (arith, common_steps, list_before, both_added)
 
 -- a key and the tokens of a list, all in brackets, are the tokens of an object of that list
 pub list_added : {A : Type 0} (key : List ℕ) (data_of : A → Data) (xs : List A)

@@ -1,10 +1,10 @@
 -- Buffers and lists in a memory that changes, and the places of a buffer.
 use Rattle.std.proofs.Common.{◌≡◌, ℕ, suc, ◌+◌, ◌*◌, ◌/◌, ◌%◌, ◌<◌, ◌≤◌, List, ◌∷◌, arith, get_or}
 use Rattle.std.proofs.Common.{inl, inr, length, subst, sym}
+use Rattle.std.proofs.lemmas.Grind.{common_steps}
 use Rattle.std.proofs.Math.Nat.{mul-le-mul_right}
 use Rattle.std.proofs.lemmas.Bool.{cases_lt}
 use Rattle.std.proofs.lemmas.Nat.{div-add-mod', div_below, same_from_place}
-use Rattle.nv_host.specs.Pages.{HasPage}
 use Rattle.nv_prp.specs.Buffer.{IsBuffer, IsListPlace, buffer_place, buffer_places}
 use Rattle.nv_prp.specs.Place.{AreDistinct}
 use Rattle.nv_prp.proofs.PlaceLaws.{table-same, table_distinct}
@@ -16,24 +16,13 @@ use Rattle.nv_prp.specs.Transfer.{PrpTransfer, place_of, transfer_places}
 pub buffer_kept : (old new : List ℕ) (page_size : ℕ) (pages : List ℕ) (start len : ℕ) → length new
     ≡ length old
     → IsBuffer old page_size pages start len → IsBuffer new page_size pages start len
-buffer_kept old new page_size pages start len same buffer = record {
-  below = buffer.below;
-  aligned = buffer.aligned;
-  enough = buffer.enough;
-  inside = λ k d below. let has : HasPage old page_size (get_or pages k d) =
-      buffer.inside k d below in omega arith;
-}
+buffer_kept old new page_size pages start len same buffer = grind (arith, common_steps)
 
 -- a place for a list in a memory is one in every memory of the same length
 pub list_place_kept : (old new : List ℕ) (page_size first second start : ℕ) → length new
     ≡ length old
     → IsListPlace old page_size first second start → IsListPlace new page_size first second start
-list_place_kept old new page_size first second start same place = record {
-  below = place.below;
-  aligned = place.aligned;
-  has_first = omega (arith, place.has_first);
-  has_second = omega (arith, place.has_second);
-}
+list_place_kept old new page_size first second start same place = grind (arith, common_steps)
 
 -- ---- the places of a buffer
 

@@ -1,13 +1,14 @@
 -- The spans of a buffer, one for each of its pages.
 use Rattle.std.proofs.Common.{◌≡◌, ◌∙◌, ℕ, ◌+◌, ◌-◌, ◌*◌, ◌/◌, ◌%◌, ◌<◌, ◌≤◌, List, [], ◌∷◌, ◌++◌, append-nil}
-use Rattle.std.proofs.Common.{ap, arith, get_or, length, refl, sym}
+use Rattle.std.proofs.Common.{ap, arith, get_or, length, refl}
+use Rattle.std.proofs.lemmas.Grind.{common_steps}
 use Rattle.std.proofs.lemmas.Grind.{flat_map-append}
 use Rattle.std.proofs.lemmas.List.Elements.{All-push}
 use Rattle.std.proofs.lemmas.Nat.{div-add-mod', div-mul-add, div_below, mod-mul-add, mod_below}
-use Rattle.nv_host.specs.Pages.{HasPage, IsPageSize}
+use Rattle.nv_host.specs.Pages.{IsPageSize}
 use Rattle.nv_host.proofs.PageLaws.{page_size_bounds}
 use Rattle.nv_prp.specs.Buffer.{IsBuffer, buffer_place, buffer_places}
-use Rattle.nv_prp.specs.Place.{LieIn, places, span_places, table}
+use Rattle.nv_prp.specs.Place.{LieIn, places, span_places}
 use Rattle.nv_prp.specs.Transfer.{most_bytes}
 use Rattle.nv_prp.proofs.PageLaws.{page_times}
 use Rattle.nv_prp.proofs.PlaceLaws.{length-table, table-append, table-same}
@@ -31,12 +32,7 @@ pub rest_inside : (bytes pages : List ℕ) (page_size start from most : ℕ) →
     → IsBuffer bytes page_size pages start (from + most)
     → buffer_place page_size pages start from + (page_size - (start + from) % page_size) ≤ length bytes
 unfolding buffer_place
-rest_inside bytes pages page_size start from most some buffer =
-    let page = get_or pages ((start + from) / page_size) 0 in
-    let has : HasPage bytes page_size page =
-    buffer.inside ((start + from) / page_size) 0 (page_there bytes pages page_size start from most some buffer) in
-    let low = mod_below (start + from) page_size (omega (arith, buffer.below)) in
-    omega (arith, has, low)
+rest_inside bytes pages page_size start from most some buffer = grind (arith, common_steps, page_there, mod_below)
 
 pub ruleset one_span = (page_there, address_of, rest_inside, page_times, page_size_bounds, mod_below)
 
@@ -68,15 +64,7 @@ pub places_more : (page_size : ℕ) (pages : List ℕ) (start from : ℕ) (spans
     → places (spans ++ s ∷ []) ≡ buffer_places page_size pages start (from + s.len)
 unfolding places span_places buffer_places
 places_more page_size pages start from spans s so_far at fits =
-    let f = buffer_place page_size pages start in
-    let own : table s.len (λ k. s.address + k) ≡ table s.len (λ k. f (from + k)) =
-    table-same s.len _ _ (λ k h. ap (λ a. a + k) at
-    ∙ sym (in_one_page page_size pages start from s.len k fits h)) in
-    flat_map-append span_places spans (s ∷ [])
-    ∙ ap (λ l. places spans ++ l) (append-nil (span_places s))
-    ∙ ap (λ l. l ++ span_places s) so_far
-    ∙ ap (λ l. table from f ++ l) own
-    ∙ sym (table-append from s.len f)
+    grind (arith, common_steps, table-same, in_one_page, flat_map-append, append-nil, table-append)
 
 -- spans in a memory and one more span in it all lie in it
 pub inside_more : (size : ℕ) (spans : List Span) (s : Span) → LieIn size spans → s.address + s.len ≤ size
@@ -89,21 +77,12 @@ pub next_page_begins : (page_size start from n len : ℕ) → 0 < page_size
     → len ≡ page_size - (start + from) % page_size → n ≤ (start + from) / page_size
     → n + 1 ≤ (start + (from + len)) / page_size
 next_page_begins page_size start from n len some whole few =
-    let at = start + from in
-    let q = at / page_size in
-    let split : q * page_size + at % page_size ≡ at = div-add-mod' at page_size in
-    let low = mod_below at page_size some in
-    let is : start + (from + len) ≡ (q + 1) * page_size + 0 = omega (arith, split, low, whole) in
-    let next = ap (λ m. m / page_size) is ∙ div-mul-add (q + 1) page_size 0 some in
-    omega (arith, next, few)
+    grind (arith, common_steps, div-add-mod', mod_below, div-mul-add)
 
 -- a buffer of at most the greatest length has fewer than 257 spans before the last one
 pub few_spans : (page_size start from n : ℕ) → IsPageSize page_size → start < page_size → from < most_bytes
     → n ≤ (start + from) / page_size → n < 257
-few_spans page_size start from n is low below few =
-    let bounds = page_size_bounds page_size is in
-    let most = div_below (start + from) page_size 257 (omega (arith, bounds)) (omega (arith, bounds)) in
-    omega (arith, most, few)
+few_spans page_size start from n is low below few = grind (arith, common_steps, page_size_bounds, div_below)
 
 -- no spans have the places of a buffer's first 0 bytes
 pub no_places : (page_size : ℕ) (pages : List ℕ) (start : ℕ) → places [] ≡ buffer_places page_size pages start 0

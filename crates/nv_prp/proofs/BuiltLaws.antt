@@ -1,6 +1,7 @@
 -- Transfers whose entries were built for a buffer.
 use Rattle.std.proofs.Common.{◌≡◌, ◌∙◌, ◌⊎◌, ℕ, ◌+◌, ◌-◌, ◌*◌, ◌/◌, ◌%◌, ◌<◌, ◌≤◌, List, None, ap, arith, get_or, inl}
 use Rattle.std.proofs.Common.{inr, length, refl, subst}
+use Rattle.std.proofs.lemmas.Grind.{common_steps}
 use Rattle.std.proofs.lemmas.Bool.{cases_lt, cases_order, lt-ltb}
 use Rattle.std.proofs.lemmas.Nat.{div_below, mod-mul-add}
 use Rattle.std.proofs.lemmas.Bool.Decides.{nat_tests}
@@ -16,7 +17,7 @@ use Rattle.nv_prp.specs.Transfer.{room}
 use Rattle.nv_prp.proofs.FaultLaws.{multiple_stays, no_fault_at, no_fault_of_page}
 use Rattle.nv_prp.proofs.ListLaws.{base_by_list, whole_room}
 use Rattle.nv_prp.proofs.PageLaws.{base_of_two, pages_span}
-use Rattle.nv_prp.proofs.WriteLaws.{IsWithin, Lies, chain_within, list_even, place_within}
+use Rattle.nv_prp.proofs.WriteLaws.{Lies, chain_within, list_even, place_within}
 
 -- what PRP1 determines of the entries for a buffer
 pub record Begins (t : PrpTransfer) (pages : List ℕ) (start : ℕ) : Type 0 where
@@ -150,16 +151,4 @@ pub names_kept : (t : PrpTransfer) (pages : List ℕ) (first second : ℕ) (late
     → NamesPages t.bytes t.page_size (room t) t.prp2 (second * t.page_size) pages (data_pages t)
     → NamesPages later t.page_size (room t) t.prp2 (second * t.page_size) pages (data_pages t)
 names_kept t pages first second later many few lies keeps names =
-    let kept : (addr : ℕ) → IsWithin t.page_size (first * t.page_size) (second * t.page_size) addr 8
-    → qword later addr ≡ qword t.bytes addr = λ addr within.
-    elim within [
-      | inl here ↦ qword_of_page t.bytes later (first * t.page_size) t.page_size addr
-          (keeps.in_first many) here.0 here.1
-      | inr here ↦ qword_of_page t.bytes later (second * t.page_size) t.page_size addr
-          (keeps.in_second many) here.0 here.1
-    ] in
-    record {
-      chain = λ chained. kept (t.prp2 + 8 * (room t - 1)) (chain_within _ _ _ _ _ _ lies refl) ∙ names.chain chained;
-      each = λ j after below. kept _ (place_within _ _ _ _ _ (data_pages t) j _ _ lies few after below refl refl)
-          ∙ names.each j after below;
-    }
+    grind (arith, common_steps, qword_of_page, chain_within, place_within)

@@ -1,10 +1,11 @@
 -- Copies part by part, and span by span, are copies byte by byte.
 use Rattle.std.proofs.Common.{append-nil, append_assoc, ◌≡◌, ◌∙◌, ℕ, ◌+◌, ◌≤◌, List, [], ◌++◌, ap, arith, drop, length}
 use Rattle.std.proofs.Common.{length-append, length-drop, length-take, sym, take, add-one, zero, suc, ◌<◌, ◌∷◌, get_or}
-use Rattle.std.proofs.Common.{refl, set, subst}
+use Rattle.std.proofs.Common.{refl, set}
+use Rattle.std.proofs.lemmas.Grind.{common_steps}
 use Rattle.std.proofs.Math.Seq.{take-add, take-suc}
 use Rattle.std.proofs.lemmas.List.{drop-drop, places as item_places, same_lists, take-append-drop, drop_all, drop_more}
-use Rattle.std.proofs.lemmas.List.{take_all, get_or-drop, get_or-map, get_or-take, length-take-le, map-append}
+use Rattle.std.proofs.lemmas.List.{take_all, get_or-map, length-take-le, map-append}
 use Rattle.std.proofs.lemmas.List.{set_split}
 use Rattle.std.proofs.lemmas.Slice.{take-put_mid}
 use Rattle.nv_host.specs.Bytes.{bytes_at, with_bytes}
@@ -43,9 +44,7 @@ pub read_step : (bytes out part : List ℕ) (addr i k n : ℕ) → take i out �
     → take (i + k) (put_mid i n out part) ≡ bytes_at bytes addr (i + k)
 unfolding bytes_at
 read_step bytes out part addr i k n before within is inside same =
-    let size : length part ≡ k = ap length is ∙ length-bytes_at bytes (addr + i) k (omega arith) in
-    take-put_mid i n out part (i + k) (omega arith) (omega arith) ∙ (λ j. before j ++ is j)
-    ∙ ap (λ l. take i (drop addr bytes) ++ take k l) (sym (drop-drop i addr bytes)) ∙ sym (take-add i k (drop addr bytes))
+    grind (arith, common_steps, length-bytes_at, take-put_mid, drop-drop, take-add)
 
 -- if the first i bytes of a range were written, writing the next k makes them the first i + k
 pub write_step : (first now source : List ℕ) (addr i k : ℕ) → now ≡ with_bytes first addr (take i source)
@@ -73,10 +72,7 @@ places_left spans i below = ap (λ l. flat_map span_places l) (drop_more spans i
 -- the spans from index i on have as many bytes as span i and the later spans together
 pub count_left : (spans : List Span) (i : ℕ) → i < length spans
     → length (places (drop i spans)) ≡ (get_or spans i none).len + length (places (drop (i + 1) spans))
-count_left spans i below =
-    let s = get_or spans i none in
-    let rest = places (drop (i + 1) spans) in
-    omega (arith, ap length (places_left spans i below), length-append (span_places s) rest, length-span_places s)
+count_left spans i below = grind (arith, common_steps, places_left, length-append, length-span_places)
 
 -- past the last span, there are no places
 pub none_left : (spans : List Span) (i : ℕ) → length spans ≤ i → places (drop i spans) ≡ []
@@ -107,11 +103,7 @@ pub read_left : (bytes : List ℕ) (spans : List Span) (i : ℕ) → LieIn (leng
     ≡ bytes_at bytes (get_or spans i none).address (get_or spans i none).len
     ++ read_at bytes (places (drop (i + 1) spans))
 unfolding read_at
-read_left bytes spans i inside below =
-    let s = get_or spans i none in
-    let rest = places (drop (i + 1) spans) in
-    ap (λ l. read_at bytes l) (places_left spans i below) ∙ map-append (λ p. get_or bytes p 0) (span_places s) rest
-    ∙ ap (λ l. l ++ read_at bytes rest) (read_span bytes s (next_inside _ spans i inside below))
+read_left bytes spans i inside below = grind (arith, common_steps, places_left, map-append, read_span, next_inside)
 
 -- reading at the places of a single span reads its range
 pub one_span : (bytes : List ℕ) (spans : List Span) → LieIn (length bytes) spans → length spans ≡ 1

@@ -1,6 +1,7 @@
 -- The fault of a single entry, and the first fault of a transfer.
 use Rattle.std.proofs.Common.{◌==◌, if◌then◌else◌, nat_le, ◌≡◌, ◌∙◌, ℕ, ◌+◌, ◌-◌, ◌*◌, ◌/◌, ◌%◌, ◌<◌, ◌≤◌, List, None}
 use Rattle.std.proofs.Common.{Some, ap, arith, length, zero, suc, inl, inr, refl}
+use Rattle.std.proofs.lemmas.Grind.{common_steps}
 use Rattle.std.proofs.Math.Nat.{mul-add-mod_self_left, mul-mod_left}
 use Rattle.std.proofs.lemmas.Bool.Decides.{nat_tests}
 use Rattle.std.proofs.lemmas.Bool.{cases_lt, lt-ltb}
@@ -100,12 +101,7 @@ fault_stays t e m (suc n) le h =
 -- a transfer without a first fault is legal
 pub legal_from_none : (t : PrpTransfer) → first_fault t ≡ None → IsLegal t
 unfolding first_fault
-legal_from_none t none =
-    record {
-      prp1 = grind (arith, nat_tests);
-      prp2 = grind (arith, nat_tests);
-      list = each_none t (qwords t) (grind (arith, nat_tests));
-    }
+legal_from_none t none = grind (arith, common_steps, nat_tests, each_none)
 
 -- a legal transfer has no first fault
 pub none_from_legal : (t : PrpTransfer) → IsLegal t → first_fault t ≡ None

@@ -1,6 +1,6 @@
 -- The Qwords of a list, by their indices.
 use Rattle.std.proofs.Common.{◌≡◌, ◌∙◌, ℕ, zero, suc, ◌+◌, ◌-◌, ◌*◌, ◌/◌, ◌%◌, ◌<◌, ◌≤◌, None, Some, ap, arith, length}
-use Rattle.std.specs.Option.{option_or}
+use Rattle.std.proofs.lemmas.Grind.{common_steps}
 use Rattle.std.proofs.lemmas.Bool.{lt-ltb}
 use Rattle.std.proofs.lemmas.Bool.Decides.{nat_tests}
 use Rattle.std.proofs.lemmas.Nat.{div-add-mod'}
@@ -8,7 +8,7 @@ use Rattle.nv_host.specs.Pages.{IsPageSize}
 use Rattle.nv_host.proofs.PageLaws.{page_size_bounds, page_size_in_qwords}
 use Rattle.nv_prp.specs.inner.ListWalk.{Comes, IsList, ListTurn, cursor_of, used_of}
 use Rattle.nv_prp.specs.Transfer.{PrpTransfer, data_pages, entry_fault, fault_after_prp1, first_qword_fault, list_place}
-use Rattle.nv_prp.specs.Transfer.{list_qwords, naming_number, naming_qword, page_base, qword, qword_fault, qword_place}
+use Rattle.nv_prp.specs.Transfer.{naming_number, naming_qword, page_base, qword, qword_fault, qword_place}
 use Rattle.nv_prp.specs.Transfer.{room, second_page}
 use Rattle.nv_prp.specs.declared.error.PrpError.{PrpError}
 use Rattle.nv_prp.proofs.FaultLaws.{from_no_fault, each_none, fault_of_list, fault_stays, next_fault}
@@ -41,26 +41,11 @@ whole_room x size is even =
 -- a transfer with more than two data pages whose PRP2 has no fault has a list
 pub is_list : (t : PrpTransfer) → 2 < data_pages t → IsPageSize t.page_size → data_pages t ≤ 257
     → entry_fault t.page_size (length t.bytes) 8 t.prp2 ≡ None → IsList t
-is_list t many size few none =
-    let entry = from_no_fault t.page_size (length t.bytes) 8 t.prp2 none in
-    let bounds = page_size_bounds t.page_size size in
-    let space = whole_room t.prp2 t.page_size size entry.0 in
-    record {
-      many = many;
-      few = few;
-      size = size;
-      some = omega arith;
-      prp2 = none;
-      inside = omega (arith, entry.1);
-    }
+is_list t many size few none = grind (arith, common_steps, from_no_fault, page_size_bounds, whole_room)
 
 -- with a list, the fault after PRP1 is the first fault of the Qwords that are used
 pub list_fault : (t : PrpTransfer) → IsList t → fault_after_prp1 t ≡ first_qword_fault t (used_of t (data_pages t))
-list_fault t list =
-    let all : list_qwords (room t) (data_pages t) ≡ used_of t (data_pages t) = grind (arith, nat_tests) in
-    fault_of_list t list.many
-    ∙ ap (λ o. option_or o (first_qword_fault t (list_qwords (room t) (data_pages t)))) list.prp2
-    ∙ ap (λ n. first_qword_fault t n) all
+list_fault t list = grind (arith, common_steps, nat_tests, fault_of_list)
 
 -- a fault at the Qword of data page j, or before it, is the fault after PRP1
 pub fault_found : (t : PrpTransfer) (e : PrpError) (j m : ℕ) → IsList t → j < data_pages t → m ≤ used_of t (j + 1)
@@ -86,24 +71,13 @@ turn : (t : PrpTransfer) (j at : ℕ) → IsList t → 0 < j
     → first_qword_fault t (naming_number (room t) (data_pages t) j) ≡ None → cursor_of t (j + 1) ≡ at + 8
     → at + 8 ≤ length t.bytes → ListTurn t j at
 unfolding qword_fault qword_place naming_qword
-turn t j at list later place none next inside = record {
-  fault = grind (arith, nat_tests, next_fault t (naming_number (room t) (data_pages t) j) (used_of t (j + 1)));
-  base = grind (arith, base_by_list t j list.many later);
-  next = next;
-  inside = inside;
-}
+turn t j at list later place none next inside = grind (arith, common_steps, nat_tests, next_fault, base_by_list)
 
 -- a page of the memory has room for all Qwords of a list's second page
 in_page : (t : PrpTransfer) (entry n : ℕ) → IsList t → n < data_pages t
     → entry_fault t.page_size (length t.bytes) t.page_size entry ≡ None
     → entry + 8 * n + 8 ≤ length t.bytes
-in_page t entry n list below none =
-    grind (
-      arith,
-      from_no_fault t.page_size (length t.bytes) t.page_size entry none,
-      page_size_bounds t.page_size list.size,
-      list.few,
-    )
+in_page t entry n list below none = grind (arith, common_steps, from_no_fault, page_size_bounds)
 
 -- in the second page of a list, the Qword of each data page lies in the memory
 second_inside : (t : PrpTransfer) (j at : ℕ) → IsList t → Comes t j at → j < data_pages t → room t < j

@@ -1,4 +1,5 @@
 -- Data pages, by their indices.
+use Rattle.std.proofs.lemmas.Grind.{common_steps}
 use Rattle.std.proofs.lemmas.Bool.Decides.{nat_tests}
 use Rattle.std.proofs.Common.{◌≡◌, ◌∙◌, ℕ, zero, suc, ◌+◌, ◌-◌, ◌*◌, ◌<◌, ◌≤◌, ◌++◌, ◌∷◌, [], append-nil, ap, arith}
 use Rattle.std.proofs.Common.{length, refl, sym}
@@ -31,10 +32,7 @@ at_least_one t some bytes = let span = pages_span t some in grind arith
 -- a transfer has at most 257 data pages
 pub at_most_257 : (rest len size : ℕ) → IsPageSize size → rest < size → len ≤ most_bytes
     → div_ceil (rest + len) size ≤ 257
-at_most_257 rest len size is below limit =
-    let bounds = page_size_bounds size is in
-    let span = div_ceil_times (rest + len) size (omega arith) in
-    grind arith
+at_most_257 rest len size is below limit = grind (arith, common_steps, page_size_bounds, div_ceil_times)
 
 pub ruleset page_counts = (at_most_257, page_size_bounds)
 

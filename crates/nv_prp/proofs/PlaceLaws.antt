@@ -3,6 +3,7 @@ use Rattle.std.proofs.Common.{◌≡◌, ◌≢◌, ◌∙◌, ◌⊎◌, ℕ, z
 use Rattle.std.proofs.Common.{◌++◌, append_assoc, append-nil, ap, arith, drop, get_or, inl, inr}
 use Rattle.std.proofs.Common.{length, length-append, length-drop, length-take, min, refl, set}
 use Rattle.std.proofs.Common.{subst, sym}
+use Rattle.std.proofs.lemmas.Grind.{common_steps}
 use Rattle.std.specs.List.{All}
 use Rattle.std.proofs.Math.ListN.{length-set}
 use Rattle.std.proofs.lemmas.Bool.{cases_lt}
@@ -67,10 +68,7 @@ All-table P n f each k d below =
 -- a table of a function whose values below n differ in pairs is distinct
 pub table_distinct : (n : ℕ) (f : ℕ → ℕ) → ((i k : ℕ) → i < k → k < n → f i ≢ f k)
     → AreDistinct (table n f)
-table_distinct n f apart i k d below inside e =
-    let within : k < n = omega (arith, length-table n f) in
-    apart i k below within (sym (get_or-table n f i d (omega arith)) ∙ e
-    ∙ get_or-table n f k d within)
+table_distinct n f apart i k d below inside e = grind (arith, common_steps, length-table, get_or-table)
 
 -- ---- places of spans
 
@@ -186,12 +184,4 @@ pub part_stays : (bytes at written : List ℕ) (from n : ℕ)
     → ((k : ℕ) → k < length at → (get_or at k 0 < from) ⊎ (from + n ≤ get_or at k 0))
     → bytes_at (written_at bytes at written) from n ≡ bytes_at bytes from n
 part_stays bytes at written from n apart =
-    let after = written_at bytes at written in
-    let size = length-written_at bytes at written in
-    same_number_lists _ _
-    (length-part after from n ∙ ap (λ m. min n (m - from)) size ∙ sym (length-part bytes from n))
-    (λ k h. let below : k < n = omega (arith, length-part after from n) in
-    get_or-bytes_at after from n k below
-    ∙ others_stay bytes at written (from + k)
-    (λ j inside e. elim (apart j inside) [ inl before ↦ omega arith | inr behind ↦ omega arith ])
-    ∙ sym (get_or-bytes_at bytes from n k below))
+    grind (arith, common_steps, length-written_at, same_number_lists, length-part, get_or-bytes_at, others_stay)

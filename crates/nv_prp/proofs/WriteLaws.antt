@@ -2,14 +2,13 @@
 use Rattle.std.proofs.Common.{◌≡◌, ◌≢◌, ◌∙◌, ◌⊎◌, ℕ, ◌+◌, ◌-◌, ◌*◌, ◌/◌, ◌%◌, ◌<◌, ◌≤◌, ◌^◌, List, ap, arith, get_or}
 use Rattle.std.proofs.Common.{inl, inr, length, refl, subst, sym}
 use Rattle.std.specs.Int.{from_le_bytes, to_le_bytes, w64}
-use Rattle.std.proofs.Math.Nat.{mul-le-mul_right}
 use Rattle.std.proofs.lemmas.Bool.Decides.{nat_tests}
-use Rattle.std.proofs.lemmas.Bool.{cases_lt, cases_order}
+use Rattle.std.proofs.lemmas.Bool.{cases_lt}
 use Rattle.std.proofs.lemmas.Nat.{from_le_bytes-to_le_bytes_8, mod-mul-add}
 use Rattle.nv_host.specs.Bytes.{with_bytes}
 use Rattle.nv_host.proofs.BytesLaws.{bytes_at-with_after, bytes_at-with_before, bytes_at-with_same}
 use Rattle.nv_host.specs.Pages.{IsPageSize}
-use Rattle.nv_host.proofs.PageLaws.{page_size_bounds, page_size_in_qwords}
+use Rattle.nv_host.proofs.PageLaws.{page_size_bounds, page_size_in_qwords, pages_apart}
 use Rattle.nv_prp.specs.inner.Buffer.{ChangesOnly, NamesPages}
 use Rattle.nv_prp.specs.Buffer.{IsApart, IsListPlace, KeepsOutside, KeepsOutsideList}
 use Rattle.nv_prp.proofs.FaultLaws.{multiple_stays}
@@ -43,17 +42,6 @@ pub record Lies (size space start first second : ℕ) : Type 0 where
   pub some : 0 < space
   pub large : 4096 ≤ size
   pub apart : (first + size ≤ second) ⊎ (second + size ≤ first)
-
--- two distinct pages don't overlap
-pages_apart : (size a b : ℕ) → a ≢ b → (a * size + size ≤ b * size) ⊎ (b * size + size ≤ a * size)
-pages_apart size a b other =
-    elim (cases_order a b) [
-      | inl same ↦ absurd (other same)
-      | inr (inl below) ↦ let next : (a + 1) * size ≤ b * size = mul-le-mul_right size (omega arith) in
-          inl (omega arith)
-      | inr (inr above) ↦ let next : (b + 1) * size ≤ a * size = mul-le-mul_right size (omega arith) in
-          inr (omega arith)
-    ]
 
 -- a list's address is a multiple of 8
 pub list_even : (bytes : List ℕ) (size first second offset : ℕ) → IsPageSize size

@@ -1,6 +1,7 @@
 -- Whole numbers, and how a ring keeps them.
 use Rattle.std.proofs.Common.{◌≡◌, ◌≢◌, ℕ, ◌+◌, ◌-◌, ◌*◌, ◌/◌, ◌%◌, ◌==◌, ◌<◌, ◌≤◌, ◌⊎◌, not, inl}
 use Rattle.std.proofs.Common.{inr, sym, ap, ◌∙◌, arith}
+use Rattle.std.proofs.lemmas.Grind.{common_steps}
 use Rattle.std.proofs.lemmas.Bool.{cases_lt}
 use Rattle.std.proofs.lemmas.Nat.{mod_below}
 use Rattle.std.proofs.Math.Nat.{add-mod_right, add-mul-mod_self_left, div-add-mod, mod-add-mod}
@@ -19,11 +20,7 @@ slot_again d n = add-mod_right n d
 
 -- of two numbers 0 and 1, the next one modulo 2 is 0 if and only if the number isn't
 even_next : (r : ℕ) → r < 2 → (r + 1) % 2 == 0 ≡ not (r == 0)
-even_next r h =
-    elim (cases_lt r 1) [
-      | inl l ↦ let e : r ≡ 0 = omega arith in rw e
-      | inr g ↦ let e : r ≡ 1 = omega arith in rw e
-    ]
+even_next r h = grind (arith, common_steps, cases_lt)
 
 -- a number is odd if and only if the next one is even
 even_after : (q : ℕ) → (q + 1) % 2 == 0 ≡ not (q % 2 == 0)

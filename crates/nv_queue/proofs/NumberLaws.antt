@@ -2,6 +2,7 @@
 use Rattle.std.proofs.Common.{◌≡◌, ◌≢◌, ℕ, ◌+◌, ◌-◌, ◌*◌, ◌/◌, ◌%◌, ◌<◌, ◌≤◌, true, false}
 use Rattle.std.proofs.Common.{arith}
 use Rattle.std.proofs.Common.{inl, inr, ◌⊎◌, ◌↔◌}
+use Rattle.std.proofs.lemmas.Grind.{common_steps}
 use Rattle.std.proofs.lemmas.Nat.{mod-mul-add, div-mul-add}
 use Rattle.std.proofs.lemmas.Bool.{cases_lt}
 use Rattle.nv_queue.specs.Numbers.{IsDepth, IsFull, IsSlotBetween, IsWithinRing, ahead, distance}
@@ -42,11 +43,7 @@ phase_high d n h i = rw (times_is n 1 d (n - d) (omega arith) (omega arith))
 pub slot_cases : (d n : ℕ) → n < 2 * d
     → ((n < d) × (slot_of d n ≡ n) × (phase_of d n ≡ true))
     ⊎ ((d ≤ n) × (slot_of d n ≡ n - d) × (phase_of d n ≡ false))
-slot_cases d n h =
-    elim (cases_lt n d) [
-      | inl l ↦ inl (l, slot_low d n l, phase_low d n l)
-      | inr g ↦ inr (g, slot_high d n g h, phase_high d n g h)
-    ]
+slot_cases d n h = grind (arith, common_steps, cases_lt, slot_low, phase_low, slot_high, phase_high)
 
 -- a slot is below the depth
 pub slot_below : (d n : ℕ) → n < 2 * d → slot_of d n < d
@@ -119,24 +116,12 @@ first_in_slot_below d n t h i = grind (arith, ahead_cases d n t h i)
 -- the number after n is one further above k than n is
 pub distance_next : (d n k : ℕ) → n < 2 * d → k < 2 * d → distance d n k + 1 < 2 * d
     → distance d (next d n) k ≡ distance d n k + 1
-distance_next d n k h i l =
-    grind (
-      arith,
-      next_cases d n h,
-      distance_cases d n k h i,
-      distance_cases d (next d n) k (next_below d n h) i,
-    )
+distance_next d n k h i l = grind (arith, common_steps, next_cases, distance_cases, next_below)
 
 -- n is one less far above the number after k than above k
 pub distance_after_next : (d n k : ℕ) → n < 2 * d → k < 2 * d → k ≢ n
     → distance d n (next d k) ≡ distance d n k - 1
-distance_after_next d n k h i o =
-    grind (
-      arith,
-      next_cases d k i,
-      distance_cases d n k h i,
-      distance_cases d n (next d k) h (next_below d k i),
-    )
+distance_after_next d n k h i o = grind (arith, common_steps, next_cases, distance_cases, next_below)
 
 -- a number that is 0 above another is that number
 pub distance_none : (d n k : ℕ) → n < 2 * d → k < 2 * d → distance d n k ≡ 0 → k ≡ n
@@ -145,112 +130,46 @@ distance_none d n k h i e = grind (arith, distance_cases d n k h i)
 -- the slot of a number less than a depth above is as far ahead as that number
 pub ahead_slot : (d a b : ℕ) → a < 2 * d → b < 2 * d → distance d a b < d
     → ahead d b (slot_of d a) ≡ distance d a b
-ahead_slot d a b h i f =
-    grind (
-      arith,
-      slot_cases d a h,
-      distance_cases d a b h i,
-      ahead_cases d b (slot_of d a) i (slot_below d a h),
-    )
+ahead_slot d a b h i f = grind (arith, common_steps, slot_cases, distance_cases, ahead_cases, slot_below)
 
 -- the first number in a slot is as far above n as the slot is ahead of it
 pub distance_first : (d n t : ℕ) → n < 2 * d → t < d → distance d (first_in_slot d n t) n ≡ ahead d n t
-distance_first d n t h i =
-    grind (
-      arith,
-      ahead_cases d n t h i,
-      distance_cases d (first_in_slot d n t) n (first_in_slot_below d n t h i) h,
-    )
+distance_first d n t h i = grind (arith, common_steps, ahead_cases, distance_cases, first_in_slot_below)
 
 -- a is less far above the first number in slot t from n on than above n, by as much as the slot is ahead
 pub distance_after_first : (d a n t : ℕ) → a < 2 * d → n < 2 * d → t < d → ahead d n t ≤ distance d a n
     → distance d a (first_in_slot d n t) ≡ distance d a n - ahead d n t
-distance_after_first d a n t j h i g =
-    grind (
-      arith,
-      ahead_cases d n t h i,
-      distance_cases d a n j h,
-      distance_cases d a (first_in_slot d n t) j (first_in_slot_below d n t h i),
-    )
+distance_after_first d a n t j h i g = grind (arith, common_steps, ahead_cases, distance_cases, first_in_slot_below)
 
 -- ---- the numbers of a ring
 
 -- a new ring, with both numbers 0, is within its depth
 pub within_new : (d : ℕ) → IsDepth d → IsWithinRing d 0 0
-within_new d deep = record {
-  deep = deep;
-  from = omega arith;
-  to = omega arith;
-  few = grind (arith, distance_cases d 0 0 (omega arith) (omega arith));
-}
+within_new d deep = grind (arith, common_steps, distance_cases)
 
 -- a ring that isn't full is still within its depth after one number more
 pub within_more : (d k n : ℕ) → IsWithinRing d k n → ¬ IsFull d k n → IsWithinRing d k (next d n)
-within_more d k n is free =
-    let deep = is.deep in
-    let more = distance_next d n k is.to is.from (omega (arith, is.few)) in
-    let few : distance d (next d n) k < d = omega (arith, is.few, free) in
-    record { deep = deep; from = is.from; to = next_below d n is.to; few = few }
+within_more d k n is free = grind (arith, common_steps, distance_next, next_below)
 
 -- a ring that isn't empty is still within its depth after one number was taken from it
 pub within_taken : (d k n : ℕ) → IsWithinRing d k n → k ≢ n → IsWithinRing d (next d k) n
-within_taken d k n is left =
-    let less = distance_after_next d n k is.to is.from left in
-    let few = is.few in
-    record { deep = is.deep; from = next_below d k is.from; to = is.to; few = omega arith }
+within_taken d k n is left = grind (arith, common_steps, distance_after_next, next_below)
 
 -- a ring is still within its depth if its first number becomes the first one in a slot between its numbers
 pub within_freed : (d k n t : ℕ) → IsWithinRing d k n → IsSlotBetween d k n t
     → IsWithinRing d (first_in_slot d k t) n
-within_freed d k n t is slot =
-    let less = distance_after_first d n k t is.to is.from slot.0 slot.1 in
-    record {
-      deep = is.deep;
-      from = first_in_slot_below d k t is.from slot.0;
-      to = is.to;
-      few = omega (arith, is.few);
-    }
+within_freed d k n t is slot = grind (arith, common_steps, distance_after_first, first_in_slot_below)
 
 -- a ring is within its depth if its last number becomes the first one in any slot
 pub within_filled : (d k n t : ℕ) → IsWithinRing d k n → t < d
     → IsWithinRing d k (first_in_slot d k t)
-within_filled d k n t is low =
-    let far = distance_first d k t is.from low in
-    let near = ahead_below d k t is.from low in
-    let to = first_in_slot_below d k t is.from low in
-    record { deep = is.deep; from = is.from; to = to; few = omega arith }
+within_filled d k n t is low = grind (arith, common_steps, distance_first, ahead_below, first_in_slot_below)
 
 -- a ring is full if and only if the slot after the last one is the first one's
 pub full_slots : (d k n : ℕ) → IsWithinRing d k n
     → (slot_of d (next d n) ≡ slot_of d k) ↔ IsFull d k n
-full_slots d k n is =
-    let deep = is.deep in
-    let few = is.few in (
-      (λ e. grind (
-        arith,
-        slot_cases d k is.from,
-        distance_cases d n k is.to is.from,
-        next_cases d n is.to,
-        slot_cases d (next d n) (next_below d n is.to),
-      )),
-      (λ e. grind (
-        arith,
-        slot_cases d k is.from,
-        distance_cases d n k is.to is.from,
-        next_cases d n is.to,
-        slot_cases d (next d n) (next_below d n is.to),
-      )),
-    )
+full_slots d k n is = grind (arith, common_steps, slot_cases, distance_cases, next_cases, next_below)
 
 -- a ring is empty if and only if both slots are equal
 pub empty_slots : (d k n : ℕ) → IsWithinRing d k n → (slot_of d k ≡ slot_of d n) ↔ (k ≡ n)
-empty_slots d k n is =
-    let few = is.few in (
-      (λ e. grind (
-        arith,
-        slot_cases d k is.from,
-        slot_cases d n is.to,
-        distance_cases d n k is.to is.from,
-      )),
-      (λ e. grind (arith, e)),
-    )
+empty_slots d k n is = grind (arith, common_steps, slot_cases, distance_cases)

@@ -1,8 +1,9 @@
 -- The contents of a ring's slots as entries are written.
-use Rattle.std.proofs.Common.{◌≡◌, ◌≢◌, ℕ, ◌+◌, ◌-◌, ◌*◌, ◌<◌, ◌≤◌, inl, inr, Bool, true, false}
+use Rattle.std.proofs.Common.{◌≡◌, ◌≢◌, ℕ, ◌+◌, ◌-◌, ◌*◌, ◌<◌, ◌≤◌, inl, inr, Bool}
 use Rattle.std.proofs.Common.{not}
 use Rattle.std.proofs.Common.{List, [], ◌∷◌, ◌++◌, length, slice_index_or, None, Some}
-use Rattle.std.proofs.Common.{◌↔◌, refl, sym, ap, ◌∙◌, arith}
+use Rattle.std.proofs.Common.{◌↔◌, refl, ap, ◌∙◌, arith}
+use Rattle.std.proofs.lemmas.Grind.{common_steps}
 use Rattle.std.proofs.lemmas.Bool.{cases_lt}
 use Rattle.std.proofs.lemmas.Nat.{mod_below}
 use Rattle.std.proofs.lemmas.List.{get_or_append_left, get_or_push, length_push}
@@ -10,8 +11,8 @@ use Rattle.std.proofs.Math.Nat.{mul-le-mul_left}
 use Rattle.nv_host.specs.Bytes.{bytes_at, with_bytes}
 use Rattle.nv_host.proofs.BytesLaws.{bytes_at-with_after, bytes_at-with_before, bytes_at-with_same}
 use Rattle.nv_host.proofs.BytesLaws.{length-with_bytes}
-use Rattle.nv_layout.specs.Cqe.{CqeFits, bytes_of_cqe, cqe_of_bytes}
-use Rattle.nv_layout.specs.Sqe.{SqeFits, bytes_of_sqe, sqe_of_bytes}
+use Rattle.nv_layout.specs.Cqe.{CqeFits, bytes_of_cqe}
+use Rattle.nv_layout.specs.Sqe.{SqeFits}
 use Rattle.nv_layout.specs.declared.cqe.Cqe.{Cqe}
 use Rattle.nv_layout.specs.declared.sqe.Sqe.{Sqe}
 use Rattle.nv_layout.proofs.RecordLaws.{cqe_back, length-bytes_of_cqe, length-bytes_of_sqe, sqe_back}
@@ -20,23 +21,19 @@ use Rattle.nv_queue.proofs.NumberLaws.{phase_low, slot_low}
 use Rattle.nv_queue.proofs.KeptLaws.{phase_again, phase_kept, slot_again, slot_kept, slots_apart}
 use Rattle.nv_queue.specs.Rings.{CollectNumbers, IsCollectRing, PostNumbers, SubmitNumbers}
 use Rattle.nv_queue.specs.Slots.{CollectsPosted, HoldsOneMore, HoldsPosted, IsAwaitedThere}
-use Rattle.nv_queue.specs.Slots.{awaited_completion, completion_at, completion_place, posted_as}
-use Rattle.nv_queue.specs.Slots.{put_as, submission_place, with_completion, with_submission}
+use Rattle.nv_queue.specs.Slots.{awaited_completion, completion_at, posted_as}
+use Rattle.nv_queue.specs.Slots.{put_as, with_completion, with_submission}
 use Rattle.nv_queue.specs.inner.Slots.{WritesCompletion, WritesSubmission}
 
 -- ---- the awaited slot
 
 -- if b is the negation of a, then a is the negation of b
 turned_back : (a b : Bool) → b ≡ not a → a ≡ not b
-turned_back true b e = rw e refl
-turned_back false b e = rw e refl
+turned_back a b e = grind arith
 
 -- a truth value that is the negation of another isn't equal to it
 pub not_own : (a b : Bool) → a ≡ not b → a ≢ b
-not_own true true e = λ same. cc
-not_own true false e = λ same. cc
-not_own false true e = λ same. cc
-not_own false false e = λ same. cc
+not_own a b e = λ same. grind arith
 
 -- the slot of a completion that was posted less than a depth ago has the phase tag of its number
 pub posted_tag : (bytes : List ℕ) (base d : ℕ) (posted : List Cqe) (k : ℕ)
@@ -104,14 +101,7 @@ pub completion_written : (bytes : List ℕ) (base d t : ℕ) (c : Cqe) → base 
     → t < d → CqeFits c
     → WritesCompletion bytes (with_bytes bytes (base + 16 * t) (bytes_of_cqe c)) base d t c
 completion_written bytes base d t c inside h fits =
-    let len = length-bytes_of_cqe c in
-    record {
-      here = ap cqe_of_bytes
-          (bytes_at-with_same bytes (base + 16 * t) 16 (bytes_of_cqe c) (omega arith) (sym len))
-          ∙ cqe_back c fits;
-      others = λ s l o.
-          ap cqe_of_bytes (other_slot bytes base 16 d s t (bytes_of_cqe c) inside len l h o);
-    }
+    grind (arith, common_steps, length-bytes_of_cqe, bytes_at-with_same, cqe_back, other_slot)
 
 -- a completion that is put is in the slot of its number with its phase tag, and the other slots don't change
 pub put_written : (bytes : List ℕ) (ring : PostNumbers) (c : Cqe) → 0 < ring.depth
@@ -120,23 +110,14 @@ pub put_written : (bytes : List ℕ) (ring : PostNumbers) (c : Cqe) → 0 < ring
     (slot_of ring.depth ring.posted) (put_as ring c)
 put_written bytes ring c p inside fits =
     completion_written bytes ring.base ring.depth (slot_of ring.depth ring.posted) (put_as ring c)
-    inside (slot_within ring.depth ring.posted p) (record {
-      command_specific = fits.command_specific;
-      sq_head = fits.sq_head;
-      sq_identifier = fits.sq_identifier;
-      cid = fits.cid;
-      status = fits.status;
-    })
+    inside (slot_within ring.depth ring.posted p) assumption
 
 -- a memory keeps its length when a completion is put
 pub length-with_completion : (bytes : List ℕ) (ring : PostNumbers) (c : Cqe) → 0 < ring.depth
     → ring.base + 16 * ring.depth ≤ length bytes
     → length (with_completion bytes ring c) ≡ length bytes
 length-with_completion bytes ring c p inside =
-    let place = completion_place ring.base ring.depth ring.posted in
-    let low = slot_within ring.depth ring.posted p in
-    let len = length-bytes_of_cqe (put_as ring c) in
-    length-with_bytes bytes place (bytes_of_cqe (put_as ring c)) (omega arith)
+    grind (arith, common_steps, slot_within, length-bytes_of_cqe, length-with_bytes)
 
 -- ---- a submission
 
@@ -145,10 +126,7 @@ pub length-with_submission : (bytes : List ℕ) (ring : SubmitNumbers) (c : Sqe)
     → ring.base + 64 * ring.depth ≤ length bytes
     → length (with_submission bytes ring c) ≡ length bytes
 length-with_submission bytes ring c p inside =
-    let place = submission_place ring.base ring.depth ring.submitted in
-    let low = slot_within ring.depth ring.submitted p in
-    let len = length-bytes_of_sqe c in
-    length-with_bytes bytes place (bytes_of_sqe c) (omega arith)
+    grind (arith, common_steps, slot_within, length-bytes_of_sqe, length-with_bytes)
 
 -- a submission that is written is in its slot, and the other slots don't change
 pub push_written : (bytes : List ℕ) (ring : SubmitNumbers) (c : Sqe) → 0 < ring.depth
@@ -156,16 +134,7 @@ pub push_written : (bytes : List ℕ) (ring : SubmitNumbers) (c : Sqe) → 0 < r
     → WritesSubmission bytes (with_submission bytes ring c) ring.base ring.depth
     (slot_of ring.depth ring.submitted) c
 push_written bytes ring c p inside fits =
-    let base = ring.base in let d = ring.depth in let t = slot_of d ring.submitted in
-    let low = slot_within d ring.submitted p in
-    let len = length-bytes_of_sqe c in
-    record {
-      here = ap sqe_of_bytes
-          (bytes_at-with_same bytes (base + 64 * t) 64 (bytes_of_sqe c) (omega arith) (sym len))
-          ∙ sqe_back c fits;
-      others = λ s l o.
-          ap sqe_of_bytes (other_slot bytes base 64 d s t (bytes_of_sqe c) inside len l low o);
-    }
+    grind (arith, common_steps, slot_within, length-bytes_of_sqe, bytes_at-with_same, sqe_back, other_slot)
 
 -- ---- one more completion
 
@@ -175,37 +144,17 @@ pub holds_after : (old new : List ℕ) (base d : ℕ) (posted : List Cqe) (c : C
     → HoldsPosted old base d posted
     → HoldsPosted new base d (posted ++ posted_as d (length posted) c ∷ [])
 holds_after old new base d posted c p written holds =
-    let n = length posted in
-    let one = posted_as d n c in
-    let more = length_push posted one in
-    record {
-      phases = λ m other l.
-          elim (cases_lt m n) [
-            | inl b ↦
-                ap (λ x. x.phase) (get_or_append_left posted (one ∷ []) other m b)
-                ∙ holds.phases m other b
-            | inr g ↦
-                let is : m ≡ n = omega arith in
-                ap (λ x. x.phase) (get_or_push posted one other m (sym is))
-                ∙ ap (phase_of d) (sym is)
-          ];
-      standing = λ m other l h.
-          elim (cases_lt m n) [
-            | inl b ↦
-                let apart = slots_apart d n m b (omega arith) in
-                written.others (slot_of d m) (slot_within d m p) (λ same. apart (sym same))
-                ∙ (holds.standing m other b (omega arith)
-                ∙ sym (get_or_append_left posted (one ∷ []) other m b))
-            | inr g ↦
-                let is : m ≡ n = omega arith in
-                ap (completion_at new base) (ap (slot_of d) is)
-                ∙ (written.here ∙ sym (get_or_push posted one other m (sym is)))
-          ];
-      blank = λ s l h.
-          let at : slot_of d n ≡ n = slot_low d n (omega arith) in
-          ap (λ x. x.phase) (written.others s h (λ same. omega arith))
-          ∙ holds.blank s (omega arith) h;
-    }
+    grind (
+      arith,
+      common_steps,
+      length_push,
+      cases_lt,
+      get_or_append_left,
+      get_or_push,
+      slots_apart,
+      slot_within,
+      slot_low,
+    )
 
 -- ---- the calls
 
@@ -213,15 +162,7 @@ holds_after old new base d posted c p written holds =
 pub holds_one_more : (old new : List ℕ) (ring : PostNumbers) (c : Cqe) → 1 < ring.depth
     → new ≡ with_completion old ring c → HoldsOneMore old new ring c
 holds_one_more old new ring c p is posted number inside fits holds =
-    let d = ring.depth in let n = length posted in
-    let slot = ap (slot_of d) number ∙ slot_kept d n in
-    let phase = ap (phase_of d) number ∙ phase_kept d n (omega arith) in
-    let written = rw (slot, phase) at (put_written old ring c (omega arith) inside fits) in
-    rw (is, slot, phase) (
-    let one = bytes_of_cqe (posted_as d n c) in
-    holds_after old (with_bytes old (ring.base + 16 * slot_of d n) one) ring.base d posted c
-    (omega arith) written holds
-    )
+    grind (arith, common_steps, slot_kept, phase_kept, put_written, holds_after)
 
 -- the awaited completion is there if and only if completion k was posted
 pub awaited_posted : (bytes : List ℕ) (ring : CollectNumbers) (posted : List Cqe) (k : ℕ)
@@ -230,16 +171,7 @@ pub awaited_posted : (bytes : List ℕ) (ring : CollectNumbers) (posted : List C
     → HoldsPosted bytes ring.base ring.depth posted
     → IsAwaitedThere bytes ring ↔ (k < length posted)
 awaited_posted bytes ring posted k p number l h holds =
-    let base = ring.base in let d = ring.depth in
-    let slot = ap (slot_of d) number ∙ slot_kept d k in
-    let phase = ap (phase_of d) number ∙ phase_kept d k (omega arith) in
-    rw (slot, phase) (
-      (λ there. elim (cases_lt k (length posted)) [
-        | inl b ↦ b
-        | inr g ↦ absurd (not_posted bytes base d posted k (omega arith) holds (omega arith) there)
-      ]),
-      (λ below. posted_tag bytes base d posted k holds below h),
-    )
+    grind (arith, common_steps, slot_kept, phase_kept, cases_lt, not_posted, posted_tag)
 
 -- if completion k was posted, the awaited completion is that one
 pub awaited_stands : (bytes : List ℕ) (ring : CollectNumbers) (posted : List Cqe) (k : ℕ)
@@ -263,6 +195,4 @@ pub collects_one : (bytes : List ℕ) (ring : CollectNumbers) (c : Cqe) → IsCo
     → IsAwaitedThere bytes ring → c ≡ awaited_completion bytes ring
     → CollectsPosted bytes ring (Some c)
 collects_one bytes ring c is there value posted k number l h holds =
-    let below = (awaited_posted bytes ring posted k is.deep.0 number l h holds).0 there in
-    let stands = awaited_stands bytes ring posted k c is.deep.0 number below h holds in
-    (((λ e. below), (λ b. refl)), value ∙ stands)
+    grind (arith, common_steps, awaited_posted, awaited_stands)

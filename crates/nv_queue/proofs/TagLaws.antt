@@ -1,8 +1,9 @@
 -- The phase tags of a completion ring's slots, by the number of the next completion.
 use Rattle.std.proofs.Common.{if◌then◌else◌, ◌≡◌, ◌≢◌, ℕ, ◌-◌, ◌*◌, ◌<◌, ◌≤◌, Bool, true}
 use Rattle.std.proofs.Common.{false}
-use Rattle.std.proofs.Common.{not, nat_lt, List, refl, sym, ◌∙◌, ap, arith, inl, inr, ◌⊎◌}
+use Rattle.std.proofs.Common.{not, nat_lt, List, refl, arith, inl, inr, ◌⊎◌}
 use Rattle.std.proofs.Common.{None, Some}
+use Rattle.std.proofs.lemmas.Grind.{common_steps}
 use Rattle.std.proofs.lemmas.Bool.{cases_eq, cases_lt}
 use Rattle.std.proofs.lemmas.Bool.Decides.{nat_tests}
 use Rattle.nv_layout.specs.declared.cqe.Cqe.{Cqe}
@@ -10,7 +11,7 @@ use Rattle.nv_queue.specs.Numbers.{distance, next, phase_of, slot_of, tag_below}
 use Rattle.nv_queue.proofs.NumberLaws.{distance_cases, next_below, next_cases, phase_high, phase_low}
 use Rattle.nv_queue.proofs.NumberLaws.{slot_below, slot_cases, slot_high, slot_low}
 use Rattle.nv_queue.specs.Rings.{CollectNumbers, IsCollectRing, PostNumbers}
-use Rattle.nv_queue.specs.Slots.{FindsByTags, HoldsTags, IsAwaitedThere, KeepsTags, completion_at}
+use Rattle.nv_queue.specs.Slots.{FindsByTags, HoldsTags, IsAwaitedThere, KeepsTags}
 use Rattle.nv_queue.specs.Slots.{posted_as, with_completion}
 use Rattle.nv_queue.specs.inner.Slots.{WritesCompletion}
 use Rattle.nv_queue.proofs.SlotLaws.{not_own, put_written}
@@ -42,27 +43,12 @@ tag_below_here d n h = grind (arith, nat_tests, slot_cases d n h, tag_cases d n 
 -- when the next number is due, the slot of this one has its phase tag
 pub tag_below_next_same : (d n : ℕ) → n < 2 * d
     → tag_below d (next d n) (slot_of d n) ≡ phase_of d n
-tag_below_next_same d n h =
-    grind (
-      arith,
-      nat_tests,
-      slot_cases d n h,
-      next_cases d n h,
-      tag_cases d (next d n) (slot_of d n) (next_below d n h),
-    )
+tag_below_next_same d n h = grind (arith, common_steps, nat_tests, slot_cases, next_cases, tag_cases, next_below)
 
 -- when the next number is due, the tag of each other slot is the same as before
 pub tag_below_next_other : (d n s : ℕ) → n < 2 * d → s < d → s ≢ slot_of d n
     → tag_below d (next d n) s ≡ tag_below d n s
-tag_below_next_other d n s h i o =
-    grind (
-      arith,
-      nat_tests,
-      slot_cases d n h,
-      next_cases d n h,
-      tag_cases d n s h,
-      tag_cases d (next d n) s (next_below d n h),
-    )
+tag_below_next_other d n s h i o = grind (arith, common_steps, nat_tests, slot_cases, next_cases, tag_cases, next_below)
 
 -- ---- one more completion
 
@@ -71,15 +57,7 @@ pub tags_after : (old new : List ℕ) (base d n : ℕ) (c : Cqe) → n < 2 * d
     → WritesCompletion old new base d (slot_of d n) (posted_as d n c)
     → HoldsTags old base d n → HoldsTags new base d (next d n)
 tags_after old new base d n c h written tags s l =
-    elim (cases_eq s (slot_of d n)) [
-      | inl e ↦
-          ap (λ t. (completion_at new base t).phase) e
-          ∙ (ap (λ x. x.phase) written.here
-          ∙ (sym (tag_below_next_same d n h) ∙ ap (tag_below d (next d n)) (sym e)))
-      | inr o ↦
-          ap (λ x. x.phase) (written.others s l o)
-          ∙ (tags s l ∙ sym (tag_below_next_other d n s h l o))
-    ]
+    grind (arith, common_steps, cases_eq, tag_below_next_same, tag_below_next_other)
 
 -- a completion that is put keeps the phase tags in the state that KeepsTags says
 pub keeps_tags : (old new : List ℕ) (ring : PostNumbers) (c : Cqe) → 1 < ring.depth
@@ -101,25 +79,9 @@ tag_there d n k h i f o =
 -- if the awaited completion isn't there by its tag, collecting nothing is right
 pub finds_none : (bytes : List ℕ) (ring : CollectNumbers) → IsCollectRing ring
     → ¬ IsAwaitedThere bytes ring → FindsByTags bytes ring None
-finds_none bytes ring is away posted h f tags =
-    let d = ring.depth in let k = ring.collected in
-    let low = slot_below d k is.collected in (
-      (λ e. elim (cases_eq posted k) [
-        | inl same ↦ same
-        | inr o ↦ absurd (away (tags (slot_of d k) low ∙ tag_there d posted k h is.collected f o))
-      ]),
-      λ same. refl,
-    )
+finds_none bytes ring is away posted h f tags = grind (arith, common_steps, slot_below, cases_eq, tag_there)
 
 -- if the awaited completion is there by its tag, collecting it is right
 pub finds_one : (bytes : List ℕ) (ring : CollectNumbers) (c : Cqe) → IsCollectRing ring
     → IsAwaitedThere bytes ring → FindsByTags bytes ring (Some c)
-finds_one bytes ring c is there posted h f tags =
-    let d = ring.depth in let k = ring.collected in
-    let here = tag_below_here d k is.collected in
-    let tag = tags (slot_of d k) (slot_below d k is.collected) in (
-      (λ e. cc),
-      λ same. absurd (
-          not_own _ _ (tag ∙ (ap (λ n. tag_below d n (slot_of d k)) same ∙ here)) there
-          ),
-    )
+finds_one bytes ring c is there posted h f tags = grind (arith, common_steps, tag_below_here, slot_below, not_own)

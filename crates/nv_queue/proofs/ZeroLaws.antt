@@ -1,6 +1,7 @@
 -- A completion ring whose slots were zeroed.
 use Rattle.std.proofs.Common.{◌≡◌, ◌∙◌, ℕ, ◌+◌, ◌-◌, ◌*◌, ◌<◌, ◌≤◌, List, ◌++◌, length, take, drop}
 use Rattle.std.proofs.Common.{ap, ap₂, append_assoc, arith, false, length-append, refl, sym}
+use Rattle.std.proofs.lemmas.Grind.{common_steps}
 use Rattle.std.specs.Prelude.{replicate}
 use Rattle.std.proofs.lemmas.Bool.Decides.{nat_tests}
 use Rattle.std.proofs.lemmas.List.{drop-replicate, length-replicate, replicate-append-replicate}
@@ -46,10 +47,7 @@ zero_tag d slot h = grind (arith, nat_tests, slot_low d 0 h, phase_low d 0 h)
 -- zeroed slots have the tags that are due if nothing was posted
 pub zeroed_tags : (bytes : List ℕ) (base d : ℕ) → base + 16 * d ≤ length bytes
     → HoldsTags (with_bytes bytes base (replicate (16 * d) 0)) base d 0
-zeroed_tags bytes base d inside slot below =
-    ap (λ part. (cqe_of_bytes part).phase)
-    (zeroed_at bytes base (16 * d) (16 * slot) 16 inside (omega arith))
-    ∙ (zero_phase ∙ sym (zero_tag d slot (omega arith)))
+zeroed_tags bytes base d inside slot below = grind (arith, common_steps, zeroed_at, zero_phase, zero_tag)
 
 -- ---- zeros that are written one part after another
 

@@ -1,6 +1,7 @@
 -- A batch of commands that ask a controller for namespaces, and one command at a time.
 use Rattle.std.proofs.Common.{◌≡◌, ◌∙◌, ℕ, suc, ◌+◌, ◌<◌, ◌%◌, arith, ap, sym, refl, List, [], ◌∷◌, ◌++◌, length, map}
 use Rattle.std.proofs.Common.{get_or, set, Result, Ok, Err, subst, take, drop}
+use Rattle.std.proofs.lemmas.Grind.{common_steps}
 use Rattle.std.specs.Prelude.{Contains, IfErr, OnOk}
 use Rattle.std.proofs.Math.Nat.{mod-add-mod}
 use Rattle.std.proofs.Math.Seq.{take-append_seam}
@@ -11,7 +12,6 @@ use Rattle.nv_command.specs.declared.command.Command.{Command}
 use Rattle.nv_command.specs.declared.command.Command.TheVariants.{IdentifyController, IdentifyNamespace}
 use Rattle.nv_driver.specs.Batch.{answers_of, state_after}
 use Rattle.nv_driver.specs.Driver.{after_commands, pair_at, no_pair}
-use Rattle.nv_driver.specs.Exchange.{after_some}
 use Rattle.nv_driver.specs.QueuePair.{QueuePair}
 use Rattle.nv_driver.specs.Answer.{Answer}
 use Rattle.nv_driver.specs.Settled.{DriverValue}
@@ -147,10 +147,7 @@ module _ (w : Standing) (c : ℕ) (s : State) (d : DriverValue) (listing : Listi
 
   -- the state that a batch leaves is the one after the commands for its namespaces
   pub batch_state : (now : State) → now ≡ state_after c s now_due ks → now ≡ (all_after c w ns).state
-  batch_state now e =
-      e ∙ ap (λ x. state_after c x now_due ks) is.subsystem ∙ ap (λ x. state_after c w.state x ks) is_due
-      ∙ ap (state_after c w.state (due c w)) are
-      ∙ sym (states c w ns known)
+  batch_state now e = grind (arith, common_steps, is_due, states, known)
 
   -- the command identifiers after a batch with at least one NSID are those after its commands
   some_cids : (ns : List ℕ) → 0 < length ns
@@ -161,25 +158,13 @@ module _ (w : Standing) (c : ℕ) (s : State) (d : DriverValue) (listing : Listi
   -- a batch leaves the command identifiers that the commands for its namespaces leave
   pub batch_cids : (after : DriverValue) → 0 < length ns → after ≡ after_commands d c (length ks)
       → next_cids_of after ≡ (all_after c w ns).next_cids
-  batch_cids after some e =
-      ap next_cids_of e ∙ map-set pair_cid d.pairs c (after_some (length ks) (pair_at d.pairs c))
-      ∙ ap (λ xs. set xs c ((now_due + length ks) % cid_count)) is.next
-      ∙ ap (λ x. set w.next_cids c ((x + length ks) % cid_count)) is_due
-      ∙ ap (λ x. set w.next_cids c ((due c w + x) % cid_count)) many
-      ∙ some_cids ns some
+  batch_cids after some e = grind (arith, common_steps, map-set, next_cids, is_due, many, some_cids)
 
   -- the first answers, one for each NSID, are the answers to the commands for the namespaces
   pub batch_answers : (given rest : List Answer) → given ≡ answers_of c s now_due ks
       → take (length ns) (given ++ rest) ≡ answers_to w (namespace_orders c ns)
   batch_answers given rest a =
-      let so_many : length ns ≡ length given = sym (ap length a ∙ length_answers c s now_due ks ∙ many) in
-      ap (λ n. take n (given ++ rest)) so_many
-      ∙ take-append_seam given rest
-      ∙ a
-      ∙ ap (λ x. answers_of c x now_due ks) is.subsystem
-      ∙ ap (λ x. answers_of c w.state x ks) is_due
-      ∙ ap (answers_of c w.state (due c w)) are
-      ∙ sym (answers c w ns known)
+      grind (arith, common_steps, length_answers, many, take-append_seam, is_due, answers, known)
 
   -- a batch leaves the standing after the commands for its namespaces, or a right stop
   pub batch_leaves : {A : Type 0} (r : Result A NoText) (now : State) (after : DriverValue) (told : Listing)

@@ -1,6 +1,7 @@
 -- A piece of a script, line by line.
 use Rattle.std.proofs.Common.{◌≡◌, ℕ, ◌+◌, ◌<◌, List, [], ◌∷◌, ◌++◌, length, take, get_or, eqb, true}
 use Rattle.std.proofs.Common.{sym, ap, subst, ◌∙◌, append_assoc, append-nil, arith}
+use Rattle.std.proofs.lemmas.Grind.{common_steps}
 use Rattle.std.proofs.Math.Seq.{take-append-add}
 use Rattle.std.proofs.lemmas.Bool.Decides.{nat_tests}
 use Rattle.std.proofs.lemmas.List.{get_or-append-add, get_or-take, length-append, length-take-le}
@@ -9,8 +10,8 @@ use Rattle.memchr.specs.Find.{IsFirstByte, is_byte}
 use Rattle.nv_model.specs.State.{State}
 use Rattle.nv_script.specs.Cuts.{IsCutIn, Left}
 use Rattle.nv_script.specs.inner.Feeding.{Stands}
-use Rattle.nv_script.specs.Results.{Progress, after, whole}
-use Rattle.nv_script.specs.ScriptLines.{Pieces, pieces}
+use Rattle.nv_script.specs.Results.{after, whole}
+use Rattle.nv_script.specs.ScriptLines.{pieces}
 use Rattle.nv_script.specs.inner.ScriptLines.{buffer_after, buffer_of}
 use Rattle.nv_script.specs.declared.ends.RunEnd.{RunEnd}
 use Rattle.nv_script.specs.declared.session.Session.{Session}
@@ -37,22 +38,13 @@ Fed-others : (s : State) (xs bytes : List ℕ) (line held : Option (List ℕ)) (
     → HasNoNewline bytes → held ≡ buffer_after line bytes
     → Fed s xs line left session → Fed s (xs ++ bytes) held left session
 Fed-others s xs bytes line held left session none is fed =
-    let more = pieces-others xs bytes none in (
-      is ∙ ap (λ b. buffer_after b bytes) fed.0 ∙ buffer_after-buffer_of (pieces xs).last bytes
-          ∙ sym (ap (λ (p : Pieces). buffer_of p.last) more),
-      subst (λ (q : Progress). Stands q left session) (sym (ap (λ (p : Pieces). whole s p.ended) more)) fed.1,
-    )
+    grind (arith, common_steps, pieces-others, buffer_after-buffer_of)
 
 -- feeding a newline executes the line before it and leaves an empty buffer
 Fed-newline : (s : State) (xs : List ℕ) (b : ℕ) (held : Option (List ℕ)) (left : Left) (session : Session)
     → b ≡ 10 → held ≡ Some [] → Stands (after (whole s (pieces xs).ended) (pieces xs).last) left session
     → Fed s (xs ++ b ∷ []) held left session
-Fed-newline s xs b held left session e is stands =
-    let more = pieces-newline xs b e in (
-      is ∙ sym (ap (λ (p : Pieces). buffer_of p.last) more),
-      subst (λ (q : Progress). Stands q left session)
-          (sym (ap (λ (p : Pieces). whole s p.ended) more ∙ whole-more s (pieces xs).ended (pieces xs).last)) stands,
-    )
+Fed-newline s xs b held left session e is stands = grind (arith, common_steps, pieces-newline, whole-more)
 
 -- ---- the first newline in the rest of a piece
 
@@ -62,10 +54,7 @@ is_newline_at rest end first = let is : eqb (get_or rest end 0) 10 ≡ true = fi
 
 -- no byte before the first newline is one
 none_before : (rest : List ℕ) (end : ℕ) → IsFirstByte (is_byte 10) rest (Some end) → HasNoNewline (take end rest)
-none_before rest end first = λ k low high is.
-    let inside : end < length rest = first.0.high in
-    let below : k < end = omega (arith, length-take-le end rest (omega arith)) in
-    first.0.before k low below (subst (λ b. eqb b 10 ≡ true) (get_or-take end rest k 0 below) is)
+none_before rest end first = grind (arith, common_steps, length-take-le, get_or-take)
 
 -- feeding the bytes up to the next newline puts its line into the buffer
 pub Fed-line : (s : State) (bytes done rest : List ℕ) (end : ℕ) (line held : Option (List ℕ))
@@ -82,12 +71,7 @@ pub Fed-executed : (s : State) (bytes done rest : List ℕ) (end : ℕ) (held : 
     → (let p = pieces ((bytes ++ done) ++ take end rest) in Stands (after (whole s p.ended) p.last) left session)
     → Fed s (bytes ++ (done ++ take (end + 1) rest)) held left session
 Fed-executed s bytes done rest end held left session first is stands =
-    let xs = (bytes ++ done) ++ take end rest in
-    let b = get_or rest end 0 in
-    let joined =
-    sym (append_assoc bytes done (take (end + 1) rest)) ∙ taken-more (bytes ++ done) rest end first.0.high in
-    Fed-same s (bytes ++ (done ++ take (end + 1) rest)) (xs ++ b ∷ []) held left session joined
-    (Fed-newline s xs b held left session (is_newline_at rest end first) is stands)
+    grind (arith, common_steps, append_assoc, taken-more, Fed-same, Fed-newline, is_newline_at)
 
 -- if the line in the buffer was cut short, it was cut short at a newline of the piece
 pub cut_at : (cut : RunEnd) (s : State) (bytes piece done rest : List ℕ) (end : ℕ) (left : Left)

@@ -1,5 +1,7 @@
 -- The first two commands of `list` to a controller: for its data, and for the NSIDs that are attached to it.
 use Rattle.std.proofs.Common.{◌≡◌, ◌∙◌, ℕ, ◌<◌, ap, sym, subst, refl, List, [], ◌∷◌, ◌++◌, length, Ok, Err}
+use Rattle.std.proofs.Common.{arith}
+use Rattle.std.proofs.lemmas.Grind.{common_steps}
 use Rattle.std.specs.Prelude.{Contains}
 use Rattle.std.proofs.lemmas.List.Elements.{Contains-append_left}
 use Rattle.nv_bits.specs.Above.{above}
@@ -48,12 +50,7 @@ module _ (w : Standing) (b new : BusValue) (d after : DriverValue) (listing : Li
   -- after the answer was listed, the standing is the one after the order
   told_there : (now : Listing) → now ≡ listing_told c listing (Send k) answer
       → IsListed (asked w o) new.state (next_cids_of after) now
-  told_there now t = record {
-    subsystem = ap (λ (x : Exchange). x.state) sent_there;
-    next = ap (λ (x : Exchange). x.next_cids) sent_there;
-    listed = t ∙ ap (λ l. listing_told c l (Send k) answer) is.listed
-        ∙ ap (λ (x : Exchange). listing_told c w.listing (Send k) x.answer) sent_there;
-  }
+  told_there now t = grind (arith, common_steps, sent_there)
 
   -- if the command was refused, or memory was, a stop is right for these orders
   pub stopped_there : (A : Type 0) (e : NoText) (later : List Order) (now : Listing) → IsHandedOn e (answer ∷ [])

@@ -1,11 +1,12 @@
 -- What one line leaves behind, by how its text was printed.
 use Rattle.std.proofs.Common.{◌≡◌, ◌⊎◌, ◌∙◌, ℕ, ◌+◌, List, [], ◌++◌, length, take, sym, ap, subst, refl, inl, inr}
 use Rattle.std.proofs.Common.{append-nil, arith, Bool, Option, Result, Ok, Err}
+use Rattle.std.proofs.lemmas.Grind.{common_steps}
 use Rattle.std.specs.Prelude.{unwrap_or}
 use Rattle.std.specs.Io.KnownBytes.{Appends}
 use Rattle.std.proofs.lemmas.List.{take_all}
 use Rattle.nv_model.specs.State.{State}
-use Rattle.nv_script.specs.Cuts.{IsCutIn, Holds, Left, left_at, state_amid}
+use Rattle.nv_script.specs.Cuts.{Holds, Left, left_at, state_amid}
 use Rattle.nv_script.specs.inner.Feeding.{LineLeaves, PrintLeaves, ReportLeaves}
 use Rattle.nv_script.specs.Orders.{orders_of}
 use Rattle.nv_script.specs.Outcomes.{outcome_of}
@@ -40,69 +41,17 @@ module _ {A : Type 0} (p : Progress) (text : List ℕ) (lr : LineResult) (k : �
   pub message_leaves : (r : Result A RunEnd) (messages : Option (List ℕ)) (failed : Bool) → lr.output ≡ []
       → ReportLeaves r lr.message old.messages messages failed
       → LineLeaves r p text (left_at old.out_before old.out old.messages_before messages new) session
-  message_leaves (Ok done) messages failed none (inl h) = record {
-    holds = record {
-      took_output =
-          took_none old.out_before old.out p.output _ (ap (λ (x : LineResult). x.output) same ∙ none) held.took_output;
-      took_messages =
-          Appends-join old.messages_before old.messages messages p.messages _ held.took_messages
-          (Appends-at old.messages messages _ _ (sym (ap (λ (x : LineResult). x.message) same)) h.0);
-      reached = reached ∙ sym (ap (λ (x : LineResult). x.state) same);
-    };
-    next = next ∙ sym (ap (λ (x : LineResult). x.next_cids) same);
-    number = number;
-    status = status ∙ ap (λ (x : LineResult). unwrap_or x.status p.status) (sym same);
-  }
-  message_leaves (Err end) messages failed none (inl h) =
-      subst (λ x. IsCutIn x p text (left_at old.out_before old.out old.messages_before messages new)) (sym h.0) (
-        h.1.0,
-        (h.1.1.0, ap (λ (x : LineResult). x.message) same ∙ h.1.1.1),
-        record {
-          took_output = held.took_output;
-          took_messages =
-              Appends-join old.messages_before old.messages messages p.messages h.1.0 held.took_messages h.1.2;
-          reached = reached ∙ sym (ap (λ (x : LineResult). x.state) same);
-        },
-      )
-  message_leaves r messages failed none (inr h) =
-      subst (λ x. LineLeaves x p text (left_at old.out_before old.out old.messages_before messages new) session)
-      (sym h.0) (
-        k,
-        record {
-          took_output = held.took_output;
-          took_messages = took_same old.messages_before old.messages messages p.messages h.1 held.took_messages;
-          reached = reached ∙ all;
-        },
-      )
+  message_leaves (Ok done) messages failed none (inl h) =
+      grind (arith, common_steps, took_none, Appends-join, Appends-at)
+  message_leaves (Err end) messages failed none (inl h) = grind (arith, common_steps, Appends-join)
+  message_leaves r messages failed none (inr h) = grind (arith, common_steps, took_same)
 
   -- a line whose output was printed leaves what the result of the print says
   pub output_leaves : (r : Result A RunEnd) (t : List ℕ) (out : Option (List ℕ)) (failed : Bool)
       → lr.message ≡ [] → t ≡ lr.output → PrintLeaves r OutWrite t old.out out failed
       → LineLeaves r p text (left_at old.out_before out old.messages_before old.messages new) session
-  output_leaves (Ok done) t out failed none is h = record {
-    holds = record {
-      took_output =
-          Appends-join old.out_before old.out out p.output _ held.took_output
-          (Appends-at old.out out _ _ (is ∙ sym (ap (λ (x : LineResult). x.output) same)) h.0);
-      took_messages =
-          took_none old.messages_before old.messages p.messages _
-          (ap (λ (x : LineResult). x.message) same ∙ none) held.took_messages;
-      reached = reached ∙ sym (ap (λ (x : LineResult). x.state) same);
-    };
-    next = next ∙ sym (ap (λ (x : LineResult). x.next_cids) same);
-    number = number;
-    status = status ∙ ap (λ (x : LineResult). unwrap_or x.status p.status) (sym same);
-  }
-  output_leaves (Err end) t out failed none is h =
-      subst (λ x. IsCutIn x p text (left_at old.out_before out old.messages_before old.messages new)) (sym h.0) (
-        h.1.0,
-        (h.1.1.0, ap (λ (x : LineResult). x.output) same ∙ sym is ∙ h.1.1.1),
-        record {
-          took_output = Appends-join old.out_before old.out out p.output h.1.0 held.took_output h.1.2;
-          took_messages = held.took_messages;
-          reached = reached ∙ sym (ap (λ (x : LineResult). x.state) same);
-        },
-      )
+  output_leaves (Ok done) t out failed none is h = grind (arith, common_steps, Appends-join, Appends-at, took_none)
+  output_leaves (Err end) t out failed none is h = grind (arith, common_steps, Appends-join)
 
 -- ---- the meaning of the line
 
@@ -126,21 +75,13 @@ said_here p text s controllers said es ec e = ap (λ (x : State). reading text (
 pub result_asked : (p : Progress) (text : List ℕ) (r : Request) (s : State) (next_cids : List ℕ) (n : ℕ)
     → said_at p text ≡ Ok (line.Request r) → s ≡ p.state → next_cids ≡ p.next_cids → n ≡ p.number
     → result_at p text ≡ request_result (n + 1) s r (outcome_of s next_cids (orders_of s r.query))
-result_asked p text r s next_cids n e es er en =
-    ap (λ (x : Said). line_result p.state p.next_cids (p.number + 1) x) e
-    ∙ ap (λ (x : State). request_result (p.number + 1) x r (outcome_of x p.next_cids (orders_of x r.query))) (sym es)
-    ∙ ap (λ (x : List ℕ). request_result (p.number + 1) s r (outcome_of s x (orders_of s r.query))) (sym er)
-    ∙ ap (λ (x : ℕ). request_result (x + 1) s r (outcome_of s next_cids (orders_of s r.query))) (sym en)
+result_asked p text r s next_cids n e es er en = grind (arith, common_steps)
 
 -- the result of a line with a fault is the result of the fault
 pub result_fault : (p : Progress) (text : List ℕ) (f : LineFault) (s : State) (next_cids : List ℕ) (n : ℕ)
     → said_at p text ≡ Err f → s ≡ p.state → next_cids ≡ p.next_cids → n ≡ p.number
     → result_at p text ≡ line_result s next_cids (n + 1) (Err f)
-result_fault p text f s next_cids n e es er en =
-    ap (λ (x : Said). line_result p.state p.next_cids (p.number + 1) x) e
-    ∙ ap (λ (x : State). line_result x p.next_cids (p.number + 1) (Err f)) (sym es)
-    ∙ ap (λ (x : List ℕ). line_result s x (p.number + 1) (Err f)) (sym er)
-    ∙ ap (λ (x : ℕ). line_result s next_cids (x + 1) (Err f)) (sym en)
+result_fault p text f s next_cids n e es er en = grind (arith, common_steps)
 
 -- after none of a line's orders, the state is the one before the line
 pub amid-zero : (s : State) (next_cids : List ℕ) (said : Said) → state_amid s next_cids said 0 ≡ s
@@ -152,17 +93,11 @@ amid-zero s next_cids (Err f) = refl
 pub amid-some : (p : Progress) (text : List ℕ) (r : Request) (s : State) (next_cids : List ℕ) (k : ℕ)
     → said_at p text ≡ Ok (line.Request r) → s ≡ p.state → next_cids ≡ p.next_cids
     → (outcome_of s next_cids (take k (orders_of s r.query))).state ≡ state_amid p.state p.next_cids (said_at p text) k
-amid-some p text r s next_cids k e es er =
-    ap (λ (x : State). (outcome_of x next_cids (take k (orders_of x r.query))).state) es
-    ∙ ap (λ (x : List ℕ). (outcome_of p.state x (take k (orders_of p.state r.query))).state) er
-    ∙ ap (λ (x : Said). state_amid p.state p.next_cids x k) (sym e)
+amid-some p text r s next_cids k e es er = grind (arith, common_steps)
 
 -- the state after all orders of a line's request is the one amid the line after all of them
 pub amid-all : (p : Progress) (text : List ℕ) (r : Request) (s : State) (next_cids : List ℕ)
     → said_at p text ≡ Ok (line.Request r) → s ≡ p.state → next_cids ≡ p.next_cids
     → (outcome_of s next_cids (orders_of s r.query)).state
     ≡ state_amid p.state p.next_cids (said_at p text) (length (orders_of s r.query))
-amid-all p text r s next_cids e es er =
-    ap (λ os. (outcome_of s next_cids os).state)
-    (sym (take_all (length (orders_of s r.query)) (orders_of s r.query) (omega arith)))
-    ∙ amid-some p text r s next_cids (length (orders_of s r.query)) e es er
+amid-all p text r s next_cids e es er = grind (arith, common_steps, take_all, amid-some)

@@ -1,5 +1,7 @@
 -- The effect of a new driver, its commands and its resets on command identifiers.
 use Rattle.std.proofs.Common.{◌≡◌, ◌∙◌, ℕ, ◌<◌, ap, length, subst, sym, Result, Ok}
+use Rattle.std.proofs.Common.{arith}
+use Rattle.std.proofs.lemmas.Grind.{common_steps}
 use Rattle.std.specs.Prelude.{replicate}
 use Rattle.std.proofs.lemmas.List.{length-map, length-replicate}
 use Rattle.nv_layout.specs.declared.cqe.Status.{Status}
@@ -44,12 +46,7 @@ pub sent : (b new : BusValue) (d after : DriverValue) (c : ℕ) (k : Command) (a
     → answer ≡ answer_received k (step b.state c k (pair_at d.pairs c).next_cid).answer
     → new.state ≡ (step b.state c k (pair_at d.pairs c).next_cid).state → after ≡ after_command d c
     → exchange_with answer new.state (next_cids_of after) ≡ exchange_of b.state (next_cids_of d) (order_of c k)
-sent b new d after c k answer below a s is =
-    let at = next_cid_is d c below in
-    let same = a ∙ ap (λ n. answer_received k (step b.state c k n).answer) at in
-    let reached = s ∙ ap (λ n. (step b.state c k n).state) at in
-    let next = cids_after d after c below is in
-    λ i. exchange_with (same i) (reached i) (next i)
+sent b new d after c k answer below a s is = grind (arith, common_steps, next_cid_is, cids_after)
 
 -- a reset of controller c by a driver is the exchange of its order
 pub was_reset : (b new : BusValue) (d after : DriverValue) (c : ℕ) → new.state ≡ reset b.state c

@@ -1,6 +1,8 @@
 -- How the parts of `list` form the whole.
 use Rattle.std.proofs.Common.{◌≡◌, ◌∙◌, ℕ, ◌+◌, ◌<◌, ap, drop, get_or, length, map, refl, sym, subst, List, [], ◌∷◌}
 use Rattle.std.proofs.Common.{◌++◌, append_assoc, append-nil, Result, Ok, Err}
+use Rattle.std.proofs.Common.{arith}
+use Rattle.std.proofs.lemmas.Grind.{common_steps}
 use Rattle.std.specs.Prelude.{Contains}
 use Rattle.std.proofs.lemmas.List.{at_drop_more}
 use Rattle.std.proofs.lemmas.List.Elements.{Contains-append_left, Contains-append_right}
@@ -47,9 +49,7 @@ pub told_more : (c : ℕ) (l : Listing) (ks : List Command) (xs : List Answer) (
     → listing_of l (map (order_of c) (drop i ks)) (drop i xs)
     ≡ listing_of (listing_told c l (Send (get_or ks i dk)) (get_or xs i da)) (map (order_of c) (drop (i + 1) ks))
     (drop (i + 1) xs)
-told_more c l ks xs i dk da some answered =
-    at_drop_more (λ x. listing_of l (map (order_of c) x) (drop i xs)) ks i dk some
-    ∙ at_drop_more (listing_of l (order_of c (get_or ks i dk) ∷ map (order_of c) (drop (i + 1) ks))) xs i da answered
+told_more c l ks xs i dk da some answered = grind (arith, common_steps, at_drop_more)
 
 module _ (w : Standing) (done all : List Order) where
   -- a state after some of the next orders is a state after some of all orders

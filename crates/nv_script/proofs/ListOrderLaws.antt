@@ -1,6 +1,7 @@
 -- The commands of `list` in a well-formed subsystem, controller by controller.
 use Rattle.std.proofs.Common.{◌≡◌, ◌∙◌, ℕ, suc, ◌+◌, ◌-◌, ◌<◌, ◌≤◌, arith, ap, Bool, true, false, List, [], ◌∷◌, ◌++◌}
 use Rattle.std.proofs.Common.{append-nil, length}
+use Rattle.std.proofs.lemmas.Grind.{common_steps}
 use Rattle.std.specs.Prelude.{All, filter, flat_map, if◌then◌else◌, nat_lt}
 use Rattle.std.specs.List.{range_with_len}
 use Rattle.std.proofs.lemmas.List.Elements.{All-tail}
@@ -79,6 +80,4 @@ next_controller s i n all done below e =
 -- if no controller is left, all orders are done
 pub no_controller_left : (s : State) (i n : ℕ) (all done : List Order) → n ≤ i → all ≡ done ++ orders_from s i n
     → all ≡ done
-no_controller_left s i n all done over e =
-    let none : n - i ≡ 0 = omega arith in
-    e ∙ ap (λ m. done ++ flat_map (orders_of_controller s) (range_with_len i m)) none ∙ append-nil done
+no_controller_left s i n all done over e = grind (arith, common_steps, append-nil)

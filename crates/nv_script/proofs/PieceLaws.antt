@@ -1,6 +1,7 @@
 -- Bytes that are split at their newlines.
 use Rattle.std.proofs.Common.{◌≡◌, ℕ, suc, ◌+◌, ◌<◌, List, [], ◌∷◌, ◌++◌, length, take, drop, get_or, sym, ap, ◌∙◌}
 use Rattle.std.proofs.Common.{refl, Bool, true, false, eqb, cond, append_assoc, append-nil, arith, fold}
+use Rattle.std.proofs.lemmas.Grind.{common_steps}
 use Rattle.std.proofs.lemmas.List.{take_more, take-append-drop, length-append}
 use Rattle.std.proofs.lemmas.List.Sums.{fold-append}
 use Rattle.std.proofs.lemmas.Bool.Decides.{nat_tests}
@@ -126,9 +127,7 @@ buffer_after-buffer_of line bytes = at_test (nat_le (length line) 4095) refl
     at_test : (t : Bool) → nat_le (length line) 4095 ≡ t
         → buffer_after (cond t (Some line) None) bytes ≡ buffer_of (line ++ bytes)
     at_test true e = refl
-    at_test false e =
-        let fits = nat_le (length (line ++ bytes)) 4095 in
-        ap (λ x. cond x (Some (line ++ bytes)) None) (sym (too_long fits e refl))
+    at_test false e = grind (arith, common_steps)
 
 -- a line whose buffer isn't the empty one has a byte
 pub buffer_of-some : (line : List ℕ) → (buffer_of line ≡ Some [] → ⊥) → 0 < length line
@@ -156,10 +155,7 @@ joined-append (x ∷ xs) ys =
 -- one more line adds its bytes and a newline
 pub length-joined : (lines : List (List ℕ)) (line : List ℕ)
     → length (joined_lines (lines ++ line ∷ [])) ≡ length (joined_lines lines) + length line + 1
-length-joined lines line =
-    let joined = ap length (joined-append lines (line ∷ [])) in
-    let one = ap length (append-nil (line ++ 10 ∷ [])) ∙ length-append line (10 ∷ []) in
-    omega (arith, joined, length-append (joined_lines lines) (joined_lines (line ∷ [])), one)
+length-joined lines line = grind (arith, common_steps, joined-append, append-nil, length-append)
 
 -- how many bytes the pieces have, with the newlines of the lines that have ended
 size : Pieces → ℕ

@@ -1,6 +1,7 @@
 -- What a query leaves behind, by how many of its orders were carried out.
 use Rattle.std.proofs.Common.{◌≡◌, ◌∙◌, ℕ, ◌+◌, arith, ap, sym, refl, List, [], ◌∷◌, length, get_or, Option, None, Some}
 use Rattle.std.proofs.Common.{Result, Ok, Err}
+use Rattle.std.proofs.lemmas.Grind.{common_steps}
 use Rattle.std.specs.Option.{option_map_or}
 use Rattle.std.proofs.lemmas.List.{take_all}
 use Rattle.nv_layout.specs.declared.cqe.Status.{Status}
@@ -15,7 +16,7 @@ use Rattle.nv_layout.specs.Parts.{number_at}
 use Rattle.nv_model.specs.IdentifyController.{id_ctrl_of, no_controller}
 use Rattle.nv_model.specs.Logs.{entry_count}
 use Rattle.nv_model.specs.Meaning.{refusal_of}
-use Rattle.nv_model.specs.State.{Controller, State, controller_at}
+use Rattle.nv_model.specs.State.{Controller, State}
 use Rattle.nv_model.specs.Step.{step_by}
 use Rattle.nv_line.specs.declared.request.Ask.{Ask}
 use Rattle.nv_line.specs.declared.request.Ask.TheVariants as ask
@@ -28,7 +29,7 @@ use Rattle.nv_script.specs.Orders.{errors_command, orders_of, orders_of_one}
 use Rattle.nv_script.specs.inner.Orders.{log_command}
 use Rattle.nv_script.specs.Outcomes.{Outcome, outcome_after, outcome_of}
 use Rattle.nv_script.specs.inner.Performing.{AskLeaves, IsReached, QueryLeaves, NoTextLeaves}
-use Rattle.nv_script.specs.Shown.{shown_by, shown_of}
+use Rattle.nv_script.specs.Shown.{shown_of}
 use Rattle.nv_script.specs.declared.performing.NoText.TheVariants as stop
 use Rattle.nv_print.specs.declared.shown.Shown.{Shown}
 use Rattle.nv_script.proofs.OutcomeLaws.{accepted_first, accepted_with, refused_at_once, refused_with}
@@ -53,9 +54,7 @@ module _ (s : State) (next_cids : List ℕ) (c entries : ℕ) where
       → Ok r ≡ answer_received IdentifyController (step_by refusal s c IdentifyController (get_or next_cids c 0)).answer
       → log_command entries r ≡ errors_command entries (entry_count s c)
   unfolding reply_or_done
-  log_next None r e =
-      ap (λ a. log_command entries (reply_or_done a)) e
-      ∙ ap (λ n. errors_command entries n) (kept_told s (controller_at s c))
+  log_next None r e = grind (arith, common_steps, reply_or_done, kept_told)
   log_next (Some refusal) r e = absurd (cc)
 
   -- the same if the reply is the answer in the exchange of that order
@@ -78,19 +77,12 @@ module _ (s now : State) (next_cids next : List ℕ) (q : Query) where
   -- if the outcome is a refusal, a stop because of it is right
   pub left_refused : (replies : List Reply) (status : Status) → whole ≡ refused_with replies status now next
       → NoTextLeaves (stop.Refused status) q s next_cids now next
-  left_refused replies status e = (
-    ap (λ (x : Outcome). x.refusal) e,
-    reached whole now next (sym (ap (λ (x : Outcome). x.state) e)) (sym (ap (λ (x : Outcome). x.next_cids) e)),
-  )
+  left_refused replies status e = grind (arith, common_steps, reached)
 
   -- if the outcome has only replies, what they show is right
   pub left_shown : (shown : Option Shown) (replies : List Reply) → whole ≡ accepted_with replies now next
       → shown ≡ shown_of (orders_of s q) q replies → QueryLeaves (Ok shown) q s next_cids now next
-  left_shown shown replies e is = (
-    ap (λ (x : Outcome). x.refusal) e,
-    is ∙ ap (λ (x : Outcome). shown_of (orders_of s q) q x.replies) (sym e),
-    reached whole now next (sym (ap (λ (x : Outcome). x.state) e)) (sym (ap (λ (x : Outcome). x.next_cids) e)),
-  )
+  left_shown shown replies e is = grind (arith, common_steps, reached)
 
   -- if memory was refused after all orders, a stop for lack of memory is right
   pub left_memory : IsReached whole now next → NoTextLeaves stop.Memory q s next_cids now next
@@ -109,16 +101,12 @@ module _ (s now : State) (next_cids next : List ℕ) (c : ℕ) (a : Ask) (o : Or
   -- if the only order of an ask is accepted, its reply is right
   pub only_accepted : (reply : Reply) → exchange_with (Ok reply) now next ≡ exchange_of s next_cids o
       → AskLeaves (Ok reply) c a s next_cids now next
-  only_accepted reply e =
-      left_shown s now next_cids next (One c a) (shown_by a reply) (reply ∷ [])
-      (ap (outcome_of s next_cids) only ∙ accepted_first s now next_cids next o [] reply e) refl
+  only_accepted reply e = grind (arith, common_steps, left_shown, accepted_first)
 
   -- if the only order of an ask is refused, a stop because of it is right
   pub only_refused : (status : Status) → exchange_with (Err status) now next ≡ exchange_of s next_cids o
       → NoTextLeaves (stop.Refused status) (One c a) s next_cids now next
-  only_refused status e =
-      left_refused s now next_cids next (One c a) [] status
-      (ap (outcome_of s next_cids) only ∙ refused_at_once s now next_cids next o [] status e)
+  only_refused status e = grind (arith, common_steps, left_refused, refused_at_once)
 
 -- a controller says how many errors it keeps, and its error log is read
 module _ (s now : State) (next_cids next : List ℕ) (c entries : ℕ) where
@@ -148,17 +136,12 @@ module _ (s now : State) (next_cids next : List ℕ) (c entries : ℕ) where
     pub second_refused : (status : Status)
         → exchange_with (Err status) last end ≡ exchange_of now next (order_of c k)
         → NoTextLeaves (stop.Refused status) (One c log) s next_cids last end
-    second_refused status e2 =
-        left_refused s last next_cids end (One c log) (told ∷ []) status
-        (begun ∙ ap (outcome_after (Ok told) now next) (refused_at_once now last next end (order_of c k) [] status e2))
+    second_refused status e2 = grind (arith, common_steps, left_refused, begun, refused_at_once)
 
     -- if both orders are accepted, the reply to the second one is right
     pub both_accepted : (reply : Reply) → exchange_with (Ok reply) last end ≡ exchange_of now next (order_of c k)
         → AskLeaves (Ok reply) c log s next_cids last end
-    both_accepted reply e2 =
-        left_shown s last next_cids end (One c log) (shown_by log reply) (told ∷ reply ∷ [])
-        (begun ∙ ap (outcome_after (Ok told) now next) (accepted_first now last next end (order_of c k) [] reply e2))
-        refl
+    both_accepted reply e2 = grind (arith, common_steps, left_shown, begun, accepted_first)
 
 -- ---- a request
 

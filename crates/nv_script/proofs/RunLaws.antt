@@ -1,13 +1,14 @@
 -- How the pieces of a run form the whole run.
 use Rattle.std.proofs.Common.{Bool, false, ◌||◌, ◌==◌, ◌≡◌, ◌∙◌, ℕ, ◌+◌, ◌<◌, ◌≤◌, List, [], ◌∷◌, ◌++◌, length, take}
-use Rattle.std.proofs.Common.{sym, ap, subst, append-nil, arith, inl, inr, ◌≢◌, ◌↔◌, refl, Option, None, Some}
+use Rattle.std.proofs.Common.{sym, ap, subst, append-nil, arith, inl, inr, ◌↔◌, Option, None, Some}
 use Rattle.std.proofs.Common.{Err}
+use Rattle.std.proofs.lemmas.Grind.{common_steps}
 use Rattle.std.specs.Prelude.{IfSome, replicate}
-use Rattle.std.specs.Io.KnownBytes.{Appends, Consumes, IsAtEnd, Keeps}
+use Rattle.std.specs.Io.KnownBytes.{Consumes, IsAtEnd, Keeps}
 use Rattle.std.proofs.lemmas.Bool.Decides.{nat_tests}
 use Rattle.std.proofs.lemmas.List.{length-append, length-take-le}
 use Rattle.nv_model.specs.State.{State}
-use Rattle.nv_script.specs.Cuts.{AreFailed, IsCutShort, Holds, Left, joined_lines}
+use Rattle.nv_script.specs.Cuts.{AreFailed, IsCutShort, Left, joined_lines}
 use Rattle.nv_driver.specs.inner.Driver.{error_without}
 use Rattle.nv_driver.specs.Geometry.{fault_of}
 use Rattle.nv_driver.specs.declared.error.DriverError.{DriverError}
@@ -15,7 +16,7 @@ use Rattle.nv_driver.specs.declared.error.DriverError.TheVariants as error
 use Rattle.nv_driver.specs.declared.geometry.Geometry.{Geometry as DriverGeometry}
 use Rattle.nv_driver.specs.declared.geometry_field.GeometryField.{GeometryField}
 use Rattle.nv_script.specs.Ends.{AllEnabled, AreFaults, Headline, IsEndOf, IsRun, Leaves, LeavesAll, RunState, Runs}
-use Rattle.nv_script.specs.Ends.{RunsFrom, WasRead, begun, end_without, left_by}
+use Rattle.nv_script.specs.Ends.{RunsFrom, WasRead, begun, end_without}
 use Rattle.nv_script.specs.inner.Feeding.{LastLeaves, PieceLeaves, Stands}
 use Rattle.nv_script.specs.Results.{Progress, whole}
 use Rattle.nv_script.specs.ScriptLines.{IsReadToEnd, as_line, has_stopped, pieces, script_lines}
@@ -34,12 +35,7 @@ pub read_to_end : (reads call before : ℕ) (script : SourceState) (count : ℕ)
     → script.calls ≡ before + 1 → (call + 1 ≡ reads → ⊥) → script.has_failed ≡ false
     → script.has_ended ≡ (count == 0) → (count ≡ 0 → IsAtEnd script.to_come) → count ≡ 0 → IsReadToEnd reads script
 read_to_end reads call before script count calls next one_more not_failed ended at_end none =
-    let more : script.calls ≢ reads = λ e. one_more (omega (arith, e, next, calls)) in
-    record {
-      not_stopped = grind (arith, nat_tests, not_failed, more);
-      has_ended = grind (arith, nat_tests, ended, none);
-      at_end = at_end none;
-    }
+    grind (arith, common_steps, nat_tests)
 
 -- if the last piece has a byte, it is the last line of the script
 pub last_line : (bytes : List ℕ) → 0 < length (pieces bytes).last
@@ -54,11 +50,7 @@ no_last bytes e = ap (λ x. (pieces bytes).ended ++ x) e ∙ append-nil (pieces 
 pub ends_whole : (s : State) (bytes : List ℕ) (q : Progress) (left : Left) (session : Session)
     → whole s (script_lines bytes) ≡ q → Stands q left session
     → LeavesAll session.status s bytes left
-ends_whole s bytes q left session e h = (
-  h.status
-      ∙ ap (λ (x : Progress). x.status) (sym e),
-  subst (λ (x : Progress). Holds left x.output x.messages x.state) (sym e) h.holds,
-)
+ends_whole s bytes q left session e h = grind (arith, common_steps)
 
 -- before anything is read, no bytes were read
 pub read_first : (script : SourceState) → script.given ≡ 0 → WasRead script script []
@@ -69,16 +61,7 @@ pub stands_first : (s : State) (left : Left) (session : Session) → left.out �
     → left.messages ≡ left.messages_before → left.state ≡ s
     → next_cids_of session.driver ≡ replicate (length s.controllers) 0 → session.number ≡ 0 → session.status ≡ 0
     → Stands (whole s (pieces []).ended) left session
-stands_first s left session eo em es er en et = record {
-  holds = record {
-    took_output = subst (λ x. Appends left.out_before x []) (sym eo) (Appends-same left.out_before);
-    took_messages = subst (λ x. Appends left.messages_before x []) (sym em) (Appends-same left.messages_before);
-    reached = es;
-  };
-  next = er;
-  number = en;
-  status = et;
-}
+stands_first s left session eo em es er en et = grind (arith, common_steps, Appends-same)
 
 -- if the bytes are known and were read to their end, what holds for the bytes that were read holds for them
 read_whole : (old new : Option (List ℕ)) (bytes : List ℕ) (P : List ℕ → Type 0) → Consumes old new bytes → IsAtEnd new
@@ -90,27 +73,12 @@ read_whole (Some xs) (Some ys) bytes P h k p = subst P (sym (h ∙ ap (λ z. byt
 -- a run from the subsystem as the first line finds it leaves what the headline says
 headline_with : (reads : ℕ) (end : RunEnd) (old new : RunState) → RunsFrom (begun old) reads end old new
     → Headline end old new
-headline_with reads end old new h status is =
-    let left = subst (λ x. Leaves x reads new.script (begun old) h.bytes (left_by old new)) is h.left in
-    let ended = subst (λ x. IsEndOf x reads new) is h.end_of in
-    read_whole old.script.to_come new.script.to_come h.bytes
-    (λ script. LeavesAll status (begun old) script (left_by old new)) h.was_read.first ended.0.at_end left
+headline_with reads end old new h status is = grind (arith, common_steps, read_whole)
 
 -- a run that was cut short in the last piece of a script was cut short
 pub last_cut : (end : RunEnd) (reads : ℕ) (script : SourceState) (s : State) (bytes : List ℕ) (left : Left)
     → IsReadToEnd reads script → LastLeaves (Err end) s bytes left → IsCutShort end reads script s bytes left
-last_cut end reads script s bytes left read h =
-    let ended = (pieces bytes).ended in
-    let last = (pieces bytes).last in
-    record {
-      before = ended;
-      line = last;
-      later = [];
-      lines = inr (read, h.0);
-      beginning = h.1;
-      at_once = omega (arith, length-joined ended last, length-pieces bytes);
-      ahead = omega (arith, length-joined ended last, length-pieces bytes);
-    }
+last_cut end reads script s bytes left read h = grind (arith, common_steps, length-joined, length-pieces)
 
 -- a run that was cut short in a line of a further piece was cut short
 pub piece_cut : (end : RunEnd) (reads : ℕ) (script : SourceState) (s : State) (bytes piece : List ℕ)
@@ -168,28 +136,18 @@ cut_ends Memory reads now h = h
 pub read_more : (old mid new : SourceState) (bytes buf : List ℕ) (count : ℕ) → WasRead old mid bytes
     → Consumes mid.to_come new.to_come (take count buf) → count ≤ length buf → new.given ≡ mid.given + count
     → WasRead old new (bytes ++ take count buf)
-read_more old mid new bytes buf count h k z e = record {
-  first = Consumes-join old.to_come mid.to_come new.to_come bytes (take count buf) h.first k;
-  count = omega (arith, h.count, length-taken bytes buf count z);
-}
+read_more old mid new bytes buf count h k z e = grind (arith, common_steps, Consumes-join, length-taken)
 
 -- a read that gave no byte leaves the bytes that were read
 pub read_none : (old mid new : SourceState) (bytes buf : List ℕ) (count : ℕ) → WasRead old mid bytes
     → Consumes mid.to_come new.to_come (take count buf) → count ≡ 0 → new.given ≡ mid.given + count
     → WasRead old new bytes
-read_none old mid new bytes buf count h k z e =
-    let bound : count ≤ length buf = omega arith in
-    subst (WasRead old new) (ap (λ c. bytes ++ take c buf) z ∙ append-nil bytes)
-    (read_more old mid new bytes buf count h k bound e)
+read_none old mid new bytes buf count h k z e = grind (arith, common_steps, append-nil, read_more)
 
 -- a read that failed leaves the bytes that were read
 pub read_fault : (old mid new : SourceState) (bytes : List ℕ) → WasRead old mid bytes → Keeps mid.to_come new.to_come
     → new.given ≡ mid.given + 0 → WasRead old new bytes
-read_fault old mid new bytes h k e = record {
-  first = subst (Consumes old.to_come new.to_come) (append-nil bytes)
-      (Consumes-join old.to_come mid.to_come new.to_come bytes [] h.first (Consumes-nothing mid.to_come new.to_come k));
-  count = omega (arith, h.count);
-}
+read_fault old mid new bytes h k e = grind (arith, common_steps, append-nil, Consumes-join, Consumes-nothing)
 
 -- ---- with or without a driver
 
@@ -209,18 +167,7 @@ pub with_driver : (g : DriverGeometry) (reads : ℕ) (end : RunEnd) {B : Type 0}
     (old new : RunState) (s : State) (enabled : List Bool) → fault_of g ≡ None → s ≡ begun old
     → RunsFrom s reads end (record old { subsystem = s; enabled = enabled }) new → AllEnabled new
     → Runs g reads end before after old new
-with_driver g reads end old new s enabled is same runs all =
-    inr (
-      is,
-      all,
-      record {
-        bytes = runs.bytes;
-        was_read = runs.was_read;
-        left = subst (λ (x : State). Leaves end reads new.script x runs.bytes (left_by old new)) same runs.left;
-        end_of = runs.end_of;
-        calls = runs.calls;
-      },
-    )
+with_driver g reads end old new s enabled is same runs all = grind (arith, common_steps)
 
 -- ---- the main promise
 
@@ -252,61 +199,17 @@ runs_geometry : (g : DriverGeometry) (reads : ℕ) (end : RunEnd) {B : Type 0} {
     (field : GeometryField) → Runs g reads end before after old new → (end ≡ Geometry field) ↔ (fault_of g ≡ Some field)
 runs_geometry g reads end old new field (inl h) =
     subst (λ x. (x ≡ Geometry field) ↔ (fault_of g ≡ Some field)) (sym h.0) (geometry_without (fault_of g) field)
-runs_geometry g reads end old new field (inr h) = (
-  λ e. absurd (subst (λ x. IsEndOf x reads new) e h.2.end_of),
-  λ e. let within = h.0 in absurd (cc),
-)
+runs_geometry g reads end old new field (inr h) = grind (arith, common_steps)
 
 -- ---- the faults
 
 -- a run that has its end by IsEndOf has the faults of AreFaults
 faults_with : (reads : ℕ) (end : RunEnd) (now : RunState) → IsEndOf end reads now → AreFaults reads end now
-faults_with reads (Status status) now h =
-    let stopped = h.0.not_stopped in
-    let out = h.1 in
-    let messages = h.2 in
-    record {
-      ready = λ e. absurd (cc);
-      out_write = (λ e. absurd (cc), λ k. absurd (cc));
-      message_write = (λ e. absurd (cc), λ k. absurd (cc));
-      read_fault = (λ e. absurd (cc), λ k. let stops = k.0 in absurd (cc));
-    }
-faults_with reads Read now h =
-    let out = h.1 in
-    let messages = h.2 in
-    record {
-      ready = λ e. absurd (cc);
-      out_write = (λ e. absurd (cc), λ k. absurd (cc));
-      message_write = (λ e. absurd (cc), λ k. absurd (cc));
-      read_fault = (λ e. (h.0, h.1, h.2, λ m. absurd (cc)), λ k. refl);
-    }
-faults_with reads OutWrite now h =
-    let out = h.0 in
-    let messages = h.1 in
-    record {
-      ready = λ e. absurd (cc);
-      out_write = (λ e. out, λ k. refl);
-      message_write = (λ e. absurd (cc), λ k. absurd (cc));
-      read_fault = (λ e. absurd (cc), λ k. let well = k.1 in absurd (cc));
-    }
-faults_with reads MessageWrite now h =
-    let out = h.0 in
-    let messages = h.1 in
-    record {
-      ready = λ e. absurd (cc);
-      out_write = (λ e. absurd (cc), λ k. absurd (cc));
-      message_write = (λ e. messages, λ k. refl);
-      read_fault = (λ e. absurd (cc), λ k. let well = k.2 in absurd (cc));
-    }
-faults_with reads Memory now h =
-    let out = h.0 in
-    let messages = h.1 in
-    record {
-      ready = λ e. absurd (cc);
-      out_write = (λ e. absurd (cc), λ k. absurd (cc));
-      message_write = (λ e. absurd (cc), λ k. absurd (cc));
-      read_fault = (λ e. absurd (cc), λ k. absurd (k.3 refl));
-    }
+faults_with reads (Status status) now h = grind (arith, common_steps)
+faults_with reads Read now h = grind (arith, common_steps)
+faults_with reads OutWrite now h = grind (arith, common_steps)
+faults_with reads MessageWrite now h = grind (arith, common_steps)
+faults_with reads Memory now h = grind (arith, common_steps)
 faults_with reads (Geometry field) now h = absurd h
 faults_with reads NoReady now h = absurd h
 
@@ -332,24 +235,13 @@ fresh_well reads now fresh some out messages =
 -- a run without a driver has the faults of AreFaults, if the streams were well before it
 faults_without : (o : Option GeometryField) (reads : ℕ) (now : RunState) → IsWell reads now
     → AreFaults reads (end_without o) now
-faults_without (Some field) reads now well =
-    let stopped = well.stopped in
-    let out = well.out in
-    let messages = well.messages in
-    record {
-      ready = λ e. absurd (cc);
-      out_write = (λ e. absurd (cc), λ k. absurd (cc));
-      message_write = (λ e. absurd (cc), λ k. absurd (cc));
-      read_fault = (λ e. absurd (cc), λ k. let stops = k.0 in absurd (cc));
-    }
+faults_without (Some field) reads now well = grind (arith, common_steps)
 faults_without None reads now well = faults_with reads Memory now (well.out, well.messages)
 
 -- each run has the faults of AreFaults, if the streams were well before it
 faults : (g : DriverGeometry) (reads : ℕ) (end : RunEnd) {B : Type 0} {before after : B} (old new : RunState)
     → IsWell reads old → Runs g reads end before after old new → AreFaults reads end new
-faults g reads end old new well (inl h) =
-    subst (λ x. AreFaults reads x new) (sym h.0)
-    (faults_without (fault_of g) reads new (subst (IsWell reads) (sym h.2) well))
+faults g reads end old new well (inl h) = grind (arith, common_steps, faults_without)
 faults g reads end old new well (inr h) =
     faults_with reads end new h.2.end_of
 

@@ -1,9 +1,9 @@
 -- Whatever is accepted is shown.
 use Rattle.std.proofs.Common.{◌≡◌, ◌∙◌, ℕ, ◌/◌, ◌≤◌, zero, suc, arith, ap, refl, sym, Bool, true, false, List, []}
-use Rattle.std.proofs.Common.{◌∷◌, ◌++◌, append-nil, append_assoc, length, get_or, map, Option, None, Some}
+use Rattle.std.proofs.Common.{◌∷◌, ◌++◌, append-nil, append_assoc, get_or, map, Option, None, Some}
 use Rattle.std.proofs.Common.{Result, Ok, Err}
+use Rattle.std.proofs.lemmas.Grind.{common_steps}
 use Rattle.std.specs.Prelude.{IsSome, flat_map, if◌then◌else◌, nat_lt}
-use Rattle.std.specs.List.{range_with_len}
 use Rattle.std.specs.Option.{option_map_or}
 use Rattle.std.proofs.lemmas.Bool.Decides.{nat_tests}
 use Rattle.std.proofs.lemmas.List.{map-append}
@@ -20,18 +20,15 @@ use Rattle.nv_command.specs.declared.reply.Reply.{Reply}
 use Rattle.nv_command.specs.declared.reply.Reply.TheVariants as reply
 use Rattle.nv_command.specs.declared.status_code.StatusCode.TheVariants.{InvalidFieldInCommand}
 use Rattle.nv_layout.specs.Feature.{feature_of}
-use Rattle.nv_layout.specs.declared.error_entry.ErrorEntry.{ErrorEntry}
 use Rattle.nv_layout.specs.declared.feature.Feature.{Feature}
-use Rattle.nv_layout.specs.declared.smart.Smart.{Smart}
 use Rattle.nv_layout.specs.declared.cqe.Status.{Status}
 use Rattle.nv_line.specs.declared.request.Ask.{Ask}
 use Rattle.nv_line.specs.declared.request.Ask.TheVariants as ask
 use Rattle.nv_line.specs.declared.request.Query.{Query}
 use Rattle.nv_line.specs.declared.request.Query.TheVariants as query
 use Rattle.nv_model.proofs.ManagementLaws.{none_holds}
-use Rattle.nv_model.specs.Features.{get_rows, set_rows, supported_rows}
-use Rattle.nv_model.specs.Identify.{active_reply}
-use Rattle.nv_model.specs.Logs.{entry_count, log_reply}
+use Rattle.nv_model.specs.Features.{supported_rows}
+use Rattle.nv_model.specs.Logs.{log_reply}
 use Rattle.nv_model.specs.Conditions.{active_nsids}
 use Rattle.nv_model.specs.Meaning.{refusal_of}
 use Rattle.nv_model.specs.Meaning.{reply_of}
@@ -46,9 +43,9 @@ use Rattle.nv_print.specs.declared.shown.Shown.{Shown}
 use Rattle.nv_script.specs.Outcomes.{Act, Send}
 use Rattle.nv_script.specs.EachShown.{EachIsShown, IsListed, IsShown, attached_numbers, device_numbers}
 use Rattle.nv_script.specs.Outcomes.{Exchange, Order, exchange_by, exchange_of, order_of}
-use Rattle.nv_script.specs.Orders.{errors_command, namespace_orders, orders_of_controller, orders_of_list}
+use Rattle.nv_script.specs.Orders.{namespace_orders, orders_of_controller}
 use Rattle.nv_script.specs.Outcomes.{Outcome, outcome_after, outcome_of}
-use Rattle.nv_script.specs.Shown.{feature_set, feature_value, listing_of, listing_told, no_listing}
+use Rattle.nv_script.specs.Shown.{feature_set, feature_value, listing_of, listing_told}
 use Rattle.nv_script.specs.Shown.{shown_by, shown_of_one}
 use Rattle.nv_script.specs.declared.listing.Listing.{Listing}
 
@@ -153,13 +150,8 @@ module _ (s : State) (next_cids : List ℕ) (c : ℕ) where
   command_is_shown : (k : Command) → refusal_of s c k ≡ None
       → IsSome (shown_by (ask.Send k) (received k (reply_of s c k)))
   command_is_shown (command.GetFeature q) e =
-      let is = supported_is_feature s c q.fid (get_rows s c q) e in
-      let selects = none_holds (get_rows s c q is.0) is.2 in
-      value_is_shown (feature_of q.fid) (select_of q.sel) is.0 _ is.1
-      (select_is_known q.sel (up_to_three q.sel selects.0))
-  command_is_shown (command.SetFeature x) e =
-      let is = supported_is_feature s c x.fid (set_rows s c x) e in
-      set_is_shown (feature_of x.fid) is.0 x.value x.save is.1
+      grind (arith, common_steps, supported_is_feature, none_holds, value_is_shown, select_is_known, up_to_three)
+  command_is_shown (command.SetFeature x) e = grind (arith, common_steps, supported_is_feature, set_is_shown)
   command_is_shown (command.GetLog q) e =
       log_is_shown (ask.Send (command.GetLog q)) (q.dwords / 16) (log_asked q.lid)
   command_is_shown k e = refl
@@ -168,11 +160,7 @@ module _ (s : State) (next_cids : List ℕ) (c : ℕ) where
   one_is_shown : (a : Ask) → IsShown s next_cids (query.One c a)
   one_is_shown (ask.Send k) e = only_is_shown (ask.Send k) k (command_is_shown k) e
   one_is_shown ask.Reset e = refl
-  one_is_shown (ask.ErrorLog entries) e =
-      let first = exchange_by (Send command.IdentifyController) s next_cids c in
-      last_is_shown first.state first.next_cids c
-      (λ later. shown_of_one (ask.ErrorLog entries) (reply_of s c command.IdentifyController ∷ later))
-      (errors_command entries (entry_count s c)) (λ _. refl) e
+  one_is_shown (ask.ErrorLog entries) e = grind (arith, common_steps, last_is_shown)
 
 -- ---- each controller is asked
 
@@ -204,10 +192,7 @@ module _ (s : State) (next_cids : List ℕ) (c : ℕ) (l : Listing) where
       → answer_received (command.IdentifyNamespace n)
       (step_by refusal s c (command.IdentifyNamespace n) (get_or next_cids c 0)).answer ≡ Ok reply
       → Tells (Send (command.IdentifyNamespace n)) reply
-  namespace_told n None reply e =
-      let same : active_reply s c n ≡ reply = cc e in
-      ap (λ r. places_in (listing_told c l (Send (command.IdentifyNamespace n)) (Ok r))) (sym same)
-      ∙ map-append device_numbers l.devices _
+  namespace_told n None reply e = grind (arith, common_steps, map-append)
   namespace_told n (Some r) reply e = absurd (cc e)
 
   -- the answer to any accepted act lists the namespace that it asks for
@@ -237,10 +222,7 @@ module _ (s : State) (next_cids : List ℕ) (o : Order) (os : List Order) (l : L
       → (after answer).refusal ≡ None
       → places_in (listing_of l (o ∷ os) (map Ok (after answer).replies)) ≡ places_in l ++ flat_map order_place (o ∷ os)
   one_more later (Err status) is e = absurd (cc e)
-  one_more later (Ok reply) is e =
-      later (listing_told o.controller l o.act (Ok reply)) e
-      ∙ ap (λ ps. ps ++ flat_map order_place os) (told s next_cids o.controller l o.act reply is)
-      ∙ append_assoc (places_in l) (order_place o) (flat_map order_place os)
+  one_more later (Ok reply) is e = grind (arith, common_steps, told, append_assoc)
 
 -- accepted orders are listed in order, whatever was listed before
 all_listed : (orders : List Order) (s : State) (next_cids : List ℕ) (l : Listing) → AreListed orders s next_cids l
@@ -266,9 +248,7 @@ asked_of_controllers s (c ∷ cs) =
 
 -- `list` shows each attached namespace once if none of its orders is refused
 list_is_shown : (s : State) (next_cids : List ℕ) → IsListed s next_cids
-list_is_shown s next_cids e =
-    all_listed (orders_of_list s) s next_cids no_listing e
-    ∙ asked_of_controllers s (range_with_len 0 (length s.controllers))
+list_is_shown s next_cids e = grind (arith, common_steps, all_listed, asked_of_controllers)
 
 -- each query shows something if none of its orders is refused
 is_shown : (s : State) (next_cids : List ℕ) (q : Query) → IsShown s next_cids q

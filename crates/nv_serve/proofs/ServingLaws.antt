@@ -1,5 +1,6 @@
 -- What requests leave, one after another.
-use Rattle.std.proofs.Common.{◌≡◌, ◌∙◌, ℕ, ◌<◌, ◌≤◌, List, ap, arith, length, refl, subst, sym, true}
+use Rattle.std.proofs.Common.{◌≡◌, ◌∙◌, ◌++◌, ℕ, ◌<◌, ◌≤◌, List, ap, arith, length, refl, subst, sym, take, true}
+use Rattle.std.proofs.Math.Seq.{take-append_seam}
 use Rattle.nv_layout.specs.declared.sqe.Sqe.{Sqe}
 use Rattle.nv_model.specs.Step.{reset}
 use Rattle.nv_bus.specs.Bus.{BusValue}
@@ -13,10 +14,15 @@ use Rattle.nv_serve.specs.Answer.{Answer}
 use Rattle.nv_serve.specs.Serving.{IsAnswerByKind, IsAnswerIf, IsAnswerToHeader, IsReturned, Point, after_entry}
 use Rattle.nv_serve.specs.Serving.{after_header, after_if, after_kind, after_reset, has_controller, point}
 use Rattle.nv_serve.specs.Handling.{Calls, Does, DoesKind, kind_done}
+use Rattle.nv_serve.specs.declared.answer.AnswerHeader.{AnswerHeader}
 use Rattle.nv_serve.specs.declared.header.Header.{Header}
 use Rattle.nv_serve.specs.declared.header.Kind.{Kind}
 use Rattle.nv_serve.specs.declared.header.Kind.TheVariants.{Unknown}
 use Rattle.nv_serve.specs.inner.Serving.{point_of}
+
+-- an answer whose data is at the front of a buffer
+abbrev pub front : AnswerHeader → List ℕ → Answer
+front a buffer = record { header = a; payload = take a.length buffer }
 
 -- an entry that the driver sent leaves the point after that entry
 pub sent_on : (b b' : BusValue) (d : DriverValue) {d' : DriverValue} (c : ℕ) (e : Sqe) (bytes : List ℕ)
@@ -40,25 +46,32 @@ pub left_by : (p : Point) (h : Header) (bytes : List ℕ) {after : Point} → h.
 left_by p h bytes below is =
     let there : has_controller p h ≡ true = grind (arith) in is ∙ sym (ap (λ b. after_if b p h bytes) there)
 
--- and has this answer
-pub answered_by : (p : Point) (h : Header) (bytes : List ℕ) (a : Answer) → h.controller < length p.next_cids
-    → IsAnswerByKind h.kind p h bytes a → IsAnswerToHeader p h bytes a
-answered_by p h bytes a below is =
-    let there : has_controller p h ≡ true = grind (arith) in subst (λ b. IsAnswerIf b p h bytes a) (sym there) is
+-- and this is its answer, whose data is at the front of a buffer
+pub answered_by : (p : Point) (h : Header) (bytes buffer : List ℕ) {kind : Kind} {header a : AnswerHeader}
+    → h.controller < length p.next_cids → h.kind ≡ kind → a ≡ header
+    → IsAnswerByKind kind p h bytes (front header buffer) → IsAnswerToHeader p h bytes (front a buffer)
+answered_by p h bytes buffer {kind} {header} {a} below kind_is same is =
+    let there : has_controller p h ≡ true = grind (arith) in
+    subst (λ b. IsAnswerIf b p h bytes (front a buffer)) (sym there)
+    (subst (λ k. IsAnswerByKind k p h bytes (front a buffer)) (sym kind_is)
+    (subst (λ x. IsAnswerByKind kind p h bytes (front x buffer)) (sym same) is))
 
--- what the driver returned for an entry is the completion and the data of its step
-pub returned_by : (b : BusValue) (d : DriverValue) (c : ℕ) (e : Sqe) (bytes : List ℕ) {told : Told} (out : List ℕ)
-    → c < length d.pairs → told ≡ told_by (entry_step b.state c e bytes (pair_at d.pairs c).next_cid).answer
+-- what the driver returned for an entry, with its data at the front of a buffer, is the completion and the data of its
+-- step
+pub returned_by : (b : BusValue) (d : DriverValue) (c : ℕ) (e : Sqe) (bytes : List ℕ) {told : Told} {out : List ℕ}
+    (rest : List ℕ) {n : ℕ} → c < length d.pairs
+    → told ≡ told_by (entry_step b.state c e bytes (pair_at d.pairs c).next_cid).answer
     → IsReceived (asked_in b.state c e bytes) (entry_step b.state c e bytes (pair_at d.pairs c).next_cid).answer out
-    → IsReturned (point_of b d) c e bytes (length out) told out
-returned_by b d c e bytes out below answer received =
+    → length out ≡ n → IsReturned (point_of b d) c e bytes n told (take n (out ++ rest))
+returned_by b d c e bytes {told} {out} rest {n} below answer received full =
     let at = next_cid_is d c below in
-    record {
+    subst (λ xs. IsReturned (point_of b d) c e bytes n told xs)
+    (sym (ap (λ m. take m (out ++ rest)) (sym full) ∙ take-append_seam out rest)) (record {
       told_is = answer ∙ ap (λ n. told_by (entry_step b.state c e bytes n).answer) at;
       received =
           subst (λ n. IsReceived (asked_in b.state c e bytes) (entry_step b.state c e bytes n).answer out) at received;
-      room = refl;
-    }
+      room = full;
+    })
 
 -- a driver does what a request of this kind says if its controller exists
 pub does_kind : {B : Type 0} (k : Calls B) (d : DriverValue) (h : Header) (bytes : List ℕ) (old : B)

@@ -5,7 +5,7 @@ use Rattle.nv_bus.specs.Bus.{BusValue}
 use Rattle.nv_driver.specs.BringingUp.{BusTurn, EnablesFirst, Read, Restarts, TailWrite, Write, Zeroes}
 use Rattle.nv_driver.specs.Driver.{after_command, after_reset, driver_with}
 use Rattle.nv_driver.specs.Layout.{pages_of_entry}
-use Rattle.nv_driver.specs.Passing.{Passes}
+use Rattle.nv_driver.specs.Sending.{Passes}
 use Rattle.nv_driver.specs.Settled.{DriverValue}
 use Rattle.nv_driver.specs.declared.geometry.Geometry.{Geometry}
 use Rattle.nv_serve.specs.Header.{Request, header_of}

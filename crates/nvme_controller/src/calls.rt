@@ -49,7 +49,13 @@ fn machine_of(alloc: Global, file: &[u8]) -> Result<Box<Machine>, SubsystemError
 /// Opens the machine of a subsystem file in a closed handle. Returns 0, or the number of the file's
 /// first fault, whose text is written to `fault`.
 #[tactic(auto, using(crate::proofs::OpenLaws::faults))]
-fn open(alloc: Global, file: &[u8], handle: &mut Handle, fault: &mut [u8]) -> i32
+#[unsafe(no_mangle)]
+pub extern "C" fn nvme_handle_open(
+    alloc: Global,
+    file: &[u8],
+    handle: &mut Handle,
+    fault: &mut [u8],
+) -> i32
     requires closed { handle.old.machine ≡ None }
     ensures opens { Opens (subsystem file.now) result handle.old.machine handle.new.machine }
     ensures open { result ≡ pos 0 → IsOpen handle.new.machine }
@@ -71,26 +77,6 @@ fn open(alloc: Global, file: &[u8], handle: &mut Handle, fault: &mut [u8]) -> i3
     }
 }
 
-/// Opens the machine of a subsystem file in a closed handle. Returns 0, or the number of the file's
-/// first fault, whose text is written to `fault`.
-#[unsafe(no_mangle)]
-pub extern "C" fn nvme_handle_open(
-    alloc: Global,
-    file: &[u8],
-    handle: &mut Handle,
-    fault: &mut [u8],
-) -> i32
-    requires closed { handle.old.machine ≡ None }
-    ensures opens { Opens (subsystem file.now) result handle.old.machine handle.new.machine }
-    ensures open { result ≡ pos 0 → IsOpen handle.new.machine }
-    ensures fault { Tells (subsystem file.now) result fault.new }
-    ensures text { is_utf8 file.now ≡ false
-        → TellsFault SubsystemError.NotToml result fault.new }
-    ensures blank { IsBlankText file.now → TellsFault no_version result fault.new }
-{
-    open(alloc, file, handle, fault)
-}
-
 /// Opens the machine of the demonstration subsystem in a closed handle. Returns 0, or the number of
 /// the fault, which is too little memory.
 #[unsafe(no_mangle)]
@@ -99,7 +85,7 @@ pub extern "C" fn nvme_handle_demo(alloc: Global, handle: &mut Handle) -> i32
     ensures opens { Opens (subsystem demo_text) result handle.old.machine handle.new.machine }
     ensures open { result ≡ pos 0 → IsOpen handle.new.machine }
 {
-    open(alloc, DEMO.as_bytes(), handle, &mut [])
+    nvme_handle_open(alloc, DEMO.as_bytes(), handle, &mut [])
 }
 
 /// Closes the handle and drops its machine.

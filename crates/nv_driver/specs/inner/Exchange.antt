@@ -1,5 +1,5 @@
 -- What a driver's calls leave behind: what no public contract reaches.
-use Rattle.std.specs.Prelude.{◌≡◌, ℕ, ◌+◌, ◌-◌, ◌≤◌, List, length, slice_set}
+use Rattle.std.specs.Prelude.{◌≡◌, ℕ, ◌+◌, ◌-◌, ◌*◌, ◌≤◌, List, length, slice_set}
 use Rattle.nv_host.specs.Bytes.{bytes_at}
 use Rattle.nv_prp.specs.Buffer.{IsApart}
 use Rattle.nv_bus.specs.Bus.{BusValue, bank_at}
@@ -9,6 +9,13 @@ use Rattle.nv_driver.specs.Quiet.{pair_value}
 use Rattle.nv_driver.specs.Settled.{end_of}
 use Rattle.nv_driver.specs.declared.geometry.Geometry.{Geometry}
 use Rattle.nv_driver.specs.declared.queue_pair.QueuePair.{QueuePair as QueuePairFields}
+
+-- bytes that are in no ring and no page of the queue pair don't change
+abbrev pub KeepsOutside : ℕ → QueuePair → List ℕ → List ℕ → Type 0
+KeepsOutside page_size l old new =
+    (from n : ℕ) → IsApart l.sq (64 * l.depth) from n → IsApart l.cq (16 * l.depth) from n
+    → IsApart (l.first_page * page_size) (l.page_count * page_size) from n
+    → bytes_at new from n ≡ bytes_at old from n
 
 -- bytes before `end` that are outside the queue pair don't change
 abbrev pub KeepsBelow : ℕ → ℕ → QueuePair → List ℕ → List ℕ → Type 0

@@ -3,35 +3,17 @@ use Rattle.nv_layout.proofs.IdentifyLaws.{id_ctrl_back, id_ns_back, lbaf_read_ba
 use Rattle.nv_layout.proofs.RecordLaws.{cqe_back, ctrl_list_back, ns_list_back, sqe_back, status_back}
 use Rattle.nv_layout.proofs.reads_back.Goals as goal
 
-pub returns-clause-sqe : goal.returns-clause-sqe
-returns-clause-sqe c = sqe_back
-
-pub returns-clause-cqe : goal.returns-clause-cqe
-returns-clause-cqe c = cqe_back
-
-pub returns-clause-status : goal.returns-clause-status
-returns-clause-status c = status_back
-
-pub returns-clause-id_ns : goal.returns-clause-id_ns
-returns-clause-id_ns c = id_ns_back
-
-pub returns-clause-lbaf : goal.returns-clause-lbaf
-returns-clause-lbaf c = lbaf_read_back
-
-pub returns-clause-new_namespace : goal.returns-clause-new_namespace
-returns-clause-new_namespace c = new_namespace_back
-
-pub returns-clause-ns_list : goal.returns-clause-ns_list
-returns-clause-ns_list c = ns_list_back
-
-pub returns-clause-ctrl_list : goal.returns-clause-ctrl_list
-returns-clause-ctrl_list c = ctrl_list_back
-
-pub returns-clause-id_ctrl : goal.returns-clause-id_ctrl
-returns-clause-id_ctrl c = id_ctrl_back
-
-pub returns-clause-smart : goal.returns-clause-smart
-returns-clause-smart c = smart_back
-
-pub returns-clause-error_entry : goal.returns-clause-error_entry
-returns-clause-error_entry c = error_entry_back
+pub returns : goal.returns
+returns c = record {
+  sqe = sqe_back;
+  cqe = cqe_back;
+  status = status_back;
+  id_ctrl = id_ctrl_back;
+  id_ns = id_ns_back;
+  lbaf = lbaf_read_back;
+  new_namespace = new_namespace_back;
+  ns_list = ns_list_back;
+  ctrl_list = ctrl_list_back;
+  smart = smart_back;
+  error_entry = error_entry_back;
+}

@@ -1,15 +1,22 @@
-use Rattle.std.proofs.Common.{◌∙◌, ap, arith, length, rules, subst, sym}
-use Rattle.nv_driver.proofs.Words.{Batch, HasAnswers, Run}
-use Rattle.nv_driver.specs.inner.Pace.{IsPaced}
-use Rattle.nv_driver.proofs.RoundLaws.{all_collected, answers_all, begins_all, ends_all, comes_further, run_is}
+use Rattle.std.proofs.Common.{◌<◌, ◌≤◌, ◌∙◌, List, ap, arith, length, refl, rules, subst, sym}
+use Rattle.nv_driver.proofs.Words.{Batch, IsLeft, Request, Run, after_some, limit_of, pair_value, side}
+use Rattle.nv_driver.specs.Schedule.{state_after_all}
+use Rattle.nv_driver.specs.UnderWay.{numbered_of}
+use Rattle.nv_driver.specs.inner.Exchange.{KeepsOutside}
+use Rattle.nv_driver.specs.inner.UnderWay.{AreReceived}
+use Rattle.nv_driver.proofs.EndLaws.{HasEnded, all_collected, begins_all, comes_further, ends_all, run_is}
+use Rattle.nv_driver.proofs.RoundLaws.{received_on}
+use Rattle.nv_driver.proofs.batch.exchange_all.Given.{Over}
 use Rattle.nv_driver.proofs.batch.exchange_all.Goals as goal
 
 pub loop-batch-init : goal.loop-batch-init
 loop-batch-init g c =
     let asked = c.requires.1.1 in
-    let begun = begins_all g.B.Bus.was_written g.B.Ringing.was_rung g.B.Bus.was_turned c.args.bus.now asked.0
-    (search rules) asked.1.0 asked.1.1.0 asked.1.1.1 in
-    record { under_way = begun.0; answers = begun.1; near = omega (arith, asked.1.0.geometry.pace) }
+    let ready = asked.1.0 in
+    let can = rw (ap (λ (r : Run). limit_of r.bus.state r.controller) (run_is asked.0)) at asked.1.1.0.can in
+    let u = begins_all g.B.Bus.was_written g.B.Ringing.was_rung g.B.Bus.was_turned c.args.bus.now asked.0
+    (search rules) ready can in
+    record { under_way = u; received = asked.1.1.1; near = omega (arith, u.begun.geometry.pace) }
 
 pub turn-requires : goal.turn-requires
 turn-requires g c κs within =
@@ -18,21 +25,30 @@ turn-requires g c κs within =
     let collected = ap (λ (b : Batch). b.collected) s.batch in
     let sent = ap (λ (b : Batch). b.sent) s.batch in
     let told = ap (λ (b : Batch). b.told) s.batch in
-    let run = run_is c.requires.1.1.0 in
-    let many = ap (λ (r : Run). length r.commands) run in (
+    let of = c.requires.1.1.1.1.0 in
+    let more : c.loop-batch.batch.collected < length g.begun.run.requests = omega (
+      arith,
+      c.loop-batch-test.true,
+      c.len.ensures (limit_of g.begun.run.bus.state g.begun.run.controller),
+      ap (λ (qs : List Request). length qs) of.requests,
+    ) in (
       search rules,
       (
         search rules,
         (
-          ap (λ (r : Run). r.commands) (sym run),
+          of,
           (
             s.under_way,
             (
-              subst (λ n. HasAnswers g.begun.run n c.loop-batch.answers) (sym collected) i.answers,
+              subst (λ n. AreReceived c.args.requests g.begun.run n c.loop-batch.answers c.send.new.host.taken
+                  (g.M.PagedMemory.bytes c.send.new.host.mem) c.send.new.host.last) (sym collected)
+                  (received_on c.args.requests c.loop-batch.answers c.loop-batch.host.taken c.send.new.host.taken
+                  (g.M.PagedMemory.bytes c.loop-batch.host.mem) (g.M.PagedMemory.bytes c.send.new.host.mem)
+                  c.loop-batch.host.last c.send.new.host.last of more i.received),
               (
-                omega (arith, c.loop-batch-test.true, collected, many),
+                omega (arith, more, collected),
                 (
-                  omega (arith, sent, collected, many),
+                  omega (arith, sent, collected),
                   omega (arith, i.near, told, collected),
                 ),
               ),
@@ -48,29 +64,57 @@ loop-batch-smaller g c =
     let e = c.turn.ensures in
     let collected = ap (λ (b : Batch). b.collected) s.batch in
     let told = ap (λ (b : Batch). b.told) s.batch in
-    comes_further _ c.loop-batch.batch c.turn.new.self (omega (arith, c.loop-batch-test.true))
+    let more : c.loop-batch.batch.collected < length g.begun.run.requests = omega (
+      arith,
+      c.loop-batch-test.true,
+      c.len.ensures (limit_of g.begun.run.bus.state g.begun.run.controller),
+      ap (λ (qs : List Request). length qs) c.requires.1.1.1.1.0.requests,
+    ) in
+    comes_further _ c.loop-batch.batch c.turn.new.self more
     (omega (arith, e.count, collected)) (λ same. let none = e.none (same ∙ sym collected) in
     (omega (arith, none.0, told, collected), none.1 ∙ collected))
 
-pub returns-clause-answers : goal.returns-clause-answers
-returns-clause-answers g c =
+-- as many answers were collected as there are requests
+enough : (g : Over) (c : goal.After-tell g) → length g.begun.run.requests ≤ c.loop-batch.batch.collected
+enough g c = omega (
+  arith,
+  c.loop-batch-test.false,
+  c.len.ensures (limit_of g.begun.run.bus.state g.begun.run.controller),
+  ap (λ (qs : List Request). length qs) c.requires.1.1.1.1.0.requests,
+)
+
+-- the run has ended
+ended : (g : Over) (c : goal.After-tell g) → HasEnded g.B.Bus.was_written g.B.Ringing.was_rung g.B.Bus.was_turned
+    g.begun.start g.begun.run (g.M.PagedMemory.page_len c.args.host.now.mem) (g.B.Bus.meaning c.tell.new.bus)
+    c.tell.new.bus c.tell.new.self (g.M.PagedMemory.page_len c.loop-batch.host.mem)
+    (g.M.PagedMemory.bytes c.loop-batch.host.mem)
+ended g c = ends_all g.B.Bus.meaning refl c.loop-batch.invariant.under_way (enough g c) c.tell.ensures.told
+    c.tell.ensures.written c.tell.ensures.silent (c.requires.1.1.1.0.page_size
+    ∙ ap (λ (r : Run). r.geometry.page_size) (sym (run_is c.requires.1.1.0)))
+
+pub returns-clause-received : goal.returns-clause-received
+returns-clause-received g c =
     let i = c.loop-batch.invariant in
-    let run = run_is c.requires.1.1.0 in
-    answers_all run i.answers (all_collected run i.under_way (omega (arith, c.loop-batch-test.false))).1
+    subst (λ n. AreReceived c.args.requests g.begun.run n c.loop-batch.answers c.loop-batch.host.taken
+    (g.M.PagedMemory.bytes c.loop-batch.host.mem) c.loop-batch.host.last)
+    (all_collected refl i.under_way (enough g c)).1 i.received
 
 pub returns-clause-state : goal.returns-clause-state
-returns-clause-state g c = let i = c.loop-batch.invariant in
-    (ends_all g.B.Bus.meaning (run_is c.requires.1.1.0) i.under_way (omega (arith, c.loop-batch-test.false))
-    c.tell.ensures.told c.tell.ensures.written c.tell.ensures.silent c.requires.1.1.1.0.page_size).state
+returns-clause-state g c = (ended g c).state ∙ ap (λ (r : Run). state_after_all r.controller r.bus.state
+    (numbered_of g.begun.run)) (run_is c.requires.1.1.0)
 
 pub returns-clause-paced : goal.returns-clause-paced
-returns-clause-paced g c = let i = c.loop-batch.invariant in
-    subst (λ x. IsPaced g.B.Bus.was_written g.B.Ringing.was_rung g.B.Bus.was_turned x g.begun.start c.tell.new.bus
-    (g.B.Bus.meaning c.tell.new.bus) (g.M.PagedMemory.bytes c.loop-batch.host.mem)) (sym (run_is c.requires.1.1.0))
-    (ends_all g.B.Bus.meaning (run_is c.requires.1.1.0) i.under_way (omega (arith, c.loop-batch-test.false))
-    c.tell.ensures.told c.tell.ensures.written c.tell.ensures.silent c.requires.1.1.1.0.page_size).paced
+returns-clause-paced g c = (ended g c).paced
+
+pub returns-clause-others : goal.returns-clause-others
+returns-clause-others g c =
+    subst (λ (r : Run). KeepsOutside r.geometry.page_size (pair_value r.pair) r.bytes
+    (g.M.PagedMemory.bytes c.loop-batch.host.mem)) (run_is c.requires.1.1.0) (ended g c).others
 
 pub returns-clause-left : goal.returns-clause-left
-returns-clause-left g c = let i = c.loop-batch.invariant in
-    (ends_all g.B.Bus.meaning (run_is c.requires.1.1.0) i.under_way (omega (arith, c.loop-batch-test.false))
-    c.tell.ensures.told c.tell.ensures.written c.tell.ensures.silent c.requires.1.1.1.0.page_size).left
+returns-clause-left g c =
+    let size = g.M.PagedMemory.page_len c.args.host.now.mem in
+    subst (λ (r : Run). IsLeft r.geometry r.controller (length r.bytes) (after_some (length g.begun.run.requests)
+    (pair_value r.pair)) (side r.bus r.pair size r.bytes) (side (g.B.Bus.meaning c.tell.new.bus) c.tell.new.self
+    (g.M.PagedMemory.page_len c.loop-batch.host.mem) (g.M.PagedMemory.bytes c.loop-batch.host.mem)))
+    (run_is c.requires.1.1.0) (ended g c).left

@@ -1,6 +1,6 @@
 use Rattle.std.proofs.Common.{length}
 use Rattle.nv_driver.specs.inner.Pace.{IsToldInTime}
-use Rattle.nv_driver.specs.inner.UnderWay.{HasAnswers, left_of}
+use Rattle.nv_driver.specs.inner.UnderWay.{AreReceived, left_of}
 use Rattle.nv_driver.specs.UnderWay.{IsUnderWay}
 use Rattle.nv_driver.proofs.batch.exchange_all.Given as goal
 
@@ -15,9 +15,10 @@ invariant-loop-batch g l = record {
   under_way : IsUnderWay g.B.Bus.was_written g.B.Ringing.was_rung g.B.Bus.was_turned g.begun.start g.begun.run
       l.batch.sent l.batch.collected l.batch (g.B.Bus.meaning l.bus) l.bus l.pair
       (g.M.PagedMemory.page_len l.host.mem) (g.M.PagedMemory.bytes l.host.mem) l.host.taken;
-  answers : HasAnswers g.begun.run l.batch.collected l.answers;
+  received : AreReceived l.requests g.begun.run l.batch.collected l.answers l.host.taken
+      (g.M.PagedMemory.bytes l.host.mem) l.host.last;
   near : IsToldInTime g.begun.run l.batch;
 }
 
 abbrev pub decreases-loop-batch : goal.decreases-loop-batch
-decreases-loop-batch g l = left_of (length l.commands) l.batch
+decreases-loop-batch g l = left_of (length g.begun.run.requests) l.batch

@@ -1,11 +1,9 @@
 use Rattle.std.proofs.Common.{◌≡◌, ◌∙◌, ◌++◌, ◌<◌, ◌≤◌, [], ap, arith, drop, length, refl, subst, sym, take}
-use Rattle.std.proofs.Math.Seq.{take-append_seam}
 use Rattle.std.proofs.lemmas.List.{length-map, length-take-le}
 use Rattle.nv_driver.specs.BringingUp.{Still}
 use Rattle.nv_serve.specs.Handling.{calls}
 use Rattle.nv_serve.specs.Header.{wanted_length}
-use Rattle.nv_serve.specs.Serving.{IsAnswerByKind, IsReturned, after_entry, list_entry, returned}
-use Rattle.nv_serve.specs.declared.answer.AnswerHeader.{AnswerHeader}
+use Rattle.nv_serve.specs.Serving.{IsReturned, after_entry, returned}
 use Rattle.nv_serve.specs.declared.header.Kind.TheVariants.{Entry, Reset, List as ListKind, Unknown}
 use Rattle.nv_serve.specs.inner.Serving.{point_of}
 use Rattle.nv_serve.proofs.ServingLaws.{does_kind, does_nothing}
@@ -20,29 +18,13 @@ returns-in-Entry-clause-answer g c =
     let below : h.controller < length d.pairs =
     omega (arith, c.if-from-controllers.false, c.from.ensures, c.controllers-controllers.ensures) in
     let sent = c.passthrough-told.ensures in
-    let told = c.passthrough-told.result in
-    let out = c.passthrough-told.new.out in
-    let rest = drop c.wanted_length-wanted.result c.args.received.now in
     let wanted = c.wanted_length-wanted in
     let within : wanted.result ≤ length c.args.received.now =
     omega (arith, wanted.ensures.few, c.requires.few, c.requires.long) in
-    let full : length out ≡ wanted_length h =
-    sent.room ∙ length-take-le wanted.result c.args.received.now within ∙ wanted.ensures.length in
-    let many : c.returned.result.length ≡ length out =
-    ap (λ (a : AnswerHeader). a.length) c.returned.ensures ∙ c.wanted_length-wanted.ensures.length ∙ sym full in
-    let came = ap (λ n. take n (out ++ rest)) many ∙ take-append_seam out rest in
-    let is = returned_by b d h.controller h.entry c.args.sent.now out below sent.answer sent.out in
-    let by : IsAnswerByKind Entry (point_of b d) h c.args.sent.now
-    (record { header = c.returned.result; payload = out }) = (
-      told,
-      subst (λ n. IsReturned (point_of b d) h.controller h.entry c.args.sent.now n told out) full is,
-      c.returned.ensures ∙ ap (returned told.dword0 told.status) wanted.ensures.length,
-    ) in
-    answered_by (point_of b d) h c.args.sent.now _ (rw (length-map d.pairs _) below)
-    (subst (λ k. IsAnswerByKind k (point_of b d) h c.args.sent.now (record {
-      header = c.returned.result;
-      payload = take c.returned.result.length (out ++ rest);
-    })) (sym c.in-Entry.is) (rw came by))
+    let full = sent.room ∙ length-take-le wanted.result c.args.received.now within ∙ wanted.ensures.length in
+    answered_by (point_of b d) h c.args.sent.now _ (rw (length-map d.pairs _) below) c.in-Entry.is
+    (c.returned.ensures ∙ ap (returned _ _) wanted.ensures.length)
+    (c.passthrough-told.result, returned_by b d h.controller h.entry c.args.sent.now _ below sent.answer sent.out full, refl)
 
 pub returns-in-Entry-clause-reached : goal.returns-in-Entry-clause-reached
 returns-in-Entry-clause-reached g c =
@@ -76,33 +58,21 @@ returns-in-List-clause-answer g c =
     omega (arith, c.if-from-controllers.false, c.from.ensures, c.controllers-controllers.ensures) in
     let sent = c.passthrough-told-in-List.ensures in
     let told = c.passthrough-told-in-List.result in
-    let out = c.passthrough-told-in-List.new.out in
-    let rest = drop c.wanted_length-wanted.result c.args.received.now in
     let wanted = c.wanted_length-wanted in
     let within : wanted.result ≤ length c.args.received.now =
     omega (arith, wanted.ensures.few, c.requires.few, c.requires.long) in
-    let full : length out ≡ wanted_length h =
-    sent.room ∙ length-take-le wanted.result c.args.received.now within ∙ wanted.ensures.length in
-    let header = c.returned-in-List.ensures in
-    let many : c.returned-in-List.result.length ≡ length out =
-    ap (λ (a : AnswerHeader). a.length) header ∙ wanted.ensures.length ∙ sym full in
-    let came = ap (λ n. take n (out ++ rest)) many ∙ take-append_seam out rest in
-    let is = subst (λ e. IsReturned (point_of b d) h.controller e [] (length out) told out) c.list_entry.ensures.value
-    (returned_by b d h.controller c.list_entry.result [] out below sent.answer sent.out) in
+    let full = sent.room ∙ length-take-le wanted.result c.args.received.now within ∙ wanted.ensures.length in
+    let out = c.passthrough-told-in-List.new.out in
+    let rest = drop wanted.result c.args.received.now in
+    let is = subst (λ e. IsReturned (point_of b d) h.controller e [] (wanted_length h) told
+    (take (wanted_length h) (out ++ rest))) c.list_entry.ensures.value
+    (returned_by b d h.controller c.list_entry.result [] rest below sent.answer sent.out full) in
     let controllers : c.controllers-controllers.result ≡ length (point_of b d).next_cids =
     c.controllers-controllers.ensures ∙ sym (length-map d.pairs _) in
-    let by : IsAnswerByKind ListKind (point_of b d) h c.args.sent.now
-    (record { header = c.returned-in-List.result; payload = out }) = (
-      told,
-      subst (λ n. IsReturned (point_of b d) h.controller list_entry [] n told out) full is,
-      header ∙ ap (λ n. returned n told.status wanted.result) controllers
-          ∙ ap (returned (length (point_of b d).next_cids) told.status) wanted.ensures.length,
-    ) in
-    answered_by (point_of b d) h c.args.sent.now _ (rw (length-map d.pairs _) below)
-    (subst (λ k. IsAnswerByKind k (point_of b d) h c.args.sent.now (record {
-      header = c.returned-in-List.result;
-      payload = take c.returned-in-List.result.length (out ++ rest);
-    })) (sym c.in-List.is) (rw came by))
+    answered_by (point_of b d) h c.args.sent.now _ (rw (length-map d.pairs _) below) c.in-List.is
+    (c.returned-in-List.ensures ∙ ap (λ n. returned n told.status wanted.result) controllers
+    ∙ ap (returned (length (point_of b d).next_cids) told.status) wanted.ensures.length)
+    (told, is, refl)
 
 pub returns-in-List-clause-reached : goal.returns-in-List-clause-reached
 returns-in-List-clause-reached g c =

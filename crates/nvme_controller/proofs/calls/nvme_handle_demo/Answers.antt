@@ -8,7 +8,8 @@ use Rattle.nvme_controller.proofs.calls.nvme_handle_demo.Goals as goal
 
 pub returns-clause-opens : goal.returns-clause-opens
 returns-clause-opens c =
-    let opens : Opens (subsystem demo_text) c.open.result c.args.handle.now.machine c.open.new.handle.machine =
-    subst (λ (b : List ℕ). Opens (subsystem b) c.open.result c.args.handle.now.machine c.open.new.handle.machine)
-    (c.as_bytes.ensures.value ∙ demo_is) c.open.ensures.opens in
+    let call = c.nvme_handle_open in
+    let opens : Opens (subsystem demo_text) call.result c.args.handle.now.machine call.new.handle.machine =
+    subst (λ (b : List ℕ). Opens (subsystem b) call.result c.args.handle.now.machine call.new.handle.machine)
+    (c.as_bytes.ensures.value ∙ demo_is) call.ensures.opens in
     first_of (search rules, grind (arith, common_steps))

@@ -1,89 +1,138 @@
-use Rattle.std.proofs.Common.{rules, ◌≡◌, ◌∙◌, ◌+◌, ◌≤◌, List, Ok, ap, arith, length, refl, subst, sym}
-use Rattle.nv_driver.proofs.Words.{Batch, Command, Geometry, IsPlaceFor, IsSubmittedAt, length_of, request_of}
-use Rattle.nv_driver.proofs.Words.{setting_of, slot}
-use Rattle.nv_driver.specs.CommandPages.{all_pages, without}
-use Rattle.nv_driver.specs.Layout.{data_count, pages_of_command}
+use Rattle.std.proofs.Common.{[], ◌%◌, ℕ, ◌≡◌, ◌∙◌, ◌+◌, ◌<◌, ◌≤◌, List, ap, arith, get_or, length, subst, sym}
+use Rattle.nv_driver.proofs.Words.{Batch, Geometry, IsPlaceFor, IsRequest, IsSubmittedAt, Request, bytes_from_host}
+use Rattle.nv_driver.proofs.Words.{get_or-set_same, get_or_default, mod_below, length_of, limit_of, setting_of, slot}
+use Rattle.nv_driver.specs.CommandPages.{all_pages}
+use Rattle.nv_driver.specs.Layout.{data_count}
 use Rattle.nv_driver.specs.Submitting.{place_in}
+use Rattle.nv_driver.specs.inner.Submitting.{request_as}
+use Rattle.nv_driver.specs.declared.command_pages.CommandPages.{CommandPages}
+use Rattle.nv_driver.proofs.ShareLaws.{data_fits}
+use Rattle.std.specs.Prelude.{set}
+use Rattle.std.proofs.lemmas.List.{set-get_or}
 use Rattle.nv_driver.proofs.CommandPageLaws.{all_count, place_of_set}
 use Rattle.nv_driver.proofs.OnWayLaws.{has_bank}
 use Rattle.nv_driver.proofs.RoundLaws.{rings}
-use Rattle.nv_driver.proofs.SubmittingLaws.{requests_same, submitted_as}
-use Rattle.nv_driver.proofs.UnderWayLaws.{IsSentIn, few_at, free_slot, geometry_is, set_has, still_inside, submits_at}
+use Rattle.nv_driver.proofs.SubmittingLaws.{submitted_as}
+use Rattle.nv_driver.proofs.TurnLaws.{no_command}
+use Rattle.nv_driver.proofs.UnderWayLaws.{IsSentIn, free_slot, geometry_is, room_few, set_has, still_inside, submits_at}
 use Rattle.nv_driver.proofs.UnderWayLaws.{tail_after}
 use Rattle.nv_driver.proofs.batch.Batch.send.Given as given
 use Rattle.nv_driver.proofs.batch.Batch.send.Goals as goal
-use Rattle.nv_driver.proofs.batch.Batch.send.Goals.{After-data_count}
+use Rattle.nv_driver.proofs.batch.Batch.send.Goals.{After-outgoing-request}
 
-pub overflow_cast-len : goal.overflow_cast-len
-overflow_cast-len g c =
-    let first = c.requires.1.1.1.0 in
-    let few = few_at _ first.can c.requires.1.1.0 c.index-commands-number.is (omega arith)
-    c.transfer.ensures in omega (arith, few, c.bytes-len.ensures)
+pub outgoing-request-requires : goal.outgoing-request-requires
+outgoing-request-requires g c =
+    omega (arith, c.len.ensures 0, c.min.ensures, c.loop-number-test.true, c.loop-number.auto.number)
 
-pub data_count-requires : goal.data_count-requires
-data_count-requires g c =
-    let first = c.requires.1.1.1.0 in
-    let few = few_at _ first.can c.requires.1.1.0 c.index-commands-number.is (omega arith)
-    c.transfer.ensures in omega (arith, few, c.bytes-len.ensures)
+-- it is sent as that request
+sent_as : (g : given.Over) (c : After-outgoing-request g)
+    → let q = get_or g.begun.run.requests c.loop-number.number no_command.request in
+    (c.loop-number.number < length g.begun.run.requests)
+    × (request_as c.outgoing-request.result q.asked ≡ q)
+    × IsRequest (limit_of g.begun.run.bus.state g.begun.run.controller) q
+sent_as g c =
+    let n = c.loop-number.number in
+    let limit = limit_of g.begun.run.bus.state g.begun.run.controller in
+    let of = c.requires.1.1.0 in
+    let below : n < length g.begun.run.requests =
+    omega (
+      arith,
+      c.len.ensures limit,
+      ap (λ (qs : List Request). length qs) of.requests,
+      c.min.ensures,
+      c.loop-number-test.true,
+      c.loop-number.auto.number,
+    ) in (
+      below,
+      subst (λ (qs : List Request). request_as c.outgoing-request.result (get_or qs n no_command.request).asked
+          ≡ get_or qs n no_command.request) of.requests (c.outgoing-request.ensures limit no_command.request),
+      of.can n no_command.request below,
+    )
 
--- the data of a command lies in few pages
-few_pages : (g : given.Over) (c : After-data_count g)
-    → (c.data_count.result + 2 ≤ pages_of_command g.begun.run.geometry.page_size) × (c.data_count.result + 2 ≤ 7)
-few_pages g c =
-    let first = c.requires.1.1.1.0 in
-    let few = few_at _ first.can c.requires.1.1.0 c.index-commands-number.is (omega arith)
-    c.transfer.ensures in
-    subst (λ n. (c.data_count.result + 2 ≤ pages_of_command n) × (c.data_count.result + 2 ≤ 7))
-    (ap (λ (q : Geometry). q.page_size) (c.geometry-geometry.ensures ∙ geometry_is first))
-    (c.data_count.ensures.command (omega (arith, few, c.bytes-len.ensures)))
+pub page_count-count-requires : goal.page_count-count-requires
+page_count-count-requires g c =
+    let one = sent_as g c in
+    omega (arith, ap (λ (q : Request). length_of q.transfer) one.1, room_few _ one.2.room)
 
-pub take-pages-requires : goal.take-pages-requires
-take-pages-requires g c =
+pub take-requires : goal.take-requires
+take-requires g c =
     let i = c.loop-number.invariant in
-    let first = c.requires.1.1.1.0 in
-    let same = c.geometry-geometry.ensures ∙ geometry_is first in
+    let of = c.requires.1.1.0 in
+    let one = sent_as g (goal.at.take-requires g c).After-outgoing-request in
+    let same = c.geometry-geometry.ensures ∙ geometry_is c.requires.1.1.1.0 in
     let window = ap (λ (q : Geometry). q.window) (c.geometry.view_is ∙ same) in
     let sent = ap (λ (b : Batch). b.sent) i.batch in
     let collected = ap (λ (b : Batch). b.collected) i.batch in
-    let few = few_pages g (goal.at.take-pages-requires g c).After-data_count in
-    record { few = few.1; enough = omega (arith, few.0, set_has i.under_way (omega arith)) }
+    let few : length_of c.outgoing-request.result.transfer ≤ of.most =
+    omega (arith, ap (λ (q : Request). length_of q.transfer) one.1, of.brief c.loop-number.number no_command.request one.0) in
+    let size = ap (λ (q : Geometry). data_count q (length_of c.outgoing-request.result.transfer) + 2) same in
+    let all = (data_fits g.begun.run.geometry (length_of c.outgoing-request.result.transfer) of.most
+    i.under_way.begun.geometry few).1 in
+    record {
+      few = c.page_count-count.ensures.most;
+      enough = omega (
+        arith,
+        c.page_count-count.ensures.pages,
+        size,
+        all,
+        set_has i.under_way of (omega (
+          arith,
+          c.min.ensures,
+          c.from.ensures,
+          window,
+          sent,
+          collected,
+          c.loop-number-test.true,
+        )) (omega (arith, sent, one.0)),
+      );
+    }
+
+-- pages that stand for those of a slot outside the window
+abbrev no_pages : CommandPages
+no_pages = record { numbers = []; count = 0 }
+
+-- the pages that were taken are in their slot
+in_slot : (places : List CommandPages) (n : ℕ) (o e : CommandPages) → length places ≡ 16
+    → get_or (set places (n % 16) o) (n % 16) e ≡ o
+in_slot places n o e room = get_or-set_same places (n % 16) o e (omega (arith, room, mod_below n 16 (omega arith)))
 
 pub place-place-requires : goal.place-place-requires
 place-place-requires g c =
-    let e = c.take-pages.ensures in
-    let few = few_pages g (goal.at.place-place-requires g c).After-data_count in
-    record { few = omega (arith, e.count, few.1); list = omega (arith, e.count) }
+    let e = c.take.ensures in
+    rw (in_slot c.loop-number.host.taken c.loop-number.number c.take.new.self no_pages
+    c.loop-number.invariant.under_way.room) (record {
+      few = omega (arith, e.count, c.page_count-count.ensures.most);
+      list = omega (arith, e.count, c.page_count-count.ensures.pages);
+    })
 
 pub submit-next-requires : goal.submit-next-requires
 submit-next-requires g c =
     let i = c.loop-number.invariant in
     let u = i.under_way in
-    let first = c.requires.1.1.1.0 in
-    let few = few_at _ first.can c.requires.1.1.0 c.index-commands-number.is (omega arith)
-    c.transfer.ensures in
-    let same = c.geometry-geometry.ensures ∙ geometry_is first in
+    let one = sent_as g (goal.at.submit-next-requires g c).After-outgoing-request in
+    let same = c.geometry-geometry.ensures ∙ geometry_is c.requires.1.1.1.0 in
     let window = ap (λ (q : Geometry). q.window) (c.geometry.view_is ∙ same) in
     let sent = ap (λ (b : Batch). b.sent) i.batch in
     let collected = ap (λ (b : Batch). b.collected) i.batch in
-    let e = c.take-pages.ensures in
-    let o = c.take-pages.result in
-    let len = length_of c.transfer.result in
-    let pages = few_pages g (goal.at.submit-next-requires g c).After-data_count in
-    let long = all_count o e.seven (omega (arith, e.count, pages.1)) in
+    let e = c.take.ensures in
+    let o = c.take.new.self in
+    let x = c.outgoing-request.result in
+    let len = length_of x.transfer in
+    let long = all_count o (omega (arith, e.count, e.long, c.page_count-count.ensures.most)) in
     let many : length (all_pages o) ≡ data_count g.begun.run.geometry len + 2 =
-    long ∙ e.count ∙ ap (λ n. n + 2) (c.data_count.ensures.pages
-    ∙ ap (λ (q : Geometry). data_count q c.bytes-len.result) same
-    ∙ ap (data_count g.begun.run.geometry) c.bytes-len.ensures) in
+    long ∙ e.count ∙ c.page_count-count.ensures.pages ∙ ap (λ (q : Geometry). data_count q len + 2) same in
     let place = place_of_set g.begun.run.geometry c.loop-number.pair.pages (all_pages o)
     (g.M.PagedMemory.bytes c.loop-number.host.mem) (g.M.PagedMemory.page_len c.loop-number.host.mem) len
     u.begun.geometry u.page_size (still_inside u) e.taken.own e.taken.distinct many in
     let slot = free_slot u (omega arith) in
     record {
-      few = omega (arith, few);
-      sent = search rules;
+      few = omega (arith, ap (λ (q : Request). length_of q.transfer) one.1, room_few _ one.2.room);
+      sent = ap (λ (q : Request). length q.sends) one.1 ∙ one.2.sends
+          ∙ ap (λ (q : Request). bytes_from_host q.transfer) (sym one.1);
       place = subst (λ p. IsPlaceFor (g.M.PagedMemory.bytes c.loop-number.host.mem)
           (g.M.PagedMemory.page_len c.loop-number.host.mem) p len)
-          (sym (c.place-place.ensures.place ∙ ap (λ (q : Geometry). place_in q (all_pages o)) same)) place;
+          (sym (rw (in_slot c.loop-number.host.taken c.loop-number.number o no_pages u.room) at
+          c.place-place.ensures.place ∙ ap (λ (q : Geometry). place_in q (all_pages o)) same)) place;
       slot = record { next_cid = slot.next_cid; ring = slot.ring; free = slot.free };
     }
 
@@ -91,46 +140,45 @@ pub loop-number-preserved : goal.loop-number-preserved
 loop-number-preserved g c =
     let i = c.loop-number.invariant in
     let u = i.under_way in
-    let first = c.requires.1.1.1.0 in
-    let same = c.geometry-geometry.ensures ∙ geometry_is first in
+    let one = sent_as g (goal.at.loop-number-preserved g c).After-outgoing-request in
+    let same = c.geometry-geometry.ensures ∙ geometry_is c.requires.1.1.1.0 in
     let window = ap (λ (q : Geometry). q.window) (c.geometry.view_is ∙ same) in
     let sent = ap (λ (b : Batch). b.sent) i.batch in
     let collected = ap (λ (b : Batch). b.collected) i.batch in
     let told = ap (λ (b : Batch). b.told) i.batch in
-    let e = c.take-pages.ensures in
-    let o = c.take-pages.result in
+    let e = c.take.ensures in
+    let o = c.take.new.self in
     let l = c.loop-number.pair in
-    let k = c.index-commands-number.result in
-    let few = few_pages g (goal.at.loop-number-preserved g c).After-data_count in
-    let at = c.place-place.ensures.place ∙ ap (λ (q : Geometry). place_in q (all_pages o)) same in
-    let next = submitted_as u.page_size at (requests_same c.entry.ensures.entry c.transfer.ensures refl)
-    (c.submit-next.ensures (Ok k)) in
-    let one : IsSubmittedAt g.begun.run.geometry.page_size (place_in g.begun.run.geometry (all_pages o)) (request_of k)
-    (record l { pages = without l.pages (all_pages o) }) c.submit-next.new.pair
-    (g.M.PagedMemory.bytes c.loop-number.host.mem) (g.M.PagedMemory.bytes c.submit-next.new.mem)
-    (g.M.PagedMemory.page_len c.submit-next.new.mem) c.submit-next.result =
-    subst
-    (λ s. IsSubmittedAt g.begun.run.geometry.page_size (place_in g.begun.run.geometry (all_pages o)) (request_of k)
-    (record l { pages = s }) c.submit-next.new.pair
-    (g.M.PagedMemory.bytes c.loop-number.host.mem) (g.M.PagedMemory.bytes c.submit-next.new.mem)
-    (g.M.PagedMemory.page_len c.submit-next.new.mem) c.submit-next.result) e.set next in
-    let sub : IsSentIn g.begun.run.geometry k o l c.submit-next.new.pair
+    let n = c.loop-number.number in
+    let q = get_or g.begun.run.requests n no_command.request in
+    let at = rw (in_slot c.loop-number.host.taken n o no_pages u.room) at c.place-place.ensures.place
+    ∙ ap (λ (p : Geometry). place_in p (all_pages o)) same in
+    let next = submitted_as u.page_size at one.1 (c.submit-next.ensures q.asked) in
+    let sub : IsSentIn g.begun.run.geometry q o l c.submit-next.new.pair
     (g.M.PagedMemory.bytes c.loop-number.host.mem) (g.M.PagedMemory.bytes c.submit-next.new.mem)
     (g.M.PagedMemory.page_len c.submit-next.new.mem) c.submit-next.result = record {
-      many = e.count ∙ ap (λ m. m + 2) (c.data_count.ensures.pages
-          ∙ ap (λ (q : Geometry). data_count q c.bytes-len.result) same
-          ∙ ap (data_count g.begun.run.geometry) (c.bytes-len.ensures ∙ ap length_of c.transfer.ensures));
-      seven = e.seven;
-      few = omega (arith, e.count, few.1);
-      fits = omega (arith, e.count, few.0);
+      many = e.count ∙ c.page_count-count.ensures.pages
+          ∙ ap (λ (p : Geometry). data_count p (length_of c.outgoing-request.result.transfer) + 2) same
+          ∙ ap (λ (p : Request). data_count g.begun.run.geometry (length_of p.transfer) + 2) one.1;
+      long = omega (arith, e.count, e.long, c.page_count-count.ensures.most);
       taken = e.taken;
       lowest = e.lowest;
-      one = one;
+      one = subst (λ s. IsSubmittedAt g.begun.run.geometry.page_size (place_in g.begun.run.geometry (all_pages o)) q
+          (record l { pages = s }) c.submit-next.new.pair (g.M.PagedMemory.bytes c.loop-number.host.mem)
+          (g.M.PagedMemory.bytes c.submit-next.new.mem) (g.M.PagedMemory.page_len c.submit-next.new.mem)
+          c.submit-next.result) e.set next;
     } in
     record {
-      under_way = submits_at u _ sent (omega arith) (sym collected)
-          (omega (arith, c.requires.1.1.1.1, sent, collected, told)) refl sub c.requires.1.1.0
-          c.index-commands-number.is (omega arith);
+      under_way = rw (set-get_or (set c.loop-number.host.taken (n % 16) o) (n % 16) no_pages) (submits_at u sent (omega (
+        arith,
+        c.min.ensures,
+        c.from.ensures,
+        window,
+        sent,
+        collected,
+        c.loop-number-test.true,
+      )) (sym collected) (omega (arith, c.requires.1.1.1.1, sent, collected, told)) one.0
+          (get_or_default g.begun.run.requests n no_command.request q one.0) sub);
       batch = ap (λ (b : Batch). record b { sent = b.sent + 1 }) i.batch;
       from = omega arith;
       tail = (tail_after u sent next.tail, omega (arith, i.from));
@@ -147,10 +195,11 @@ returns-in-Some-clause-under_way g c =
     let collected = ap (λ (b : Batch). b.collected) i.batch in
     let told = ap (λ (b : Batch). b.told) i.batch in
     let some = rw (c.in-Some.is) at i.tail in
-    let first = c.requires.1.1.1.0 in
     let window = ap (λ (q : Geometry). q.window)
-    (c.geometry.view_is ∙ c.geometry-geometry.ensures ∙ geometry_is first) in
-    let many = ap (λ (xs : List Command). length xs) c.requires.1.1.0 in
+    (c.geometry.view_is ∙ c.geometry-geometry.ensures ∙ geometry_is c.requires.1.1.1.0) in
+    let of = c.requires.1.1.0 in
+    let many = c.len.ensures (limit_of g.begun.run.bus.state g.begun.run.controller)
+    ∙ ap (λ (qs : List Request). length qs) of.requests in
     rw (← collected) at (rings i.under_way
     (some.0 ∙ ap (slot (setting_of g.begun.run)) (sym sent)) w.state w.banks w.bus w.written w.rung (sym collected)
     (omega (arith, c.requires.1.1.1.1, collected, told)) (omega (arith, sent, collected, window, many))

@@ -1,6 +1,6 @@
-use Rattle.std.proofs.Common.{[], ◌≡◌, ◌∙◌, ℕ, ◌+◌, ◌-◌, ◌*◌, ◌%◌, ◌<◌, ◌≤◌, List, ap, arith, get_or, inl, length}
+use Rattle.std.proofs.Common.{[], ◌≡◌, ◌≢◌, ◌∙◌, ℕ, ◌+◌, ◌-◌, ◌*◌, ◌%◌, ◌<◌, ◌≤◌, List, ap, arith, get_or, inl, length}
 use Rattle.std.proofs.Common.{length-take, min, refl, sym}
-use Rattle.std.proofs.lemmas.List.{get_or_default}
+use Rattle.std.proofs.lemmas.List.{get_or_default, set-get_or}
 use Rattle.nv_host.specs.PageSets.{Pages}
 use Rattle.nv_driver.proofs.Words.{Batch, Geometry, QueuePairFields, Sent, mod_below}
 use Rattle.nv_driver.specs.CommandPages.{all_pages}
@@ -9,11 +9,36 @@ use Rattle.nv_driver.specs.UnderWay.{IsHeld}
 use Rattle.nv_driver.specs.declared.command_pages.CommandPages.{CommandPages}
 use Rattle.nv_driver.specs.inner.Pace.{IsToldByPace}
 use Rattle.nv_driver.proofs.OnWayLaws.{can_collect}
-use Rattle.nv_driver.proofs.RoundLaws.{answer_buffer, answer_sends, answers_more, awaits, can_give, collects}
+use Rattle.nv_driver.proofs.RoundLaws.{answer_buffer, answers_more, awaits, can_give, collects, count_few}
 use Rattle.nv_driver.proofs.RoundLaws.{held_one, number_inside, takes, tells_on, turns_idly, turns_on}
 use Rattle.nv_driver.proofs.UnderWayLaws.{geometry_is}
+use Rattle.nv_driver.proofs.Words.{Command, Request, limit_of, request_of}
+use Rattle.nv_driver.specs.inner.UnderWay.{AreReceived}
+use Rattle.nv_driver.specs.UnderWay.{AreSendable, requests_in}
+use Rattle.nv_command.specs.Logs.{IsSendable}
+use Rattle.nv_driver.proofs.RoundLaws.{hears, received_on, told_with}
+use Rattle.std.specs.Prelude.{set}
+use Rattle.std.proofs.Common.{All, map, subst}
+use Rattle.nv_driver.proofs.Words.{get_or-map, length-map}
+use Rattle.nv_driver.proofs.batch.Batch.turn.Given.{Over}
+use Rattle.nv_driver.proofs.batch.Batch.turn.Goals.{in-Commands, in-Entry}
 use Rattle.nv_driver.proofs.batch.Batch.turn.Goals.{then-self-pace, else-self-pace}
 use Rattle.nv_driver.proofs.batch.Batch.turn.Goals as goal
+
+-- there are as many requests as commands
+as_many : {n : ℕ} {qs : List Request} (ks : List Command) → map request_of ks ≡ qs → n < length qs → n < length ks
+as_many ks are below = omega (arith, below, ap (λ (xs : List Request). length xs) are, length-map ks request_of)
+
+-- request n of the run is that of command n
+request_at_command : {n : ℕ} {k : Command} {qs : List Request} (ks : List Command) → map request_of ks ≡ qs
+    → k ≡ get_or ks n k → n < length ks → request_of k ≡ get_or qs n (request_of k)
+request_at_command {n} {k} ks are here below = ap request_of here
+    ∙ sym (get_or-map request_of ks n k (request_of k) below) ∙ ap (λ xs. get_or xs n (request_of k)) are
+
+-- its reply can be read
+sendable_at : {n : ℕ} {k : Command} (ks : List Command) → All IsSendable ks → k ≡ get_or ks n k → n < length ks
+    → IsSendable k
+sendable_at {n} {k} ks all here below = subst IsSendable (sym here) (all n k below)
 
 -- a turn that takes none while a command is waiting finds no free slot
 none_free : (most waiting depth done told count : ℕ) → count ≡ min most (min waiting (depth - 1 - (done - told)))
@@ -45,6 +70,18 @@ told_once : {pace limit old new : ℕ} (times before : ℕ) → old ≡ before +
 told_once {pace} {limit} {old} {new} times before h e f some =
     let more : new ≡ old + pace = omega arith in (times + 1, grind arith)
 
+-- the head doorbell isn't rung before as many answers as the pace were collected
+not_yet : (n told : ℕ) {limit pace : ℕ} → n + 1 - told ≢ limit → limit ≡ pace → n < told + pace → n + 1 < told + pace
+not_yet n told far is near = omega arith
+
+-- one more was collected
+further : (n first counter : ℕ) → n ≡ first + counter → n + 1 ≡ first + (counter + 1)
+further n first counter is = omega arith
+
+-- nothing is to be reported once all is reported
+all_near : {pace : ℕ} (n : ℕ) → 1 ≤ pace → n < n + pace
+all_near n some = omega arith
+
 pub returns-then-posted-eq0 : goal.returns-then-posted-eq0
 returns-then-posted-eq0 g c =
     let u = c.requires.1.1.1.0 in
@@ -60,7 +97,7 @@ returns-then-posted-eq0 g c =
     record {
       under_way = turns_idly u e.turn e.turned pace e.bus e.len e.page refl rest.1.1.1 rest.1.1.0 refl rest.1.0 refl
           none c.tell.ensures.told c.tell.ensures.written free.0;
-      answers = rest.0;
+      received = received_on c.args.requests _ _ _ _ _ _ _ c.requires.1.1.0 rest.1.0 rest.0;
       near = omega (arith, some);
       count = omega (arith, count, none);
       paced = λ more. absurd (omega arith);
@@ -77,7 +114,7 @@ loop-init g c =
     (omega arith) in
     record {
       under_way = h;
-      answers = rest.0;
+      received = received_on c.args.requests _ _ _ _ _ _ _ c.requires.1.1.0 rest.1.0 rest.0;
       batch = refl;
       collected = omega arith;
       near = rest.1.1.1;
@@ -93,12 +130,11 @@ next_completion-completion-requires g c =
 pub bounds-answers-number : goal.bounds-answers-number
 bounds-answers-number g c =
     let i = c.loop.invariant in
-    omega (arith, number_inside i.under_way (omega (arith, i.collected, c.loop-test.true)), i.answers.len)
-
-pub bounds-commands-number : goal.bounds-commands-number
-bounds-commands-number g c =
-    let i = c.loop.invariant in
-    rw (c.requires.1.1.0) (number_inside i.under_way (omega (arith, i.collected, c.loop-test.true)))
+    let more : c.loop.self.collected < c.args.self.now.collected + c.turn-posted.result =
+    omega (arith, i.collected, c.loop-test.true) in
+    let has = subst (λ q. AreReceived q g.begun.run c.loop.self.collected c.loop.answers c.loop.host.taken
+    (g.M.PagedMemory.bytes c.loop.host.mem) c.loop.host.last) c.in-Commands.is i.received in
+    omega (arith, number_inside i.under_way more, has.len)
 
 pub give-requires : goal.give-requires
 give-requires g c =
@@ -116,8 +152,8 @@ place-place-requires g c =
     let u = i.under_way in
     let n = c.loop.self.collected in
     let more : n < c.args.self.now.collected + c.turn-posted.result = omega (arith, i.collected, c.loop-test.true) in
-    let held = held_one u more (slot_is c.loop.host.taken n no_pages u.room) in
-    record { few = held.few; list = at_least held }
+    let mine = slot_is c.loop.host.taken n no_pages u.room in
+    record { few = count_few u more mine; list = at_least (held_one u more mine) }
 
 pub receive-requires : goal.receive-requires
 receive-requires g c =
@@ -125,15 +161,72 @@ receive-requires g c =
     let u = i.under_way in
     let n = c.loop.self.collected in
     let more : n < c.args.self.now.collected + c.turn-posted.result = omega (arith, i.collected, c.loop-test.true) in
+    let of = c.requires.1.1.0 in
+    let limit = limit_of g.begun.run.bus.state g.begun.run.controller in
+    let are = ap (requests_in limit) (sym c.in-Commands.is) ∙ of.requests in
+    let below : n < length c.in-Commands.commands.now = as_many _ are (number_inside u more) in
     let first = c.next_completion-completion.ensures in
     let same = c.geometry-geometry.ensures ∙ geometry_is c.requires.1.1.1.0 in
     let o = get_or c.loop.host.taken (n % 16) no_pages in
     let its = c.place-place.ensures.place ∙ ap (λ (q : Geometry). place_in q (all_pages o)) same in
     record {
-      sends = answer_sends u more first.value c.requires.1.1.0 c.index-commands-number.is;
-      buffer = answer_buffer u more first.value c.requires.1.1.0 c.index-commands-number.is
-          (slot_is c.loop.host.taken n no_pages u.room) its u.page_size refl;
+      sends = sendable_at _ (subst AreSendable c.in-Commands.is of.sends) c.index-commands-number.is below;
+      buffer = answer_buffer u more first.value (request_at_command _ are c.index-commands-number.is below)
+          (slot_is c.loop.host.taken n no_pages u.room) its u.page_size;
     }
+
+-- the answers with one more
+received_more : (g : Over) (c : goal.Joined-self-pace g)
+    → (c.match-requests.host.mem ≡ c.loop.host.mem) × (c.match-requests.host.taken ≡ c.loop.host.taken)
+    × AreReceived c.args.requests g.begun.run (c.loop.self.collected + 1) c.match-requests.answers c.loop.host.taken
+    (g.M.PagedMemory.bytes c.loop.host.mem) (told_with c.next_completion-completion.result.command_specific
+    c.next_completion-completion.result.status)
+received_more g c =
+    let i = c.loop.invariant in
+    let u = i.under_way in
+    let n = c.loop.self.collected in
+    let r = g.begun.run in
+    let more : n < c.args.self.now.collected + c.turn-posted.result = omega (arith, i.collected, c.loop-test.true) in
+    let of = c.requires.1.1.0 in
+    let limit = limit_of r.bus.state r.controller in
+    let first = c.next_completion-completion.ensures in
+    let same = c.geometry-geometry.ensures ∙ geometry_is c.requires.1.1.1.0 in
+    let o = get_or c.loop.host.taken (n % 16) no_pages in
+    let mine = slot_is c.loop.host.taken n no_pages u.room in
+    let places = c.loop.host.taken in
+    let bytes = g.M.PagedMemory.bytes c.loop.host.mem in
+    let last = told_with c.next_completion-completion.result.command_specific
+    c.next_completion-completion.result.status in
+    elim c.match-requests.branch [
+      | in-Commands w ↦
+          let are = ap (requests_in limit) (sym w.in-Commands.is) ∙ of.requests in
+          let below : n < length w.in-Commands.commands.now = as_many _ are (number_inside u more) in
+          let its = w.place-place.ensures.place ∙ ap (λ (q : Geometry). place_in q (all_pages o)) same in
+          let has = subst (λ q. AreReceived q r n c.loop.answers places bytes c.loop.host.last) w.in-Commands.is
+          i.received in
+          let all = answers_more u more first.value (request_at_command _ are w.index-commands-number.is below)
+          (sendable_at _ (subst AreSendable w.in-Commands.is of.sends) w.index-commands-number.is below) mine its
+          u.page_size has w.receive.ensures.answer in
+          rw (w.host-is, w.answers-is) (
+            refl,
+            set-get_or places (n % 16) no_pages,
+            subst (λ q. AreReceived q r (n + 1) (set c.loop.answers n w.receive.new.self) places bytes last)
+                (sym w.in-Commands.is) all,
+          )
+      | in-Entry w ↦
+          let zero : n ≡ 0 = omega (
+            arith,
+            number_inside u more,
+            ap (λ (qs : List Request). length qs)
+                (ap (requests_in limit) (sym w.in-Entry.is) ∙ of.requests),
+          ) in
+          rw (w.host-is, w.answers-is) (
+            refl,
+            set-get_or places (n % 16) no_pages,
+            subst (λ q. AreReceived q r (n + 1) c.loop.answers places bytes last)
+                (sym w.in-Entry.is) (λ some. hears u more first.value zero refl),
+          )
+    ]
 
 pub loop-preserved : goal.loop-preserved
 loop-preserved g c =
@@ -143,21 +236,16 @@ loop-preserved g c =
     let more : n < c.args.self.now.collected + c.turn-posted.result =
     omega (arith, i.collected, c.loop-test.true) in
     let first = c.next_completion-completion.ensures in
-    let one = c.receive.ensures in
     let some = u.begun.geometry.pace in
-    let same = geometry_is c.requires.1.1.1.0 in
-    let limit = c.from-pace.ensures
-    ∙ ap (λ (q : Geometry). q.pace) (c.geometry.view_is ∙ c.geometry-geometry.ensures ∙ same) in
-    let o = get_or c.loop.host.taken (n % 16) no_pages in
+    let limit = c.from-pace.ensures ∙ ap (λ (q : Geometry). q.pace)
+    (c.geometry.view_is ∙ c.geometry-geometry.ensures ∙ geometry_is c.requires.1.1.1.0) in
     let mine = slot_is c.loop.host.taken n no_pages u.room in
-    let its = c.place-place.ensures.place
-    ∙ ap (λ (q : Geometry). place_in q (all_pages o)) (c.geometry-geometry.ensures ∙ same) in
     let pair = c.next_completion-completion.new.self in
     let here = collects u more first.value mine first.pair
     (ap (λ (s : Pages). record pair { pages = s }) c.give.ensures) i.near in
-    let next = rw (← one.mem, ← one.taken) at here in
-    let answers = answers_more u more first.value c.requires.1.1.0 c.index-commands-number.is mine its u.page_size
-    i.answers one.answer in
+    let got = received_more g c in
+    let next = rw (← got.0, ← got.1) at here in
+    let received = rw (← got.0, ← got.1) at got.2 in
     elim c.if-self-pace.branch [
       | then-self-pace w ↦
           let t = w.tell-then-self-pace.ensures in
@@ -166,20 +254,20 @@ loop-preserved g c =
           let told = tells_on next t.told t.written (omega (arith, due, some)) (inl (next.collected ∙ due)) in
           rw (w.self-is, w.pair-is, w.bus-is) (record {
             under_way = told;
-            answers = answers;
+            received = received;
             batch = ap (λ (b : Batch). record b { collected = n + 1; told = n + 1 }) i.batch;
-            collected = omega (arith, i.collected);
-            near = omega (arith, some);
+            collected = further n _ _ i.collected;
+            near = all_near (n + 1) some.0;
             paced = told_once _ _ i.paced.1 w.if-self-pace.true limit (omega (arith, some));
             count = i.count;
           })
       | else-self-pace w ↦
           rw (w.self-is, w.pair-is, w.bus-is) (record {
             under_way = next;
-            answers = answers;
+            received = received;
             batch = ap (λ (b : Batch). record b { collected = n + 1 }) i.batch;
-            collected = omega (arith, i.collected);
-            near = omega (arith, w.if-self-pace.false, limit, i.near);
+            collected = further n _ _ i.collected;
+            near = not_yet n _ w.if-self-pace.false limit i.near;
             paced = i.paced;
             count = i.count;
           })
@@ -192,7 +280,7 @@ returns g c =
     omega (arith, i.collected, c.loop-test.false, c.loop.auto.counter-end) in
     record {
       under_way = rw all at i.under_way;
-      answers = i.answers;
+      received = i.received;
       near = i.near;
       count = omega (arith, all, i.count);
       paced = λ more. i.paced;

@@ -1,5 +1,6 @@
 use Rattle.std.proofs.Common.{◌≡◌, ◌+◌}
-use Rattle.nv_driver.proofs.Words.{HasAnswers, IsUnderWay}
+use Rattle.nv_driver.specs.inner.UnderWay.{AreReceived}
+use Rattle.nv_driver.proofs.Words.{IsUnderWay}
 use Rattle.nv_driver.specs.inner.Pace.{IsToldByPace, IsToldInTime, taken_by_turn}
 use Rattle.nv_driver.proofs.batch.Batch.turn.Given as goal
 
@@ -8,7 +9,8 @@ invariant-loop g l = record {
   under_way : IsUnderWay g.B.Bus.was_written g.B.Ringing.was_rung g.B.Bus.was_turned g.begun.start g.begun.run
       l.self.sent (l.fn.self.collected + l.posted) l.self (g.B.Bus.meaning l.bus) l.bus l.pair
       (g.M.PagedMemory.page_len l.host.mem) (g.M.PagedMemory.bytes l.host.mem) l.host.taken;
-  answers : HasAnswers g.begun.run l.self.collected l.answers;
+  received : AreReceived l.requests g.begun.run l.self.collected l.answers l.host.taken
+      (g.M.PagedMemory.bytes l.host.mem) l.host.last;
   batch : l.self ≡ record l.fn.self { collected = l.self.collected; told = l.self.told };
   collected : l.self.collected ≡ l.fn.self.collected + l.counter;
   near : IsToldInTime g.begun.run l.self;

@@ -1,4 +1,4 @@
-use Rattle.std.proofs.Common.{◌≡◌, ◌<◌, ◌∙◌, arith, length, length-take, refl, subst, sym, take}
+use Rattle.std.proofs.Common.{◌≡◌, ◌<◌, ◌∙◌, arith, length, rules, length-take, refl, subst, sym, take}
 use Rattle.std.proofs.Math.ListN.{length-set}
 use Rattle.std.proofs.lemmas.List.{take_more_set}
 use Rattle.nv_driver.specs.CommandPages.{AreLowest}
@@ -10,22 +10,22 @@ pub loop-at-init : goal.loop-at-init
 loop-at-init c = record {
   taking = taking_none c.args.free.now;
   lowest = lowest_none c.args.free.now;
-  seven = refl;
+  seven = search rules;
 }
 
 pub unwrap-requires : goal.unwrap-requires
 unwrap-requires c =
     let inv = c.loop-at.invariant in
-    let so_far = length-take c.loop-at.at c.loop-at.numbers in
+    let so_far = length-take c.loop-at.at c.loop-at.self.numbers in
     some_taken c.take.result c.loop-at.free c.take.new.self
-    (has_one c.args.free.now c.loop-at.free (take c.loop-at.at c.loop-at.numbers) c.args.count inv.taking
+    (has_one c.args.free.now c.loop-at.free (take c.loop-at.at c.loop-at.self.numbers) c.args.count inv.taking
     (omega (arith, c.loop-at-test.true, inv.seven, c.requires.few)) c.requires.enough)
     c.take.ensures.taken
 
 pub loop-at-preserved : goal.loop-at-preserved
 loop-at-preserved c =
     let inv = c.loop-at.invariant in
-    let numbers = c.loop-at.numbers in
+    let numbers = c.loop-at.self.numbers in
     let at = c.loop-at.at in
     let below : at < length numbers = omega (arith, c.loop-at-test.true, inv.seven, c.requires.few) in
     let more = sym (take_more_set numbers at c.unwrap.result below) in
@@ -44,11 +44,11 @@ pub returns : goal.returns
 returns c =
     let inv = c.loop-at.invariant in
     let all : c.loop-at.at ≡ c.args.count = omega (arith, c.loop-at-test.false, c.loop-at.auto.at-end) in
-    let taking = subst (λ n. Taking c.args.free.now c.loop-at.free (take n c.loop-at.numbers)) all inv.taking in
+    let taking = subst (λ n. Taking c.args.free.now c.loop-at.free (take n c.loop-at.self.numbers)) all inv.taking in
     record {
       count = refl;
-      seven = inv.seven;
+      long = inv.seven;
       taken = taking.taken;
-      lowest = subst (λ n. AreLowest c.args.free.now (take n c.loop-at.numbers)) all inv.lowest;
+      lowest = subst (λ n. AreLowest c.args.free.now (take n c.loop-at.self.numbers)) all inv.lowest;
       set = taking.left;
     }

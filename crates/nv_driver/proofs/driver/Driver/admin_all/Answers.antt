@@ -1,13 +1,34 @@
-use Rattle.std.proofs.Common.{length, refl, rules}
+use Rattle.std.proofs.Common.{◌∙◌, ◌<◌, ◌≤◌, All, List, ap, arith, get_or, length, map, min, refl, rules, subst, sym}
+use Rattle.nv_command.specs.declared.command.Command.{Command}
+use Rattle.nv_command.specs.declared.command.Command.TheVariants.{ActiveList}
+use Rattle.nv_driver.proofs.Words.{IsRequest, Request, get_or-map, length-map, length_of, limit_bounds, limit_of}
+use Rattle.nv_driver.proofs.Words.{mul-le-mul_right, transfer_by}
+use Rattle.nv_driver.proofs.DataLaws.{most, shape}
+use Rattle.nv_driver.proofs.EndLaws.{answers_all}
+use Rattle.nv_driver.proofs.RequestLaws.{is_request}
+use Rattle.nv_driver.specs.Batch.{answers_of, state_after}
+use Rattle.nv_driver.specs.Layout.{most_bytes, pages_of_command}
 use Rattle.nv_driver.specs.Exchange.{after_some}
-use Rattle.nv_driver.proofs.AdminLaws.{driver_after, ends_inside, left_at, linked_after, ready_by, sends_by}
+use Rattle.nv_driver.specs.Request.{request_of}
+use Rattle.nv_driver.specs.Sending.{SendsAll}
+use Rattle.nv_driver.specs.UnderWay.{run_of}
+use Rattle.nv_driver.proofs.AdminLaws.{cid_is, driver_after, ends_inside, goes_over, left_at, linked_after, ready_by, room_by}
 use Rattle.nv_driver.proofs.AdminLaws.{value_after}
 use Rattle.nv_driver.proofs.driver.Driver.admin_all.Goals as goal
 
+-- what holds for the request of each command holds for each request
+each_of : (ks : List Command) (P : Request → Type 0) → All (λ k. P (request_of k)) ks → All P (map request_of ks)
+each_of ks P each i d h =
+    let below : i < length ks = omega (arith, h, length-map ks request_of) in
+    subst P (sym (get_or-map request_of ks i (ActiveList 0) d below)) (each i (ActiveList 0) below)
+
 pub exchange_all-requires : goal.exchange_all-requires
 exchange_all-requires g c κs within =
-    let ready = ready_by c.self.invariant c.self.view_is c.requires.ctrl c.index_mut-pair.ensures.value
-    c.requires.linked in (
+    let here = c.index_mut-pair.ensures.value in
+    let ready = ready_by c.self.invariant c.self.view_is c.requires.ctrl here c.requires.linked in
+    let s = (g.B.Bus.meaning c.args.bus.now).state in
+    let enough = (limit_bounds s c.args.ctrl ready.bus.state (omega (arith, ready.controller, ready.bus.banks))).0 in
+    let ks = c.args.commands.now in (
       search rules,
       (
         search rules,
@@ -16,8 +37,24 @@ exchange_all-requires g c κs within =
           (
             ready,
             (
-              λ i d h. record { fits = c.requires.fits i d h; sends = c.requires.sends i d h },
-              c.requires.len,
+              record {
+                requests = refl;
+                can = each_of ks (λ q. IsRequest (limit_of s c.args.ctrl) q) (λ i d h. is_request
+                    (limit_of s c.args.ctrl) (get_or ks i d) enough (c.requires.fits i d h) (c.requires.sends i d h));
+                sends = c.requires.sends;
+                most = most_bytes;
+                brief = each_of ks (λ q. length_of q.transfer ≤ most_bytes)
+                    (λ i d h. most (transfer_by (get_or ks i d)) (shape (get_or ks i d) (c.requires.sends i d h)));
+                room =
+                    let few : min c.index_mut-pair.result.now.geometry.window (length (map request_of ks))
+                    ≤ c.index_mut-pair.result.now.geometry.window = omega arith in
+                    omega (
+                      arith,
+                      mul-le-mul_right (pages_of_command c.index_mut-pair.result.now.geometry.page_size) few,
+                      room_by c.self.invariant c.self.view_is c.requires.ctrl here,
+                    );
+              },
+              record { len = c.requires.len ∙ sym (length-map ks request_of); first = refl },
             ),
           ),
         ),
@@ -30,11 +67,24 @@ invariant_of-self g c =
     (left_at c.self.invariant c.self.view_is c.requires.ctrl c.index_mut-pair.ensures.value
     c.exchange_all.ensures.left) (ends_inside c.self.invariant)
 
+pub returns-clause-answers : goal.returns-clause-answers
+returns-clause-answers g c =
+    answers_all refl c.exchange_all.ensures.received refl
+    ∙ ap (λ n. answers_of c.args.ctrl (g.B.Bus.meaning c.args.bus.now).state n c.args.commands.now)
+    (sym (cid_is c.self.invariant c.self.view_is c.requires.ctrl c.index_mut-pair.ensures.value))
+
+pub returns-clause-state : goal.returns-clause-state
+returns-clause-state g c =
+    c.exchange_all.ensures.state
+    ∙ ap (λ n. state_after c.args.ctrl (g.B.Bus.meaning c.args.bus.now).state n c.args.commands.now)
+    (sym (cid_is c.self.invariant c.self.view_is c.requires.ctrl c.index_mut-pair.ensures.value))
+
 pub returns-clause-driver : goal.returns-clause-driver
 returns-clause-driver g c =
     value_after c.self.invariant c.self.view_is c.requires.ctrl c.index_mut-pair.ensures.value
     (left_at c.self.invariant c.self.view_is c.requires.ctrl c.index_mut-pair.ensures.value
-    c.exchange_all.ensures.left) (after_some (length c.args.commands.now)) refl
+    (rw (length-map c.args.commands.now request_of) at c.exchange_all.ensures.left))
+    (after_some (length c.args.commands.now)) refl
 
 pub returns-clause-linked : goal.returns-clause-linked
 returns-clause-linked g c =
@@ -44,7 +94,9 @@ returns-clause-linked g c =
 
 pub returns-clause-steps : goal.returns-clause-steps
 returns-clause-steps g c =
-    let paced = c.exchange_all.ensures.paced in
-    sends_by c.self.invariant c.self.view_is c.requires.ctrl c.index_mut-pair.ensures.value
+    goes_over c.self.invariant c.self.view_is c.requires.ctrl c.index_mut-pair.ensures.value
+    (λ q l bytes. SendsAll g.B.Bus.was_written g.B.Ringing.was_rung g.B.Bus.was_turned
+    (run_of q c.args.ctrl (g.B.Bus.meaning c.args.bus.now) l bytes (map request_of c.args.commands.now)) c.args.bus.now
+    c.exchange_all.new.bus)
     (ready_by c.self.invariant c.self.view_is c.requires.ctrl c.index_mut-pair.ensures.value c.requires.linked).quiet
-    paced.steps
+    c.exchange_all.ensures.paced.steps

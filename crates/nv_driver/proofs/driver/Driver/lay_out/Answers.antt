@@ -10,18 +10,19 @@ pub enable_all-requires-clause-laid : goal.enable_all-requires-clause-laid
 enable_all-requires-clause-laid g c =
     let is = c.geometry.view_is in
     let size = ap (λ (q : Geometry). q.page_size) is in
-    has_pairs c.more_pages.result (subst IsGeometry is c.geometry.invariant) c.controllers-controllers.ensures
-    (ap (λ n. n + c.more_pages.result) c.pages.ensures.pages) (rw size at c.in_ok-mem.ensures)
+    has_pairs c.more_pages-more.result (subst IsGeometry is c.geometry.invariant) c.controllers-controllers.ensures
+    (ap (λ n. n + c.more_pages-more.result) c.pages-first.ensures.pages) (rw size at c.in_ok-mem.ensures)
 
 pub invariant_of-result : goal.invariant_of-result
 invariant_of-result g c =
     let e = c.in_ok-enable_all.ensures in
     let is = c.geometry.view_is in
     let size = ap (λ (q : Geometry). q.page_size) is in
-    (driver_at_first c.more_pages.result (subst IsGeometry is c.geometry.invariant) c.controllers-controllers.ensures
-    (ap (λ n. n + c.more_pages.result) c.pages.ensures.pages) (rw size at c.in_ok-mem.ensures)
-    (omega (arith, c.pages.ensures.few, c.more_pages.ensures.few)) e.page e.len
-    c.in_ok-pairs.ensures.quiet c.in_ok-pairs.ensures.pairs e.settled).driver
+    (driver_at_first c.more_pages-more.result (subst IsGeometry is c.geometry.invariant) c.controllers-controllers.ensures
+    (ap (λ n. n + c.more_pages-more.result) c.pages-first.ensures.pages) (rw size at c.in_ok-mem.ensures)
+    (omega (arith, c.pages-first.ensures.few, c.more_pages-more.ensures.few)) e.page e.len
+    c.in_ok-pairs.ensures.quiet c.in_ok-pairs.ensures.pairs e.settled (rw c.pages-first.ensures.pages at
+    c.in_ok-more_pages.ensures)).driver
 
 pub returns : goal.returns
 returns g c =
@@ -31,11 +32,12 @@ returns g c =
     let same : c.in_ok-geometry.geometry ≡ c.args.geometry = search rules in
     let controllers = length (g.B.Bus.meaning c.args.bus.now).banks in
     let made =
-    (driver_at_first c.more_pages.result (subst IsGeometry is c.geometry.invariant) c.controllers-controllers.ensures
-    (ap (λ n. n + c.more_pages.result) c.pages.ensures.pages) (rw size at c.in_ok-mem.ensures)
-    (omega (arith, c.pages.ensures.few, c.more_pages.ensures.few)) e.page e.len
-    c.in_ok-pairs.ensures.quiet c.in_ok-pairs.ensures.pairs e.settled).value
-    ∙ ap (driver_with c.in_ok-geometry.geometry controllers) c.more_pages.ensures.pages
+    (driver_at_first c.more_pages-more.result (subst IsGeometry is c.geometry.invariant) c.controllers-controllers.ensures
+    (ap (λ n. n + c.more_pages-more.result) c.pages-first.ensures.pages) (rw size at c.in_ok-mem.ensures)
+    (omega (arith, c.pages-first.ensures.few, c.more_pages-more.ensures.few)) e.page e.len
+    c.in_ok-pairs.ensures.quiet c.in_ok-pairs.ensures.pairs e.settled (rw c.pages-first.ensures.pages at
+    c.in_ok-more_pages.ensures)).value
+    ∙ ap (driver_with c.in_ok-geometry.geometry controllers) c.more_pages-more.ensures.pages
     ∙ ap (λ (q : Geometry). driver_with q controllers
     (if c.args.with_entries then pages_of_entry q.page_size else 0)) same in
     record {

@@ -1,7 +1,7 @@
 use Rattle.std.proofs.Common.{refl, subst, sym}
 use Rattle.nv_driver.proofs.Words.{HasEntryPages, renewed_pair}
 use Rattle.nv_driver.proofs.AdminLaws.{driver_after, ends_inside, linked_after, placed_at, ready_at, value_after}
-use Rattle.nv_driver.proofs.PassthroughLaws.{room_stays_reset}
+use Rattle.nv_driver.proofs.PassthroughLaws.{room_stays}
 use Rattle.nv_driver.proofs.driver.Driver.reset.Goals as goal
 
 pub reset-requires-clause-ready : goal.reset-requires-clause-ready
@@ -24,7 +24,7 @@ returns-clause-driver g c =
 
 pub returns-clause-entries : goal.returns-clause-entries
 returns-clause-entries g c room =
-    subst HasEntryPages (sym (returns-clause-driver g c)) (room_stays_reset c.args.self.now c.args.ctrl room)
+    subst HasEntryPages (sym (returns-clause-driver g c)) (room_stays c.args.self.now c.args.ctrl _ room)
 
 pub returns-clause-linked : goal.returns-clause-linked
 returns-clause-linked g c =

@@ -4,7 +4,7 @@ use Rattle.nv_prp.specs.Place.{read_at}
 use Rattle.nv_driver.specs.Request.{padded}
 use Rattle.nv_driver.specs.Schedule.{is_success}
 use Rattle.nv_driver.proofs.PaddingLaws.{came_as, padded_read}
-use Rattle.nv_driver.proofs.entry_data.receive.Goals as goal
+use Rattle.nv_driver.proofs.passthrough.receive.Goals as goal
 
 pub returns : goal.returns
 returns g c =
