@@ -32,9 +32,8 @@ static int open_about(pid_t process, const char *name, int flags) {
 
 const char *read_about(pid_t process, const char *name, char *text, size_t room) {
     int file = open_about(process, name, O_RDONLY);
-    ssize_t length = file < 0 ? -1 : read(file, text, room - 1);
-    if (file >= 0)
-        close(file);
+    ssize_t length = read(file, text, room - 1);
+    close(file);
     text[length < 0 ? 0 : length] = '\0';
     return text;
 }
@@ -56,13 +55,11 @@ static int read_identity(pid_t process, struct identity *identity) {
     read_about(process, "status", text, sizeof text);
     const char *users = strstr(text, "\nUid:"), *groups = strstr(text, "\nGroups:"),
                *rights = strstr(text, "\nCapEff:");
-    identity->user = NOBODY;
     identity->count = 0;
     if (!users || !groups || !rights ||
         sscanf(users, " Uid: %*u %*u %*u %u Gid: %*u %*u %*u %u", &identity->user, &identity->group) != 2)
         return 0;
     for (const char *at = groups + strlen("\nGroups:"); identity->count < MOST_GROUPS; at = end) {
-        at += strspn(at, " \t");
         unsigned long number = strtoul(at, &end, 10);
         if (end == at)
             break;
@@ -91,9 +88,8 @@ static int take_groups(const struct identity *identity) {
 /* Has these rights in effect, as far as the sandbox gives them, and the one to look at each process. */
 static int use_rights(uint64_t wanted) {
     struct __user_cap_header_struct version = {_LINUX_CAPABILITY_VERSION_3, 0};
-    struct __user_cap_data_struct rights[2];
-    if (syscall(SYS_capget, &version, rights) < 0)
-        return -1;
+    struct __user_cap_data_struct rights[2] = {{0}};
+    syscall(SYS_capget, &version, rights);
     wanted |= 1ULL << CAP_SYS_PTRACE;
     for (unsigned at = 0; at < 2; at++)
         rights[at].effective = rights[at].permitted & (uint32_t)(wanted >> 32 * at);
@@ -103,8 +99,11 @@ static int use_rights(uint64_t wanted) {
 static int be_root(void) { return use_rights(UINT64_MAX) < 0 || setresuid(NO_USER, 0, NO_USER) < 0 ? -1 : 0; }
 
 /* (the kernel takes the rights of whoever is no longer root) */
-static int be_taken(uid_t real) {
-    return setresuid(real, taken.user, NO_USER) < 0 || use_rights(taken.rights) < 0 ? -1 : 0;
+static int be(const struct identity *identity, uid_t real) {
+    if (setresuid(real, identity->user, NO_USER) < 0 || use_rights(identity->rights) < 0)
+        return -1;
+    end_with_launcher();
+    return 0;
 }
 
 int act_as_caller(const struct call *call) {
@@ -120,13 +119,10 @@ int act_as_caller(const struct call *call) {
         taken.count == wanted.count && memcmp(taken.groups, wanted.groups, wanted.count * sizeof *wanted.groups) == 0)
         return 1;
     taken.user = NO_USER;
-    if (be_root() < 0 || take_groups(&wanted) < 0)
+    if (be_root() < 0 || take_groups(&wanted) < 0 || be(&wanted, wanted.user) < 0)
         return 0;
     taken = wanted;
-    if (be_taken(wanted.user) == 0)
-        return 1;
-    taken.user = NO_USER;
-    return 0;
+    return 1;
 }
 
 /* (a root without rights isn't it) */
@@ -139,7 +135,7 @@ int open_own_data(const struct call *call) {
     if (is_other && be_root() < 0)
         return -1;
     int file = open_data(&call->node);
-    if (is_other && be_taken(NO_USER) < 0)
+    if (is_other && be(&taken, NO_USER) < 0)
         _exit(FAILED);
     return file;
 }
@@ -207,42 +203,30 @@ static int follow(const struct call *call, int at, const char *name, int link, u
     return *left == '/' ? open_about(call->process, "root", O_PATH) : fcntl(at, F_DUPFD_CLOEXEC, 0);
 }
 
-/* A folder, by its mount and number. */
-struct place {
-    uint64_t mount, number;
-};
-
-static int find_place(int from, const char *path, int flags, struct place *place) {
-    struct statx about;
-    if (statx(from, path, flags | AT_STATX_DONT_SYNC, STATX_INO | STATX_MNT_ID, &about) < 0)
-        return -1;
-    *place = (struct place){about.stx_mnt_id, about.stx_ino};
-    return 0;
+/* Describes a file by its type, and tells it from others by its mount and number. (A server isn't asked again, because
+   what it tells may change what the caller may do.) */
+static struct statx look_at(int from, const char *path) {
+    struct statx about = {.stx_ino = 0};
+    statx(from, path, AT_EMPTY_PATH | AT_STATX_DONT_SYNC, STATX_TYPE | STATX_INO | STATX_MNT_ID, &about);
+    return about;
 }
 
-/* (which may be open) */
-static int find_root(pid_t process, int root, struct place *place) {
+static struct statx root_of(pid_t process) {
     char path[64];
     snprintf(path, sizeof path, "/proc/%d/root", process);
-    return root >= 0 ? find_place(root, "", AT_EMPTY_PATH, place) : find_place(AT_FDCWD, path, 0, place);
+    return look_at(AT_FDCWD, path);
 }
 
-static int is_same(const struct place *one, const struct place *other) {
-    return one->mount == other->mount && one->number == other->number;
-}
-
-/* Returns the type of a file. (A server isn't asked again, because what it tells may change what the caller may do.) */
-static mode_t type_of(int file) {
-    struct statx about;
-    return statx(file, "", AT_EMPTY_PATH | AT_STATX_DONT_SYNC, STATX_TYPE, &about) == 0 ? about.stx_mode & S_IFMT : 0;
+static int is_at(int folder, const struct statx *other) {
+    const struct statx about = look_at(folder, "");
+    return about.stx_mnt_id == other->stx_mnt_id && about.stx_ino == other->stx_ino;
 }
 
 /* Follows a path, part by part, as the caller would: another process can't have the kernel do so, because nothing is at
    /proc/self for it, and because it has another root if the caller has one of its own. */
 static int walk(const struct call *call, int at, const char *path, const struct open_how *how,
-                const struct place *root) {
+                const struct statx *root) {
     char left[ROOM], name[NAME_MAX + 1];
-    struct place place;
     unsigned links = 0;
     strcpy(left, path);
     while (at >= 0 && left[strspn(left, "/")]) {
@@ -252,37 +236,39 @@ static int walk(const struct call *call, int at, const char *path, const struct 
             break;
         snprintf(name, sizeof name, "%.*s", (int)length, left + skipped);
         memmove(left, left + skipped + length, strlen(left + skipped + length) + 1);
-        int is_top = strcmp(name, "..") == 0 && find_place(before, "", AT_EMPTY_PATH, &place) == 0 &&
-                     is_same(&place, root);
+        int is_top = strcmp(name, "..") == 0 && is_at(before, root);
         at = openat(before, is_top ? "." : name, O_PATH | O_NOFOLLOW | O_CLOEXEC);
-        if (at >= 0 && !(is_last && how->flags & O_NOFOLLOW) && type_of(at) == S_IFLNK) {
+        if (at >= 0 && !(is_last && how->flags & O_NOFOLLOW) && S_ISLNK(look_at(at, "").stx_mode)) {
             int link = at;
             at = links++ < MOST_LINKS ? follow(call, before, name, link, how->resolve, left) : -1;
             close(link);
         }
         close(before);
     }
-    if (at < 0 || !*left || type_of(at) == S_IFDIR)
+    if (at < 0 || !*left || S_ISDIR(look_at(at, "").stx_mode))
         return at;
     close(at);
     return -1;
 }
 
 int look_up(const struct call *call, int directory, const char *path, const struct open_how *given) {
-    static struct place of_command;
+    static struct statx of_command;
     struct open_how how = {.flags = O_PATH | O_CLOEXEC | (given->flags & (O_NOFOLLOW | O_DIRECTORY)),
                            .resolve = given->resolve | RESOLVE_NO_MAGICLINKS};
-    struct place root;
     char folder[32];
     int is_below = given->resolve & (RESOLVE_BENEATH | RESOLVE_IN_ROOT) && *path == '/', file = -1;
     int is_absolute = *path == '/' && !is_below;
     snprintf(folder, sizeof folder, directory == AT_FDCWD ? "cwd" : "fd/%d", directory);
     int from = open_about(call->process, is_absolute ? "root" : folder, O_PATH);
     const char *rest = is_below ? path : path + strspn(path, "/");
-    if (from < 0 || !*path || (of_command.number == 0 && find_root(first, -1, &of_command) < 0) ||
-        find_root(call->process, is_absolute ? from : -1, &root) < 0)
-        return from < 0 ? -1 : (close(from), -1);
-    int has_other = !is_same(&root, &of_command);
+    const struct statx root = is_absolute ? look_at(from, "") : root_of(call->process);
+    if (of_command.stx_ino == 0)
+        of_command = root_of(first);
+    if (from < 0 || !*path || root.stx_ino == 0 || of_command.stx_ino == 0) {
+        close(from);
+        return -1;
+    }
+    int has_other = root.stx_mnt_id != of_command.stx_mnt_id || root.stx_ino != of_command.stx_ino;
     if (!has_other)
         file = (int)syscall(SYS_openat2, from, *rest ? rest : ".", &how, sizeof how);
     if (file < 0 && (has_other || errno == ENOENT || (errno == ELOOP && given->resolve == 0)))

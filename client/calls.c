@@ -8,7 +8,6 @@
 #include <linux/fs.h>
 #include <linux/hdreg.h>
 #include <linux/nvme_ioctl.h>
-#include <sys/syscall.h>
 
 /* The two lowest bits of an opcode give the direction of its data. */
 enum { TO_DEVICE = 1, FROM_DEVICE = 2 };
@@ -26,49 +25,46 @@ void read_link(const char *link, char name[PATH_MAX]) {
     name[length < 0 ? 0 : length] = '\0';
 }
 
-/* (the mode of a link to an open file says how it was opened; without a sandbox, a node's only mark is its name) */
-int find_node(struct call *call) {
-    const char *before = has_sandbox ? "/dev/" : "/memfd:";
-    char link[64], name[PATH_MAX];
-    struct stat about, how;
+/* (the mode of a link to an open file says how it was opened) */
+int find_file(struct call *call, const char *before, char name[PATH_MAX], struct stat *about) {
+    char link[64];
+    struct stat how;
     snprintf(link, sizeof link, "/proc/%d/fd/%d", call->process, call->file);
     read_link(link, name);
-    if (strncmp(name, before, strlen(before)) != 0 || stat(link, &about) < 0 || !S_ISREG(about.st_mode) ||
-        lstat(link, &how) < 0 || (has_sandbox && about.st_dev != number_of(OF_DEV)))
+    if (strncmp(name, before, strlen(before)) != 0 || stat(link, about) < 0 || lstat(link, &how) < 0)
         return 0;
     call->is_writable = (how.st_mode & S_IWUSR) != 0;
     call->is_path = (how.st_mode & (S_IRUSR | S_IWUSR)) == 0;
+    return 1;
+}
+
+/* (without a sandbox, a node's only mark is its name) */
+int find_node(struct call *call) {
+    const char *before = has_sandbox ? "/dev/" : "/memfd:";
+    char name[PATH_MAX];
+    struct stat about;
+    if (!find_file(call, before, name, &about) || !S_ISREG(about.st_mode) ||
+        (has_sandbox && about.st_dev != number_of(OF_DEV)))
+        return 0;
     call->is_gone = has_sandbox && about.st_nlink == 0 && !(about.st_mode & 0777);
     return read_name(name + strlen(before), &call->node);
 }
 
 /* ---- ioctls of nodes */
 
-int put_result(const struct call *call, int is_wide, uint64_t result, int status) {
-    size_t place = is_wide ? offsetof(struct nvme_passthru_cmd64, result) : offsetof(struct nvme_passthru_cmd, result);
-    return copy_out(call, call->argument + place, &result, is_wide ? 8 : 4) < 0 ? -EFAULT : status;
-}
-
-int ask_controller(const struct call *call, uint16_t kind) {
-    const struct request_header header = {.controller = (uint16_t)call->node.controller,
-                                          .kind = kind,
-                                          .length = kind == KIND_SHOW ? call->node.nsid : kind == KIND_SCAN};
-    struct answer_header answer;
-    return ask_keeper(&header, &answer) < 0 ? -ENXIO : 0;
-}
-
 /* Sends an entry unchanged. Returns the status, and stores dword 0 of the completion. (Data that is received is read
    too, so that a bad address is told before the command is carried out.) */
-static int pass_through(const struct call *call, const struct nvme_passthru_cmd *given, uint64_t *dword_0) {
+static int admin(const struct call *call, const struct nvme_passthru_cmd *given, uint64_t *dword_0) {
     void *data = own_data();
-    int direction = given->opcode & (TO_DEVICE | FROM_DEVICE);
-    uint32_t length = direction && given->addr ? given->data_len : 0;
+    uint32_t length = given->opcode & (TO_DEVICE | FROM_DEVICE) && given->addr ? given->data_len : 0;
     struct request_header header = {.controller = (uint16_t)call->node.controller, .length = length};
     struct answer_header answer;
     const uint32_t dwords[] = {given->cdw10, given->cdw11, given->cdw12, given->cdw13, given->cdw14, given->cdw15};
     header.entry[0] = given->opcode;
     memcpy(header.entry + 4, &given->nsid, 3 * sizeof given->nsid);
     memcpy(header.entry + 40, dwords, sizeof dwords);
+    if (given->flags || given->data_len > MOST_DATA)
+        return -EINVAL;
     if (copy_in(call, given->addr, data, length) < 0)
         return -EFAULT;
     int status = follow_rules(call, 0, given);
@@ -80,18 +76,32 @@ static int pass_through(const struct call *call, const struct nvme_passthru_cmd 
     return copy_out(call, given->addr, data, answer.length) < 0 ? -EFAULT : answer.status & 0x7fff;
 }
 
-/* Executes a command. Its two forms differ only in the result, which comes after the other fields in both. */
-static int admin(const struct call *call) {
+/* Finds the only namespace of a controller, to whose node a command was sent. */
+static int find_only_namespace(struct node *node) {
+    unsigned count = 0;
+    for (uint32_t nsid = 1; nsid <= MOST_NSID; nsid++)
+        if (is_shown(node->controller, nsid)) {
+            node->nsid = nsid;
+            count++;
+        }
+    return count == 1 ? 0 : count == 0 ? -ENOTTY : -EINVAL;
+}
+
+/* Executes a command, and stores its result. Its two forms differ only in this, which comes after the other fields in
+   both. */
+static int execute(struct call *call, int is_io, int is_wide) {
+    size_t place = is_wide ? offsetof(struct nvme_passthru_cmd64, result) : offsetof(struct nvme_passthru_cmd, result);
     struct nvme_passthru_cmd given;
-    uint64_t dword_0 = 0;
-    if (!is_administrator())
-        return -EACCES;
+    uint64_t result = 0;
+    int found = is_io && call->node.kind == 'c' ? find_only_namespace(&call->node) : 0;
+    if (found < 0 || !is_administrator())
+        return found < 0 ? found : -EACCES;
     if (copy_in(call, call->argument, &given, sizeof given) < 0)
         return -EFAULT;
-    if (given.flags || given.data_len > MOST_DATA)
-        return -EINVAL;
-    int status = pass_through(call, &given, &dword_0);
-    return status < 0 ? status : put_result(call, call->request == NVME_IOCTL_ADMIN64_CMD, dword_0, status);
+    int status = is_io ? io(call, &given) : admin(call, &given, &result);
+    if (status >= 0 && copy_out(call, call->argument + place, &result, is_wide ? 8 : 4) < 0)
+        return -EFAULT;
+    return status;
 }
 
 /* Sets or finds a lock of a byte after all data, and returns what is there, or -1 if it can't be set. */
@@ -111,24 +121,22 @@ int claim(const struct call *call, int file) {
 
 /* Whether another file than that of a call has claimed its block device. (The kernel lists the locks of a file.) */
 static int is_claimed(const struct call *call) {
-    char path[64], text[1024] = "";
-    int own = open_own_data(call), file = -1;
+    char name[32], text[1024];
+    int own = open_own_data(call);
     int is_free = own < 0 || lock(own, F_OFD_GETLK, F_WRLCK, call->node.controller) == F_UNLCK;
-    snprintf(path, sizeof path, "/proc/%d/fdinfo/%d", call->process, call->file);
-    if (!is_free && (file = open(path, O_RDONLY | O_CLOEXEC)) >= 0)
-        is_free = read(file, text, sizeof text - 1) > 0 && strstr(text, "OFDLCK");
-    close(file);
     close(own);
-    return !is_free;
+    snprintf(name, sizeof name, "fdinfo/%d", call->file);
+    return !is_free && !strstr(read_about(call->process, name, text, sizeof text), "OFDLCK");
 }
 
 /* Discards blocks, which are then zeros. */
 static int discard(const struct call *call, uint64_t size, uint64_t block) {
-    int file = -1, punched = FALLOC_FL_PUNCH_HOLE | FALLOC_FL_KEEP_SIZE;
+    const int punched = FALLOC_FL_PUNCH_HOLE | FALLOC_FL_KEEP_SIZE;
     uint64_t range[2];
     if (!call->is_writable)
         return -EBADF;
-    if (call->request == BLKSECDISCARD)
+    if (call->request == BLKSECDISCARD ||
+        (call->request == BLKDISCARD && queue_setting(&call->node, "discard_max_bytes", 1) == 0))
         return -EOPNOTSUPP;
     if (copy_in(call, call->argument, range, sizeof range) < 0)
         return -EFAULT;
@@ -136,9 +144,8 @@ static int discard(const struct call *call, uint64_t size, uint64_t block) {
         return -EINVAL;
     if (volume_of(&call->node)->is_read_only)
         return -EPERM;
-    if ((file = open_own_data(call)) < 0)
-        return -ENXIO;
-    int result = fallocate(file, punched, (off_t)range[0], (off_t)range[1]) < 0 ? -errno : 0;
+    int file = open_own_data(call);
+    int result = file < 0 ? -ENXIO : fallocate(file, punched, (off_t)range[0], (off_t)range[1]) < 0 ? -errno : 0;
     close(file);
     return result;
 }
@@ -160,16 +167,16 @@ static int change(const struct call *call, uint32_t request, uint64_t block) {
         volume->buffer = number;
         volume->buffer_of = call->process;
     }
-    if (request == BLKROSET)
-        volume->is_read_only = number != 0;
     if (request == BLKRASET || request == BLKFRASET)
-        volume->read_ahead = call->argument / 8 * 8;
-    return request == BLKROSET || request == BLKRASET || request == BLKFRASET ? ask_controller(call, KIND_SHOW) : 0;
+        return set_read_ahead(&call->node, call->argument);
+    if (request != BLKROSET)
+        return 0;
+    volume->is_read_only = number != 0;
+    return ask_controller(call->node.controller, KIND_SHOW, call->node.nsid);
 }
 
 /* Reports numbers about a block device, in their sizes, as Linux does for a device with one queue, or changes it. */
 static int of_block_device(const struct call *call) {
-    const struct volume *kept = volume_of(&call->node);
     struct volume volume;
     if (!read_volume(&call->node, &volume))
         return -ENXIO;
@@ -178,27 +185,33 @@ static int of_block_device(const struct call *call) {
     uint64_t buffer = block;
     while (buffer < 4096 && !(size & buffer))
         buffer *= 2;
-    if (kept->buffer_of == call->process)
-        buffer = kept->buffer;
+    if (volume.buffer_of == call->process)
+        buffer = volume.buffer;
     /* (a few requests of 32-bit programs have the size of their words) */
     uint32_t nr = _IOC_NR(call->request), is_sized = call->is_old && _IOC_SIZE(call->request) == 4;
     uint32_t request = call->request + (is_sized && nr >= 112 && nr <= 114 ? 4u << _IOC_SIZESHIFT : 0);
     const uint64_t geometry[2] = {64 | 32 << 8 | (size >> 20 & 0xffff) << 16};
+    const char *setting = request == BLKRAGET || request == BLKFRAGET ? "read_ahead_kb"
+                          : request == BLKSECTGET                     ? "max_sectors_kb"
+                          : request == BLKROTATIONAL                  ? "rotational"
+                                                                      : NULL;
     const struct {
         uint32_t request, bytes;
-        uint64_t value;
+        uint64_t value; /* (of a setting, the usual one) */
     } numbers[] = {{BLKGETSIZE64, 8, size},         {BLKGETSIZE, word, size / 512},
                    {BLKSSZGET, 4, block},           {BLKPBSZGET, 4, block},
                    {BLKIOMIN, 4, block},            {BLKIOOPT, 4, block},
                    {BLKALIGNOFF, 4, 0},             {BLKBSZGET, 4, buffer},
-                   {BLKRAGET, word, kept->read_ahead},     {BLKFRAGET, word, kept->read_ahead},
-                   {BLKROGET, 4, kept->is_read_only},      {BLKSECTGET, 2, most_sectors(call->node.controller)},
+                   {BLKRAGET, word, 256},           {BLKFRAGET, word, 256},
+                   {BLKROGET, 4, volume.is_read_only}, {BLKSECTGET, 2, most_sectors(call->node.controller)},
                    {BLKROTATIONAL, 2, 0},           {BLKDISCARDZEROES, 4, 0},
                    {BLKGETZONESZ, 4, 0},            {BLKGETNRZONES, 4, 0}};
     static const uint32_t changes[] = {BLKROSET, BLKRASET, BLKFRASET, BLKFLSBUF, BLKBSZSET, BLKRRPART};
     for (unsigned at = 0; at < sizeof numbers / sizeof *numbers; at++)
-        if (numbers[at].request == request)
-            return copy_out(call, call->argument, &numbers[at].value, numbers[at].bytes);
+        if (numbers[at].request == request) {
+            uint64_t usual = numbers[at].value, value = setting ? queue_setting(&call->node, setting, usual) : usual;
+            return copy_out(call, call->argument, &value, numbers[at].bytes);
+        }
     for (unsigned at = 0; at < sizeof changes / sizeof *changes; at++)
         if (changes[at] == request)
             return change(call, request, block);
@@ -222,7 +235,7 @@ static int carry_out_ioctl(struct call *call) {
         return copy_out(call, call->argument, &call->node, sizeof call->node);
     case NVME_IOCTL_ADMIN_CMD:
     case NVME_IOCTL_ADMIN64_CMD:
-        return admin(call);
+        return execute(call, 0, call->request == NVME_IOCTL_ADMIN64_CMD);
     case NVME_IOCTL_ID:
         return kind == 'c' ? -ENOTTY : (int)call->node.nsid;
     case NVME_IOCTL_RESCAN:
@@ -232,15 +245,23 @@ static int carry_out_ioctl(struct call *call) {
             return -EACCES;
         if (kind != 'c' || call->request == NVME_IOCTL_SUBSYS_RESET)
             return -ENOTTY;
-        return ask_controller(call, call->request == NVME_IOCTL_RESET ? KIND_RESET : KIND_SCAN);
+        return ask_controller(call->node.controller, call->request == NVME_IOCTL_RESET ? KIND_RESET : KIND_SCAN, 1);
     case NVME_IOCTL_IO_CMD:
-        return io(call);
-    case NVME_IOCTL_SUBMIT_IO:
+        return execute(call, 1, 0);
     case NVME_IOCTL_IO64_CMD:
-        return kind == 'c' ? -ENOTTY : io(call);
+        return kind == 'c' ? -ENOTTY : execute(call, 1, 1);
+    case NVME_IOCTL_SUBMIT_IO:
+        return kind == 'c' ? -ENOTTY : submit_io(call);
     default:
         return kind == 'b' ? of_block_device(call) : -ENOTTY;
     }
+}
+
+/* Waits until all keepers have looked at what was written before. */
+static int settle(void) {
+    for (const struct device *device = devices; device < devices + device_count; device++)
+        ask_controller(device->first, KIND_PROBE, 0);
+    return 0;
 }
 
 /* (the library asks by name where nodes aren't files) */
@@ -249,6 +270,8 @@ int answer_ioctl(struct call *call, const __u64 *words) {
     call->file = (int)words[0];
     call->request = (uint32_t)words[1];
     call->argument = words[2];
+    if (call->request == SETTLE_REQUEST && call->file == -1)
+        return settle();
     int is_name = call->request == NODE_REQUEST && call->file == -1 && !has_sandbox;
     if (is_name && (copy_in(call, call->argument, &asked, sizeof asked) < 0 || !read_name(asked.name, &call->node)))
         return -ENOENT;
@@ -265,13 +288,11 @@ int receive_call(union notice *notice) {
 int is_alive(uint64_t id) { return ioctl(calls, SECCOMP_IOCTL_NOTIF_ID_VALID, &id) == 0; }
 
 void finish_call(const union notice *notice, int result) {
-    struct seccomp_notif_resp answer = {.id = notice->got.id};
-    if (result == NOT_OURS)
-        answer.flags = SECCOMP_USER_NOTIF_FLAG_CONTINUE;
-    else if (result < 0)
-        answer.error = result;
-    else
-        answer.val = result;
+    int is_ours = result != NOT_OURS;
+    struct seccomp_notif_resp answer = {.id = notice->got.id,
+                                        .flags = is_ours ? 0 : SECCOMP_USER_NOTIF_FLAG_CONTINUE,
+                                        .error = is_ours && result < 0 ? result : 0,
+                                        .val = result > 0 ? result : 0};
     ioctl(calls, SECCOMP_IOCTL_NOTIF_SEND, &answer);
 }
 
@@ -293,8 +314,8 @@ void answer_call(const union notice *notice) {
                         .process = (pid_t)notice->got.pid,
                         .is_old = data->arch != AUDIT_ARCH_X86_64,
                         .opened = NOT_OPENED};
-    const struct decided_call *row = decided_calls;
-    while (!row->answer || (call.is_old ? row->old_number : row->number) != data->nr)
+    const struct decided_call *row = call.is_old ? old_decided_calls : decided_calls;
+    while (!row->answer || row->number != data->nr)
         row++;
     int result = act_as_caller(&call) && is_alive(call.id) ? row->answer(&call, data->args) : -EAGAIN;
     if (result >= 0 && call.opened != NOT_OPENED)

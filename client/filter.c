@@ -19,12 +19,10 @@ enum { MISSING = SECCOMP_RET_ERRNO | ENOSYS, X32_BIT = 0x40000000 };
 
 int calls = -1;
 
-static struct sock_filter filter[512];
+static struct sock_filter filter[BPF_MAXINSNS]; /* (ten times as many as the tables need) */
 static unsigned short filter_length;
 
 static void emit(unsigned code, uint32_t value) {
-    if (filter_length == sizeof filter / sizeof *filter)
-        fail("the filter of calls is too long");
     filter[filter_length++] = (struct sock_filter){.code = (uint16_t)code, .k = value};
 }
 
@@ -50,29 +48,33 @@ static void decide_when(unsigned test, uint32_t value, uint32_t action) {
     otherwise(begun);
 }
 
-/* Decides about a call by a test of an argument. It is allowed otherwise. */
-static void decide_by(int number, int argument, unsigned test, uint32_t value, uint32_t action) {
+/* Decides about a call by a test of an argument, for several values. Otherwise, it is allowed if it is refused for
+   these, and refused if it is allowed. */
+static void decide_by(int number, unsigned argument, unsigned test, const uint32_t *values, size_t count,
+                      uint32_t action) {
     unsigned short begun = when(BPF_JEQ, (uint32_t)number);
-    load(offsetof(struct seccomp_data, args) + 8 * (size_t)argument);
-    decide_when(test, value, action);
-    decide(SECCOMP_RET_ALLOW);
+    load(offsetof(struct seccomp_data, args) + 8 * argument);
+    for (size_t at = 0; at < count; at++)
+        decide_when(test, values[at], action);
+    decide(action == MISSING ? SECCOMP_RET_ALLOW : MISSING);
     otherwise(begun);
 }
 
-static void decide_each(const int *numbers, size_t count, uint32_t action) {
+static void allow_each(const int *numbers, size_t count) {
     for (size_t at = 0; at < count; at++)
-        decide_when(BPF_JEQ, (uint32_t)numbers[at], action);
+        decide_when(BPF_JEQ, (uint32_t)numbers[at], SECCOMP_RET_ALLOW);
 }
 
-/* Adds the calls of programs of 64 or of 32 bits. (Of an argument the kernel looks at 32 bits.) */
-static void add_calls(int is_old) {
-    static const unsigned tests[] = {[EQUALS] = BPF_JEQ, [EXCEEDS] = BPF_JGT, [HAS_BITS] = BPF_JSET, [HAS_TYPE] = BPF_JEQ};
+/* Adds the calls of a table. (Of an argument the kernel looks at 32 bits.) */
+static void add_calls(const struct decided_call *row) {
+    static const unsigned tests[] = {
+        [EQUALS] = BPF_JEQ, [EXCEEDS] = BPF_JGT, [HAS_BITS] = BPF_JSET, [HAS_TYPE] = BPF_JEQ};
     load(offsetof(struct seccomp_data, nr));
     decide_when(BPF_JGE, X32_BIT, MISSING);
-    for (const struct decided_call *row = decided_calls; row->action; row++) {
+    for (; row->action; row++) {
         if ((row->where >= IN_SANDBOX && !has_sandbox) || (row->where == BY_ROOT && geteuid() != 0))
             continue;
-        unsigned short begun = when(BPF_JEQ, (uint32_t)(is_old ? row->old_number : row->number));
+        unsigned short begun = when(BPF_JEQ, (uint32_t)row->number);
         if (row->test.kind == ALWAYS)
             decide(row->action);
         else {
@@ -100,13 +102,12 @@ void filter_calls(void) {
     unsigned long flags = SECCOMP_FILTER_FLAG_NEW_LISTENER | SECCOMP_FILTER_FLAG_WAIT_KILLABLE_RECV;
     load(offsetof(struct seccomp_data, arch));
     unsigned short begun = when(BPF_JEQ, AUDIT_ARCH_X86_64);
-    add_calls(0);
+    add_calls(decided_calls);
     otherwise(begun);
-    add_calls(1);
-    int file = install(flags);
-    if (file < 0 || dup3(file, calls, O_CLOEXEC) < 0)
+    add_calls(old_decided_calls);
+    calls = install(flags);
+    if (calls < 0)
         fail("calls can't be answered here (Linux 5.19 or later is needed): %s", strerror(errno));
-    close(file);
 }
 
 /* ---- the launcher and the devices */
@@ -132,7 +133,7 @@ static const int launcher_calls[] = {
     SYS_statfs, SYS_fstatfs, SYS_inotify_init1, SYS_inotify_add_watch,
     SYS_process_vm_readv, SYS_process_vm_writev, SYS_fork, SYS_wait4, SYS_waitid, SYS_kill, SYS_setpriority,
     SYS_ioprio_set, SYS_getppid, SYS_setsid, SYS_setgroups, SYS_setresuid, SYS_setresgid, SYS_capget, SYS_capset,
-    SYS_poll, SYS_ppoll, SYS_signalfd4, SYS_eventfd2, SYS_accept4};
+    SYS_poll, SYS_ppoll, SYS_signalfd4, SYS_eventfd2, SYS_accept4, SYS_recvfrom};
 
 /* The requests of the launcher's ioctls: for calls that were handed over, and by which stdio looks for a terminal (the
    last one in glibc 2.42); its options of prctl; and the flags of clone by which a process gets other namespaces. */
@@ -140,30 +141,19 @@ static const uint32_t launcher_requests[] = {
     SECCOMP_IOCTL_NOTIF_RECV,  SECCOMP_IOCTL_NOTIF_SEND, SECCOMP_IOCTL_NOTIF_ID_VALID,
     SECCOMP_IOCTL_NOTIF_ADDFD, TCGETS,                   0x802c542a};
 static const uint32_t launcher_options[] = {PR_SET_PDEATHSIG, PR_SET_NAME, 0x53564d41 /* PR_SET_VMA */};
-enum {
-    NAMESPACES =
-        CLONE_NEWNS | CLONE_NEWCGROUP | CLONE_NEWUTS | CLONE_NEWIPC | CLONE_NEWUSER | CLONE_NEWPID | CLONE_NEWNET
-};
-
-/* Allows a call with one of these values as an argument. */
-static void allow_with(int number, unsigned argument, const uint32_t *values, size_t count) {
-    unsigned short begun = when(BPF_JEQ, (uint32_t)number);
-    load(offsetof(struct seccomp_data, args) + 8 * argument);
-    for (size_t at = 0; at < count; at++)
-        decide_when(BPF_JEQ, values[at], SECCOMP_RET_ALLOW);
-    decide(MISSING);
-    otherwise(begun);
-}
+static const uint32_t namespaces = CLONE_NEWNS | CLONE_NEWCGROUP | CLONE_NEWUTS | CLONE_NEWIPC | CLONE_NEWUSER |
+                                   CLONE_NEWPID | CLONE_NEWNET;
 
 /* Begins a filter that allows what is on lists alone. (Old programs and x32 have other numbers.) */
-static void begin_list(void) {
+static void begin_list(const int *more, size_t count) {
     filter_length = 0;
     load(offsetof(struct seccomp_data, arch));
     emit(BPF_JMP | BPF_JEQ | BPF_K, AUDIT_ARCH_X86_64);
     filter[filter_length - 1].jt = 1;
     decide(MISSING);
     load(offsetof(struct seccomp_data, nr));
-    decide_each(common_calls, COUNT(common_calls), SECCOMP_RET_ALLOW);
+    allow_each(common_calls, COUNT(common_calls));
+    allow_each(more, count);
 }
 
 static int end_list(void) {
@@ -172,11 +162,10 @@ static int end_list(void) {
 }
 
 void confine_launcher(void) {
-    begin_list();
-    decide_each(launcher_calls, COUNT(launcher_calls), SECCOMP_RET_ALLOW);
-    allow_with(SYS_ioctl, 1, launcher_requests, COUNT(launcher_requests));
-    allow_with(SYS_prctl, 0, launcher_options, COUNT(launcher_options));
-    decide_by(SYS_clone, 0, BPF_JSET, NAMESPACES, MISSING);
+    begin_list(launcher_calls, COUNT(launcher_calls));
+    decide_by(SYS_ioctl, 1, BPF_JEQ, launcher_requests, COUNT(launcher_requests), SECCOMP_RET_ALLOW);
+    decide_by(SYS_prctl, 0, BPF_JEQ, launcher_options, COUNT(launcher_options), SECCOMP_RET_ALLOW);
+    decide_by(SYS_clone, 0, BPF_JSET, &namespaces, 1, MISSING);
     if (end_list() < 0)
         fail_by_errno("the launcher's calls can't be limited");
 }
@@ -184,14 +173,13 @@ void confine_launcher(void) {
 /* (A device opens files to read them, when it starts, and changes limits of its own alone. It becomes its program under
    this filter, which can't see whether it becomes another one.) */
 int confine_device(int forks) {
-    const uint32_t changes = O_WRONLY | O_RDWR | O_CREAT | O_TRUNC;
+    const uint32_t changes = O_WRONLY | O_RDWR | O_CREAT | O_TRUNC, own = 0;
     static const int more_calls[] = {SYS_execve, SYS_fadvise64, SYS_dup, SYS_dup2, SYS_alarm, SYS_wait4};
-    begin_list();
-    decide_each(more_calls, forks ? COUNT(more_calls) : 1, SECCOMP_RET_ALLOW);
+    begin_list(more_calls, forks ? COUNT(more_calls) : 1);
     if (forks)
-        decide_by(SYS_clone, 0, BPF_JSET, NAMESPACES, MISSING);
-    decide_by(SYS_open, 1, BPF_JSET, changes, MISSING);
-    decide_by(SYS_openat, 2, BPF_JSET, changes, MISSING);
-    decide_by(SYS_prlimit64, 0, BPF_JGT, 0, MISSING);
+        decide_by(SYS_clone, 0, BPF_JSET, &namespaces, 1, MISSING);
+    decide_by(SYS_open, 1, BPF_JSET, &changes, 1, MISSING);
+    decide_by(SYS_openat, 2, BPF_JSET, &changes, 1, MISSING);
+    decide_by(SYS_prlimit64, 0, BPF_JGT, &own, 1, MISSING);
     return end_list();
 }

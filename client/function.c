@@ -19,53 +19,35 @@ static const unsigned char config_at_reset[CONFIG_SIZE] = {
     0x1a,       0,    0x11, [CAPABILITY] = 0x40, [0x3d] = 1, [0x40] = 5, 0, 0x80};
 /* The bits that can be written: of Command, the BAR, the interrupt line, and the message. */
 static const unsigned char config_mask[CONFIG_SIZE] = {
-    [COMMAND] = 6, 4,   [0x11] = 0xc0, 255, 255, [0x3c] = 255, [MESSAGES] = 1, [0x44] = 0xfc, 255, 255, 255,
-    255,           255, 255,           255, 255, 255};
+    [COMMAND] = 6, 4, [0x11] = 0xc0, 255, 255, [0x3c] = 255, [MESSAGES] = 1, [0x44] = 0xfc, [0x45 ... 0x4d] = 255};
 
 /* Returns whether a descriptor is an event counter. (This process writes nothing else for a client.) */
 int is_counter(int file) {
-    static const char wanted[] = "anon_inode:[eventfd]";
-    char path[40], name[sizeof wanted] = "";
+    char path[40], name[40] = "";
     snprintf(path, sizeof path, "/proc/self/fd/%d", file);
-    return readlink(path, name, sizeof name) == sizeof wanted - 1 && memcmp(name, wanted, sizeof wanted - 1) == 0;
+    return readlink(path, name, sizeof name - 1) > 0 && strcmp(name, "anon_inode:[eventfd]") == 0;
 }
 
 static aio_context_t events;
-static struct iocb nothing = {.aio_lio_opcode = IOCB_CMD_PWRITE, .aio_flags = IOCB_FLAG_RESFD}, *all = &nothing;
 
-/* Prepares what `add_one` needs, and leaves no descriptor of a standard stream free for something else. */
-void prepare_counters(void) {
-    int sink;
-    while ((sink = open("/dev/null", O_RDWR | O_CLOEXEC)) >= 0 && sink <= STDERR_FILENO)
-        ;
-    if (sink < 0 || syscall(SYS_io_setup, MOST_EVENTS, &events) < 0)
-        err(FAILED, "/dev/null, with asynchronous writes");
-    nothing.aio_fildes = (uint32_t)sink;
+void prepare_interrupts(void) {
+    if (syscall(SYS_io_setup, MOST_EVENTS, &events) < 0)
+        err(FAILED, "io_setup");
 }
 
-/* Adds 1 to an event counter, as the kernel does at the end of an asynchronous write, here of nothing. Unlike a write
-   to the counter, this never waits, whatever the other process made of it. */
-static void add_one(int counter) {
-    struct io_event ended[MOST_EVENTS];
-    nothing.aio_resfd = (uint32_t)counter;
-    while (syscall(SYS_io_submit, events, 1L, &all) < 0 && errno == EAGAIN)
-        syscall(SYS_io_getevents, events, 0L, (long)MOST_EVENTS, ended, NULL);
-}
-
-/* Puts an event counter, or none (-1), in the place of the former one. A message that found none is sent now. */
-void set_counter(struct function *function, int *counter, int file) {
-    if (*counter >= 0)
-        close(*counter);
-    *counter = file;
+/* Puts an event counter, or none (-1), in the place of the former one. A message that found none is sent then. */
+void set_counter(struct function *function, int *counter, int *file) {
+    close(*counter);
+    *counter = *file;
+    *file = -1;
     function->mask = counter == &function->pin ? UNMASKED : function->mask;
-    if (counter == &function->bell && file >= 0 && function->posted != function->head)
-        add_one(file);
+    function->has_message |= counter == &function->bell && function->posted != function->head;
 }
 
-/* Raises the pin if completions wait. Each access of the guest to a register lowers and unmasks it, even before its
-   processor has seen it. So it is raised again once the guest has taken completions, or else after a while. Returns in
-   how many milliseconds that is, or -1. */
-int raise_pin(struct function *function) {
+/* Returns in how many milliseconds the pin is to be raised because completions wait, or -1. If that is now, the pin is
+   masked. Each access of the guest to a register lowers and unmasks it, even before its processor has seen it. So it is
+   raised again once the guest has taken completions, or else after a while. */
+static int raise_pin(struct function *function) {
     int is_off = function->config[COMMAND + 1] & HAS_NO_PIN || function->config[MESSAGES] & SENDS_MESSAGES;
     struct timespec time;
     if (function->posted == function->head || function->pin < 0 || function->bell >= 0 || is_off || function->mask)
@@ -77,8 +59,26 @@ int raise_pin(struct function *function) {
     function->mask = BY_RAISE;
     function->has_taken = 0;
     function->raised_at = now;
-    add_one(function->pin);
-    return -1;
+    return 0;
+}
+
+/* Sends the interrupt that is due, and takes bytes that were served out of the client's socket, by one call for both:
+   the kernel adds 1 to an event counter at the end of an asynchronous read. Unlike a write to the counter, this never
+   waits, whatever the other process made of it. Returns in how many milliseconds the pin is to be raised, or -1u. */
+unsigned interrupt(struct function *function, uint32_t served) {
+    static unsigned char taken[MOST_MESSAGE];
+    struct io_event ended[MOST_EVENTS];
+    int wait = raise_pin(function), counter = wait == 0 ? function->pin : function->has_message ? function->bell : -1;
+    struct iocb reading = {.aio_lio_opcode = IOCB_CMD_PREAD, .aio_fildes = (uint32_t)function->socket,
+                           .aio_buf = (uintptr_t)taken, .aio_nbytes = served,
+                           .aio_flags = IOCB_FLAG_RESFD, .aio_resfd = (uint32_t)counter};
+    function->has_message = 0;
+    function->seen -= served;
+    if (counter < 0 && served > 0)
+        recv(function->socket, taken, served, 0);
+    while (counter >= 0 && syscall(SYS_io_submit, events, 1L, (struct iocb *[]){&reading}) < 0 && errno == EAGAIN)
+        syscall(SYS_io_getevents, events, 0L, (long)MOST_EVENTS, ended, NULL);
+    return wait > 0 ? (unsigned)wait : -1u;
 }
 
 /* Reads an event counter, without waiting, and sets it to 0. Returns whether it was more. */
@@ -89,8 +89,7 @@ static int take_back(int counter) {
 
 /* The other process has seen the pin's interrupt. */
 void see_interrupt(struct function *function) {
-    if (!take_back(function->unmask) && errno != EAGAIN)
-        set_counter(function, &function->unmask, -1);
+    take_back(function->unmask);
     function->mask = UNMASKED;
 }
 
@@ -110,8 +109,7 @@ void take_turn(struct function *function) {
     function->fetched = (function->fetched + 1) % ((less_one & 0xfff) + 1);
     function->posted = (function->posted + 1) % ((less_one >> 16 & 0xfff) + 1);
     function->has_more = function->fetched != function->tail;
-    if (function->bell >= 0)
-        add_one(function->bell);
+    function->has_message = 1;
 }
 
 /* Writes a register. A doorbell's value is kept unless the controller ignores it: a tail that names no slot, or a head

@@ -7,7 +7,10 @@
 #include <err.h>
 #include <errno.h>
 #include <fcntl.h>
+#include <poll.h>
 #include <signal.h>
+#include <sys/mman.h>
+#include <sys/socket.h>
 #include <unistd.h>
 
 /* The most functions, sections of a machine's memory, descriptors with a message, and bytes of an access. */
@@ -15,10 +18,10 @@ enum { MOST_FUNCTIONS = 16, MOST_SECTIONS = 256, MOST_FILES = 8, MOST_ACCESS = 0
 enum { FAILED = 72, HEADER = 16, MOST_MESSAGE = HEADER + 16 + MOST_ACCESS, BATCH = 256 /* bytes of small messages */ };
 enum { BAR_SIZE = MOST_ACCESS, CONFIG_SIZE = 256, SMALL_PAGE = 4096 };
 
-/* A piece of the machine's memory, in a file that is mapped. What has none (-1) is a hole. */
+/* A piece of the machine's memory, in a file that is mapped with this access. What has none (-1) is a hole. */
 struct section {
     uint64_t address, size, offset;
-    int file, is_writable;
+    int file, access;
     unsigned char *bytes;
 };
 
@@ -35,21 +38,20 @@ struct function {
     int socket, listener;                      /* or -1 */
     pid_t receiver;                            /* the process that takes the client's descriptors, or 0 */
     int to_receiver, is_asked;                 /* the socket to it, or -1, and whether it is to answer */
-    int is_paused;                             /* whether no client could be taken */
     unsigned char message[MOST_MESSAGE];       /* the message that is served, and then its answer */
     unsigned char input[MOST_MESSAGE + BATCH]; /* what has come, from the beginning of a message on */
-    uint32_t come, sent, to_send;
-    struct files files; /* what came with the message that comes first */
+    uint32_t come, seen, to_send; /* (of what has come, how much was only seen, and is still in the socket) */
+    struct files files;           /* what came with the message that comes first */
     unsigned char config[CONFIG_SIZE];
     struct section sections[MOST_SECTIONS];
     unsigned section_count;
-    int pin, bell, unmask;  /* event counters for the pin, for messages, and of the pin's being seen; or -1 */
+    int pin, bell, unmask; /* event counters for the pin, for messages, and of the pin's being seen; or -1 */
     enum { UNMASKED, BY_RAISE, BY_CLIENT } mask; /* whether the pin waits to be seen, or the client masked it */
-    int has_taken;          /* whether the guest wrote a head since the pin was raised */
-    int64_t raised_at;      /* when that was, in milliseconds */
-    int has_more;           /* whether more entries may wait after the last turn */
-    uint32_t fetched, tail; /* the place of the next entry, and the tail that the guest wrote */
-    uint32_t posted, head;  /* the place of the next completion, and the head that the guest wrote */
+    int64_t raised_at;         /* when the pin was raised, in milliseconds */
+    int has_taken;             /* whether the guest wrote a head since then */
+    int has_message, has_more; /* whether a message is due, and whether entries may wait after the last turn */
+    uint32_t fetched, tail;    /* the place of the next entry, and the tail that the guest wrote */
+    uint32_t posted, head;     /* the place of the next completion, and the head that the guest wrote */
 };
 
 struct protocol {
@@ -58,24 +60,24 @@ struct protocol {
 };
 extern const struct protocol vfio_user, proxy;
 
+/* Puts dwords one after the other, and returns their size in bytes. (The machine is a little-endian one.) */
+static inline uint32_t put_dwords(unsigned char *at, const uint32_t *numbers, uint32_t count) {
+    memcpy(at, numbers, 4 * count);
+    return 4 * count;
+}
+
 void reset(struct function *function);
 int use(struct function *function, int is_config, uint64_t offset, uint64_t count, unsigned char *bytes, int is_write);
 void take_turn(struct function *function);
 int is_counter(int file);
-void prepare_counters(void);
-void set_counter(struct function *function, int *counter, int file);
-int raise_pin(struct function *function);
+void prepare_interrupts(void);
+void set_counter(struct function *function, int *counter, int *file);
+unsigned interrupt(struct function *function, uint32_t served);
 void see_interrupt(struct function *function);
 void reserve_memory(void);
 int add_section(struct function *function, struct section section, int *file);
 int drop_sections(struct function *function, uint64_t address, uint64_t size);
 int turn(struct function *function, uint64_t entry, uint64_t slot, uint32_t page);
-int take_file(struct function *function, unsigned number);
-void let_go(struct function *function, int file);
-int begin(struct function *function);
-void serve_messages(struct function *function);
-void send_rest(struct function *function);
-void receive(struct function *function);
-void take_answer(struct function *function);
-void lose(struct function *function);
+void let_go(struct function *function, int *file);
+unsigned serve_client(struct function *function, struct pollfd awaited[2], unsigned other);
 #endif

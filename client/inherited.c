@@ -1,16 +1,14 @@
 /* What comes into the sandbox from outside: the standard streams, other open files, and devices. Each is on a list of
    what may come, and all else is refused or closed. None of this is proved. */
 #include "launcher.h"
-#include <ftw.h>
 #include <linux/magic.h>
 #include <sys/statfs.h>
 #include <sys/sysmacros.h>
 
 enum { MEMORY_MAJOR = 1, TERMINAL_MAJOR = 5, MISC_MAJOR = 10 };
 
-const struct machine_node machine_nodes[MACHINE_NODES] = {
-    {"/dev/null", MEMORY_MAJOR, 3},   {"/dev/zero", MEMORY_MAJOR, 5},    {"/dev/full", MEMORY_MAJOR, 7},
-    {"/dev/random", MEMORY_MAJOR, 8}, {"/dev/urandom", MEMORY_MAJOR, 9}, {"/dev/tty", TERMINAL_MAJOR, 0}};
+/* The nodes of the machine that each command has besides tty: null, zero, full, random and urandom. */
+static const unsigned char memory_minors[] = {3, 5, 7, 8, 9};
 
 /* What --device may add: device numbers of terminals, video, sound, serial ports and so on, and of /dev/net/tun,
    /dev/fuse, /dev/kvm, vhost-net and vhost-vsock. None of them leads to storage or types for the user. */
@@ -76,11 +74,10 @@ int holds_files(const char *kind) {
     return strncmp(kind, " fuse.", 6) == 0;
 }
 
-int is_machine_node(dev_t number) {
-    for (unsigned at = 0; at < MACHINE_NODES; at++)
-        if (number == makedev(machine_nodes[at].major, machine_nodes[at].minor))
-            return 1;
-    return 0;
+static int is_machine_node(dev_t number) {
+    return number == makedev(TERMINAL_MAJOR, 0) ||
+           (major(number) == MEMORY_MAJOR && minor(number) <= UINT8_MAX &&
+            memchr(memory_minors, (int)minor(number), sizeof memory_minors));
 }
 
 /* Whether a device may be added. */
@@ -106,33 +103,11 @@ static int is_terminal(dev_t number) {
            (major(number) <= UINT8_MAX && memchr(terminals, (int)major(number), sizeof terminals));
 }
 
-/* The sandbox's own file systems in /dev. */
-static dev_t own_file_systems[4];
-
-/* (outside, a path may become another one after it was looked at, and before bwrap binds what it finds there) */
-static int check_node(const char *path, const struct stat *about, int type, struct FTW *walk) {
-    int is_own = 0;
-    (void)walk;
-    for (unsigned at = 0; at < sizeof own_file_systems / sizeof *own_file_systems; at++)
-        is_own |= about->st_dev == own_file_systems[at];
-    int is_listed = S_ISCHR(about->st_mode) ? is_machine_node(about->st_rdev) || is_addable(about->st_rdev) ||
-                                                  is_terminal(about->st_rdev)
-                                            : is_own && !S_ISBLK(about->st_mode);
-    if (type == FTW_NS || type == FTW_DNR || !is_listed)
-        fail("%s isn't the device that it was before the sandbox was made", path);
-    return 0;
-}
-
-void check_nodes(void) {
-    static const char *const mounts[] = {"/dev", "/dev/pts", "/dev/shm", "/dev/mqueue"};
+void check_node(const char *path) {
     struct stat about;
-    for (unsigned at = 0; at < sizeof mounts / sizeof *mounts; at++) {
-        if (stat(mounts[at], &about) < 0)
-            fail_by_errno(mounts[at]);
-        own_file_systems[at] = about.st_dev;
-    }
-    if (nftw("/dev", check_node, 16, FTW_PHYS) < 0)
-        fail_by_errno("/dev");
+    int is_device = stat(path, &about) == 0 && S_ISCHR(about.st_mode);
+    if (!is_device || !(is_machine_node(about.st_rdev) || is_addable(about.st_rdev) || is_terminal(about.st_rdev)))
+        fail("%s isn't the device that it was before the sandbox was made", path);
 }
 
 /* ---- open files */
@@ -182,13 +157,7 @@ void check_streams(void) {
 
 /* (a closed stream has no flags, which is -1, and one that was closed outside is /dev/null as a path alone) */
 void hold_streams(void) {
-    for (int file = 0; file <= STDERR_FILENO; file++) {
-        if (!(fcntl(file, F_GETFL) & O_PATH))
-            continue;
-        int null = open("/dev/null", O_PATH | O_NOFOLLOW);
-        if (null < 0 || (null != file && dup2(null, file) < 0))
-            fail_by_errno("/dev/null");
-        if (null != file)
-            close(null);
-    }
+    for (int file = 0; file <= STDERR_FILENO; file++)
+        if (fcntl(file, F_GETFL) & O_PATH)
+            keep_as(file, open("/dev/null", O_PATH | O_NOFOLLOW), "/dev/null");
 }

@@ -24,18 +24,12 @@ enum { RANGE_BYTES = 16, MOST_RANGES = 256, DEALLOCATES = 4 };
 static uint64_t first_of(const unsigned char *range) { return number_at(range + 8, 8); }
 static uint64_t count_of(const unsigned char *range) { return number_at(range + 4, 4); }
 
-/* The file of the data that a command is about, and its blocks. */
-struct data {
-    int file;
-    struct volume volume;
-};
-
-static int is_within(const struct data *data, uint64_t first, uint64_t count) {
-    return first <= data->volume.blocks && count <= data->volume.blocks - first;
+static int is_within(const struct volume *data, uint64_t first, uint64_t count) {
+    return first <= data->blocks && count <= data->blocks - first;
 }
 
-static int clear(const struct data *data, uint64_t first, uint64_t count) {
-    int how = FALLOC_FL_PUNCH_HOLE | FALLOC_FL_KEEP_SIZE, power = (int)data->volume.power;
+static int clear(const struct volume *data, uint64_t first, uint64_t count) {
+    int how = FALLOC_FL_PUNCH_HOLE | FALLOC_FL_KEEP_SIZE, power = (int)data->power;
     if (!is_within(data, first, count))
         return OUT_OF_RANGE;
     return count == 0 || fallocate(data->file, how, (off_t)(first << power), (off_t)(count << power)) == 0 ? DONE
@@ -43,7 +37,7 @@ static int clear(const struct data *data, uint64_t first, uint64_t count) {
 }
 
 /* Deallocates ranges of blocks, all or none. */
-static int deallocate(const struct call *call, const struct data *data, const struct nvme_passthru_cmd *given) {
+static int deallocate(const struct call *call, const struct volume *data, const struct nvme_passthru_cmd *given) {
     unsigned char ranges[MOST_RANGES][RANGE_BYTES];
     uint32_t count = (given->cdw10 & 0xff) + 1;
     int status = DONE;
@@ -60,11 +54,11 @@ static int deallocate(const struct call *call, const struct data *data, const st
 }
 
 /* Reads, writes or compares blocks. */
-static int transfer(const struct call *call, const struct data *data, const struct nvme_passthru_cmd *given,
+static int transfer(const struct call *call, const struct volume *data, const struct nvme_passthru_cmd *given,
                     uint64_t first, size_t size) {
     static unsigned char stored[MOST_DATA];
     unsigned char *bytes = own_data();
-    off_t at = (off_t)(first << data->volume.power);
+    off_t at = (off_t)(first << data->power);
     if (given->opcode != READ && copy_in(call, given->addr, bytes, size) < 0)
         return -EFAULT;
     if (given->opcode == WRITE)
@@ -76,9 +70,9 @@ static int transfer(const struct call *call, const struct data *data, const stru
     return copy_out(call, given->addr, stored, size);
 }
 
-static int carry_out_io(const struct call *call, const struct data *data, const struct nvme_passthru_cmd *given) {
+static int carry_out_io(const struct call *call, const struct volume *data, const struct nvme_passthru_cmd *given) {
     uint64_t first = (uint64_t)given->cdw11 << 32 | given->cdw10, count = (given->cdw12 & 0xffff) + 1;
-    uint64_t size = count << data->volume.power;
+    uint64_t size = count << data->power;
     switch (given->opcode) {
     case FLUSH:
         return DONE;
@@ -99,53 +93,36 @@ static int carry_out_io(const struct call *call, const struct data *data, const 
     }
 }
 
-/* (the older form, for one kind of command, becomes the newer one) */
-static int read_user_io(const struct call *call, unsigned power, struct nvme_passthru_cmd *given) {
-    struct nvme_user_io io;
-    if (copy_in(call, call->argument, &io, sizeof io) < 0)
-        return -EFAULT;
-    if (io.flags || (io.opcode != READ && io.opcode != WRITE && io.opcode != COMPARE))
+int io(const struct call *call, const struct nvme_passthru_cmd *given) {
+    struct volume data;
+    if (given->flags || given->nsid != call->node.nsid)
         return -EINVAL;
-    *given = (struct nvme_passthru_cmd){.opcode = io.opcode,
-                                        .nsid = call->node.nsid,
-                                        .addr = io.addr,
-                                        .data_len = (io.nblocks + 1u) << power,
-                                        .cdw10 = (uint32_t)io.slba,
-                                        .cdw11 = (uint32_t)(io.slba >> 32),
-                                        .cdw12 = io.nblocks};
-    return 0;
+    int status = follow_rules(call, 1, given);
+    if (status != 0)
+        return status;
+    data.file = read_volume(&call->node, &data) ? open_own_data(call) : -1;
+    if (data.file < 0)
+        return INVALID_NAMESPACE;
+    status = carry_out_io(call, &data, given);
+    close(data.file);
+    return status;
 }
 
-/* Finds the only namespace of a controller, to whose node a command was sent. */
-static int find_only_namespace(struct node *node) {
-    unsigned count = 0;
-    for (uint32_t nsid = 1; nsid <= MOST_NSID; nsid++)
-        if (is_shown(node->controller, nsid)) {
-            node->nsid = nsid;
-            count++;
-        }
-    return count == 1 ? 0 : count == 0 ? -ENOTTY : -EINVAL;
-}
-
-int io(struct call *call) {
-    struct nvme_passthru_cmd given;
-    int is_user_io = call->request == NVME_IOCTL_SUBMIT_IO;
-    struct data data = {.volume = {.power = 0}};
-    int found = call->node.kind == 'c' ? find_only_namespace(&call->node) : 0;
-    if (found < 0 || (!is_user_io && !is_administrator()))
-        return found < 0 ? found : -EACCES;
-    data.file = read_volume(&call->node, &data.volume) ? open_own_data(call) : -1;
-    int status = is_user_io ? read_user_io(call, data.volume.power, &given)
-                            : copy_in(call, call->argument, &given, sizeof given);
-    if (status == 0 && (given.flags || given.nsid != call->node.nsid))
-        status = -EINVAL;
-    if (status == 0)
-        status = follow_rules(call, 1, &given);
-    if (status == 0)
-        status = data.file < 0 ? INVALID_NAMESPACE : carry_out_io(call, &data, &given);
-    if (data.file >= 0)
-        close(data.file);
-    return status < 0 || is_user_io ? status : put_result(call, call->request == NVME_IOCTL_IO64_CMD, 0, status);
+/* (the older form, for one kind of command, becomes the newer one) */
+int submit_io(const struct call *call) {
+    struct nvme_user_io old;
+    if (copy_in(call, call->argument, &old, sizeof old) < 0)
+        return -EFAULT;
+    if (old.flags || (old.opcode != READ && old.opcode != WRITE && old.opcode != COMPARE))
+        return -EINVAL;
+    const struct nvme_passthru_cmd given = {.opcode = old.opcode,
+                                            .nsid = call->node.nsid,
+                                            .addr = old.addr,
+                                            .data_len = MOST_DATA,
+                                            .cdw10 = (uint32_t)old.slba,
+                                            .cdw11 = (uint32_t)(old.slba >> 32),
+                                            .cdw12 = old.nblocks};
+    return io(call, &given);
 }
 
 /* ---- admin commands of drives with namespace management that the controllers don't have, which a keeper answers from

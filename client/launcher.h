@@ -21,8 +21,8 @@ enum { DEPTH, PAGE_SIZE, WINDOW, OFFSET, LIST_OFFSET, PACE, NUMBERS };
 
 /* A device is the process of one subsystem. */
 struct device {
-    pid_t process;         /* 0 if it has ended */
     int to_and_from, said; /* sockets for its input and output, and for its standard error */
+    int asks[2];           /* a pipe by which helpers ask its keeper, one after another */
     unsigned first, count; /* its controllers, by the numbers of /dev/nvmeX */
     enum { STARTING, ANSWERING, LOST } state;
     pid_t keeper;          /* the process that alone exchanges requests with it */
@@ -33,68 +33,68 @@ extern unsigned device_count;
 extern int has_sandbox;     /* whether /dev and /sys are the command's own */
 extern int waits;           /* whether nodes wait for a scan or a reset, because of --no-notice */
 extern uint64_t geometry[NUMBERS];
+extern sigset_t blocked;    /* the signals that were blocked at the start, and are for the command and the devices */
+extern char library[], program[]; /* the paths of the library and of the device's program */
 
 /* launcher.c: `fail` reports why the launcher can't continue, and ends everything that was started; `fail_by_errno`
    adds why the last call failed; `cannot` reports by errno that a path can't be made, which ends the launcher only
-   before the command runs; and `last_line` reads all that a program writes to a pipe, closes it, and returns the last
-   line, without the program's name at its beginning. */
-enum { FAILED = 72, NOT_EXECUTABLE = 126, NOT_FOUND = 127 };
+   before the command runs; `keep_as` gives an open file another number; `last_line` reads all that a program writes to
+   a pipe, closes it, and returns the last line, without the program's name at its beginning; and `exchange_errors` has
+   bwrap tell there why it fails. */
+enum { NO_SANDBOX = 71, FAILED = 72, NOT_EXECUTABLE = 126, NOT_FOUND = 127 };
 __attribute__((noreturn, format(printf, 1, 2))) void fail(const char *format, ...);
 __attribute__((noreturn)) void fail_by_errno(const char *what);
 void cannot(const char *path);
+void keep_as(int number, int file, const char *name);
 const char *last_line(int file, const char *program);
+void exchange_errors(void);
 
 /* options.c: what the options choose, and reads them; returns where the command's words begin; and reports that a
    number isn't one that an option of the layout takes. */
 enum { MOST_ADDED = 64 };
 struct options {
-    const char *subsystems[MOST_DEVICES], *added[MOST_ADDED + 1], *trace_file; /* (`added` ends with NULL) */
+    const char *subsystems[MOST_DEVICES], *added[MOST_ADDED], *trace_file;
     char *device_words[NUMBERS + 4]; /* a device's program and options */
     unsigned subsystem_count, added_count, device_word_count;
     int has_trace, may_lack_sandbox, is_root;
-    uint64_t limit; /* of the memory for data */
+    unsigned long long limit; /* of the memory for data */
 };
 extern struct options options;
 int read_options(int count, char **arguments);
 __attribute__((noreturn)) void fail_by_number(const char *name);
 
-/* command.c: starts process 1 of the command's own namespace (`first`), and gives up the rights that make it; returns
-   the process that becomes the command, with these signals blocked, as soon as it is released; and ends this process
-   after it has tried to make such a namespace. */
+/* command.c: starts process 1 of the command's own namespace (`first`), whose end can be read from the file `ends`, and
+   gives up the rights that make it; returns the process that becomes the command as soon as it is released. */
 extern pid_t first;
-pid_t start_command(char **arguments, const char *library, const sigset_t *blocked);
+pid_t start_command(char **arguments, int ends);
 void release_command(void);
-__attribute__((noreturn)) void try_namespace(void);
 
-/* device.c: starts a device by these words, with a subsystem file (or -1) that it has as descriptor 3 and that has this
-   name, and with these signals blocked. */
+/* device.c: starts a device, with a subsystem file (or -1) of this name, which it has as descriptor 3 and which is
+   closed here. */
 enum { SUBSYSTEM_FILE = STDERR_FILENO + 1 };
-void start_device(char *const *words, int file, const char *name, const sigset_t *blocked);
+void start_device(int file, const char *name);
 
-/* relay.c: starts the exchange with a device; sends it a request, and returns -1 if it is gone, or one for a controller
-   by its number among all; copies what it wrote to its standard error so far; and returns whether a file takes a line,
-   which it may not for seconds at the end (`is_over`), because nobody reads it. */
+/* relay.c: starts the exchange with a device; takes note that it is gone; sends it a request, and returns -1 if it is
+   gone, or one for a controller by its number among all; and returns whether a file takes a line within seconds, which
+   it may not because nobody reads it. */
 extern int trace; /* where the lines of a trace go */
-extern int is_over;
 int takes_line(int file);
 void greet_device(struct device *device, const char *name);
 void lose_device(struct device *device);
 int exchange(struct device *device, const struct request_header *header, void *data, struct answer_header *answer);
 int carry_out(struct request_header *header, void *data, struct answer_header *answer);
-void copy_said(struct device *device);
 
 /* A namespace, as the launcher knows it. */
 struct volume {
+    enum { UNKNOWN, KNOWN } state; /* whether it is known how long it is */
+    unsigned power;                /* a block has two to this power bytes */
     uint64_t blocks;
-    unsigned power;      /* a block has two to this power bytes; 0 if the namespace isn't known */
-    unsigned generation; /* how many namespaces had this NSID before */
-    unsigned files;      /* how many files had the data of namespaces with this NSID */
+    int file;    /* the data, as its device's keeper has it open, or 0 */
+    ino_t inode; /* of this file */
 
-    /* What ioctls or files of its block devices have set: whether they can't be written, the sectors that are read
-       ahead, the scheduler, and the bytes of a buffer, which hold for one process. */
+    /* What ioctls of its block devices have set: whether they can't be written, and the bytes of a buffer, which hold
+       for one process. */
     int is_read_only;
-    uint64_t read_ahead;
-    const char *scheduler;
     unsigned buffer;
     pid_t buffer_of;
 };
@@ -102,24 +102,21 @@ struct volume {
 /* What is there of a controller: nothing, its PCI function alone, or all, because it has its driver. */
 enum presence { REMOVED, UNBOUND, BOUND };
 
-/* nodes.c: makes the nodes of all controllers; looks for changes after a command; scans the namespaces of some
-   controllers; makes the nodes of a lost device unusable; returns a descriptor that tells which nodes of a device were
-   written, restores their lengths, tells whether there are any, and looks at their data; shows a namespace anew after an
-   ioctl changed it; returns whether a name is that of a node, which may have been removed, and stores the node; returns
-   whether a controller shows a namespace; asks a controller, as Identify does or for its active namespaces, and returns
-   the length of what came, or -1; opens the data of a namespace that is active on a node's controller, or returns -1;
-   stores how long a namespace is, or returns 0 if this isn't known or just changes; tells what is there of a controller;
-   and does what is asked of a keeper, and returns 0, or an error's number as a negative one (NOT_OURS, if a device is
-   asked). */
+/* nodes.c: makes the nodes of all controllers; looks for changes after a command; makes the nodes of a lost device
+   unusable; returns a descriptor that tells which nodes of a device were written, restores their lengths, tells whether
+   there are any, and looks at their data; returns whether a name is that of a node, which may have been removed, and
+   stores the node; returns whether a controller shows a namespace; asks a controller, as Identify does or for its
+   active namespaces, and returns the length of what came, or -1; opens the data of a namespace that is active on a
+   node's controller, or returns -1; stores how long a namespace is, or returns 0 if this isn't known or just changes;
+   tells what is there of a controller; and does what is asked of a keeper, and returns 0, or an error's number as a
+   negative one (NOT_OURS, if a device is asked). */
 void make_nodes(void);
 void look_for_changes(struct device *device, const struct request_header *request, const struct answer_header *answer);
-void scan(struct device *device, unsigned first, unsigned count);
 void lose_nodes(const struct device *device);
 int watch_nodes(void);
 void repair_files(const struct device *device);
 int is_any_written(void);
 void probe_written(const struct device *device);
-void show_anew(struct device *device, uint32_t nsid);
 int read_name(const char *name, struct node *node);
 struct device *device_of(unsigned controller);
 int is_shown(unsigned controller, uint32_t nsid);
@@ -128,27 +125,33 @@ int list_active(struct device *device, unsigned controller, unsigned char is_act
 int open_data(const struct node *node);
 struct volume *volume_of(const struct node *node);
 int read_volume(const struct node *node, struct volume *volume);
-int serve_keeper(struct device *device, const struct request_header *request);
+int serve_keeper(struct device *device, const struct request_header *request, const char *data);
 enum presence presence_of(unsigned controller);
 
-/* sysfs.c: puts the files of /sys that are there at first; learns what a controller says of itself; shows its subsystem,
-   its PCI function, itself with its node, or its temperature, or shows it no more; puts the temperature by its health
-   log; puts and removes the files of a namespace with its nodes, whose data is in an open file (or -1, if it has its
-   node); puts the record that udev has of a block device, with what blkid says of its data; and returns the greatest
-   number of sectors in a transfer of a controller. */
+/* sysfs.c: puts the files of /sys that are there at first; learns what a controller says of itself; shows its
+   subsystem, its PCI function, itself with its node, or its temperature, or shows it no more; puts the temperature by
+   its health log; puts and removes the files of a namespace, with its nodes if these are new; puts the record that udev
+   has of a block device, with what blkid says of its data; returns the greatest number of sectors in a transfer of a
+   controller; finds what a file of /sys takes, if it is a setting; gives a namespace that is shown anew the settings
+   that a format sets; and puts the text of a setting, in a keeper, and returns 0 or an error's number as a negative
+   one. */
 void begin_sys(void);
 enum part { SUBSYSTEM, FUNCTION, CONTROLLER, HEALTH };
 void know_controller(unsigned controller, const unsigned char *identity);
 void show_part(unsigned controller, enum part part, int is_there);
 void put_health(unsigned controller, const unsigned char *log);
-void put_namespace(unsigned controller, uint32_t nsid, const struct volume *volume, int file);
+void put_namespace(unsigned controller, uint32_t nsid, const struct volume *volume, int is_new);
 void remove_namespace(unsigned controller, uint32_t nsid);
 unsigned most_sectors(unsigned controller);
+enum { MOST_TAKEN = 128 };
+int find_setting(const char *path, char taken[MOST_TAKEN]);
+void reset_settings(unsigned controller, uint32_t nsid);
+int put_setting(const char *path, const char *text);
 void put_record(unsigned controller, uint32_t nsid, const char *lines);
 
-/* filter.c: has the calls of this process, which becomes the command, answered by the launcher, for which `calls` was
-   opened; and lets this process, the launcher or one that becomes a device, make only the calls that it needs. (Helpers
-   and keepers inherit this from the launcher.) */
+/* filter.c: has the calls of this thread, and of the processes that it starts, handed over to who reads `calls`; and
+   lets this process, the launcher or one that becomes a device, make only the calls that it needs. (Helpers and keepers
+   inherit this from the launcher.) */
 extern int calls;
 void filter_calls(void);
 void confine_launcher(void);
@@ -169,21 +172,27 @@ void answer_call(const union notice *notice);
 int is_alive(uint64_t id);
 void finish_call(const union notice *notice, int result);
 
-/* helpers.c: begins with helpers and keepers; waits some milliseconds at most for a call, which is given to a helper,
-   or for a signal, and returns 0 if none came; and takes note that one of these processes has ended, without which
-   the launcher can't continue if it was a keeper. */
+/* helpers.c: waits until one of these files, apart from those of -1, can be read, or for some milliseconds, unless they
+   are -1, and returns a bit for each that can; begins with helpers and keepers; waits until one of two files can be
+   read, and starts helpers meanwhile; takes note that one of these processes has ended, without which the launcher
+   can't continue if it was a keeper; and has this process end with the launcher, which the kernel forgets when a
+   process changes its identity. */
+unsigned await_files(const int *files, unsigned count, int milliseconds);
 void begin_helpers(void);
-unsigned await_call(int signals);
+unsigned await_signals(int signals, int others);
 void note_end(pid_t process);
+void end_with_launcher(void);
 
-/* helpers.c: memory that all these processes share; and in a helper, room for data, and a request to the keeper of a
-   controller's device, which returns -1 if the device is gone. The request may also be one for the keeper: a scan of
-   controllers; to show a namespace anew; to look at the data of one and of all that were written; and to change what is
-   there of a controller. */
-enum { KIND_SCAN = 0xffff, KIND_SHOW = 0xfffe, KIND_PROBE = 0xfffd, KIND_PRESENCE = 0xfffc };
+/* helpers.c: memory that all these processes share; and in a helper, room for data, a request to the keeper of a
+   controller's device, which returns -1 if the device is gone, and one without an answer, which returns -ENXIO then. It
+   may be one for the keeper, of which the length tells more: a scan of so many controllers; to show a namespace anew; to
+   look at the data of one and of all that were written; to change what is there of a controller; and to put a setting,
+   whose path and text are in the helper's room. */
+enum { KIND_SCAN = 0xffff, KIND_SHOW = 0xfffe, KIND_PROBE = 0xfffd, KIND_PRESENCE = 0xfffc, KIND_SETTING = 0xfffb };
 void *share(size_t size);
 void *own_data(void);
 int ask_keeper(const struct request_header *header, struct answer_header *answer);
+int ask_controller(unsigned controller, uint16_t kind, uint32_t length);
 
 /* A call that a process made. */
 enum { NOT_OPENED = -1 };
@@ -201,11 +210,11 @@ struct call {
     struct node node;
 };
 
-/* What the command's filter decides about a call, by its numbers in programs of 64 and of 32 bits, if a test of one of
-   its arguments holds: an action of seccomp, and who answers it if it is handed over. */
+/* What the command's filter decides about a call, by its number, if a test of one of its arguments holds: an action of
+   seccomp, and who answers it if it is handed over. */
 struct decided_call {
     enum { EVERYWHERE, IN_SANDBOX, BY_ROOT } where;
-    int number, old_number;
+    int number;
     struct {
         enum { ALWAYS, EQUALS, EXCEEDS, HAS_BITS, HAS_TYPE } kind; /* (the type of an ioctl) */
         unsigned argument;
@@ -214,15 +223,17 @@ struct decided_call {
     uint32_t action;
     int (*answer)(struct call *call, const __u64 *arguments);
 };
-extern const struct decided_call decided_calls[]; /* opens.c; the last one has no number */
+/* opens.c: the calls of programs of 64 and of 32 bits; the last one has no action. */
+extern const struct decided_call decided_calls[], old_decided_calls[];
 
-/* calls.c: whether the file of a call is a node, which is stored; answers an ioctl; has a controller's device do
-   something; claims a block device for a file that is opened with O_EXCL; the number of the file system in which
-   nodes, or the model's files of /sys, are; and reads by which name a file was opened, with links followed. */
+/* calls.c: whether the file of a call has a name that begins with this, which is stored, and how it was opened; whether
+   it is a node, which is stored; answers an ioctl; claims a block device for a file that is opened with O_EXCL; the
+   number of the file system in which nodes, or the model's files of /sys, are; and reads by which name a file was
+   opened, with links followed. */
 enum { OF_DEV, OF_SYS };
+int find_file(struct call *call, const char *before, char name[PATH_MAX], struct stat *about);
 int find_node(struct call *call);
 int answer_ioctl(struct call *call, const __u64 *arguments);
-int ask_controller(const struct call *call, uint16_t kind);
 int claim(const struct call *call, int file);
 dev_t number_of(int is_sys);
 void read_link(const char *link, char name[PATH_MAX]);
@@ -244,14 +255,13 @@ struct open_how;
 int look_up(const struct call *call, int directory, const char *path, const struct open_how *how);
 const char *read_about(pid_t process, const char *name, char *text, size_t room);
 
-/* calls.c: stores the result of a command in the structure that a call has, in its older or its wider form, and returns
-   its status, or -EFAULT. */
-int put_result(const struct call *call, int is_wide, uint64_t result, int status);
-
-/* attributes.c: does what a file of /sys is there for to which a text is written, and returns 0, or an error's number as
-   a negative one. */
+/* attributes.c: does what a file of /sys is there for to which a text is written, or sets what a block device reads
+   ahead, and returns 0, or an error's number as a negative one; and returns the number that is a setting of a
+   device's queue, of KiB in sectors, or a usual one without a sandbox. */
 enum { MOST_WRITTEN = 64 };
-int write_attribute(const char *path, char *text);
+int write_attribute(char *path, char *text);
+int set_read_ahead(const struct node *node, uint64_t sectors);
+uint64_t queue_setting(const struct node *node, const char *name, uint64_t usual);
 
 /* names.c: returns whether a file may be made at a path; and answers calls that make, remove or change names. */
 typedef int answering(struct call *call, const __u64 *arguments);
@@ -260,13 +270,13 @@ answering answer_unlink, answer_unlinkat, answer_rename, answer_renameat, answer
     answer_symlinkat, answer_linkat;
 
 /* udev.c: starts a process that looks at the data of block devices; has it look at that of one, whose record and links
-   change accordingly; and waits for keepers on behalf of udevadm, for ever. */
+   change accordingly; and answers udevadm, which asks whether udev is there, for ever. */
 void start_prober(void);
 void probe(unsigned controller, uint32_t nsid);
-void settle(void);
+__attribute__((noreturn)) void greet_udevadm(void);
 
-/* lists.c: writes the lists of /proc for the command: of kinds of devices, and of block devices; and waits until no other
-   keeper has its turn, or ends it, by a type of lock. */
+/* lists.c: writes the lists of /proc for the command: of kinds of devices, and of block devices; and waits until no
+   other keeper has its turn, or ends it, by a type of lock. */
 void list_devices(void);
 void list_blocks(void);
 void take_turn(short type);
@@ -280,52 +290,35 @@ const char *add_rule(enum rule_action action, const char *text);
 int follow_rules(const struct call *call, int is_io, const struct nvme_passthru_cmd *given);
 void report_rules(void);
 
-/* io.c: carries out an I/O command, and returns its status, or an error's number as a negative one; and answers an
-   admin command that the controllers don't have, and returns whether it is one. */
-int io(struct call *call);
+/* io.c: carries out an I/O command, also that of an ioctl of the older form, and returns its status, or an error's
+   number as a negative one; and answers an admin command that the controllers don't have, and returns whether it is
+   one. */
+int io(const struct call *call, const struct nvme_passthru_cmd *given);
+int submit_io(const struct call *call);
 int supply(struct device *device, const struct request_header *request, void *data, struct answer_header *answer);
 
-/* sandbox.c: what a sandbox is made of, and the place of these programs in it. */
-struct sandbox {
-    uint64_t limit;             /* the size of /dev */
-    const char *const *devices; /* nodes of the machine to add, up to NULL */
-    const char *library, *device;
-    int is_root; /* whether the command is root, if only in the sandbox */
-};
+/* sandbox.c: the place of these programs in the sandbox. */
 #define MODEL_FOLDER "/sys/fs/nvme-model"
 #define SETTINGS MODEL_FOLDER "/settings" /* what the command's /proc has besides its processes */
 #define INSIDE "--inside"
-#define TRIAL "--trial"
 
-/* sandbox.c: returns an NVMe device of the machine, or NULL if it has none; returns why no sandbox can be made, or NULL
-   if one can; starts the launcher in it with this word, in place of this process; and, in it, fails if a mount isn't
-   kept from the command, has each /proc show the processes of this process's namespace alone, and /sys read-only, and
-   returns
-   whether a path is one that bwrap makes anew, such as /dev, or below one. */
+/* sandbox.c: returns an NVMe device of the machine, or NULL if it has none; starts the launcher in it, with the word
+   INSIDE, in place of this process; and, in it, fails if a mount isn't kept from the command, or isn't what it was
+   outside, has each /proc show the processes of this process's namespace alone, and /sys read-only, and returns whether
+   a path is one that bwrap makes anew, such as /dev, or below one. */
 const char *a_real_node(void);
-const char *why_no_sandbox(const struct sandbox *sandbox);
-__attribute__((noreturn)) void enter_sandbox(const struct sandbox *sandbox, const char *word);
+__attribute__((noreturn)) void enter_sandbox(void);
 void check_mounts(void);
 void show_own_processes(void);
 int is_replaced(const char *path);
 
-/* The nodes of the machine that each command has. */
-struct machine_node {
-    const char *path;
-    unsigned major, minor;
-};
-enum { MACHINE_NODES = 6 };
-extern const struct machine_node machine_nodes[MACHINE_NODES]; /* inherited.c */
-
-/* inherited.c: returns whether a kind of file system, between blanks, holds files; whether a device number is that of
-   such a node; returns where a device is that --device adds, and fails if it may not be added; fails, in the sandbox,
-   if /dev has any other device; fails if an open file, or a standard stream, isn't one that may come into the sandbox;
-   and occupies the numbers of closed streams, so that no other file gets them, by a path that nobody can use, outside
-   and again in the sandbox. */
+/* inherited.c: returns whether a kind of file system, between blanks, holds files; returns where a device is that
+   --device adds, and fails if it may not be added; fails, in the sandbox, if a file in /dev isn't a device on a list;
+   fails if an open file, or a standard stream, isn't one that may come into the sandbox; and occupies the numbers of
+   closed streams, so that no other file gets them, by a path that nobody can use, outside and again in the sandbox. */
 int holds_files(const char *kind);
-int is_machine_node(dev_t number);
 char *find_device(const char *path);
-void check_nodes(void);
+void check_node(const char *path);
 void check_file(int file, const char *name);
 void check_streams(void);
 void hold_streams(void);

@@ -35,15 +35,13 @@ static_assert(sizeof(struct stat) == sizeof(struct stat64) && O_LARGEFILE == 0, 
 #define SAME(name, as) __asm__(".globl " #name "\n.type " #name ", @function\n.set " #name ", " #as)
 
 static char library[PATH_MAX]; /* this library's own path */
-static dev_t nodes_device;     /* of /dev, where nodes are files */
+static struct stat dev;        /* of /dev, where nodes are files */
 
 __attribute__((constructor)) static void begin(void) {
-    struct stat about;
     Dl_info info;
-    if (dladdr(&nodes_device, &info) && info.dli_fname && strlen(info.dli_fname) < sizeof library)
+    if (dladdr(&dev, &info) && info.dli_fname && strlen(info.dli_fname) < sizeof library)
         strcpy(library, info.dli_fname);
-    if (NEXT(fstatat)(AT_FDCWD, "/dev", &about, 0) == 0)
-        nodes_device = about.st_dev;
+    NEXT(fstatat)(AT_FDCWD, "/dev", &dev, 0);
 }
 
 static int fails_by(int number) {
@@ -65,21 +63,20 @@ static int ask(int file, struct node *node) {
 
 /* (a file in /dev, or one that has no name any more) */
 static int is_node(int file, const struct stat *about, struct node *node) {
-    int may_be = S_ISREG(about->st_mode) && (about->st_dev == nodes_device || about->st_nlink == 0);
+    int may_be = S_ISREG(about->st_mode) && (about->st_dev == dev.st_dev || about->st_nlink == 0);
     return may_be ? ask(file, node) : 0;
 }
 
 /* Without a sandbox, nodes are only names in /dev. */
 static int is_name(int directory, const char *path, struct node *node) {
-    struct stat about, dev;
+    struct stat about;
     char parent[PATH_MAX];
     const char *name = !path ? "" : strrchr(path, '/') ? strrchr(path, '/') + 1 : path;
     if ((strncmp(name, "nvme", 4) != 0 && strncmp(name, "ng", 2) != 0) || strlen(path) > PATH_MAX - 2)
         return 0;
     snprintf(parent, sizeof parent, "%.*s.", (int)(name - path), path);
     snprintf(node->name, sizeof node->name, "%s", name);
-    int before = errno, is_in_dev = NEXT(fstatat)(directory, parent, &about, 0) == 0 &&
-                                    NEXT(fstatat)(AT_FDCWD, "/dev", &dev, 0) == 0 && about.st_dev == dev.st_dev &&
+    int before = errno, is_in_dev = NEXT(fstatat)(directory, parent, &about, 0) == 0 && about.st_dev == dev.st_dev &&
                                     about.st_ino == dev.st_ino;
     errno = before;
     return is_in_dev ? ask(-1, node) : 0;
@@ -89,6 +86,17 @@ static int is_name(int directory, const char *path, struct node *node) {
 PUBLIC int tcsetpgrp(int file, pid_t group) {
     int result = NEXT(tcsetpgrp)(file, group);
     return result < 0 && errno == ESRCH && group == 0 ? 0 : result;
+}
+
+/* (udevadm and libudev look whether this file is there, as it is while udev has something to do) */
+PUBLIC int access(const char *path, int mode) {
+    static const char queue[] = "/run/udev/queue";
+    int result = NEXT(access)(path, mode);
+    if (result < 0 && errno == ENOENT && strcmp(path, queue) == 0) {
+        ioctl(-1, SETTLE_REQUEST);
+        errno = ENOENT;
+    }
+    return result;
 }
 
 /* ---- calls that open: the names of nodes without a sandbox stand for empty files with these names */
@@ -121,12 +129,12 @@ PUBLIC int openat(int directory, const char *path, int flags, ...) {
     return open_place(directory, path, flags, mode);
 }
 
-PUBLIC int __open_2(const char *path, int flags) { return open_place(AT_FDCWD, path, flags, 0); }
-PUBLIC int __openat_2(int directory, const char *path, int flags) { return open_place(directory, path, flags, 0); }
 SAME(open64, open);
 SAME(openat64, openat);
-SAME(__open64_2, __open_2);
-SAME(__openat64_2, __openat_2);
+SAME(__open_2, open);
+SAME(__openat_2, openat);
+SAME(__open64_2, open);
+SAME(__openat64_2, openat);
 
 /* ---- calls that describe a file */
 
@@ -147,8 +155,9 @@ PUBLIC int fstat(int file, struct stat *about) {
     return result < 0 ? result : describe(is_node(file, about, &node), &node, about);
 }
 
-/* (the compiler would believe that a path is never NULL, as the C library's declarations say) */
-__attribute__((noipa)) static int describe_place(int directory, const char *path, struct stat *about, int flags) {
+/* (the compiler would believe that a path is never NULL, as the C library's declarations say, and that nothing calls
+   what SAME alone names) */
+__attribute__((noipa, used)) static int describe_place(int directory, const char *path, struct stat *about, int flags) {
     struct node node;
     if (flags & AT_EMPTY_PATH && (!path || !*path) && directory != AT_FDCWD)
         return fstat(directory, about);
@@ -158,9 +167,9 @@ __attribute__((noipa)) static int describe_place(int directory, const char *path
     if (found != 0)
         return describe(found, &node, about);
     int result = NEXT(fstatat)(directory, path, about, flags), follows = flags & AT_SYMLINK_NOFOLLOW ? O_NOFOLLOW : 0;
-    if (result == 0 && about->st_dev == nodes_device && about->st_mode == LOST_NODE)
+    if (result == 0 && about->st_dev == dev.st_dev && about->st_mode == LOST_NODE)
         return fails_by(ENXIO);
-    if (result < 0 || !S_ISREG(about->st_mode) || about->st_dev != nodes_device)
+    if (result < 0 || !S_ISREG(about->st_mode) || about->st_dev != dev.st_dev)
         return result;
     int file = NEXT(openat)(directory, path, O_PATH | O_CLOEXEC | follows);
     result = file < 0 ? -1 : describe(is_node(file, about, &node), &node, about);
@@ -168,12 +177,9 @@ __attribute__((noipa)) static int describe_place(int directory, const char *path
         close(file);
     return result;
 }
+SAME(fstatat, describe_place);
 
-PUBLIC int fstatat(int directory, const char *path, struct stat *about, int flags) {
-    return describe_place(directory, path, about, flags);
-}
-
-PUBLIC int stat(const char *path, struct stat *about) { return fstatat(AT_FDCWD, path, about, 0); }
+PUBLIC int stat(const char *path, struct stat *about) { return describe_place(AT_FDCWD, path, about, 0); }
 PUBLIC int lstat(const char *path, struct stat *about) { return fstatat(AT_FDCWD, path, about, AT_SYMLINK_NOFOLLOW); }
 
 PUBLIC int statx(int directory, const char *path, int flags, unsigned mask, struct statx *about) {
@@ -216,7 +222,7 @@ PUBLIC struct dirent *readdir(DIR *directory) {
     struct dirent *entry = NEXT(readdir)(directory);
     struct stat about;
     if (entry && entry->d_type == DT_REG && NEXT(fstat)(dirfd(directory), &about) == 0 &&
-        about.st_dev == nodes_device)
+        about.st_dev == dev.st_dev)
         entry->d_type = DT_UNKNOWN;
     return entry;
 }
@@ -232,10 +238,10 @@ static int kind_of(int file, struct stat *about) {
     struct node node;
     if (NEXT(fstat)(file, about) < 0)
         return 0;
-    if (S_ISREG(about->st_mode) && about->st_dev == nodes_device && about->st_ino == known)
+    if (S_ISREG(about->st_mode) && about->st_dev == dev.st_dev && about->st_ino == known)
         return 'b';
     int found = is_node(file, about, &node);
-    if (found > 0 && node.kind == 'b' && about->st_dev == nodes_device)
+    if (found > 0 && node.kind == 'b' && about->st_dev == dev.st_dev)
         known = about->st_ino;
     return found > 0 ? node.kind : found;
 }
@@ -251,7 +257,15 @@ static int is_aligned(int file, const struct iovec *pieces, int count, off_t fro
     return bits % block == 0;
 }
 
-/* Writes to a node: the first piece, which is enough, because a write may be short. (The place -1 is the offset.) */
+static size_t length_of(const struct iovec *pieces, int count) {
+    size_t length = 0;
+    for (; count > 0; pieces++, count--)
+        length += pieces->iov_len;
+    return length;
+}
+
+/* Writes to a node what is before its end: all pieces, or a part of the first one, because a write may be short. (The
+   place -1 is the offset. If F_SETFL has set O_APPEND, the kernel would write past the end.) */
 static ssize_t write_node(int kind, int file, const struct stat *about, const struct iovec *pieces, int count, off_t at,
                           int flags) {
     int how = fcntl(file, F_GETFL);
@@ -263,15 +277,18 @@ static ssize_t write_node(int kind, int file, const struct stat *about, const st
         return fails_by(kind == 'b' ? EPERM : EINVAL);
     while (count > 1 && pieces->iov_len == 0)
         pieces++, count--;
-    struct iovec piece = *pieces;
-    off_t size = about->st_size;
-    off_t from = how & O_APPEND ? size : at < 0 ? lseek(file, 0, SEEK_CUR) : at;
-    if (piece.iov_len > 0 && from >= size)
+    off_t from = how & O_APPEND ? about->st_size : at < 0 ? NEXT(lseek)(file, 0, SEEK_CUR) : at;
+    off_t room = about->st_size - from;
+    size_t length = length_of(pieces, count);
+    if (length > 0 && room <= 0)
         return fails_by(ENOSPC);
-    if (piece.iov_len > 0 && how & O_DIRECT && !is_aligned(file, pieces, count, from))
+    if (length > 0 && how & O_DIRECT && !is_aligned(file, pieces, count, from))
         return fails_by(EINVAL);
-    if ((off_t)piece.iov_len > size - from)
-        piece.iov_len = (size_t)(size - from);
+    struct iovec piece = *pieces;
+    if (length <= (size_t)room)
+        return NEXT(pwritev2)(file, pieces, count, at, flags);
+    if (piece.iov_len > (size_t)room)
+        piece.iov_len = (size_t)room;
     return NEXT(pwritev2)(file, &piece, 1, at, flags);
 }
 
@@ -311,17 +328,62 @@ READS(pread, (int file, void *into, size_t size, off_t at), file, into, size, at
 READS(readv, (int file, const struct iovec *pieces, int number), file, pieces, number)
 SAME(pread64, pread);
 
+/* ---- other calls on a block device */
+
+/* It has no places after its end, and no holes; a character device has none at all. */
+PUBLIC off_t lseek(int file, off_t by, int from) {
+    struct stat about;
+    int kind = by > 0 || from != SEEK_SET ? kind_of(file, &about) : 0;
+    if (kind == 'c' || kind == 'g')
+        return fails_by(ESPIPE);
+    if (kind == 'b' && (by > 0 || from > SEEK_END)) {
+        off_t start = from == SEEK_CUR ? NEXT(lseek)(file, 0, SEEK_CUR) : from == SEEK_END ? about.st_size : 0;
+        if (from > SEEK_END || by > about.st_size - start)
+            return fails_by(EINVAL);
+    }
+    return NEXT(lseek)(file, by, from);
+}
+SAME(lseek64, lseek);
+
+/* If it has no data any more, because its controller was pulled out, nothing that was written is safe. */
+#define SYNCS(name) \
+    PUBLIC int name(int file) { \
+        struct stat about; \
+        int kind = kind_of(file, &about); \
+        if (kind == 0 || (kind == 'b' && about.st_size > 0)) \
+            return NEXT(name)(file); \
+        return kind < 0 ? -1 : fails_by(kind == 'b' ? EIO : EINVAL); \
+    }
+
+SYNCS(fsync)
+SYNCS(fdatasync)
+
+/* It allocates nothing, and its zeros are holes of its file. (The launcher answers posix_fallocate.) */
+PUBLIC int fallocate(int file, int mode, off_t from, off_t size) {
+    const int punched = FALLOC_FL_PUNCH_HOLE | FALLOC_FL_KEEP_SIZE, kept = mode & FALLOC_FL_KEEP_SIZE;
+    struct stat about;
+    if (kind_of(file, &about) != 'b' || from < 0 || size <= 0)
+        return NEXT(fallocate)(file, mode, from, size);
+    if (from >= about.st_size || (!kept && size > about.st_size - from) || !is_aligned(file, NULL, 0, from | size))
+        return fails_by(EINVAL);
+    if (mode != punched && mode != (FALLOC_FL_ZERO_RANGE | kept))
+        return fails_by(EOPNOTSUPP);
+    return NEXT(fallocate)(file, punched, from, size);
+}
+SAME(fallocate64, fallocate);
+
 /* The launcher answers the ioctls of nodes (calls.c). If a signal came before it took one, nothing was done. Linux
-   wouldn't interrupt it, so it is made again. Others would be answered as those of a file. */
+   wouldn't interrupt it, so it is made again. Others would be answered as those of a file, as those of any file are. */
 PUBLIC int ioctl(int file, unsigned long request, ...) {
     unsigned type = request >> 8 & 0xff;
     int is_answered = type == NVME_TYPE || type == BLOCK_TYPE || (uint32_t)request == GEOMETRY_REQUEST, result;
+    int is_of_any = request == FIONBIO || request == FIOCLEX || request == FIONCLEX || request == FIOASYNC;
     struct stat about;
     va_list rest;
     va_start(rest, request);
     void *argument = va_arg(rest, void *);
     va_end(rest);
-    if (!is_answered && kind_of(file, &about) > 0)
+    if (!is_answered && !is_of_any && kind_of(file, &about) > 0)
         return fails_by(ENOTTY);
     while ((result = NEXT(ioctl)(file, request, argument)) < 0 && errno == EINTR && is_answered)
         continue;
@@ -349,10 +411,9 @@ static size_t count_of(char *const *texts) {
     return count;
 }
 
-/* Copies an environment, with the library before all other preloaded libraries. Its text is after the pointers. */
-static void keep(char *const *from, char **kept) {
+/* Copies an environment, with the library before all other preloaded libraries. */
+static void keep(char *const *from, char **kept, char *preload) {
     const char *before = value_of(from);
-    char *preload = (char *)(kept + count_of(from) + 2);
     int is_there = !library[0] || strstr(before, library);
     sprintf(preload, PRELOAD "%s%s%s", is_there ? "" : library, is_there || !*before ? "" : ":", before);
     for (; from && *from; from++)
@@ -363,8 +424,8 @@ static void keep(char *const *from, char **kept) {
 }
 
 #define KEEP(kept, from) \
-    char *kept[count_of(from) + 3 + (sizeof PRELOAD + sizeof library + strlen(value_of(from))) / sizeof(char *)]; \
-    keep(from, kept)
+    char *kept[count_of(from) + 2], preload[sizeof PRELOAD + sizeof library + strlen(value_of(from))]; \
+    keep(from, kept, preload)
 
 /* A call that goes to the C library with an environment that is kept. */
 #define KEEPS(name, parameters, ...) \

@@ -1,5 +1,5 @@
-/* The lists of devices that the command's /proc has in place of the kernel's. They have the machine's character devices,
-   and of block devices the model's alone. None of this is proved. */
+/* The lists of devices that the command's /proc has in place of the kernel's. They have the machine's character
+   devices, and of block devices the model's alone. None of this is proved. */
 #include "launcher.h"
 
 /* (in place of counts of what was read and written, which nobody makes) */
@@ -30,7 +30,8 @@ void list_devices(void) {
             fputs(line, list);
     if (kernel)
         fclose(kernel);
-    fprintf(list, "%d nvme\n%d nvme-generic\n\nBlock devices:\n%d blkext\n", CONTROLLER_MAJOR, GENERIC_MAJOR, BLOCK_MAJOR);
+    fprintf(list, "%d nvme\n%d nvme-generic\n\nBlock devices:\n%d blkext\n", CONTROLLER_MAJOR, GENERIC_MAJOR,
+            BLOCK_MAJOR);
     end_list(list);
 }
 
@@ -55,6 +56,8 @@ static void list_namespaces(FILE *partitions, FILE *counts, unsigned controller)
 }
 
 void list_blocks(void) {
+    if (!has_sandbox)
+        return;
     take_turn(F_WRLCK);
     FILE *partitions = begin_list("partitions"), *counts = begin_list("diskstats");
     fprintf(partitions, "major minor  #blocks  name\n\n");

@@ -7,11 +7,10 @@
 #include "function.h"
 #include <setjmp.h>
 #include <stdatomic.h>
-#include <sys/mman.h>
 #include <sys/stat.h>
 
 /* More pages than an entry touches, how many are kept for the next turn, and how the lent addresses are mapped. */
-enum { MOST_PAGES = 512, MOST_KEPT = 4, LENT = MAP_PRIVATE | MAP_ANONYMOUS | MAP_NORESERVE };
+enum { MOST_PAGES = 512, MOST_KEPT = 8, LENT = MAP_PRIVATE | MAP_ANONYMOUS | MAP_NORESERVE };
 #define MOST_MEMORY ((uint64_t)128 << 30) /* the addresses that a controller reaches */
 
 static unsigned char *lent;                          /* the addresses that are lent, from the guest's 0 on */
@@ -34,7 +33,6 @@ static int copy(unsigned char *to, const unsigned char *from, size_t length) {
     is_copying = 1;
     if (sigsetjmp(copying, 0) != 0)
         return is_copying = 0;
-    atomic_signal_fence(memory_order_seq_cst);
     memcpy(to, from, length);
     atomic_signal_fence(memory_order_seq_cst);
     is_copying = 0;
@@ -45,7 +43,7 @@ static int copy(unsigned char *to, const unsigned char *from, size_t length) {
 static void store(uint64_t address, const unsigned char *bytes, size_t length) {
     const struct section *at = section_at(user, address);
     atomic_thread_fence(memory_order_release);
-    if (at && at->is_writable)
+    if (at && at->access & PROT_WRITE)
         copy(at->bytes + (address - at->address), bytes, length);
 }
 
@@ -59,9 +57,8 @@ static void load(unsigned number) {
 }
 
 /* Brings the page that was touched, or ends a copy with a page that the file lacks. Any other fault is fatal. */
-static void bring(int number, siginfo_t *about, void *context) {
+static void bring(int number, siginfo_t *about, __attribute__((unused)) void *context) {
     uint64_t place = (uintptr_t)about->si_addr - (uintptr_t)lent, page = place - place % SMALL_PAGE;
-    (void)context;
     if (number == SIGBUS && is_copying)
         siglongjmp(copying, 1);
     if (place < MOST_MEMORY && page_count < MOST_PAGES &&
@@ -97,8 +94,7 @@ int add_section(struct function *function, struct section section, int *file) {
                        (uint64_t)about.st_size - section.size < section.offset))
         return EINVAL;
     if (*file >= 0 && last < MOST_MEMORY) {
-        int access = section.is_writable ? PROT_READ | PROT_WRITE : PROT_READ;
-        section.bytes = mmap(NULL, section.size, access, MAP_SHARED, *file, (off_t)section.offset);
+        section.bytes = mmap(NULL, section.size, section.access, MAP_SHARED, *file, (off_t)section.offset);
         if (section.bytes == MAP_FAILED || madvise(section.bytes, section.size, MADV_DONTFORK) < 0)
             return errno;
         section.file = *file;
@@ -111,12 +107,12 @@ int add_section(struct function *function, struct section section, int *file) {
 /* Drops a section, or all if the size is 0. Returns 0 or the number of an error. */
 int drop_sections(struct function *function, uint64_t address, uint64_t size) {
     struct section *to = function->sections, *end = function->sections + function->section_count;
-    for (const struct section *at = function->sections; at < end; at++)
+    for (struct section *at = function->sections; at < end; at++)
         if (size > 0 && (at->address != address || at->size != size))
             *to++ = *at;
         else if (at->bytes) {
             munmap(at->bytes, at->size);
-            let_go(function, at->file);
+            let_go(function, &at->file);
         }
     function->section_count = to - function->sections;
     return size > 0 && to == end ? ENOENT : 0;

@@ -9,11 +9,8 @@
 enum { CNS_NAMESPACE = 0, CNS_CONTROLLER = 1, MOST_NAME = 40 };
 enum { OPCODE_GET_LOG = 0x02 };
 
-/* How many sectors of 512 bytes Linux reads ahead at first. */
-enum { READ_AHEAD = 256 };
-
-/* What each controller's nodes show now: the generation of the namespace plus 1, or 0 if there is no node. */
-static unsigned (*shown)[MOST_NSID + 1];
+/* What each controller shows of an NSID: no nodes, those of its namespace, or those of one that has gone since. */
+static enum shown { HIDDEN, CURRENT, OUTDATED } (*shown)[MOST_NSID + 1];
 static struct volume (*volumes)[MOST_NSID + 1];
 static enum presence *presences;
 
@@ -28,14 +25,14 @@ struct device *device_of(unsigned controller) {
 
 struct volume *volume_of(const struct node *node) { return volume_at(device_of(node->controller), node->nsid); }
 
-int is_shown(unsigned controller, uint32_t nsid) { return shown[controller][nsid] != 0; }
+int is_shown(unsigned controller, uint32_t nsid) { return shown[controller][nsid] != HIDDEN; }
 
-/* (a namespace that gets another format has no power meanwhile) */
+/* (it may change meanwhile) */
 int read_volume(const struct node *node, struct volume *volume) {
-    const volatile struct volume *now = volume_of(node);
-    *volume = (struct volume){.power = now->power};
-    volume->blocks = now->blocks;
-    return volume->power != 0 && volume->power == now->power;
+    const struct volume *now = volume_of(node);
+    int was_known = __atomic_load_n(&now->state, __ATOMIC_SEQ_CST) == KNOWN;
+    *volume = *now;
+    return was_known && __atomic_load_n(&now->state, __ATOMIC_SEQ_CST) == KNOWN;
 }
 
 /* ---- names */
@@ -61,7 +58,7 @@ int read_name(const char *name, struct node *node) {
     int is_removed = strcmp(name + length, " (deleted)") == 0;
     return strncmp(name, node->name, length) == 0 && (is_removed || !name[length]) &&
            node->controller < last->first + last->count &&
-           (node->nsid == 0 || is_removed || shown[node->controller][node->nsid]);
+           (node->nsid == 0 || is_removed || is_shown(node->controller, node->nsid));
 }
 
 /* ---- data */
@@ -72,130 +69,105 @@ static off_t length_of(const struct volume *volume) {
     return (off_t)((volume->blocks < most ? volume->blocks : most) << volume->power);
 }
 
-/* Prints the path of a namespace's data under the name of a controller that shows it, and returns whether there is one.
- */
-static int find_volume(const struct device *device, uint32_t nsid, char path[MOST_NAME]) {
-    for (unsigned at = device->first; has_sandbox && at < device->first + device->count; at++)
-        if (shown[at][nsid] == volume_at(device, nsid)->generation + 1) {
-            print_path(path, 'b', at, nsid);
-            return 1;
-        }
-    return 0;
-}
-
-/* The file of each namespace's data, as a keeper has it open from its beginning, with its number among the namespace's
-   files. (Processes that began before a file was made have another number.) */
-static struct {
-    int file;
-    unsigned number;
-} kept[MOST_DEVICES][MOST_NSID + 1];
-
-/* Opens a namespace's data, or returns -1. */
-static int open_volume(const struct device *device, uint32_t nsid) {
-    char path[MOST_NAME];
-    if (kept[device - devices][nsid].file > 0 && kept[device - devices][nsid].number == volume_at(device, nsid)->files)
-        return fcntl(kept[device - devices][nsid].file, F_DUPFD_CLOEXEC, 0);
-    return find_volume(device, nsid, path) ? open(path, O_RDWR | O_NOFOLLOW | O_NONBLOCK | O_CLOEXEC) : -1;
-}
-
-static void keep_volume(const struct device *device, uint32_t nsid, int file) {
-    if (kept[device - devices][nsid].file > 0)
-        close(kept[device - devices][nsid].file);
-    kept[device - devices][nsid].file = file < 0 ? 0 : fcntl(file, F_DUPFD_CLOEXEC, 0);
-    kept[device - devices][nsid].number = ++volume_at(device, nsid)->files;
-}
-
+/* (a process that began before the file was made has another one with its number) */
 int open_data(const struct node *node) {
-    const struct device *device = device_of(node->controller);
-    int is_active = shown[node->controller][node->nsid] == volume_at(device, node->nsid)->generation + 1;
-    return is_active ? open_volume(device, node->nsid) : -1;
+    const struct volume *volume = volume_of(node);
+    struct stat about;
+    char path[MOST_NAME];
+    if (shown[node->controller][node->nsid] != CURRENT || volume->file <= 0)
+        return -1;
+    if (fstat(volume->file, &about) == 0 && about.st_dev == number_of(OF_DEV) && about.st_ino == volume->inode)
+        return fcntl(volume->file, F_DUPFD_CLOEXEC, 0);
+    print_path(path, 'b', node->controller, node->nsid);
+    return open(path, O_RDWR | O_NOFOLLOW | O_NONBLOCK | O_CLOEXEC);
 }
 
 static unsigned char is_written[MOST_NSID + 1]; /* whether the data may be other than when it was looked at */
 
 static const struct group *disk; /* to which root's block devices belong, as on Linux */
 
-/* Makes the file of a namespace's data, without a name. Data of a file that lost all names moves there, piece by piece,
-   because that file gets no name again. */
-static int make_data(const struct device *device, uint32_t nsid) {
+static void set_length(const struct volume *volume, off_t length) {
+    if (volume->file > 0 && ftruncate(volume->file, length) < 0)
+        cannot("/dev");
+}
+
+/* Moves data to another file, piece by piece. */
+static void move_data(int from, int to) {
     static unsigned char piece[1 << 18];
-    struct volume *volume = volume_at(device, nsid);
     off_t at = 0;
     ssize_t count = 0;
-    int file = open("/dev", O_TMPFILE | O_RDWR | O_CLOEXEC, 0660), from = open_volume(device, nsid);
-    volume->is_read_only = 0;
-    volume->read_ahead = READ_AHEAD;
-    volume->scheduler = "none";
-    if (file < 0 || ftruncate(file, length_of(volume)) < 0 ||
-        (disk && fchown(file, (uid_t)-1, disk->gr_gid) < 0 && errno != EPERM && errno != EINVAL))
-        cannot("/dev");
-    while (from >= 0 && (at = lseek(from, at + count, SEEK_DATA)) >= 0) {
+    while ((at = lseek(from, at + count, SEEK_DATA)) >= 0) {
         count = pread(from, piece, sizeof piece, at);
         if (count <= 0 || fallocate(from, FALLOC_FL_PUNCH_HOLE | FALLOC_FL_KEEP_SIZE, at, count) < 0 ||
-            pwrite(file, piece, (size_t)count, at) != count)
+            pwrite(to, piece, (size_t)count, at) != count)
             break;
     }
-    if (from >= 0)
-        close(from);
-    keep_volume(device, nsid, file);
-    return file;
+}
+
+/* Whether the data has no file with a name. (One that lost all of its names gets none again.) */
+static int has_no_name(const struct volume *volume) {
+    struct stat about;
+    return volume->file <= 0 || (fstat(volume->file, &about) == 0 && about.st_nlink == 0);
+}
+
+/* Makes a file without a name for the data, which moves there. Returns the file where it was, or 0. */
+static int make_data(struct volume *volume) {
+    struct stat about = {.st_ino = 0};
+    int file = open("/dev", O_TMPFILE | O_RDWR | O_CLOEXEC, 0660), old = volume->file;
+    volume->is_read_only = 0;
+    if (file < 0 || ftruncate(file, length_of(volume)) < 0 || fstat(file, &about) < 0 ||
+        (disk && fchown(file, (uid_t)-1, disk->gr_gid) < 0 && errno != EPERM && errno != EINVAL))
+        cannot("/dev");
+    if (old > 0 && file >= 0)
+        move_data(old, file);
+    volume->inode = about.st_ino;
+    volume->file = file;
+    return old;
 }
 
 /* Moves the data of a namespace without nodes to another file. Who has the old one open finds its end at once. */
-static void leave_file(const struct device *device, uint32_t nsid) {
-    struct stat about;
-    int old = open_volume(device, nsid);
-    if (old >= 0 && fstat(old, &about) == 0 && about.st_nlink == 0) {
-        close(make_data(device, nsid));
-        if (ftruncate(old, 0) < 0 || fchmod(old, 0) < 0)
-            cannot("/dev");
-    }
-    if (old >= 0)
-        close(old);
+static void leave_file(struct volume *volume) {
+    if (volume->file <= 0 || !has_no_name(volume))
+        return;
+    int old = make_data(volume);
+    if (ftruncate(old, 0) < 0 || fchmod(old, 0) < 0)
+        cannot("/dev");
+    close(old);
 }
 
 /* ---- namespaces */
 
 static void put(const struct device *device, unsigned controller, uint32_t nsid) {
     struct volume *volume = volume_at(device, nsid);
-    struct stat about;
-    int file = open_volume(device, nsid);
-    is_written[nsid] |= file >= 0 && lseek(file, 0, SEEK_DATA) >= 0;
-    if (file >= 0 && fstat(file, &about) == 0 && about.st_nlink == 0) {
-        close(file);
-        file = -1;
-    }
-    if (file < 0 && has_sandbox)
-        file = make_data(device, nsid);
-    shown[controller][nsid] = volume->generation + 1;
-    put_namespace(controller, nsid, volume, file);
-    if (file >= 0)
-        close(file);
+    int old = has_sandbox && has_no_name(volume) ? make_data(volume) : 0;
+    if (old > 0)
+        close(old);
+    is_written[nsid] |= has_sandbox && lseek(volume->file, 0, SEEK_DATA) >= 0;
+    shown[controller][nsid] = CURRENT;
+    put_namespace(controller, nsid, volume, 1);
 }
 
 enum presence presence_of(unsigned controller) { return presences[controller]; }
 
-/* Marks a node whose controller has gone, for processes that have it open: as on Linux, it has no permissions. */
+/* Marks a node that goes, for processes that have it open: as on Linux, it has no permissions. */
 static void mark_gone(char kind, unsigned controller, uint32_t nsid) {
     char path[MOST_NAME];
     print_path(path, kind, controller, nsid);
-    int file = open(path, O_RDONLY | O_NOFOLLOW | O_NONBLOCK | O_CLOEXEC);
+    int file = has_sandbox ? open(path, O_RDONLY | O_NOFOLLOW | O_NONBLOCK | O_CLOEXEC) : -1;
     if (file >= 0 && fchmod(file, 0) == 0)
         close(file);
 }
 
 static void hide_namespace(const struct device *device, unsigned controller, uint32_t nsid) {
-    if (presences[controller] != BOUND)
-        mark_gone('g', controller, nsid);
+    mark_gone('g', controller, nsid);
     remove_namespace(controller, nsid);
-    shown[controller][nsid] = 0;
-    if (presences[controller] != BOUND)
-        leave_file(device, nsid);
+    shown[controller][nsid] = HIDDEN;
+    leave_file(volume_at(device, nsid));
 }
 
 /* Returns the kinds of nodes that there are with an NSID, or of the controller with 0. */
 static const char *kinds_of(unsigned controller, uint32_t nsid) {
-    return presences[controller] != BOUND ? "" : nsid == 0 ? "c" : shown[controller][nsid] ? "gb" : "";
+    return presences[controller] != BOUND ? "" : nsid == 0 ? "c" : is_shown(controller, nsid) ? "gb" : "";
 }
 
 void lose_nodes(const struct device *device) {
@@ -235,16 +207,17 @@ int identify(struct device *device, unsigned controller, uint32_t nsid, uint32_t
 static int measure(struct device *device, unsigned controller, uint32_t nsid) {
     unsigned char data[IDENTIFY_BYTES];
     struct volume *volume = volume_at(device, nsid);
-    if (volume->power != 0)
+    if (volume->state == KNOWN)
         return 0;
     if (identify(device, controller, nsid, CNS_NAMESPACE, data) < 0)
         return -1;
     unsigned power = data[128 + 4 * (data[26] & 15) + 2];
-    volume->read_ahead = READ_AHEAD;
-    volume->scheduler = volume->scheduler ?: "none";
-    __atomic_store_n(&volume->blocks, number_at(data, 8), __ATOMIC_SEQ_CST);
-    __atomic_store_n(&volume->power, power < 32 ? power : 0, __ATOMIC_SEQ_CST);
-    return volume->power > 0 ? 0 : -1;
+    if (power == 0 || power >= 32)
+        return -1;
+    volume->blocks = number_at(data, 8);
+    volume->power = power;
+    __atomic_store_n(&volume->state, KNOWN, __ATOMIC_SEQ_CST);
+    return 0;
 }
 
 int list_active(struct device *device, unsigned controller, unsigned char is_active[MOST_NSID + 1]) {
@@ -260,16 +233,15 @@ int list_active(struct device *device, unsigned controller, unsigned char is_act
 
 /* Shows a namespace at a controller to which it is attached, and hides any other one that had its NSID. */
 static void update(struct device *device, unsigned controller, uint32_t nsid, int is_active) {
-    unsigned now = shown[controller][nsid];
-    int is_shown = now == volume_at(device, nsid)->generation + 1;
-    if (now != 0 && (!is_active || !is_shown))
+    enum shown wanted = is_active ? CURRENT : HIDDEN;
+    if (is_shown(controller, nsid) && shown[controller][nsid] != wanted)
         hide_namespace(device, controller, nsid);
-    if (is_active && !is_shown && measure(device, controller, nsid) == 0)
+    if (shown[controller][nsid] != wanted && measure(device, controller, nsid) == 0)
         put(device, controller, nsid);
 }
 
 /* (namespaces with one NSID come together, because their files of /sys have texts in common) */
-void scan(struct device *device, unsigned first, unsigned count) {
+static void scan(struct device *device, unsigned first, unsigned count) {
     static unsigned char is_active[MOST_CONTROLLERS][MOST_NSID + 1];
     for (unsigned controller = first; controller < first + count; controller++)
         if (list_active(device, controller, is_active[controller]) < 0)
@@ -277,57 +249,50 @@ void scan(struct device *device, unsigned first, unsigned count) {
     for (uint32_t nsid = 1; nsid <= MOST_NSID; nsid++)
         for (unsigned controller = first; controller < first + count; controller++)
             update(device, controller, nsid, is_active[controller][nsid]);
-    if (has_sandbox)
-        list_blocks();
-}
-
-static void set_length(const struct device *device, uint32_t nsid, off_t length) {
-    int file = open_volume(device, nsid);
-    if (file >= 0 && ftruncate(file, length) < 0)
-        cannot("/dev");
-    if (file >= 0)
-        close(file);
+    list_blocks();
 }
 
 /* Removes the data of a namespace that no longer exists, even for processes that have it open. */
 static void forget_namespace(struct device *device, uint32_t nsid) {
     struct volume *volume = volume_at(device, nsid);
-    set_length(device, nsid, 0);
-    keep_volume(device, nsid, -1);
-    *volume = (struct volume){.generation = volume->generation + 1, .files = volume->files};
+    set_length(volume, 0);
+    if (volume->file > 0)
+        close(volume->file);
+    *volume = (struct volume){.state = UNKNOWN};
+    for (unsigned at = device->first; at < device->first + device->count; at++)
+        shown[at][nsid] = is_shown(at, nsid) ? OUTDATED : HIDDEN;
 }
 
 /* (the library sees by the mode of the file whether it may write) */
-void show_anew(struct device *device, uint32_t nsid) {
+static void show_anew(struct device *device, uint32_t nsid) {
     struct volume *volume = volume_at(device, nsid);
-    int file = open_volume(device, nsid);
     struct stat about;
-    if (file >= 0 && (fstat(file, &about) < 0 ||
-                      fchmod(file, (about.st_mode & 0777) | (volume->is_read_only ? READ_ONLY : 0)) < 0))
+    if (volume->file > 0 &&
+        (fstat(volume->file, &about) < 0 ||
+         fchmod(volume->file, (about.st_mode & 0777) | (volume->is_read_only ? READ_ONLY : 0)) < 0))
         cannot("/dev");
-    if (file >= 0)
-        close(file);
     for (unsigned at = device->first; at < device->first + device->count; at++)
-        if (shown[at][nsid] == volume->generation + 1)
-            put_namespace(at, nsid, volume, -1);
+        if (shown[at][nsid] == CURRENT)
+            put_namespace(at, nsid, volume, 0);
 }
 
 /* Clears the data of a formatted namespace, and makes it as long as the new format requires. */
 static void clear_namespace(struct device *device, unsigned controller, uint32_t nsid) {
     struct volume *volume = volume_at(device, nsid);
-    if (volume->power == 0)
+    if (volume->state != KNOWN)
         return;
-    __atomic_store_n(&volume->power, 0, __ATOMIC_SEQ_CST);
-    set_length(device, nsid, 0);
+    __atomic_store_n(&volume->state, UNKNOWN, __ATOMIC_SEQ_CST);
+    set_length(volume, 0);
     if (measure(device, controller, nsid) < 0)
         return;
-    set_length(device, nsid, length_of(volume));
-    show_anew(device, nsid);
+    set_length(volume, length_of(volume));
     for (unsigned at = device->first; at < device->first + device->count; at++)
-        if (shown[at][nsid])
+        if (is_shown(at, nsid)) {
+            reset_settings(at, nsid);
             put_record(at, nsid, "");
-    if (has_sandbox)
-        list_blocks();
+        }
+    show_anew(device, nsid);
+    list_blocks();
 }
 
 static void show_health(struct device *device, unsigned controller) {
@@ -383,7 +348,7 @@ static int set_presence(struct device *device, unsigned controller, enum presenc
     for (unsigned at = device->first; at < device->first + device->count; at++)
         is_alone &= presences[at] != BOUND;
     for (uint32_t nsid = 1; nsid <= MOST_NSID; nsid++)
-        if (shown[controller][nsid])
+        if (is_shown(controller, nsid))
             hide_namespace(device, controller, nsid);
     mark_gone('c', controller, 0);
     show_part(controller, HEALTH, 0);
@@ -419,19 +384,13 @@ void make_nodes(void) {
 }
 
 /* Restores the length of a namespace's data if it is another one. (A process that doesn't load the library can make the
-   file shorter or longer until it closes it. What isn't to be changed isn't opened, because its end would be told.) */
+   file shorter or longer until it closes it.) */
 static void repair(const struct device *device, uint32_t nsid) {
     const struct volume *volume = volume_at(device, nsid);
-    char path[MOST_NAME];
     struct stat about;
-    if (volume->power != 0 && find_volume(device, nsid, path) && lstat(path, &about) == 0 &&
+    if (volume->state == KNOWN && volume->file > 0 && fstat(volume->file, &about) == 0 &&
         about.st_size != length_of(volume))
-        set_length(device, nsid, length_of(volume));
-}
-
-static void repair_all(const struct device *device) {
-    for (uint32_t nsid = 1; nsid <= MOST_NSID; nsid++)
-        repair(device, nsid);
+        set_length(volume, length_of(volume));
 }
 
 static int watcher; /* tells this keeper which nodes were written */
@@ -443,36 +402,41 @@ int watch_nodes(void) {
     return watcher;
 }
 
-/* (some events are missing if there were too many) */
 int is_any_written(void) { return memchr(is_written, 1, sizeof is_written) != NULL; }
+
+/* (some events are missing if there were too many) */
+static void repair_file(const struct device *device, const struct inotify_event *event) {
+    struct node node;
+    for (uint32_t nsid = 1; event->mask & IN_Q_OVERFLOW && nsid <= MOST_NSID; nsid++)
+        repair(device, nsid);
+    if (event->len > 0 && read_name(event->name, &node) && node.kind == 'b' && device_of(node.controller) == device) {
+        repair(device, node.nsid);
+        is_written[node.nsid] = 1;
+    }
+}
 
 void repair_files(const struct device *device) {
     char events[4096] __attribute__((aligned(__alignof__(struct inotify_event))));
-    ssize_t length = read(watcher, events, sizeof events);
-    for (char *at = events; at < events + length;) {
-        const struct inotify_event *event = (const struct inotify_event *)at;
-        struct node node;
-        at += sizeof *event + event->len;
-        if (event->mask & IN_Q_OVERFLOW)
-            repair_all(device);
-        else if (event->len > 0 && read_name(event->name, &node) && node.kind == 'b' &&
-                 device_of(node.controller) == device) {
-            repair(device, node.nsid);
-            is_written[node.nsid] = 1;
+    for (ssize_t length; (length = read(watcher, events, sizeof events)) > 0;)
+        for (char *at = events; at < events + length;) {
+            const struct inotify_event *event = (const struct inotify_event *)at;
+            at += sizeof *event + event->len;
+            repair_file(device, event);
         }
-    }
 }
 
 void probe_written(const struct device *device) {
     for (uint32_t nsid = 1; nsid <= MOST_NSID; nsid++) {
         for (unsigned at = device->first; at < device->first + device->count && is_written[nsid]; at++)
-            if (shown[at][nsid])
+            if (is_shown(at, nsid))
                 probe(at, nsid);
         is_written[nsid] = 0;
     }
 }
 
-int serve_keeper(struct device *device, const struct request_header *request) {
+int serve_keeper(struct device *device, const struct request_header *request, const char *data) {
+    if (request->kind == KIND_SETTING)
+        return put_setting(data, data + strlen(data) + 1);
     if (request->kind == KIND_PRESENCE)
         return set_presence(device, request->controller, request->length);
     if (request->kind == KIND_SCAN)

@@ -4,27 +4,28 @@
 
 struct options options = {.device_word_count = 1};
 
-/* ---- what an option sets, by its name and argument; each of these returns why it can't, or NULL */
+#define SEE_HELP "\nsee nvme-model --help"
 
-static const char *set_subsystem(const char *name, const char *text) {
-    (void)name;
+/* ---- what an option sets, by its argument; each of these returns why it can't, or NULL */
+
+static const char *option; /* the name of the one that is read */
+
+static const char *set_subsystem(const char *text) {
     if (options.subsystem_count == MOST_DEVICES)
         return "there can be 32 subsystems at most";
     options.subsystems[options.subsystem_count++] = text;
     return NULL;
 }
 
-static const char *set_trace(const char *name, const char *text) {
-    (void)name;
+static const char *set_trace(const char *text) {
     options.has_trace = 1;
     options.trace_file = text;
     return NULL;
 }
 
-static const char *set_limit(const char *name, const char *text) {
+static const char *set_limit(const char *text) {
     static const char units[] = "KMG";
     char *end;
-    (void)name;
     errno = 0;
     uint64_t size = strtoull(text, &end, 10);
     const char *unit = *end ? strchr(units, *end) : NULL;
@@ -35,22 +36,19 @@ static const char *set_limit(const char *name, const char *text) {
     return NULL;
 }
 
-static const char *set_rule(const char *name, const char *text) {
-    return add_rule(strcmp(name, "delay") == 0 ? DELAY : REFUSE, text);
-}
+static const char *set_rule(const char *text) { return add_rule(strcmp(option, "delay") == 0 ? DELAY : REFUSE, text); }
 
-static const char *set_device(const char *name, const char *text) {
-    (void)name;
+static const char *set_device(const char *text) {
     if (options.added_count == MOST_ADDED)
         return "there can be 64 of these at most";
     options.added[options.added_count++] = text;
     return NULL;
 }
 
-static const char *set_switch(const char *name, const char *text) {
-    (void)text;
-    int *chosen = strcmp(name, "root") == 0 ? &options.is_root : &options.may_lack_sandbox;
-    *(strcmp(name, "no-notice") == 0 ? &waits : chosen) = 1;
+static const char *set_switch(const char *nothing) {
+    (void)nothing;
+    int *chosen = strcmp(option, "root") == 0 ? &options.is_root : &options.may_lack_sandbox;
+    *(strcmp(option, "no-notice") == 0 ? &waits : chosen) = 1;
     return NULL;
 }
 
@@ -74,36 +72,37 @@ static unsigned find_number(const char *name) {
 
 void fail_by_number(const char *name) {
     unsigned at = find_number(name);
-    fail("--%s: %s\nsee nvme-model --help", numbers[at].name, numbers[at].range);
+    fail("--%s: %s" SEE_HELP, numbers[at].name, numbers[at].range);
 }
 
 /* (of several numbers for one option, the last one counts) */
-static const char *set_layout(const char *name, const char *text) {
+static const char *set_layout(const char *text) {
     static unsigned places[NUMBERS];
-    unsigned at = find_number(name);
+    unsigned at = find_number(option);
     char *end;
     geometry[at] = strtoul(text, &end, 0);
     if (*text < '0' || *text > '9' || *end || geometry[at] > UINT32_MAX)
         return numbers[at].range;
     if (places[at] == 0)
         places[at] = options.device_word_count++;
-    if (asprintf(&options.device_words[places[at]], "--%s=%s", name, text) < 0)
+    if (asprintf(&options.device_words[places[at]], "--%s=%s", option, text) < 0)
         fail("out of memory");
     return NULL;
 }
 
-static const char *set_nothing(const char *name, const char *text) {
-    (void)name, (void)text;
-    return "this can only be the first word";
+static const char *show_version(const char *nothing) {
+    (void)nothing;
+    puts("nvme-model " MODEL_VERSION);
+    exit(fflush(stdout) == 0 ? 0 : FAILED);
 }
 
-static const char *show_help(const char *name, const char *text);
-static const char *show_version(const char *name, const char *text);
+static const char *show_help(const char *nothing);
 
-/* An option, with its argument, which begins with [ if it may be missing, and what the help says. */
+/* An option, with its argument, which begins with [ if it may be missing, what the help says, and the function that
+   reads it, unless it can only be the first word. */
 static const struct row {
     const char *name, *argument, *help;
-    const char *(*set)(const char *name, const char *text);
+    const char *(*set)(const char *text);
 } rows[] = {
     {"subsystem", "FILE", "use the subsystem of FILE; repeat it for several subsystems, at most 32", set_subsystem},
     {"trace", "[=FILE]", "write what goes over the bus to standard error or to FILE", set_trace},
@@ -123,21 +122,15 @@ static const struct row {
     {"list-offset", "N", "let each PRP list begin N bytes into a page", set_layout},
     {"window", "N", "keep up to N commands outstanding", set_layout},
     {"pace", "N", "let a controller do N commands in a turn", set_layout},
-    {"qemu", NULL, "as the first option, run QEMU with the controllers; see --qemu --help", set_nothing},
-    {"vfio-user", NULL, "as the first option, serve them to virtual machines; see --qemu --help", set_nothing},
-    {"build", NULL, "as the only argument, in a clone of the repository: prove and build the device", set_nothing},
+    {"qemu", NULL, "as the first option, run QEMU with the controllers; see --qemu --help", NULL},
+    {"vfio-user", NULL, "as the first option, serve them to virtual machines; see --qemu --help", NULL},
+    {"build", NULL, "as the only argument, in a clone of the repository: prove and build the device", NULL},
     {"help", NULL, "show this help and the version", show_help},
     {"version", NULL, "show the version", show_version}};
 enum { ROWS = sizeof rows / sizeof *rows, COLUMN = 23 };
 
-static const char *show_version(const char *name, const char *text) {
-    (void)name, (void)text;
-    puts("nvme-model " MODEL_VERSION);
-    exit(fflush(stdout) == 0 ? 0 : FAILED);
-}
-
-static const char *show_help(const char *name, const char *text) {
-    (void)name, (void)text;
+static const char *show_help(const char *nothing) {
+    (void)nothing;
     fputs("usage: nvme-model [OPTION..] [--] COMMAND [ARGUMENT..]\n"
           "       nvme-model --qemu [OPTION..] [-- QEMU-OPTION..]\n"
           "       nvme-model --vfio-user --socket PATH [OPTION..]\n"
@@ -146,19 +139,13 @@ static const char *show_help(const char *name, const char *text) {
     for (const struct row *row = rows; row < rows + ROWS; row++) {
         const char *argument = row->argument ?: "";
         int width = printf("  --%s%s%s", row->name, *argument && *argument != '[' ? " " : "", argument);
-        printf("%s%*s%s\n", width < COLUMN - 1 ? "" : "\n", width < COLUMN - 1 ? COLUMN - width : COLUMN, "", row->help);
+        int fits = width < COLUMN - 1;
+        printf("%s%*s%s\n", fits ? "" : "\n", fits ? COLUMN - width : COLUMN, "", row->help);
     }
     fputs("\nThe exit status is that of COMMAND, or 72 if nvme-model itself can't continue. See nvme-model(1).\n"
           "This is version " MODEL_VERSION ".\n",
           stdout);
     exit(fflush(stdout) == 0 ? 0 : FAILED);
-}
-
-/* ---- reading them */
-
-__attribute__((noreturn)) static void refuse_words(void) {
-    fputs("see nvme-model --help\n", stderr);
-    exit(FAILED);
 }
 
 /* (each option has a number behind the characters, and getopt_long says what is wrong with others) */
@@ -171,18 +158,18 @@ int read_options(int count, char **arguments) {
         list[at].has_arg = !argument ? no_argument : *argument == '[' ? optional_argument : required_argument;
         list[at].val = UCHAR_MAX + 1 + at;
     }
-    while ((number = getopt_long(count, arguments, "+", list, NULL)) != -1) {
-        if (number <= UCHAR_MAX)
-            refuse_words();
+    while ((number = getopt_long(count, arguments, "+", list, NULL)) > UCHAR_MAX) {
         const struct row *row = rows + (number - UCHAR_MAX - 1);
-        const char *reason = row->set(row->name, optarg);
-        if (reason) {
-            fprintf(stderr, "nvme-model: --%s%s%s: %s\n", row->name, optarg ? " " : "", optarg ?: "", reason);
-            refuse_words();
-        }
+        option = row->name;
+        const char *reason = row->set ? row->set(optarg) : "this can only be the first word";
+        if (reason)
+            fail("--%s%s%s: %s" SEE_HELP, option, optarg ? " " : "", optarg ?: "", reason);
     }
-    if (optind < count)
-        return optind;
-    fputs("nvme-model: there is no command to run\n", stderr);
-    refuse_words();
+    if (number >= 0) {
+        fprintf(stderr, "%s\n", SEE_HELP + 1);
+        exit(FAILED);
+    }
+    if (optind == count)
+        fail("there is no command to run" SEE_HELP);
+    return optind;
 }

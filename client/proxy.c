@@ -16,7 +16,7 @@ static void set_memory(struct function *function, const unsigned char *body) {
     int fault = drop_sections(function, 0, 0) | function->files.has_lost;
     for (unsigned at = 0; at < function->files.count && !fault; at++) {
         struct section section = {number_at(body + 8 * at, 8), number_at(body + 64 + 8 * at, 8),
-                                  number_at(body + 128 + 8 * at, 8), .is_writable = 1};
+                                  number_at(body + 128 + 8 * at, 8), .access = PROT_READ | PROT_WRITE};
         fault = add_section(function, section, function->files.at + at);
     }
     if (fault)
@@ -24,10 +24,10 @@ static void set_memory(struct function *function, const unsigned char *body) {
 }
 
 static void set_interrupt(struct function *function) {
-    const struct files *files = &function->files;
-    int are_valid = files->count == 2 && is_counter(files->at[0]) && is_counter(files->at[1]);
-    set_counter(function, &function->pin, are_valid ? take_file(function, 0) : -1);
-    set_counter(function, &function->unmask, are_valid ? take_file(function, 1) : -1);
+    struct files *files = &function->files;
+    int are_valid = files->count == 2 && is_counter(files->at[0]) && is_counter(files->at[1]), none = -1;
+    set_counter(function, &function->pin, are_valid ? files->at : &none);
+    set_counter(function, &function->unmask, are_valid ? files->at + 1 : &none);
 }
 
 /* Reads or writes by an address and a value, of 32 bits for the configuration and of 64 for registers, and a length. */

@@ -4,18 +4,16 @@
 #include "function.h"
 #include "usage.h"
 #include <getopt.h>
-#include <poll.h>
 #include <pthread.h>
+#include <sys/eventfd.h>
 #include <sys/prctl.h>
 #include <sys/resource.h>
-#include <sys/signalfd.h>
-#include <sys/socket.h>
 #include <sys/stat.h>
 #include <sys/un.h>
 #include <sys/wait.h>
 
-/* Statuses, what there may be at most, and how many milliseconds a client waits that couldn't be taken. */
-enum { NOT_EXECUTABLE = 126, NOT_FOUND = 127, MOST_FILE = 1 << 20, MOST_GIBIBYTES = 64, MOST_WAITING = 4, PAUSE = 100 };
+/* Statuses, and what there may be at most. */
+enum { NOT_EXECUTABLE = 126, NOT_FOUND = 127, MOST_FILE = 1 << 20, MOST_GIBIBYTES = 64, MOST_WAITING = 4 };
 
 static int is_server, has_summary; /* the values of the options */
 static const char *paths[MOST_FUNCTIONS], *memory = "128M";
@@ -24,8 +22,9 @@ static struct function functions[MOST_FUNCTIONS];
 static int ways[MOST_FUNCTIONS];     /* QEMU's ways to the sockets */
 static char folder[100], *sockets;   /* for QEMU's sockets, and how the paths of all begin */
 static pid_t qemu;
+static int noted;          /* an event counter of signals */
 static _Atomic int ending; /* the signal that ends this process */
-static sigset_t former_mask, endings;
+static sigset_t former_mask, watched;
 
 static struct sockaddr_un address_of(const char *path, unsigned number) {
     struct sockaddr_un made = {.sun_family = AF_UNIX};
@@ -44,74 +43,41 @@ static void remove_sockets(void) {
     sockets = NULL;
 }
 
-/* Ends this process by a signal, whose number is positive. (What a server's clients sent is read, because otherwise a
-   reset would tell them that their connections ended, which aborts QEMU 11.1.) */
+/* Ends this process by a signal, whose number is positive. */
 static int end_now(int number) {
-    char rest[4096];
-    for (unsigned at = 0; is_server && at < function_count; at++)
-        if (functions[at].socket >= 0 && shutdown(functions[at].socket, SHUT_RD) == 0)
-            while (recv(functions[at].socket, rest, sizeof rest, MSG_DONTWAIT) > 0)
-                ;
     remove_sockets();
     pthread_sigmask(SIG_SETMASK, &former_mask, NULL);
     return raise(number);
 }
 
-/* Waits for a signal that ends this process, and ends it after a second if it didn't end by itself, because a client can
-   make a turn as long as it likes. */
-static void *end_in_time(void *unused) {
+/* Waits for signals: that a child has ended, or one that ends this process, which has a second to end by itself,
+   because a client can make a turn as long as it likes. (Beside QEMU, those of the terminal's keys are QEMU's.) */
+static void *wait_for_signals(void *unused) {
     int number;
-    sigwait(&endings, &number);
-    ending = number;
-    kill(getpid(), SIGCHLD);
+    do {
+        sigwait(&watched, &number);
+        ending = number == SIGCHLD || (!is_server && (number == SIGINT || number == SIGQUIT)) ? 0 : number;
+        eventfd_write(noted, 1);
+    } while (!ending);
     sleep(1);
     end_now(number);
     return unused;
 }
 
-/* Serves what came: that the pin was seen, what the receiver took, a client, that it reads, or more of a message. From
-   a client whose receiver was asked, only its end comes. */
-static void serve(struct function *function, const struct pollfd awaited[2]) {
-    if (awaited[1].revents)
-        (function->is_asked ? take_answer : see_interrupt)(function);
-    if (function->has_more)
-        take_turn(function);
-    function->is_paused = awaited[0].revents && awaited[0].fd == function->listener && !begin(function);
-    if (awaited[0].revents && awaited[0].fd == function->socket)
-        (function->is_asked ? lose : function->to_send > 0 ? send_rest : receive)(function);
-    serve_messages(function);
-}
-
-/* Sets what a function waits for, and returns for how many milliseconds it may, if that is less than another one may.
-   The next client waits until the receiver of the former one has ended. */
-static unsigned await(struct function *function, struct pollfd awaited[2], unsigned other) {
-    unsigned rest = (unsigned)raise_pin(function), wait = function->has_more ? 0 : function->is_paused ? PAUSE : rest;
-    int counter = function->mask ? function->unmask : -1;
-    int event = function->is_asked ? 0 : function->to_send > 0 ? POLLOUT : POLLIN;
-    if (function->socket < 0 && function->receiver > 0 && waitpid(function->receiver, NULL, WNOHANG) != 0)
-        function->receiver = 0;
-    int listener = function->is_paused || function->receiver > 0 ? -1 : function->listener;
-    awaited[0] = (struct pollfd){function->socket >= 0 ? function->socket : listener, event, 0};
-    awaited[1] = (struct pollfd){function->is_asked ? function->to_receiver : counter, POLLIN, 0};
-    return wait < other ? wait : other;
-}
-
 /* Serves until QEMU has ended and nothing that it sent is left, and returns its status as a shell does, or until a
    signal ends this process, and returns minus its number. */
-static int serve_all(int children) {
-    struct pollfd awaited[1 + 2 * MOST_FUNCTIONS] = {{children, POLLIN, 0}};
-    struct signalfd_siginfo about;
+static int serve_all(void) {
+    struct pollfd awaited[1 + 2 * MOST_FUNCTIONS] = {{noted, POLLIN, 0}};
+    eventfd_t times;
     int how = 0, has_ended = 0;
     while (!ending) {
         unsigned wait = has_ended ? 0 : -1u;
         for (unsigned at = 0; at < function_count; at++)
-            wait = await(functions + at, awaited + 1 + 2 * at, wait);
+            wait = serve_client(functions + at, awaited + 1 + 2 * at, wait);
         int ready = poll(awaited, 1 + 2 * function_count, (int)wait);
         if (ready <= 0 && has_ended)
             return WIFEXITED(how) ? WEXITSTATUS(how) : 128 + WTERMSIG(how);
-        for (unsigned at = 0; ready >= 0 && at < function_count; at++)
-            serve(functions + at, awaited + 1 + 2 * at);
-        if (ready > 0 && awaited[0].revents && read(children, &about, sizeof about) > 0 && !is_server)
+        if (awaited[0].revents && eventfd_read(noted, &times) == 0 && !is_server)
             has_ended |= waitpid(qemu, &how, WNOHANG) != 0;
     }
     return -ending;
@@ -154,7 +120,7 @@ static void run_qemu(char **options, unsigned count, pid_t parent) {
         *next++ = "-device";
         if (end < 0)
             length = asprintf(next++, device, at, way.sun_path);
-        else if ((length = connect(end, (const struct sockaddr *)&way, sizeof way)) == 0)
+        else if ((length = connect(end, &way, sizeof way)) == 0)
             length = asprintf(next++, "x-pci-proxy-dev,fd=%d", end);
     }
     memcpy(next, options, (count + 1) * sizeof *options);
@@ -164,26 +130,19 @@ static void run_qemu(char **options, unsigned count, pid_t parent) {
     err(errno == ENOENT ? NOT_FOUND : NOT_EXECUTABLE, "%s", *arguments);
 }
 
-/* Returns a descriptor that tells that a child has ended, and has a thread wait for the signals that end this process,
-   except for those that were ignored. (Beside QEMU, those of the terminal's keys are QEMU's.) */
-static int watch_signals(void) {
-    static const int numbers[] = {SIGTERM, SIGHUP, SIGINT, SIGQUIT};
+/* Has a thread wait for signals, except for those that would end this process but were ignored. */
+static void watch_signals(void) {
+    static const int numbers[] = {SIGCHLD, SIGTERM, SIGHUP, SIGINT, SIGQUIT};
     struct sigaction former;
-    sigset_t children;
-    pthread_t waiting;
-    sigemptyset(&children);
-    sigaddset(&children, SIGCHLD);
+    pthread_t thread;
     signal(SIGCHLD, SIG_DFL);
-    sigprocmask(SIG_BLOCK, &children, &former_mask);
     for (unsigned at = 0; at < sizeof numbers / sizeof *numbers; at++)
         if (sigaction(numbers[at], NULL, &former) == 0 && former.sa_handler != SIG_IGN)
-            sigaddset(&endings, numbers[at]);
-    sigprocmask(SIG_BLOCK, &endings, NULL);
-    if (!is_server)
-        sigdelset(&endings, SIGINT), sigdelset(&endings, SIGQUIT);
-    if (pthread_create(&waiting, NULL, end_in_time, NULL) != 0)
+            sigaddset(&watched, numbers[at]);
+    sigprocmask(SIG_BLOCK, &watched, &former_mask);
+    noted = eventfd(0, EFD_CLOEXEC | EFD_NONBLOCK);
+    if (pthread_create(&thread, NULL, wait_for_signals, NULL) != 0)
         errx(FAILED, "a thread could not be started");
-    return signalfd(-1, &children, SFD_CLOEXEC | SFD_NONBLOCK);
 }
 
 /* Makes a function for each controller of a subsystem: that of a file, or the demonstration subsystem. */
@@ -199,13 +158,11 @@ static void make_functions(const char *path, const struct protocol *protocol) {
     if (path ? nvme_machine_open(bytes, length, &machine, fault, sizeof fault) : nvme_machine_demo(&machine))
         errx(FAILED, "%s", *fault ? fault : "out of memory");
     for (uint16_t number = 0; number < nvme_machine_controllers(machine); number++, function_count++) {
-        struct function *function = functions + function_count;
         if (function_count == MOST_FUNCTIONS)
             errx(FAILED, "there are more than %d controllers", MOST_FUNCTIONS);
-        *function = (struct function){protocol, machine, number, .socket = -1, .listener = -1, .to_receiver = -1};
-        function->pin = function->bell = function->unmask = -1;
-        memset(function->files.at, -1, sizeof function->files.at);
-        reset(function);
+        functions[function_count] = (struct function){protocol, machine, number, .socket = -1, .listener = -1,
+            .to_receiver = -1, .pin = -1, .bell = -1, .unmask = -1, .files.at = {[0 ... MOST_FILES - 1] = -1}};
+        reset(functions + function_count);
     }
 }
 
@@ -220,13 +177,12 @@ static void make_sockets(void) {
     sockets = is_server ? sockets : strcat(folder, "/");
     for (unsigned number = 0; number < function_count; number++) {
         struct sockaddr_un at = address_of(sockets, number);
-        const struct sockaddr *address = (const struct sockaddr *)&at;
         int made = socket(AF_UNIX, SOCK_STREAM | SOCK_CLOEXEC | SOCK_NONBLOCK, 0);
         struct stat about;
-        if (connect(made, address, sizeof at) < 0 && errno == ECONNREFUSED && lstat(at.sun_path, &about) == 0 &&
+        if (connect(made, &at, sizeof at) < 0 && errno == ECONNREFUSED && lstat(at.sun_path, &about) == 0 &&
             S_ISSOCK(about.st_mode))
             unlink(at.sun_path);
-        if (bind(made, address, sizeof at) < 0 || listen(made, MOST_WAITING) < 0)
+        if (bind(made, &at, sizeof at) < 0 || listen(made, MOST_WAITING) < 0)
             err(FAILED, "%s", at.sun_path);
         functions[number].listener = made;
         if (is_server)
@@ -289,8 +245,8 @@ int main(int count, char **arguments) {
     arguments[0] = program_invocation_short_name = "nvme-model";
     unsigned at = read_options(count, arguments);
     const struct protocol *protocol = is_server ? &vfio_user : choose(arguments + at);
-    prepare_counters();
-    int children = watch_signals();
+    prepare_interrupts();
+    watch_signals();
     if (getrlimit(RLIMIT_NOFILE, &files) == 0)
         setrlimit(RLIMIT_NOFILE, &(struct rlimit){files.rlim_max, files.rlim_max});
     reserve_memory();
@@ -303,7 +259,7 @@ int main(int count, char **arguments) {
         run_qemu(arguments + at, (unsigned)count - at, self);
     if (qemu < 0)
         err(FAILED, "fork");
-    int status = serve_all(children);
+    int status = serve_all();
     if (has_summary)
         tell_summary();
     return status >= 0 ? status : end_now(-status);

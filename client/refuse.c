@@ -37,19 +37,15 @@ static const struct action {
     [DELAY] = {"--delay", "delayed", "the form is COMMAND[,SKIP[,TIMES]]=SECONDS, with 1 to 86400 SECONDS",
                MOST_SECONDS}};
 
-/* A rule: after `skip` commands, `times` of them get a status or are delayed by seconds. */
+/* A rule: after `skip` commands, `times` of them get a status or are delayed by seconds. Helpers share how many came,
+   and whether it had an effect on one. */
 static struct rule {
     const char *text;
     enum rule_action action;
     struct command command;
-    uint64_t skip, times, value;
-} rules[MOST_RULES];
+    uint64_t skip, times, value, came, has_acted;
+} *rules;
 static unsigned rule_count;
-
-/* What the helpers share: for each rule, how many commands came, and whether it had an effect on one. */
-static struct {
-    uint64_t came, has_acted;
-} *counts;
 
 /* Reads a number of a range, which one of a rule's signs or its end follows, and returns what follows it, or NULL. */
 static const char *read_number(const char *text, uint64_t least, uint64_t most, uint64_t *number) {
@@ -76,9 +72,10 @@ static const char *read_command(const char *text, struct command *command) {
 }
 
 const char *add_rule(enum rule_action action, const char *text) {
-    struct rule *rule = rules + rule_count;
     if (rule_count == MOST_RULES)
         return "64 rules are the most";
+    rules = rules ?: share(MOST_RULES * sizeof *rules);
+    struct rule *rule = rules + rule_count;
     *rule = (struct rule){.text = text, .action = action, .times = 1};
     const char *at = read_command(text, &rule->command);
     if (!at)
@@ -90,8 +87,7 @@ const char *add_rule(enum rule_action action, const char *text) {
     at = *at == '=' ? read_number(at + 1, 1, actions[action].most, &rule->value) : NULL;
     if (!at || *at)
         return actions[action].form;
-    if (rule_count++ == 0)
-        counts = share(MOST_RULES * sizeof *counts);
+    rule_count++;
     return NULL;
 }
 
@@ -99,30 +95,27 @@ const char *add_rule(enum rule_action action, const char *text) {
    admin command has that by default, and an I/O command has half of it twice, because it is aborted first.) Then it
    resets the controller, and the call fails. */
 static int wait_for(const struct call *call, int is_io, uint64_t seconds, uint32_t limit) {
-    const struct request_header reset = {.controller = (uint16_t)call->node.controller, .kind = KIND_RESET};
     const uint64_t most = limit ? (uint64_t)limit << is_io : 60000;
     const uint64_t least = seconds * 1000 < most ? seconds * 1000 : most;
-    struct timespec left = {.tv_sec = (time_t)(least / 1000), .tv_nsec = (long)(least % 1000 * 1000000)};
-    while (nanosleep(&left, &left) < 0 && errno == EINTR)
-        continue;
+    const struct timespec time = {.tv_sec = (time_t)(least / 1000), .tv_nsec = (long)(least % 1000 * 1000000)};
+    nanosleep(&time, NULL);
     if (seconds * 1000 <= most)
         return 0;
-    return ask_keeper(&reset, &(struct answer_header){0}) < 0 ? -ENXIO : -OVERDUE;
+    return ask_controller(call->node.controller, KIND_RESET, 0) ?: -OVERDUE;
 }
 
 int follow_rules(const struct call *call, int is_io, const struct nvme_passthru_cmd *given) {
     uint64_t values[] = {[REFUSE] = 0, [DELAY] = 0};
-    for (unsigned at = 0; at < rule_count; at++) {
-        const struct rule *rule = rules + at;
+    for (struct rule *rule = rules; rule < rules + rule_count; rule++) {
         const struct command *command = &rule->command;
         unsigned selected = given->cdw10 & command->bits;
         if (command->is_io != is_io || command->opcode != given->opcode ||
             (selected != command->one && selected != command->other))
             continue;
-        uint64_t before = __atomic_fetch_add(&counts[at].came, 1, __ATOMIC_SEQ_CST);
+        uint64_t before = __atomic_fetch_add(&rule->came, 1, __ATOMIC_SEQ_CST);
         if (values[rule->action] != 0 || before < rule->skip || before - rule->skip >= rule->times)
             continue;
-        __atomic_store_n(&counts[at].has_acted, 1, __ATOMIC_SEQ_CST);
+        __atomic_store_n(&rule->has_acted, 1, __ATOMIC_SEQ_CST);
         values[rule->action] = rule->value;
     }
     int result = values[DELAY] ? wait_for(call, is_io, values[DELAY], given->timeout_ms) : 0;
@@ -131,7 +124,7 @@ int follow_rules(const struct call *call, int is_io, const struct nvme_passthru_
 
 void report_rules(void) {
     for (const struct rule *rule = rules; rule < rules + rule_count; rule++)
-        if (!counts[rule - rules].has_acted && takes_line(STDERR_FILENO))
+        if (!rule->has_acted && takes_line(STDERR_FILENO))
             fprintf(stderr, "nvme-model: %s %s %s no command; %ju came\n", actions[rule->action].option, rule->text,
-                    actions[rule->action].done, (uintmax_t)counts[rule - rules].came);
+                    actions[rule->action].done, (uintmax_t)rule->came);
 }

@@ -8,8 +8,6 @@
 #include <stdarg.h>
 #include <sys/mman.h>
 #include <sys/mount.h>
-#include <sys/sysmacros.h>
-#include <sys/wait.h>
 
 /* Parts of the machine's /sys that the command sees, read-only. */
 static const char *const shown[] = {"/sys/devices/system",     "/sys/fs/cgroup",           "/sys/kernel/mm",
@@ -23,8 +21,6 @@ static const char rights[] = "--cap-drop ALL --cap-add CAP_CHOWN --cap-add CAP_D
 /* What the launcher may do besides: make the command's namespace, before anything else is started, and look at each
    process of the sandbox. (Where the kernel has Yama, no other process but its parent could.) */
 static const char own_rights[] = "--cap-add CAP_SYS_ADMIN --cap-add CAP_SETPCAP --cap-add CAP_SYS_PTRACE";
-
-static int begins(const char *text, const char *beginning) { return strncmp(text, beginning, strlen(beginning)) == 0; }
 
 const char *a_real_node(void) {
     static glob_t found;
@@ -77,8 +73,8 @@ static void add_below(const char *option, const char *path) {
 
 /* A line of the kernel's list of mounts. (A blank in its path has four characters there.) */
 struct mount {
-    dev_t number;
-    uint64_t identifier;
+    unsigned number[2]; /* of the file system */
+    unsigned long long identifier;
     char root[4 * PATH_MAX], path[4 * PATH_MAX]; /* what is mounted of the file system, and where */
     char options[1024], kind[64];                /* the kind of file system, between blanks */
 };
@@ -87,28 +83,19 @@ struct mount {
 static int read_mount(FILE *mounts, struct mount *mount) {
     static char *line;
     static size_t room;
-    unsigned numbers[2], byte;
-    unsigned long long identifier;
+    unsigned byte;
     if (getline(&line, &room, mounts) <= 0)
         return 0;
     const char *behind = strstr(line, " - ");
     if (!behind ||
-        sscanf(line, "%llu %*d %u:%u %16383s %16383s %1023s", &identifier, numbers, numbers + 1, mount->root,
-               mount->path, mount->options) != 6 ||
-        sscanf(behind, " - %61s", mount->kind + 1) != 1)
+        sscanf(line, "%llu %*d %u:%u %16383s %16383s %1023s", &mount->identifier, mount->number,
+               mount->number + 1, mount->root, mount->path, mount->options) != 6)
         fail("/proc/self/mountinfo can't be read");
-    mount->number = makedev(numbers[0], numbers[1]);
-    mount->identifier = identifier;
-    mount->kind[0] = ' ';
-    strcat(mount->kind, " ");
-    char *into = mount->path;
-    for (const char *at = into; *at; at++)
-        if (*at == '\\' && sscanf(at + 1, "%3o", &byte) == 1) {
-            *into++ = (char)byte;
-            at += 3;
-        } else
-            *into++ = *at;
-    *into = '\0';
+    snprintf(mount->kind, sizeof mount->kind, "%.*s ", 1 + (int)strcspn(behind + 3, " "), behind + 2);
+    for (char *at = mount->path; (at = strchr(at, '\\')) && sscanf(at + 1, "%3o", &byte) == 1; at++) {
+        *at = (char)byte;
+        memmove(at + 1, at + 4, strlen(at + 4) + 1);
+    }
     return 1;
 }
 
@@ -142,20 +129,20 @@ static void add_settings(void) {
     }
 }
 
-int is_replaced(const char *path) {
-    static const char *const made[] = {"/dev", "/proc", "/sys"};
-    for (unsigned at = 0; at < sizeof made / sizeof *made; at++)
-        if (begins(path, made[at]) && (path[strlen(made[at])] == '/' || path[strlen(made[at])] == '\0'))
-            return 1;
-    return 0;
+/* Whether a path is that of a folder, or below it. */
+static int is_in(const char *folder, const char *path) {
+    size_t length = folder[1] ? strlen(folder) : 0;
+    return strncmp(folder, path, length) == 0 && (path[length] == '/' || path[length] == '\0');
 }
 
-/* Adds a /run/udev of the sandbox's own. If the machine has none, no folder is made in its /run, of which the command has
-   a copy then. */
-static void add_udev(void) {
+int is_replaced(const char *path) { return is_in("/dev", path) || is_in("/proc", path) || is_in("/sys", path); }
+
+/* Adds folders of /run of the sandbox's own: of udev, and of blkid, which remembers there what it has seen of nodes. If
+   the machine lacks one, no folder is made in its /run, of which the command has a copy then. */
+static void add_run(void) {
+    static const char *const own[] = {"/run/udev", "/run/blkid"};
     struct dirent *entry;
-    struct stat about;
-    DIR *entries = access("/run/udev", F_OK) < 0 ? opendir("/run") : NULL;
+    DIR *entries = access(own[0], F_OK) < 0 || access(own[1], F_OK) < 0 ? opendir("/run") : NULL;
     char path[PATH_MAX], target[PATH_MAX];
     if (entries)
         add_words("--perms 0755 --tmpfs /run");
@@ -165,10 +152,11 @@ static void add_udev(void) {
         target[length < 0 ? 0 : length] = '\0';
         if (length > 0)
             bind_to("--symlink", target, path);
-        else if (strcmp(entry->d_name, ".") != 0 && strcmp(entry->d_name, "..") != 0 && lstat(path, &about) == 0)
+        else if (strcmp(entry->d_name, ".") != 0 && strcmp(entry->d_name, "..") != 0)
             bind_to("--bind-try", path, path);
     }
-    add_words("--perms 0755 --tmpfs /run/udev");
+    for (unsigned at = 0; at < sizeof own / sizeof *own; at++)
+        add_words("--perms 0755 --tmpfs %s", own[at]);
 }
 
 /* Looks at a path without asking a server, which might not answer. */
@@ -177,24 +165,17 @@ static int look_at(const char *path, struct statx *about) {
                  STATX_MNT_ID | STATX_UID | STATX_TYPE, about);
 }
 
-/* Finds in which file system the machine's /dev is, and where. */
+/* Finds the mount that the machine's /dev is in, and its place in that file system. */
 static void find_dev(struct mount *dev) {
-    static struct mount mount;
+    struct statx about;
     FILE *mounts = open_mounts();
-    *dev = (struct mount){.path = ""};
-    while (read_mount(mounts, &mount))
-        if (strcmp(mount.path, "/dev") == 0)
-            *dev = mount;
-        else if (strcmp(mount.path, "/") == 0 && !*dev->path) {
-            *dev = mount;
-            strcat(dev->root, mount.root[1] ? "/dev" : "dev");
-        }
+    if (look_at("/dev", &about) < 0)
+        fail_by_errno("/dev");
+    while (read_mount(mounts, dev) && dev->identifier != about.stx_mnt_id)
+        continue;
+    if (!dev->path[1])
+        strcat(dev->root, dev->root[1] ? "/dev" : "dev");
     fclose(mounts);
-}
-
-static int is_above(const char *folder, const char *path) {
-    size_t length = folder[1] ? strlen(folder) : 0;
-    return strncmp(folder, path, length) == 0 && (path[length] == '/' || path[length] == '\0');
 }
 
 /* Adds the machine's mounts, which bwrap makes nodev. One that isn't a file system of files, and another view of /dev,
@@ -206,9 +187,10 @@ static void add_mounts(void) {
     find_dev(&dev);
     FILE *mounts = open_mounts();
     bind_to("--bind", "/", "/");
-    add_udev();
+    add_run();
     while (read_mount(mounts, &mount)) {
-        int is_view = mount.number == dev.number && (is_above(mount.root, dev.root) || is_above(dev.root, mount.root));
+        int is_view = memcmp(mount.number, dev.number, sizeof dev.number) == 0 &&
+                      (is_in(mount.root, dev.root) || is_in(dev.root, mount.root));
         if (strcmp(mount.path, "/") == 0 || is_replaced(mount.path) || (holds_files(mount.kind) && !is_view) ||
             look_at(mount.path, &about) < 0 || about.stx_mnt_id != mount.identifier)
             continue;
@@ -222,63 +204,64 @@ static void add_mounts(void) {
 
 /* Adds a /dev with the nodes that each command has, terminals of its own, and the caller's. (bwrap makes terminals only
    in a whole /dev, which is then covered, and calls what it makes /newroot.) */
-static void add_dev(uint64_t limit, const char *const *devices) {
-    struct stat about;
-    add_words("--size %llu --tmpfs /dev --dev /dev/mqueue", (unsigned long long)limit);
+static void add_dev(void) {
+    static const char *const nodes[] = {"/dev/null",   "/dev/zero",    "/dev/full",
+                                        "/dev/random", "/dev/urandom", "/dev/tty"};
+    add_words("--size %llu --tmpfs /dev --dev /dev/mqueue", options.limit);
     add_words("--dev-bind-try /proc/self/root/newroot/dev/mqueue/pts /dev/pts --symlink pts/ptmx /dev/ptmx");
     add_words("--symlink /proc/self/fd /dev/fd --symlink fd/0 /dev/stdin --symlink fd/1 /dev/stdout");
     add_words("--symlink fd/2 /dev/stderr --mqueue /dev/mqueue --size %llu --perms 1777 --tmpfs /dev/shm",
-              (unsigned long long)limit);
-    for (const struct machine_node *node = machine_nodes; node < machine_nodes + MACHINE_NODES; node++)
-        if (stat(node->path, &about) == 0 && S_ISCHR(about.st_mode) && is_machine_node(about.st_rdev))
-            bind_to("--dev-bind", node->path, node->path);
+              options.limit);
+    for (unsigned at = 0; at < sizeof nodes / sizeof *nodes; at++)
+        bind_to("--dev-bind-try", nodes[at], nodes[at]);
     for (int file = 0; file <= STDERR_FILENO; file++)
         if (isatty(file) && ttyname(file)) {
             bind_to("--dev-bind-try", ttyname(file), "/dev/console");
             break;
         }
-    for (; *devices; devices++)
-        add_below("--dev-bind", find_device(*devices));
+    for (unsigned at = 0; at < options.added_count; at++)
+        add_below("--dev-bind", find_device(options.added[at]));
 }
 
 /* Adds a /sys with what tools read of the machine, among it its network interfaces, and the command's own /proc. (A
    model with few namespaces needs less than the least size.) */
-static void add_sys(uint64_t limit) {
-    const uint64_t least = 64 << 20;
+static void add_sys(void) {
+    const unsigned long long least = 64 << 20;
     glob_t interfaces = {0};
     add_words("--size %llu --perms 0755 --tmpfs /sys --perms 0755 --dir /sys/fs --perms 0755 --dir " MODEL_FOLDER,
-              (unsigned long long)(limit > least ? limit : least));
+              options.limit > least ? options.limit : least);
     for (unsigned at = 0; at < sizeof shown / sizeof *shown; at++)
         add_below("--ro-bind-try", shown[at]);
     glob("/sys/class/net/*", 0, NULL, &interfaces);
     for (size_t at = 0; at < interfaces.gl_pathc; at++) {
         char *path = realpath(interfaces.gl_pathv[at], NULL);
-        if (path && begins(path, "/sys/devices/") && !begins(path, "/sys/devices/virtual/"))
+        if (path && is_in("/sys/devices", path) && !is_in("/sys/devices/virtual", path))
             add_below("--ro-bind-try", path);
     }
     add_settings();
     add_words("--proc /proc");
 }
 
-/* Adds a copy of a program or of the library, with permissions for every user. */
-static void add_part(const char *path, unsigned permissions, const char *name) {
-    int file = open(path, O_RDONLY);
+/* Adds a copy of a program, of the library or of what stands for sudo, with permissions for every user. */
+static void add_part(int file, const char *from, const char *to) {
     if (file < 0)
-        fail_by_errno(path);
-    add_words("--perms %04o --ro-bind-data %d %s", permissions, file, name);
+        fail_by_errno(from);
+    add_words("--perms 0555 --ro-bind-data %d", file);
+    add(to);
 }
+
+static void add_file(const char *from, const char *to) { add_part(open(from, O_RDONLY), from, to); }
 
 /* What stands for sudo. */
 extern const char stand_in[], stand_in_end[];
 __asm__(".section .rodata\nstand_in: .incbin \"sudo.sh\"\nstand_in_end:\n.previous");
 
-static void add_stand_in(const char *name) {
+static void add_stand_in(const char *to) {
     const size_t size = (size_t)(stand_in_end - stand_in);
     int file = memfd_create("sudo", 0);
     if (file < 0 || write(file, stand_in, size) != (ssize_t)size || lseek(file, 0, SEEK_SET) < 0)
         fail_by_errno("sudo");
-    add_words("--perms 0555 --ro-bind-data %d", file);
-    add(name);
+    add_part(file, "sudo", to);
 }
 
 /* Makes a user root in a namespace of its own, in which nobody else has a number, with a stand-in for sudo, whose files
@@ -291,19 +274,18 @@ static void add_root(void) {
         add_stand_in(real);
 }
 
-static void compose(const struct sandbox *sandbox, const char *word) {
+static void compose(void) {
     add("bwrap");
     add_mounts();
-    add_dev(sandbox->limit, sandbox->devices);
-    add_sys(sandbox->limit);
-    add_part("/proc/self/exe", 0555, MODEL_FOLDER "/launcher");
-    add_part(sandbox->library, 0555, MODEL_FOLDER "/library.so");
-    add_part(sandbox->device, 0555, MODEL_FOLDER "/device");
-    if (sandbox->is_root && geteuid() != 0)
+    add_dev();
+    add_sys();
+    add_file("/proc/self/exe", MODEL_FOLDER "/launcher");
+    add_file(library, MODEL_FOLDER "/library.so");
+    add_file(program, MODEL_FOLDER "/device");
+    if (options.is_root && geteuid() != 0)
         add_root();
-    add_words("--unshare-pid --as-pid-1 --unshare-ipc --chdir / %s %s -- " MODEL_FOLDER "/launcher",
-              sandbox->is_root || geteuid() == 0 ? rights : "", own_rights);
-    add(word);
+    add_words("--unshare-pid --as-pid-1 --unshare-ipc --die-with-parent --chdir / %s %s -- " MODEL_FOLDER
+              "/launcher " INSIDE, options.is_root || geteuid() == 0 ? rights : "", own_rights);
 }
 
 /* ---- the sandbox */
@@ -315,9 +297,9 @@ static void write_map(const char *path, const char *format, unsigned number) {
         fail_by_errno(path);
 }
 
-/* Becomes bwrap, which starts the launcher with this word, in a place where the machine's later mounts aren't
+/* Becomes bwrap, which starts the launcher with its word, in a place where the machine's later mounts aren't
    seen. (The mounts that bwrap makes follow those that it finds, and a mount that came later wouldn't be nodev.) */
-void enter_sandbox(const struct sandbox *sandbox, const char *word) {
+void enter_sandbox(void) {
     unsigned user = geteuid(), group = getegid();
     if (unshare(CLONE_NEWNS) < 0) {
         if (unshare(CLONE_NEWUSER | CLONE_NEWNS) < 0)
@@ -328,44 +310,13 @@ void enter_sandbox(const struct sandbox *sandbox, const char *word) {
     }
     if (mount(NULL, "/", NULL, MS_REC | MS_PRIVATE, NULL) < 0)
         fail_by_errno("mounts can't be private");
-    compose(sandbox, word);
+    compose();
+    exchange_errors();
     execvp(words[0], words);
+    exchange_errors();
     if (errno == ENOENT)
         _exit(NOT_FOUND);
     fail_by_errno(words[0]);
-}
-
-/* (another process makes a sandbox for a trial first, because the status of a bwrap that fails would be taken for the
-   command's. It ends by itself: a bwrap that is killed as it starts would leave a process that waits for it.) */
-const char *why_no_sandbox(const struct sandbox *sandbox) {
-    int ends[2], how, null = open("/dev/null", O_RDWR | O_CLOEXEC);
-    if (null < 0 || pipe2(ends, O_CLOEXEC) < 0)
-        fail_by_errno(null < 0 ? "/dev/null" : "pipe");
-    if (access(sandbox->library, R_OK) < 0)
-        fail_by_errno(sandbox->library);
-    if (access(sandbox->device, X_OK) < 0)
-        fail_by_errno(sandbox->device);
-    for (const char *const *device = sandbox->devices; *device; device++)
-        free(find_device(*device));
-    pid_t child = fork();
-    if (child < 0)
-        fail_by_errno("fork");
-    if (child == 0) {
-        dup2(null, STDIN_FILENO);
-        dup2(null, STDOUT_FILENO);
-        dup2(ends[1], STDERR_FILENO);
-        enter_sandbox(sandbox, TRIAL);
-    }
-    close(null);
-    close(ends[1]);
-    const char *line = last_line(ends[0], "nvme-model: ");
-    if (waitpid(child, &how, 0) != child)
-        fail_by_errno("waitpid");
-    if (WIFEXITED(how) && WEXITSTATUS(how) == NOT_FOUND)
-        return "the program bwrap is missing: install the package bubblewrap";
-    if (strstr(line, "Unknown option"))
-        return "bwrap is older than 0.8: install a newer bubblewrap";
-    return how == 0 ? NULL : *line ? line : "bwrap ended without a reason";
 }
 
 /* ---- what is checked inside, because bwrap leaves a mount as it is that it can't reach */
@@ -385,13 +336,22 @@ static enum reach reach_of(struct mount *mount) {
     return is_own ? CLOSED : HIDDEN;
 }
 
-/* (bwrap makes no mount nodev, read-only or another /proc that it can't reach) */
+/* Whether a path is that of a file system that bwrap makes in /dev. */
+static int is_made(const char *path) {
+    return strcmp(path, "/dev") == 0 || strcmp(path, "/dev/pts") == 0 || strcmp(path, "/dev/shm") == 0 ||
+           strcmp(path, "/dev/mqueue") == 0;
+}
+
+/* (bwrap makes no mount nodev, read-only or another /proc that it can't reach; and what it binds in /dev may be another
+   file since it was looked at) */
 void check_mounts(void) {
     static struct mount mount;
     FILE *mounts = open_mounts();
     while (read_mount(mounts, &mount)) {
+        if (is_in("/dev", mount.path) && !is_made(mount.path) && reach_of(&mount) == REACHED)
+            check_node(mount.path);
         enum reach reach = is_replaced(mount.path) ? HIDDEN : reach_of(&mount);
-        int is_left = reach == CLOSED && !holds_files(mount.kind) && !begins(mount.options, "ro");
+        int is_left = reach == CLOSED && !holds_files(mount.kind) && strncmp(mount.options, "ro", 2) != 0;
         if (reach != HIDDEN && (is_left || !strstr(mount.options, ",nodev")))
             fail("%s is a mount of this machine that can't be kept from the command", mount.path);
     }
@@ -415,19 +375,14 @@ static void mount_proc(const char *path) {
     closedir(entries);
 }
 
-/* (the launcher goes on to write there, where this namespace of mounts isn't) */
-static void close_sys(void) {
+/* (parts of /proc are mounts as well; and the launcher goes on to write to /sys, where this namespace isn't) */
+void show_own_processes(void) {
+    static struct mount found;
+    FILE *mounts = open_mounts();
     if (mount(NULL, "/sys", NULL, MS_REMOUNT | MS_BIND | MS_RDONLY | MS_NOSUID | MS_NODEV, NULL) < 0)
         fail_by_errno("/sys");
-}
-
-/* (parts of /proc are mounts as well) */
-void show_own_processes(void) {
-    static struct mount mount;
-    FILE *mounts = open_mounts();
-    close_sys();
-    while (read_mount(mounts, &mount))
-        if (strcmp(mount.kind, " proc ") == 0 && strcmp(mount.root, "/") == 0 && reach_of(&mount) == REACHED)
-            mount_proc(mount.path);
+    while (read_mount(mounts, &found))
+        if (strcmp(found.kind, " proc ") == 0 && strcmp(found.root, "/") == 0 && reach_of(&found) == REACHED)
+            mount_proc(found.path);
     fclose(mounts);
 }

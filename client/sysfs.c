@@ -13,20 +13,22 @@ extern const char folders[];
 __asm__(".section .rodata\nfolders: .incbin \"sys.txt\"\n.byte 0\n.previous");
 
 /* A kind of folder: where its path and its lines are, which are found by its name, the folder that was made last, and
-   the texts of that one's own entries, each behind the one before. */
+   the texts of that one's own entries, each behind the one before, and how many settings had been changed then. */
 struct folder {
     const char *name, *at;
     int last, turn;
     char texts[2][4096];
+    unsigned changes;
 };
 
-static struct folder top = {.name = "\n[top] "}, module = {.name = "\n[module] "}, core = {.name = "\n[core] "},
-                     subsystem = {.name = "\n[subsystem] "}, function = {.name = "\n[function] "},
-                     controller = {.name = "\n[controller] "}, hwmon = {.name = "\n[hwmon] "},
-                     block = {.name = "\n[block] "}, queue = {.name = "\n[queue] "}, record = {.name = "\n[record] "},
-                     generic = {.name = "\n[generic] "};
+static struct folder top = {.name = "\n[top] "}, subsystem = {.name = "\n[subsystem] "},
+                     function = {.name = "\n[function] "}, controller = {.name = "\n[controller] "},
+                     hwmon = {.name = "\n[hwmon] "}, block = {.name = "\n[block] "},
+                     record = {.name = "\n[record] "}, generic = {.name = "\n[generic] "};
 
-/* The line of an entry: its name, and its text with the mark before it, which is > ! + = & ? or none (0). */
+static unsigned *changes; /* how many settings were changed, by all keepers */
+
+/* The line of an entry: its name, and its text with the mark before it, which is > ! + = & ? ~ or none (0). */
 struct line {
     const char *name, *text;
     size_t name_length, text_length;
@@ -36,13 +38,13 @@ struct line {
 /* Reads a line, and returns where the next one begins, or NULL at a folder's end. */
 static const char *read_line(const char *at, struct line *line) {
     size_t length = strcspn(at, "\n"), name = strcspn(at, " \n");
-    size_t before = name + (name < length), mark = length > before && strchr(">!+=&?", at[before]) != NULL;
+    size_t before = name + (name < length), mark = length > before && strchr(">!+=&?~", at[before]) != NULL;
     *line = (struct line){at, at + before + mark, name, length - before - mark, mark ? at[before] : '\0'};
     return length > 0 ? at + length + 1 : NULL;
 }
 
-/* The functions have a PCI domain of their own, in which each has some memory with its registers. */
-enum { PCI_DOMAIN = 1, REGISTER_BYTES = 8192 };
+/* Each function has some memory with its registers. */
+enum { REGISTER_BYTES = 8192 };
 static uint32_t address_of(unsigned controller) { return 0xfe000000 + controller * REGISTER_BYTES; }
 
 /* ---- the values, each after its name */
@@ -85,7 +87,15 @@ static void set_name(const char *whole, const char *digits, const char *name, co
     set(name, "%s", part);
 }
 
-static void set_controller(unsigned number) {
+static void set_numbers(char kind, unsigned number, uint32_t nsid) {
+    set("n", "%u", nsid);
+    set("nsid_hex", "%08x", nsid);
+    set("major", "%u", major_of(kind));
+    set("minor", "%u", minor_of(kind, number, nsid));
+}
+
+/* Sets the values of a controller, or of one of its namespaces. */
+static void set_node(char kind, unsigned number, uint32_t nsid) {
     const unsigned char *identity = identities[number];
     const char *text = (const char *)identity;
     struct timespec now;
@@ -95,33 +105,25 @@ static void set_controller(unsigned number) {
     set("is_bound", "%d", presence_of(number) == BOUND);
     set("driver", "%s", presence_of(number) == BOUND ? "DRIVER=nvme\n" : "");
     set("x", "%u", number);
-    set("bus", "pci%04x:%02x", PCI_DOMAIN, number);
-    set("function", "%04x:%02x:00.0", PCI_DOMAIN, number);
-    set("function_tag", "%04x_%02x_00_0", PCI_DOMAIN, number);
+    set("slot", "%02x", number);
     set("first", "%016x", address_of(number));
     set("last", "%016x", address_of(number) + REGISTER_BYTES - 1);
-    set("sqsize", "%u", (unsigned)geometry[DEPTH] - 1);
     const unsigned vendor = (unsigned)number_at(identity, 2), subsystem = (unsigned)number_at(identity + 2, 2);
     set("vendor", "%04x", vendor);
     set("subsystem_vendor", "%04x", subsystem);
-    set("PCI_ID", "%04X:0000", vendor);
-    set("PCI_SUBSYS_ID", "%04X:0000", subsystem);
-    set("modalias", "pci:v%08Xd00000000sv%08Xsd00000000bc01sc08i02", vendor, subsystem);
+    set("VENDOR", "%04X", vendor);
+    set("SUBSYSTEM_VENDOR", "%04X", subsystem);
     set("serial", "%.20s", text + 4);
     set("model", "%.40s", text + 24);
     set("firmware", "%.8s", text + 64);
     set("cntlid", "%u", (unsigned)number_at(identity + 78, 2));
     set("nqn", "%.256s", text + 768);
+    set("fua", "%d", identity[525] & 1);
+    set("cache", "%s", identity[525] & 1 ? "back" : "through");
     set_name("serial_text", "serial_hex", "serial_name", identity + 4, 20);
     set_name("model_text", "model_hex", "model_name", identity + 24, 40);
     set_name("firmware_text", "firmware_hex", "firmware_name", identity + 64, 8);
-}
-
-static void set_numbers(char kind, unsigned number, uint32_t nsid) {
-    set("n", "%u", nsid);
-    set("nsid_hex", "%08x", nsid);
-    set("major", "%u", major_of(kind));
-    set("minor", "%u", minor_of(kind, number, nsid));
+    set_numbers(kind, number, nsid);
 }
 
 /* Replaces the words in a part of a text with their values, and | with the end of a line, as far as there is room. */
@@ -193,7 +195,7 @@ static int make(int folder, const char *name, char mark, const char *text) {
     }
     if (name[strlen(name) - 1] == '/')
         return mkdirat(folder, name, 0755);
-    const mode_t mode = mark == '!' ? 0200 : mark == '+' ? 0600 : mark == '&' ? 0644 : 0444;
+    const mode_t mode = mark == '!' ? 0200 : mark == '+' ? 0600 : mark == '&' || mark == '~' ? 0644 : 0444;
     int file = openat(folder, name, O_WRONLY | O_CREAT | O_EXCL | O_CLOEXEC, mode);
     int is_text = mark != '!' && mark != '+' && *text;
     int result = file >= 0 && (!is_text || dprintf(file, "%s\n", text) == (int)strlen(text) + 1) ? 0 : -1;
@@ -202,11 +204,12 @@ static int make(int folder, const char *name, char mark, const char *text) {
     return result;
 }
 
-/* Makes an entry, in place of what is there. (Of several links with one name in /dev/disk, the first stays.) */
+/* Makes an entry, in place of what is there. (Of several links with one name in /dev/disk, the first stays, and what a
+   setting was changed to.) */
 static void put(int folder, char *name, char mark, const char *text) {
     for (int tries = 0; make(folder, name, mark, text) < 0; tries++) {
         int error = errno;
-        if (error == EEXIST && (name[strlen(name) - 1] == '/' || strncmp(name, "/dev/disk/", 10) == 0))
+        if (error == EEXIST && (mark == '~' || name[strlen(name) - 1] == '/' || strncmp(name, "/dev/disk/", 10) == 0))
             return;
         if (tries > 2)
             return cannot(name);
@@ -239,8 +242,8 @@ static void add_link(const char *name) {
     snprintf(values[at].text + length, sizeof values[at].text - length, "S:%s\n", name + strlen("/dev/"));
 }
 
-/* Makes a folder and its entries. One that is the same as in the last folder of this kind, and can't be written, becomes
-   another name of that one. (A link whose name ends with a value that is empty isn't made.) */
+/* Makes a folder and its entries. One that is the same as in the last folder of this kind, where no setting was changed
+   since, becomes another name of that one. (A link whose name ends with a value that is empty isn't made.) */
 static void put_folder(struct folder *folder) {
     char path[PATH_MAX], name[PATH_MAX], *before = folder->texts[folder->turn];
     struct line line;
@@ -252,13 +255,15 @@ static void put_folder(struct folder *folder) {
     int at = open_folder(path);
     while ((next = read_line(next, &line)) && at >= 0) {
         expand_name(name, &line);
-        expand(text, (size_t)(end - text), line.text, line.text_length);
+        size_t taken = line.mark == '~' ? (size_t)(strstr(line.text, " : ") + strlen(" : ") - line.text) : 0;
+        expand(text, (size_t)(end - text), line.text + taken, line.text_length - taken);
         if (name[strlen(name) - 1] == '/' && line.mark == '>')
             continue;
         if (strncmp(name, "/dev/disk/", 10) == 0 && line.mark == '>')
             add_link(name);
         int is_own = *name != '/', is_same = folder->last > 0 && is_own && strcmp(text, before) == 0;
-        if (!is_same || line.mark == '&' || linkat(folder->last, name, at, name, 0) < 0)
+        is_same &= line.mark != '~' || folder->changes == *changes;
+        if (!is_same || linkat(folder->last, name, at, name, 0) < 0)
             put(at, name, line.mark, text);
         before += is_own ? strlen(before) + 1 : 0;
         text += is_own && strlen(text) + 1 < (size_t)(end - text) ? strlen(text) + 1 : 0;
@@ -266,15 +271,20 @@ static void put_folder(struct folder *folder) {
     if (folder->last > 0)
         close(folder->last);
     folder->last = at;
+    folder->changes = *changes;
 }
 
-/* Removes a link, but none that another folder has made. */
-static void remove_link(const char *name, const char *text) {
+/* Removes a link, but none that another folder has made, and the folder of the last one, as udev does. */
+static void remove_link(char *name, const char *text) {
     char found[PATH_MAX];
     ssize_t length = readlink(name, found, sizeof found - 1);
     found[length < 0 ? 0 : length] = '\0';
-    if (strcmp(found, text) == 0)
-        unlink(name);
+    if (strcmp(found, text) != 0)
+        return;
+    unlink(name);
+    *strrchr(name, '/') = '\0';
+    if (strncmp(name, "/dev/disk/", 10) == 0)
+        rmdir(name);
 }
 
 /* Removes what a folder has elsewhere, and then the folder (of records, all is elsewhere). */
@@ -334,9 +344,36 @@ static void put_configuration(const unsigned char *identity, uint32_t address) {
 }
 
 void begin_sys(void) {
+    changes = share(sizeof *changes);
     put_folder(&top);
-    put_folder(&module);
-    put_folder(&core);
+}
+
+int find_setting(const char *path, char taken[MOST_TAKEN]) {
+    size_t whole = strlen(path);
+    struct line line;
+    for (const char *at = folders; *at; at += strcspn(at, "\n") + 1) {
+        read_line(at, &line);
+        size_t length = line.name_length;
+        if (line.mark == '~' && length < whole && strncmp(path + whole - length, line.name, length) == 0)
+            return snprintf(taken, MOST_TAKEN, "%.*s", (int)(strstr(line.text, " : ") - line.text), line.text) > 0;
+    }
+    return 0;
+}
+
+void reset_settings(unsigned number, uint32_t nsid) {
+    static const char *const names[] = {"read_ahead_kb", "max_sectors_kb", "write_cache", NULL};
+    char path[PATH_MAX];
+    for (const char *const *name = names; has_sandbox && *name; name++) {
+        snprintf(path, sizeof path, "/sys/block/nvme%un%u/queue/%s", number, nsid, *name);
+        unlink(path);
+    }
+}
+
+int put_setting(const char *path, const char *text) {
+    __atomic_add_fetch(changes, 1, __ATOMIC_SEQ_CST);
+    if (unlink(path) < 0)
+        return -ENODEV;
+    return make(AT_FDCWD, path, '~', text) < 0 ? -ENOSPC : 0;
 }
 
 void know_controller(unsigned number, const unsigned char *identity) {
@@ -345,8 +382,7 @@ void know_controller(unsigned number, const unsigned char *identity) {
 
 void show_part(unsigned number, enum part part, int is_there) {
     static struct folder *const parts[] = {&subsystem, &function, &controller, &hwmon};
-    set_controller(number);
-    set_numbers('c', number, 0);
+    set_node('c', number, 0);
     if (!is_there)
         return remove_folder(parts[part]);
     put_folder(parts[part]);
@@ -409,33 +445,27 @@ static void replace_record(const char *lines) {
 }
 
 void put_record(unsigned number, uint32_t nsid, const char *lines) {
-    set_controller(number);
-    set_numbers('b', number, nsid);
+    set_node('b', number, nsid);
     replace_record(lines);
 }
 
-void put_namespace(unsigned number, uint32_t nsid, const struct volume *volume, int file) {
+void put_namespace(unsigned number, uint32_t nsid, const struct volume *volume, int is_new) {
     uint64_t size = volume->power < 9 ? volume->blocks >> (9 - volume->power) : volume->blocks << (volume->power - 9);
-    set_controller(number);
-    set_numbers('b', number, nsid);
+    set_node('b', number, nsid);
     set("most_kb", "%u", most_sectors(number) / 2);
     set("size", "%llu", (unsigned long long)size);
     set("block", "%llu", 1ULL << volume->power);
     set("ro", "%d", volume->is_read_only);
-    set("file", "%d", file);
-    set("ahead", "%llu", (unsigned long long)volume->read_ahead / 2);
-    set("schedulers", "%s", strcmp(volume->scheduler, "none") == 0 ? "[none] mq-deadline " : "[mq-deadline] none");
+    set("file", "%d", is_new ? volume->file : -1);
     put_folder(&block);
-    put_folder(&queue);
-    if (file >= 0)
+    if (is_new)
         replace_record("");
     set_numbers('g', number, nsid);
     put_folder(&generic);
 }
 
 void remove_namespace(unsigned number, uint32_t nsid) {
-    set_controller(number);
-    set_numbers('b', number, nsid);
+    set_node('b', number, nsid);
     replace_record("");
     remove_folder(&record);
     remove_folder(&block);

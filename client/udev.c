@@ -1,8 +1,9 @@
 /* What udev does with a block device that was written: blkid looks at its data, and the device's record and links in
    /dev follow. A process that is started before the launcher is confined runs blkid, with a device's filter, and each
-   keeper asks it in turn. Another one answers `udevadm settle`. None of this is proved. */
+   keeper asks it in turn. The preloaded library has udevadm wait for keepers (calls.c). None of this is proved. */
 #include "launcher.h"
 #include <linux/close_range.h>
+#include <poll.h>
 #include <sys/prctl.h>
 #include <sys/socket.h>
 #include <sys/un.h>
@@ -10,7 +11,8 @@
 
 enum { MOST_SECONDS = 10 };
 
-static int prober, control; /* the socket to the process, and the one that udevadm connects to */
+static int prober; /* the socket to the process */
+static int control, varlink; /* the sockets that root's udevadm connects to: that of systemd 257, and that of 262 */
 
 /* Runs blkid for each node that is named. What it prints is the answer, up to an empty text. */
 __attribute__((noreturn)) static void run_prober(int keepers) {
@@ -40,6 +42,15 @@ __attribute__((noreturn)) static void run_prober(int keepers) {
     _exit(0);
 }
 
+static int listen_at(const char *path, int type) {
+    struct sockaddr_un address = {.sun_family = AF_UNIX};
+    int file = socket(AF_UNIX, type | SOCK_CLOEXEC, 0);
+    strcpy(address.sun_path, path);
+    if (bind(file, (const struct sockaddr *)&address, sizeof address) < 0 || listen(file, SOMAXCONN) < 0)
+        cannot(path);
+    return file;
+}
+
 void start_prober(void) {
     int ends[2];
     if (socketpair(AF_UNIX, SOCK_SEQPACKET | SOCK_CLOEXEC, 0, ends) < 0)
@@ -49,25 +60,39 @@ void start_prober(void) {
         run_prober(ends[1]);
     close(ends[1]);
     prober = ends[0];
-    const struct sockaddr_un address = {AF_UNIX, "/run/udev/control"};
-    control = socket(AF_UNIX, SOCK_SEQPACKET | SOCK_CLOEXEC, 0);
-    if (bind(control, (const struct sockaddr *)&address, sizeof address) < 0 || listen(control, SOMAXCONN) < 0)
-        cannot(address.sun_path);
+    control = listen_at("/run/udev/control", SOCK_SEQPACKET);
+    varlink = listen_at("/run/udev/io.systemd.Udev", SOCK_STREAM);
 }
 
-/* (udevadm waits until its connection is closed, after a message of type 0) */
-void settle(void) {
+/* (the older one waits until its connection is closed, after a message of type 0) */
+static void greet_older(int caller) {
     enum { TYPE = 20 };
-    struct answer_header answer;
-    prctl(PR_SET_NAME, "settler");
+    char message[512];
+    while (read(caller, message, sizeof message) > TYPE && message[TYPE])
+        continue;
+}
+
+/* (the newer one waits for an answer; texts end with a zero) */
+static void greet_newer(int caller) {
+    char text[512];
+    ssize_t length;
+    while ((length = read(caller, text, sizeof text)) > 0)
+        if (text[length - 1] == '\0' && write(caller, "{}", 3) < 0)
+            break;
+}
+
+void greet_udevadm(void) {
+    static void (*const greet[])(int caller) = {greet_older, greet_newer};
+    struct pollfd ready[] = {{.fd = control, .events = POLLIN}, {.fd = varlink, .events = POLLIN}};
+    prctl(PR_SET_NAME, "greeter");
     for (;;) {
-        char message[512];
-        int caller = accept4(control, NULL, NULL, SOCK_CLOEXEC);
-        while (caller >= 0 && read(caller, message, sizeof message) > TYPE && message[TYPE])
-            continue;
-        for (struct device *device = devices; device < devices + device_count; device++)
-            ask_keeper(&(struct request_header){.controller = (uint16_t)device->first, .kind = KIND_PROBE}, &answer);
-        close(caller);
+        poll(ready, 2, -1);
+        for (unsigned at = 0; at < 2; at++)
+            if (ready[at].revents) {
+                int caller = accept4(ready[at].fd, NULL, NULL, SOCK_CLOEXEC);
+                greet[at](caller);
+                close(caller);
+            }
     }
 }
 

@@ -32,13 +32,14 @@ static int tell_version(unsigned char *payload, uint32_t size) {
     return sizeof version;
 }
 
+/* (The flags are those of mmap, 1 to read and 2 to write.) */
 static int map(struct function *function, const unsigned char *payload) {
     uint32_t flags = number_at(payload + 4, 4);
     struct section section = {number_at(payload + 16, 8), number_at(payload + 24, 8), number_at(payload + 8, 8),
-                              .is_writable = flags == (MAY_READ | MAY_WRITE)};
-    if ((flags != MAY_READ && !section.is_writable) || function->files.count > 1)
+                              .access = (int)flags};
+    if ((flags != PROT_READ && flags != (PROT_READ | PROT_WRITE)) || function->files.count > 1)
         return -EINVAL;
-    return function->files.has_lost ? -EMFILE : -add_section(function, section, function->files.at);
+    return -add_section(function, section, function->files.at);
 }
 
 /* (All sections at once have a flag of their own, and the size 0.) */
@@ -65,16 +66,14 @@ static int tell_interrupt(unsigned char *payload) {
 /* Binds or unbinds an event counter, or masks or unmasks the pin. */
 static int set_interrupts(struct function *function, const unsigned char *payload) {
     uint32_t flags = number_at(payload + 4, 4), index = number_at(payload + 8, 4), count = number_at(payload + 16, 4);
-    if (function->files.has_lost)
-        return -EMFILE;
     if (index > MESSAGES || number_at(payload + 12, 4) != 0 || count > 1 ||
         function->files.count > (flags & WITH_COUNTER ? 1 : 0) ||
         (function->files.count > 0 && !is_counter(function->files.at[0])))
         return -EINVAL;
     if (flags == (TRIGGER | (count ? WITH_COUNTER : WITH_NONE)))
-        set_counter(function, index == PIN ? &function->pin : &function->bell, take_file(function, 0));
+        set_counter(function, index == PIN ? &function->pin : &function->bell, function->files.at);
     else if (flags == (UNMASK | WITH_COUNTER) && index == PIN && count)
-        set_counter(function, &function->unmask, take_file(function, 0));
+        set_counter(function, &function->unmask, function->files.at);
     else if ((flags == (MASK | WITH_NONE) || flags == (UNMASK | WITH_NONE)) && index == PIN && count)
         function->mask = flags == (MASK | WITH_NONE) ? BY_CLIENT : UNMASKED;
     else
@@ -110,11 +109,12 @@ static int serve_command(struct function *function, uint32_t command, unsigned c
 
 static uint32_t serve(struct function *function) {
     unsigned char *message = function->message;
-    uint32_t command = number_at(message + 2, 2), flags = number_at(message + 8, 4);
-    int result = serve_command(function, command, message + HEADER, number_at(message + 4, 4) - HEADER);
-    uint32_t error = result < 0 ? (uint32_t)-result : 0, size = HEADER + (error ? 0 : (uint32_t)result);
-    put_dwords(message + 4, (uint32_t[]){size, error ? IS_ANSWER | IS_ERROR : IS_ANSWER, error}, 3);
-    return flags & WANTS_NONE ? 0 : size;
+    uint32_t command = number_at(message + 2, 2), size = number_at(message + 4, 4), flags = number_at(message + 8, 4);
+    int result = function->files.has_lost ? -EMFILE : serve_command(function, command, message + HEADER, size - HEADER);
+    uint32_t error = result < 0 ? (uint32_t)-result : 0;
+    const uint32_t words[] = {HEADER + (error ? 0 : (uint32_t)result), IS_ANSWER | (error ? IS_ERROR : 0), error};
+    put_dwords(message + 4, words, 3);
+    return flags & WANTS_NONE ? 0 : words[0];
 }
 
 const struct protocol vfio_user = {length, serve};

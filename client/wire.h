@@ -51,6 +51,9 @@ struct node {
    ENXIO if the node's device is gone. */
 #define NODE_REQUEST _IOWR('N', 0xf0, struct node)
 
+/* The ioctl of the file -1 by which the library waits until keepers have looked at all that was written. */
+#define SETTLE_REQUEST _IO('N', 0xf1)
+
 /* The device numbers of nodes, by their kind. None reaches a device: Linux gives no character device such a major, and
    of block devices with 259 (blkext), those of the machine have the lowest minors. */
 enum { CONTROLLER_MAJOR = 4092, GENERIC_MAJOR = 4093, BLOCK_MAJOR = 259, FIRST_BLOCK = 1 << 19 };
@@ -87,13 +90,6 @@ static inline uint64_t number_at(const unsigned char *at, unsigned bytes) {
 static inline void put_dword(unsigned char *at, uint32_t number) {
     for (unsigned byte = 0; byte < 4; byte++)
         at[byte] = (unsigned char)(number >> 8 * byte);
-}
-
-/* Puts dwords one after the other, and returns their size in bytes. */
-static inline uint32_t put_dwords(unsigned char *at, const uint32_t *numbers, uint32_t count) {
-    for (uint32_t place = 0; place < count; place++)
-        put_dword(at + 4 * place, numbers[place]);
-    return 4 * count;
 }
 
 #endif
