@@ -2,7 +2,6 @@
 sends, or anything else, and keeps a second machine of the library beside the server's, whose registers and memory must
 agree with the server's in each byte."""
 
-import array
 import importlib.util
 import mmap
 import os
@@ -47,8 +46,7 @@ class Client:
         self.number = (self.number + 1) % 2 ** 16
         size = 16 + len(payload) if size is None else size
         header = struct.pack('<HHIII', self.number, command, size, flags, 0)
-        with_files = [(socket.SOL_SOCKET, socket.SCM_RIGHTS, array.array('i', files))] if files else []
-        self.socket.sendmsg([header + payload], with_files)
+        socket.send_fds(self.socket, [header + payload], files)
 
     def receive(self, length):
         data = b''
@@ -150,7 +148,7 @@ class Piece:
     """A piece of a guest's memory."""
 
     def __init__(self, address, length, file=None, offset=0):
-        self.address, self.length = address, length
+        self.address, self.length, self.offset = address, length, offset
         self.file = memory_file(offset + length) if file is None else file
         self.bytes = mmap.mmap(self.file, length, offset=offset)
 
@@ -178,7 +176,7 @@ class Guest(Driver, Client):
 
     def add(self, piece):
         self.pieces.append(piece)
-        assert self.map(piece.address, piece.length, piece.file) == 0
+        assert self.map(piece.address, piece.length, piece.file, piece.offset) == 0
 
     def at(self, address, length):
         """Returns the bytes of the guest's memory at an address, which can be written."""

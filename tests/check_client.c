@@ -101,27 +101,23 @@ static double seconds(void) {
     return (double)now.tv_sec + (double)now.tv_nsec / 1e9;
 }
 
-/* Has the test, which can name the device, send it a signal. */
-static void signal_device(int number) {
+/* Has the test, which can name the processes that serve this one, send the device a signal, or wait until so many calls
+   wait for it (a negative number) or no call is answered (0). */
+static void ask_test(int number) {
     char byte;
     FILE *asks = fopen(getenv("ASKS"), "w");
     must(asks && fprintf(asks, "%d\n", number) > 0 && fclose(asks) == 0, "a signal is asked for");
     int answers = open(getenv("ANSWERS"), O_RDONLY);
-    must(answers >= 0 && read(answers, &byte, 1) == 1, "it was sent");
+    must(answers >= 0 && read(answers, &byte, 1) == 1, "it is done");
     close(answers);
-}
-
-static void pause_for(unsigned milliseconds) {
-    struct timespec moment = {.tv_nsec = 1000000L * milliseconds};
-    nanosleep(&moment, NULL);
 }
 
 /* Requests that come while the device is busy are carried out in this order. Each creates a namespace. */
 static void try_order(void) {
     static const int wanted[] = {2, 4, 0};
     pid_t children[3];
-    signal_device(SIGSTOP);
-    for (unsigned at = 0; at < 3; at++) {
+    ask_test(SIGSTOP);
+    for (int at = 0; at < 3; at++) {
         struct command made = create(18, 18, 0, 0, 0);
         uint64_t result = 0;
         children[at] = fork();
@@ -129,9 +125,9 @@ static void try_order(void) {
             int status = send_command(files[0], &made, &result);
             _exit(status == 0 ? (int)result : 0);
         }
-        pause_for(200);
+        ask_test(-1 - at);
     }
-    signal_device(SIGCONT);
+    ask_test(SIGCONT);
     for (unsigned at = 0; at < 3; at++) {
         int how;
         must(waitpid(children[at], &how, 0) == children[at] && WEXITSTATUS(how) == wanted[at], "request %u has its turn",
@@ -199,19 +195,6 @@ void try_broken(void) {
     is_list(4, (uint32_t[]){1, 2, 3, 4});
 }
 
-/* The last request of a process that was killed may still be executed, so this waits until the list stops changing. */
-static void settle(void) {
-    unsigned char before[PAGE];
-    uint64_t result;
-    for (unsigned tries = 0, same = 0; same < 3 && tries < 200; tries++) {
-        memcpy(before, common, PAGE);
-        struct command list = identify(0x10, 0);
-        must(send_command(files[0], &list, &result) == 0, "the list is answered after a process was killed");
-        same = memcmp(before, common, PAGE) == 0 ? same + 1 : 0;
-        pause_for(5);
-    }
-}
-
 /* A process is killed at any time while it creates and deletes a namespace. The namespace then exists or it doesn't. */
 void try_killed(void) {
     for (unsigned round = 0; round < 40; round++) {
@@ -223,10 +206,11 @@ void try_killed(void) {
             send_command(files[0], &made, &result);
             send_command(files[0], &gone, &result);
         }
-        pause_for(1 + round / 3);
+        nanosleep(&(struct timespec){.tv_nsec = 1000000L * (1 + round / 3)}, NULL);
         kill(child, SIGKILL);
         waitpid(child, NULL, 0);
-        settle();
+        ask_test(0); /* (its last request may still be executed) */
+        done(0, identify(0x10, 0), 0);
         int is_made = number(common, 4, 4) == 2;
         is_list(is_made ? 3 : 2, is_made ? (uint32_t[]){1, 2, 3} : (uint32_t[]){1, 3});
         struct command gone = delete(2);
@@ -350,12 +334,12 @@ void try_gone(void) {
     int how;
     double begun = seconds();
     struct command command = identify(1, 0);
-    signal_device(SIGSTOP);
+    ask_test(SIGSTOP);
     pid_t child = fork();
     if (child == 0)
         _exit(send_command(files[0], &command, &result) != -1 || errno != ENXIO);
-    pause_for(50);
-    signal_device(SIGKILL);
+    ask_test(-1);
+    ask_test(SIGKILL);
     waitpid(child, &how, 0);
     must(how == 0, "an ioctl that waits for its answer tells that the device is gone");
     must(send_command(files[0], &command, &result) == -1 && errno == ENXIO, "so does a later one");
@@ -363,5 +347,5 @@ void try_gone(void) {
     must(stat("/dev/nvme0", &about) == -1 && errno == ENXIO, "and stat");
     must(open("/dev/nvme0n1", O_RDWR) == -1 && errno == ENXIO, "of a namespace too");
     must(ioctl(files[0], NVME_IOCTL_RESET) == -1 && errno == ENXIO, "and a reset");
-    must(seconds() - begun < 5, "none of them waits");
+    must(seconds() - begun < 60, "none of them waits");
 }

@@ -31,6 +31,18 @@ def memory_file(length):
     return file
 
 
+def kept(process):
+    """Returns how many descriptors a process has."""
+    return len(os.listdir(f'/proc/{process}/fd'))
+
+
+def chosen(lot, bits=64):
+    """Returns a number that is likely to be wrong, or to be right."""
+    near = lot.choice((0, 0, 1, 2, 4, 7, CC, AQA, ASQ, ACQ, TAIL, HEAD, PAGE, 2 * PAGE, 64 * PAGE, 1 << 20, 1 << 31,
+                       1 << 63))
+    return lot.choice((near, near, lot.getrandbits(64), lot.getrandbits(12), near + lot.randrange(-8, 9))) % 2 ** bits
+
+
 class Driver:
     """A driver. A class that is one has `at`, which returns the bytes of memory at an address, and `set_register`."""
 

@@ -69,7 +69,10 @@ def compiled_c(made, sources, *options):
 
 @functools.lru_cache(maxsize=None)
 def installed():
-    """Builds the launcher, with the library and the device where it looks for them."""
+    """Builds the launcher, with the library and the device where it looks for them, unless the environment says where
+    they are."""
+    if 'NVME_MODEL_INSTALLED' in os.environ:
+        return pathlib.Path(os.environ['NVME_MODEL_INSTALLED'], 'bin/nvme-model')
     place = process_folder() / 'installed'
     compiled_c(place / 'bin/nvme-model', PARTS['bin/nvme-model'])
     compiled_c(place / 'lib/nvme-model/library.so', PARTS['lib/nvme-model/library.so'], '-shared', '-fPIC', '-ldl')
@@ -104,10 +107,10 @@ def processes_of_models():
 DEVICES, KEEPERS, HELPERS, LAUNCHER = range(4)
 
 
-def parts(devices=1):
-    """Returns the processes that serve the command of the model that runs: lists of its devices, of their keepers, of
-    the helpers, and the launcher. The command can't name them."""
-    found = {b'launcher': [], b'device': []}
+def named():
+    """Returns the processes that serve the command of the model that runs, by their names, each in the order in which
+    they began."""
+    found = {b'launcher': [], b'device': [], b'prober': [], b'greeter': []}
     for number in left_running():
         # (a process may end meanwhile)
         with contextlib.suppress(FileNotFoundError, ProcessLookupError):
@@ -115,16 +118,40 @@ def parts(devices=1):
             name, inside = (re.search(rb'(?m)^%s:\t(.*)$' % word, status).group(1) for word in (b'Name', b'NSpid'))
             if name in found and len(inside.split()) == 2:
                 found[name].append((int(inside.split()[1]), number))
-    launcher, *others = (number for _, number in sorted(found[b'launcher']))
-    return [number for _, number in sorted(found[b'device'])], others[:devices], others[devices:], [launcher]
+    return {name: [number for _, number in sorted(numbers)] for name, numbers in found.items()}
+
+
+def parts(devices=1):
+    """Returns the processes that serve the command of the model that runs: lists of its devices, of their keepers, of
+    the helpers, and the launcher. The command can't name them."""
+    # (two others have the launcher's name before they take their own)
+    found = {}
+    assert until(lambda: found.update(named()) or found[b'prober'] and found[b'greeter']), 'no model serves a command'
+    launcher, *others = found[b'launcher']
+    return found[b'device'], others[:devices], others[devices:], [launcher]
 
 
 def signals(part, number, devices=1):
     """Returns a call that sends a signal to these parts."""
     def send():
-        for process in parts(devices)[part]:
+        found = parts(devices)[part]
+        assert found, 'there is no such process'
+        for process in found:
             os.kill(process, number)
     return send
+
+
+# What a helper does, by the number and the words of its call: it waits for a keeper (futex), delays a command
+# (clock_nanosleep) or waits for a call (ioctl).
+ASKING, DELAYING, RECEIVING = b'202 ', b'230 ', rb'16 \w+ 0xc0502100 '
+
+
+def do_helpers(what, least=None):
+    """Waits until so many helpers do this, or all, and returns whether they do."""
+    def are_at_it():
+        calls = [pathlib.Path(f'/proc/{number}/syscall').read_bytes() for number in parts()[HELPERS]]
+        return sum(bool(re.match(what, call)) for call in calls) >= (least or len(calls))
+    return until(are_at_it)
 
 
 class ModelCase(Case):
@@ -165,9 +192,11 @@ class ModelCase(Case):
         running = Running(*user, *self.command('sh', '-c', script, 'sh', *words, options=options))
         self.addCleanup(running.process.kill)
         for count, step in enumerate(steps, 1):
-            self.assertTrue(until(lambda: running.hear(0) is None or running.heard.count(b'step\n') == count, 60))
+            self.assertTrue(until(lambda: running.hear(0) is None or running.heard.count(b'step\n') == count))
             step()
-            running.say(b'\n')
+            # (nobody reads if the step ended the command)
+            with contextlib.suppress(BrokenPipeError):
+                running.say(b'\n')
         return running
 
     def python(self, script, options=(), **more):

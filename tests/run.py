@@ -1,8 +1,10 @@
 """Runs the test modules side by side, each as a process: `python3 -m tests.run`, or with `--quick` those that need no
-proof. Those that took longest in the last run begin first. The output of a failed one is shown in full. The last line
-is `N passed, N failed, N skipped`, where each row of a table counts, and the status is 1 if anything failed. Without
-`--quick`, a test that was skipped has failed, unless the reason is one of ALLOWED."""
+proof. Each test of PARTED is a process of its own. Those that took longest in the last run begin first, or else those
+of LONGEST. The output of a failed one is shown in full. The last line is `N passed, N failed, N skipped`, where each
+row of a table counts, and the status is 1 if anything failed. Without `--quick`, a test that was skipped has failed,
+unless the reason is one of ALLOWED."""
 
+import ast
 import json
 import math
 import os
@@ -17,6 +19,9 @@ import unittest
 from tests.support import IS_UNPROVED, TOP, environment, process_folder
 
 SUMS = '{} passed, {} failed, {} skipped'
+# The modules whose tests are processes of their own, and these with the others that take longest.
+PARTED = 'test_machine', 'test_waiting', 'test_wrapper'
+LONGEST = *PARTED, 'test_dist', 'test_model', 'test_qemu', 'test_unready'
 # What a reason to skip a test may begin with, each with what allows it.
 ALLOWED = {
     **dict.fromkeys(('root alone', 'true device nodes can be made by root alone', '/dev/kmsg can not be read'),
@@ -92,14 +97,23 @@ class Part:
         return counts
 
 
-def run_all(names, times):
-    """Runs modules, as many at once as there are processors, and returns the sums of their counts. A file has the
-    seconds that each took in the last run, and then has those of this run."""
+def names_of(path):
+    """Returns the names of what runs as a process: a module, or each of its tests."""
+    if path.stem not in PARTED:
+        return [path.stem]
+    return [f'{path.stem}.{case.name}.{test.name}' for case in ast.parse(path.read_text()).body
+            if isinstance(case, ast.ClassDef) for test in case.body if getattr(test, 'name', '').startswith('test_')]
+
+
+def run_all(names, times, most):
+    """Runs modules, at most so many at once, and returns the sums of their counts. A file has the seconds that each took
+    in the last run, and then has those of this run."""
     seconds = json.loads(times.read_text()) if times.exists() else {}
-    waiting, running, sums = sorted(names, key=lambda name: -seconds.get(name, math.inf)), [], [0, 0, 0]
+    waiting = sorted(names, key=lambda name: (-seconds.get(name, math.inf), name.partition('.')[0] not in LONGEST))
+    running, sums = [], [0, 0, 0]
     try:
         while waiting or running:
-            while waiting and len(running) < len(os.sched_getaffinity(0)):
+            while waiting and len(running) < most:
                 running.append(Part(waiting.pop(0)))
             time.sleep(0.1)
             for part in [part for part in running if part.process.poll() is not None]:
@@ -126,18 +140,26 @@ def unbuilt():
 def main(arguments):
     if arguments[:1] == ['--one']:
         return run_one(arguments[1])
-    names = [path.stem for path in sorted((TOP / 'tests').glob('test_*.py'))]
+    paths = sorted((TOP / 'tests').glob('test_*.py'))
+    names = [name for path in paths for name in names_of(path)]
     os.environ['UNPROVED'] = '1' if arguments else '0'
     if arguments == ['--quick']:
         from tests import unproved
         of_sources = ['test_program', 'test_unready', 'test_documents', 'test_gate']
-        print('not run: proofs, wrong bodies,', ', '.join(name for name in names if name not in of_sources))
+        print('not run: proofs, wrong bodies,', ', '.join(path.stem for path in paths if path.stem not in of_sources))
         names = [*unproved.names(), *of_sources]
     elif arguments:
         sys.exit('usage: python3 -m tests.run [--quick]')
     elif missing := unbuilt():
         sys.exit('\n'.join(['the tests need all that is built, and', *missing]))
-    sums = run_all(names, TOP / 'out' / ('seconds.quick' if arguments else 'seconds'))
+    else:
+        from tests import modelled
+        # (the launcher is compiled once for all)
+        os.environ['NVME_MODEL_INSTALLED'] = str(modelled.installed().parents[1])
+    processors = len(os.sched_getaffinity(0))
+    # (without proofs, no test waits)
+    sums = (run_all(names, TOP / 'out/seconds.quick', processors) if arguments else
+            run_all(names, TOP / 'out/seconds', 3 * processors // 2))
     print('unproved: ' * len(arguments) + SUMS.format(*sums))
     sys.exit(1 if sums[1] or not sums[0] else 0)
 

@@ -7,6 +7,7 @@ import re
 import signal
 
 from tests.as_client import Client, Guest, machine_of
+from tests.driver import kept
 from tests.support import Case, Running, library, until
 from tests.test_qemu import SANITIZERS, program
 
@@ -61,7 +62,7 @@ class Served(Case):
 
     def kept(self):
         """Returns how many descriptors the server has."""
-        return len(os.listdir(f'/proc/{self.server.process.pid}/fd'))
+        return kept(self.server.process.pid)
 
     def spent(self):
         """Returns how many seconds of a processor the server has had. (This doesn't depend on the machine's load.)"""

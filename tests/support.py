@@ -28,6 +28,17 @@ DEMO = TOP / 'examples/demo.toml'
 # Whether the sources are to be run by `rt try`, instead of the proved programs.
 IS_UNPROVED = os.environ.get('UNPROVED') == '1'
 MARK = f'NVME_TESTS_{secrets.token_hex(8)}'
+IS_ROOT = os.geteuid() == 0
+# What runs a command as a user without rights, and, for each user that commands are tried as, what runs them.
+NOBODY = 'setpriv', '--reuid=65534', '--regid=65534', '--clear-groups'
+USERS = [(), NOBODY] if IS_ROOT else [()]
+# How many seconds the tests wait for anything: a busy machine takes long, and only a failure takes so long.
+LIMIT = 300
+# (other users read what the tests make, and programs write the messages that the tests know)
+os.umask(0o022)
+for name in [name for name in os.environ if name.startswith('LC_') or name == 'LANGUAGE']:
+    del os.environ[name]
+os.environ['LANG'] = 'C.UTF-8'
 
 
 def interrupt(number, frame):
@@ -87,13 +98,24 @@ def copy_sources(folder):
             shutil.copytree(path, folder / path.relative_to(TOP))
 
 
-def until(condition, limit=300):
+def large_file(cntlids, attached):
+    """Returns a subsystem file with controllers of these identifiers, whose serial numbers are S0, S1 and so on, and 1,024
+    namespaces of a block of 512 bytes, which are attached to some of the controllers."""
+    controllers = ''.join(f'[[controller]]\ncntlid = {cntlid}\nsn = "S{place}"\nmn = "M"\nfr = "1"\n'
+                          for place, cntlid in enumerate(cntlids))
+    each = f'bytes = 512\nformat = 0\nshared = {str(len(attached) > 1).lower()}\ncontrollers = {[*attached]}\n'
+    return ('version = 1\nnn = 1024\ntnvmcap = 524288\nsubnqn = "nqn.2014-08.org.example:many"\n[[format]]\nlbads = 9\n' +
+            controllers + ''.join(f'[[namespace]]\nnsid = {nsid}\n{each}' for nsid in range(1, 1025)))
+
+
+def until(condition, limit=LIMIT):
     """Returns whether the condition becomes true within this number of seconds."""
-    end = time.monotonic() + limit
+    end, pause = time.monotonic() + limit, 0.005
     while not condition():
         if time.monotonic() > end:
             return False
-        time.sleep(0.05)
+        time.sleep(pause)
+        pause = min(2 * pause, 0.1)
     return True
 
 
@@ -164,6 +186,17 @@ def opened(files, path, mode):
     return number
 
 
+def status_of(process, limit=LIMIT):
+    """Returns the status of a process as soon as it has ended. (Popen.wait, with a limit, looks now and then.)"""
+    number = os.pidfd_open(process.pid)
+    try:
+        has_ended = select.select([number], [], [], limit)[0]
+    finally:
+        os.close(number)
+    # (the status of a process that is traced comes when its tracer has seen the end)
+    return process.wait(limit if has_ended else 0)
+
+
 def run(*command, source=b'', out=None, err=None, env=(), cwd=TOP, limit=600):
     """Runs a command to its end. Its input is `source`, which is bytes or the path of a file. Its output and its
     messages are returned, or go to the files `out` and `err`; with `err='&1'` both are returned in order as output.
@@ -179,7 +212,7 @@ def run(*command, source=b'', out=None, err=None, env=(), cwd=TOP, limit=600):
         stderr = stdout if err == '&1' else opened(files, err, os.O_WRONLY | os.O_CREAT | os.O_TRUNC)
         process = subprocess.Popen(command, stdin=stdin, stdout=stdout, stderr=stderr, cwd=cwd, env=environment(env))
         try:
-            status = process.wait(limit)
+            status = status_of(process, limit)
         except subprocess.TimeoutExpired:
             raise AssertionError(f'{line}\ndid not end within {limit} seconds') from None
         finally:
@@ -187,6 +220,11 @@ def run(*command, source=b'', out=None, err=None, env=(), cwd=TOP, limit=600):
         kept = [b'' if path else os.pread(number, os.fstat(number).st_size, 0)
                 for path, number in ((out, stdout), (err, stderr))]
     return Ended(line, status, *kept)
+
+
+def run_unproved(crate, *options, source=b''):
+    """Runs the unproved sources of a crate by `rt try`. The limits are long, because the machine may be busy."""
+    return run('rt', 'try', '--steps', '1', '--seconds', '3600', *options, source=source, cwd=crate, limit=7200)
 
 
 class Running:
@@ -223,11 +261,11 @@ class Running:
         self.heard += piece.replace(b'\r', b'')
         return piece != b''
 
-    def comes(self, text, limit=300):
+    def comes(self, text, limit=LIMIT):
         """Waits until what was read ends with this text."""
         self.waits(lambda: self.heard.endswith(text), text, limit)
 
-    def has(self, text, limit=300):
+    def has(self, text, limit=LIMIT):
         """Waits until what was read has this text in it."""
         self.waits(lambda: text in self.heard, text, limit)
 
@@ -237,13 +275,13 @@ class Running:
             if not self.hear(end - time.monotonic()):
                 raise AssertionError(f'{self.line}\n{text} did not come, only {self.heard[-2000:]}')
 
-    def end(self, limit=300):
+    def end(self, limit=LIMIT):
         """Ends the command's input, and returns how the command ended, with everything that was read as its output."""
         if self.is_on_terminal:
             self.say(b'\x04')
         else:
             os.close(self.speaks)
-        status = self.process.wait(limit)
+        status = status_of(self.process, limit)
         while self.hear(0):
             pass
         return Ended(self.line, status, self.heard)
@@ -270,7 +308,7 @@ class Case(unittest.TestCase):
         self.addCleanup(self.leaves_no_process)
 
     def leaves_no_process(self):
-        if not until(lambda: not left_running(), 10):
+        if not until(lambda: not left_running(), 60):
             numbers = left_running()
             end_all()
             self.fail(f'these processes were left running: {numbers}')

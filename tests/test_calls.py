@@ -9,14 +9,22 @@ import unittest
 
 from tests.modelled import (PARTS, PROGRAMS, WARNINGS, ModelCase, compiled_c, installed, process_folder, static_program,
                             works)
-from tests.support import environment, run, until
+from tests.support import IS_ROOT, LIMIT, NOBODY, USERS, environment, run, until
 
-IS_ROOT = os.geteuid() == 0
-NOBODY = 'setpriv', '--reuid=65534', '--regid=65534', '--clear-groups'
-USERS = [(), NOBODY] if IS_ROOT else [()]
 # Fills a node of 4,608 bytes, and tells whether it is still as long and has the same bytes.
 FILL = 'yes | head -c 4608 > /dev/nvme0n3; '
 LOOK = 'echo $(wc -c < /dev/nvme0n3) $(yes | head -c 4608 | cmp - /dev/nvme0n3 && echo same)\n'
+
+# What the calls of programs/decided_calls.c give, in their order. Nodes aren't truncated, other calls on them and on
+# files of /sys give what Linux gives, and names that are kept can't be made or removed.
+DECIDED = ((0, 'open, openat, openat2, creat, open of an own file'), (-13, 'open of /sys, open of /sys to cut'),
+           (-22, 'truncate, truncate64'), (-13, 'truncate of /sys'), (-22, 'ftruncate, ftruncate64'), (-19, 'fallocate'),
+           (-22, 'sendfile, sendfile64, splice, copy_file_range'), (1, 'write to /sys'),
+           ('names', 'unlink, unlinkat, rmdir, rename, renameat, renameat2, mkdir, mkdirat, mknod, mknodat, link, linkat, '
+            'symlink, symlinkat'), (-22, 'pidfd_send_signal'), (-1, 'pidfd_getfd'),
+           (-38, 'io_uring_setup, io_uring_enter, io_uring_register, clone3, add_key, request_key, keyctl'),
+           (-1, 'ioctl of typing, ioctl of a console'), (3, 'ioctl of a controller'),
+           (0, 'ioctl of a block device, ioctl of a geometry'), ('groups', 'unshare'))
 
 
 @unittest.skipUnless(shutil.which('setpriv'), 'setpriv is not installed')
@@ -29,8 +37,7 @@ class CallCase(ModelCase):
         """Runs a shell script over the demonstration file as each user, and as another user inside of root's sandbox.
         Returns how each run ended."""
         ways = [(user, ()) for user in USERS] + [((), NOBODY)] * IS_ROOT
-        return [run(*user, *self.command(*inside, 'sh', '-c', script, 'sh', *words), limit=120)
-                for user, inside in ways]
+        return [run(*user, *self.command(*inside, 'sh', '-c', script, 'sh', *words)) for user, inside in ways]
 
     def program(self, name):
         """Returns a program of tests/programs in a place that every user can read."""
@@ -84,21 +91,28 @@ class Paths(CallCase):
             command = self.command('sh', '-c', script, 'sh', self.program('openat2.py'), place)
             self.ends(run(*user, *command), 0, b'211 0 4608\n4608 same\n', b'')
 
-    def test_old_programs(self):
-        # (-1 is the ioctl by which a terminal would get a character)
-        wanted = '0 0 0 0 0 -22 -22 -22 -22 -19 -13 -13 -13 -1 \n4608 same\n0\n'
+    def test_decided_calls(self):
+        # each call gives the same by the numbers of programs of 64 and of 32 bits
         for bits in '32', '64':
-            made = process_folder() / f'old{bits}'
-            ended = run('gcc', f'-m{bits}', *WARNINGS, '-nostdlib', '-static', '-fno-pic', '-no-pie',
-                        '-fno-stack-protector', '-o', made, PROGRAMS / 'old_calls.c')
+            made = process_folder() / f'calls{bits}'
+            ended = run('gcc', f'-m{bits}', *WARNINGS, '-nostdlib', '-static', '-fno-pic', '-no-pie', '-mno-red-zone',
+                        '-fno-stack-protector', '-o', made, PROGRAMS / 'decided_calls.c')
             # (outside, it would change a node of this machine)
             if ended.status != 0 or run(*self.command(made)).status in (126, 139):
                 self.skipTest(f'programs of {bits} bits can make no call of 32 bits here')
-            script = FILL + '"$1" < /dev/nvme0n3; echo; ' + LOOK + 'cat /sys/block/nvme0n1/ro'
+            script = FILL + '"$1" < /dev/nvme0n3; ' + LOOK + 'cat /sys/block/nvme0n1/ro'
             for user in USERS:
                 with self.subTest(bits=bits, user=user):
                     ended = run(*user, *self.command('sh', '-c', script, 'sh', made))
-                    self.ends(ended, 0, wanted.encode(), b'')
+                    refusal = -1 if IS_ROOT and not user else -13
+                    results = {'names': refusal, 'groups': -1 if refusal == -1 else 0}
+                    wanted = ''.join(f'{name} {results.get(result, result)}\n' for result, names in DECIDED
+                                     for name in names.split(', '))
+                    self.ends(ended, 0, (wanted * (1 + (bits == '64')) + '4608 same\n0\n').encode(), b'')
+
+    def test_x32(self):
+        for ended in self.as_users('exec "$1"', static_program('of_x32')):
+            self.ends(ended, 0, b'refused\n', b'')
 
     def test_files_of_sys(self):
         # nobody makes folders there, in which numbers could be found that no controller has
@@ -130,11 +144,11 @@ class Identities(CallCase):
                     process = subprocess.Popen(command, stdout=subprocess.PIPE, stderr=subprocess.PIPE,
                                                env=environment())
                     number, own = pathlib.Path(f'/proc/{process.pid}'), os.readlink('/proc/self/ns/user')
-                    self.assertTrue(until(lambda: os.readlink(number / 'ns/user') != own, 60))
+                    self.assertTrue(until(lambda: os.readlink(number / 'ns/user') != own))
                     (number / 'uid_map').write_text('0 0 2000\n')
                     (number / 'gid_map').write_text('0 0 1\n7 7 1\n')
                     go.write_bytes(b'')
-                    out, err = process.communicate(timeout=60)
+                    out, err = process.communicate(timeout=LIMIT)
                     go.unlink()
                     self.assertEqual((process.returncode, out), (0, b'2\nPermission denied\nend\n'), err)
 
@@ -243,25 +257,31 @@ class Rights(CallCase):
 class Groups(CallCase):
     def test_signals_to_the_group(self):
         # they reach the processes inside, but no process of the caller's group outside
-        for number, trap in ('USR1', 'USR1'), ('0', 'USR1'), ('HUP', 'HUP'):
-            inside = (f'trap "echo inside" {trap}; sh -c \'trap "echo child" {trap}; sleep 2; :\' & sleep 1; '
-                      f'kill -{number} 0; wait; sleep 1; echo end')
+        old = static_program('old', '-O1')
+        ways = [('USR1', 'kill -USR1 0'), ('USR1', 'kill -0 0'), ('HUP', 'kill -HUP 0')]
+        if run(old, '20').status == 0:
+            ways.append(('USR1', f'({old} 37 0 10) > /dev/null 2>&1'))  # (which gets the signal too)
+        for trap, way in ways:
+            child = f'trap "echo child; exit" {trap}; : > "$1"; while :; do sleep 0.1; done'
+            inside = (f'trap "echo inside" {trap}; sh -c \'{child}\' sh "$1" & until test -e "$1"; do sleep 0.1; done; '
+                      f'{way}; {"kill -KILL $!; " * (way == "kill -0 0")}wait; wait; echo end')
             # (a shell can't trap a signal that nohup lets it ignore)
-            begin = 'env', '--default-signal=HUP', 'setsid', '-w', 'sh', '-c'
-            outside = f'trap "echo outside" USR1 HUP TERM; "$@"; sleep 0.2'
+            begin = 'env', '--default-signal=HUP', 'setsid', '-w', 'sh', '-c', 'trap "echo outside" USR1 HUP TERM; "$@"; :'
             for user in USERS:
-                with self.subTest(number, user=user):
-                    ended = run(*begin, outside, 'sh', *user, *self.command('sh', '-c', inside))
-                    wanted = b'end\n' if number == '0' else b'child\nend\ninside\n'
+                with self.subTest(way, user=user):
+                    ready = self.folder / 'ready'
+                    ready.unlink(missing_ok=True)
+                    ended = run(*begin, 'sh', *user, *self.command('sh', '-c', inside, 'sh', ready))
+                    wanted = b'end\n' if way == 'kill -0 0' else b'child\nend\ninside\n'
                     self.assertEqual((ended.status, sorted(ended.out.split())), (0, sorted(wanted.split())), ended)
 
     def test_ends_with_the_group(self):
         outside = 'trap "echo outside" TERM KILL; "$@"; echo $?'
         for signal, status in ('TERM', b'143\n'), ('KILL', b'137\n'):
             for user in USERS:
-                inside = f'sleep 100 & kill -{signal} 0; sleep 100'
+                inside = f'sleep 1000 & kill -{signal} 0; sleep 1000'
                 command = self.command('sh', '-c', inside)
-                ended = run('setsid', '-w', 'sh', '-c', outside, 'sh', *user, *command, limit=60)
+                ended = run('setsid', '-w', 'sh', '-c', outside, 'sh', *user, *command)
                 self.ends(ended, 0, status)
 
     def test_other_ways(self):
@@ -298,7 +318,7 @@ class Random(CallCase):
             (self.folder / f'place{seed}').mkdir()
             (self.folder / f'place{seed}').chmod(0o777)
             program = static_program('random_calls'), str(seed), self.folder / f'place{seed}'
-            by = user if user or os.geteuid() != 0 else within
+            by = user if user or not IS_ROOT else within
             ended = run(*by, launcher, '--subsystem', self.subsystem, 'sh', '-c', script, 'sh', *program,
                         env={'ASAN_OPTIONS': 'verify_asan_link_order=0:detect_leaks=0'})
             self.ends(ended, 0, b'end\n0\n', b'')
@@ -306,7 +326,7 @@ class Random(CallCase):
 
 class Times(CallCase):
     def test_times(self):
-        # (a few microseconds, unless the machine has much else to do; this finds what takes a hundred times as long)
+        # (a few microseconds; this finds what takes a hundred times as long)
         for ended in self.as_users('"$1" "$2/$$-$(id -u)"', static_program('times'), self.folder):
             self.ends(ended, 0, err=b'')
             self.assertLess(max(map(float, ended.out.split()[1::2])), 1000, ended)

@@ -15,7 +15,7 @@ import unittest
 
 from tests.modelled import VERSION, installed, why_no_sandbox
 from tests.pages import Page
-from tests.support import DEMO, TOP, Case, library, process_folder, run
+from tests.support import DEMO, IS_ROOT, NOBODY, TOP, Case, library, process_folder, run
 from tests.test_installed import LOOK
 
 DIST = TOP / 'tools/dist'
@@ -93,7 +93,7 @@ def roots():
 
 def as_another(*command):
     """Returns the words that run a command as a user who owns nothing, if this one may become another."""
-    return (['setpriv', '--reuid=65534', '--regid=65534', '--clear-groups'] if os.geteuid() == 0 else []) + [*command]
+    return [*(NOBODY if IS_ROOT else ()), *command]
 
 
 def sha256(path):
@@ -243,7 +243,7 @@ class Archive(Packages):
                   f'install: nothing was installed in {self.folder}\n'.encode())
         for words in ['-x'], ['a', 'b'], ['']:
             self.ends(run(self.place / 'install', *words), 2, b'', b'usage: install [--remove] [PREFIX]\n')
-        if os.geteuid() == 0:
+        if IS_ROOT:
             self.folder.chmod(0o755)
             self.assertNotEqual(run(*as_another(self.place / 'install', self.folder)).status, 0)
 

@@ -114,9 +114,12 @@ class Pages(Case):
         self.assertEqual((said.stdout, said.returncode), ('', 0), said.stderr)
 
     def test_no_folder_of_a_machine(self):
+        # a page names only folders that every machine has
         for page in ALL:
             with self.subTest(page.name):
-                self.assertNotRegex(page.text, r'/(work|opt|farm)/|[Pp]aper 0[1-4]')
+                folders = set(re.findall(r'(?<![\w.~$})\]>/"*-])/([A-Za-z_]\w*)/', page.text))
+                self.assertEqual(folders - {'boot', 'dev', 'etc', 'proc', 'run', 'sys', 'tmp', 'usr'}, set())
+                self.assertNotRegex(page.text, r'\b[Pp]apers?\b')
 
 
 class Examples(Case):
@@ -219,9 +222,17 @@ class Copies(Case):
         self.assertIn(f'\n## {version}, ', text_of('CHANGELOG.md'))
         if shutil.which('rt') is None:
             self.skipTest('there is no toolchain')
-        toolchain = run('rt', 'version').out.decode().split()[0]
-        self.assertIn(f'`{toolchain}`', readme)
-        self.assertIn(f'`{toolchain}`', text_of('docs/dev/PROOFS.md'))
+        toolchain = run('rt', 'version').out.decode()
+        for name in 'README.md', 'docs/dev/PROOFS.md':
+            beginning, = re.findall(r'begins\s+with `(rattle-kit-[0-9]+)`', text_of(name))
+            self.assertRegex(toolchain, rf'^{beginning}(?![0-9])', name)
+
+    def test_libraries_of_proofs(self):
+        """PROOFS names each library of the toolchain that a crate uses, besides the standard library's parts."""
+        used = set(re.sub(r'(?m)^.*?:', '', text_of('crates.txt')).split()) - {'core', 'std_alloc', 'std_heap'}
+        ports = {name for name in used if not (TOP / 'crates' / name).exists()}
+        named, = re.findall(r'ports\s+of\s(.*?);', text_of('docs/dev/PROOFS.md'), re.S)
+        self.assertEqual(set(re.findall(r'`(\w+)`', named)), ports)
 
     def test_packages(self):
         """README's line of packages begins with those of `.ci/run --quick`, and the gate needs all of them."""

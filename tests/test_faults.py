@@ -29,7 +29,6 @@ class Script(Faulty):
     def test_full_device(self):
         # after any end other than a status, a flush that fails is not reported
         self.ends(self.faulty(self.line, '/dev/full', FAIL_READ=2), 4, err=b'nvme-script: read fault\n')
-        self.ends(self.faulty(self.line, '/dev/full'), 5, err=b'nvme-script: write fault\n')
 
     def test_folder_as_the_script(self):
         ended = run(program(self.crate), source=self.folder, out='/dev/full')

@@ -1,12 +1,14 @@
 """Runs .ci/run on machines that lack programs, in a copy of its files: it names everything that is missing, and installs
 it only in CI. A stand-in for apt-get stores what it was told."""
 
+import ast
 import glob
-import os
+import importlib.machinery
+import importlib.util
 import re
 import shutil
 
-from tests.support import TOP, Case, run
+from tests.support import IS_ROOT, TOP, Case, run
 
 QUICK = b"missing: apt install python3 gcc\nmissing: the Rattle toolchain's command rt\n"
 
@@ -40,7 +42,7 @@ class Gate(Case):
         self.ends(self.gate('--bogus'), 2, b'', b'usage: .ci/run [--quick]\n')
 
     def test_what_is_installed(self):
-        other = (shutil.which('setpriv'), '--reuid=65534', '--clear-groups') if os.geteuid() == 0 else ()
+        other = (shutil.which('setpriv'), '--reuid=65534', '--clear-groups') if IS_ROOT else ()
         self.folder.chmod(0o777)
         for words, ci, user in (((), '', ()), ((), 'false', ()), ((), '1', ()), (('--quick',), 'true', ()),
                                 ((), 'true', other)):
@@ -52,3 +54,24 @@ class Gate(Case):
             self.ends(ended, 1, b'')
             packages = re.search('(?m)^missing: apt install (.*)$', ended.err.decode())[1]
             self.assertEqual(self.told(), f'update\ninstall -y --no-install-recommends {packages}\n', ended)
+
+
+class Names(Case):
+    def test_no_test_hides_another(self):
+        # (of two classes or tests with one name, Python keeps the last)
+        for path in (TOP / 'tests').glob('*.py'):
+            module = ast.parse(path.read_text())
+            for scope in [module, *(node for node in module.body if isinstance(node, ast.ClassDef))]:
+                names = [node.name for node in scope.body if isinstance(node, (ast.ClassDef, ast.FunctionDef))]
+                self.assertEqual(sorted(names), sorted(set(names)), path.name)
+
+
+class Mutants(Case):
+    def test_each_edit_can_be_made(self):
+        loader = importlib.machinery.SourceFileLoader('mutants', str(TOP / 'tools/mutants'))
+        mutants = importlib.util.module_from_spec(importlib.util.spec_from_loader('mutants', loader))
+        loader.exec_module(mutants)
+        edits = [*mutants.edits()]
+        self.assertGreater(len(edits), 100)
+        for edit in edits:
+            self.assertEqual(mutants.why_not(edit, TOP / edit.file), '', edit)

@@ -6,8 +6,7 @@ import sys
 import unittest
 
 from tests.modelled import ModelCase, static_program
-from tests.support import TOP, run
-from tests.test_machine import IS_ROOT, NOBODY
+from tests.support import IS_ROOT, NOBODY, TOP, run
 
 JOBS = TOP / 'tests/linux/calls'
 

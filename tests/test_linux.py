@@ -7,14 +7,12 @@ import os
 import shutil
 import unittest
 
-from tests.modelled import ModelCase, is_there
-from tests.support import TOP, run
+from tests.modelled import ModelCase
+from tests.support import IS_ROOT, NOBODY, TOP, run
 
 JOBS = sorted((TOP / 'tests/linux').glob('*.sh'))
 TOLD = ' '.join((TOP / 'docs/NVME-MODEL.md').read_text().split() +
                 (TOP / 'tests/linux/demo.toml').read_text().replace('\n# ', ' ').split())
-IS_ROOT = os.geteuid() == 0
-NOBODY = 'setpriv', '--reuid=65534', '--regid=65534', '--clear-groups'
 
 # Tries to do something, and prints the last words of its message, and its status.
 TRY = 't() { m=$("$@" 2>&1); s=$?; echo "$(echo "$m" | sed -n "1s/.*: //p")" $s; }\nw() { t bash -c "echo $1 > $2"; }\n'
@@ -82,6 +80,12 @@ class Names(UserCase):
             wanted = denied + 14 * (permitted if is_root else denied) + 2 * denied + rest
             self.ends(ended, 0, wanted.encode(), b'')
 
+    def test_nobody_changes_what_describes(self):
+        script = ('cd /sys/class/nvme/nvme0; for c in "chmod 777 model" "chown 1:1 model" "touch -hd 2001-01-01 model" '
+                  '"chmod 777 /sys/class/nvme"; do t $c; done')
+        for ended in self.as_users(script):
+            self.ends(ended, 0, b'Read-only file system 1\n' * 4, b'')
+
     def test_links_in_dev(self):
         self.ends(self.shell('ln -s nvme0n1 /dev/mine; mkdir /dev/group; ln -s ../nvme0 /dev/group/one; mv /dev/mine /dev/own; '
                              'touch /dev/nvme7; ls /dev/nvme7; test -b /dev/own; echo $?; rm -r /dev/own /dev/group /dev/nvme7; '
@@ -104,10 +108,41 @@ class Written(UserCase):
     def test_settings(self):
         script = ('cd /sys/block/nvme0n1/queue; for s in mq-deadline none; do echo $s > scheduler; cat scheduler; done; '
                   'echo 65 > read_ahead_kb; cat read_ahead_kb; cat ../../nvme0n3/queue/read_ahead_kb; printf 8 >> read_ahead_kb; '
-                  'cat read_ahead_kb; echo mq-deadline | tee scheduler; cat scheduler; nvme format /dev/nvme0n1 -l 1 -f > /dev/null; '
-                  'cat logical_block_size')
+                  'cat read_ahead_kb; echo 2 > nomerges; echo mq-deadline | tee scheduler; cat scheduler; nvme format /dev/nvme0n1 -l 1 -f > /dev/null; '
+                  'cat logical_block_size read_ahead_kb nomerges')
         self.ends(self.shell(script), 0, b'[mq-deadline] none\n[none] mq-deadline \n64\n128\n8\nmq-deadline\n[mq-deadline] none\n'
-                  b'4096\n', b'')
+                  b'4096\n128\n2\n', b'')
+
+    def test_settings_without_multipath(self):
+        # (what these take on Linux with nvme_core.multipath=N, which tests/linux doesn't start)
+        script = ('cd /sys/block/nvme0n1/queue; t() { for w in "$@"; do (echo "$w" > $n) 2> /dev/null; echo "$? $(cat $n)"; done; }; '
+                  'n=scheduler; t foo " none" mq-deadline none; n=nr_requests; t 1 +8 010 1023 1024 0x10 ""; '
+                  'n=io_poll_delay; t -1 5 -2; n=io_timeout; t 0 1000 4294967296')
+        self.ends(self.shell(script), 0, b'1 [none] mq-deadline \n1 [none] mq-deadline \n0 [mq-deadline] none\n0 [none] mq-deadline \n'
+                  b'0 4\n0 8\n0 10\n0 1023\n1 1023\n1 1023\n1 1023\n0 -1\n0 5\n1 5\n1 30000\n0 1000\n1 1000\n', b'')
+
+    def test_settings_are_of_one_device(self):
+        # (files of two namespaces may be one file until one is set; what comes later has the usual text)
+        script = ('cd /sys/block; echo 2 > nvme0n1/queue/nomerges; nvme create-ns /dev/nvme0 -s 8 -c 8 -f 0 > /dev/null; '
+                  'nvme attach-ns /dev/nvme0 -n 2 -c 0 > /dev/null; cat nvme0n[123]/queue/nomerges; { echo 1; echo 0; } > nvme0n1/queue/nomerges; '
+                  'cat nvme0n1/queue/nomerges; exec 3> nvme0n1/queue/nomerges; nvme detach-ns /dev/nvme0 -n 1 -c 0 > /dev/null; echo 1 >&3; '
+                  'nvme attach-ns /dev/nvme0 -n 1 -c 0 > /dev/null; cat nvme0n1/queue/nomerges; '
+                  'for c in 0 1; do echo on > /sys/class/nvme/nvme$c/power/control; cat /sys/class/nvme/nvme[01]/power/control; done')
+        self.ends(self.shell(script), 0, b'2\n0\n0\n0\n0\non\nauto\non\non\n', b'sh: 1: echo: echo: I/O error\n')
+
+    def test_settings_that_matter(self):
+        self.needs('blkdiscard')
+        script = ('cd /sys/block/nvme0n1/queue; echo 16 > max_sectors_kb; echo 1 > rotational; echo 0 > discard_max_bytes; '
+                  'blockdev --getmaxsect /dev/nvme0n1; lsblk -dno ROTA,DISC-MAX /dev/nvme0n1; blkdiscard /dev/nvme0n1; '
+                  'blockdev --setra 100 /dev/nvme0n1; cat read_ahead_kb; cd /sys/bus/pci; a=0001:00:00.0; '
+                  'echo vfio-pci > devices/$a/driver_override; echo $a > drivers/nvme/unbind; echo $a > drivers_probe; '
+                  'ls -d devices/$a/driver; echo $a > drivers/nvme/bind; echo > devices/$a/driver_override; echo $a > drivers_probe; '
+                  'ls -d devices/$a/driver; echo $a > drivers_probe')
+        ended = self.shell(script)
+        self.ends(ended, 0, b'32\n   1       0B\n48\ndevices/0001:00:00.0/driver\n')
+        self.assertEqual(ended.err, b'blkdiscard: /dev/nvme0n1: BLKDISCARD ioctl failed: Operation not supported\n'
+                         b"ls: cannot access 'devices/0001:00:00.0/driver': No such file or directory\n"
+                         b'sh: 1: echo: echo: I/O error\n', ended)
 
     def test_by_other_users(self):
         script = ('for f in /sys/block/nvme0n1/queue/scheduler /sys/block/nvme0n1/uevent /sys/bus/pci/rescan '
@@ -156,7 +191,7 @@ class Removal(ModelCase):
                   'echo 1 > $p/remove; ls -d $p /sys/class/nvme/* /sys/bus/pci/devices/* /sys/class/hwmon/* /dev/disk/*/* 2> /dev/null; '
                   'wc -l < /proc/partitions; echo 1 > /sys/bus/pci/rescan; see > "$1.b"; diff "$1.a" "$1.b"; '
                   'a=$(basename $p); cd /sys/bus/pci/drivers/nvme; echo $a > unbind; cat $p/enable; grep -c DRIVER $p/uevent; '
-                  'ls; ls $p | grep -e driver -e hwmon; (echo $a > unbind) 2> /dev/null || echo $?; echo $a > bind; '
+                  'ls; ls $p | grep -x -e driver -e "hwmon.*"; (echo $a > unbind) 2> /dev/null || echo $?; echo $a > bind; '
                   'see > "$1.b"; diff "$1.a" "$1.b"; for c in 0 1; do echo 0001:0$c:00.0 > unbind; done; '
                   'ls -d /sys/class/nvme-subsystem/* /dev/nvme* 2> /dev/null; for c in 1 0; do echo 0001:0$c:00.0 > bind; done; see > "$1.b"; '
                   'diff "$1.a" "$1.b"')
@@ -174,6 +209,17 @@ class Removal(ModelCase):
         self.ends(ended, 0, b'0\n1\n0\n1\n')
         self.assertEqual(ended.err.count(b'nvme0 write CC=0x460001\n'), 3, ended)
         self.assertEqual(ended.err.count(b'nvme1 write CC=0x460001\n'), 1, ended)
+
+    def test_deleted_namespace(self):
+        # with --no-notice, it still has nodes when the controller goes; standard input is left as it is
+        script = ('nvme delete-ns /dev/nvme0 -n 3; ls /dev/nvme0n*; p=$(readlink -f /sys/class/nvme/nvme0/device); '
+                  'echo 1 > $p/remove; ls /dev/nvme*; echo 1 > /sys/bus/pci/rescan; ls /dev/nvme*; read line; echo $line')
+        file = self.file('input', b'text\n')
+        before = file.stat()
+        ended = run('sh', '-c', 'exec "$@" < "$0"', file, *self.command('sh', '-c', script, options=['--no-notice']))
+        self.ends(ended, 0, b'delete-ns: Success, deleted nsid:3\n/dev/nvme0n1\n/dev/nvme0n3\n/dev/nvme1\n'
+                  b'/dev/nvme0\n/dev/nvme0n1\n/dev/nvme1\ntext\n', b'')
+        self.assertEqual((file.read_bytes(), file.stat().st_mode), (b'text\n', before.st_mode))
 
     def test_shared_namespace(self):
         script = ('nvme create-ns /dev/nvme0 -s 16 -c 16 -f 0 -m 1 && nvme attach-ns /dev/nvme0 -n 2 -c 0,1; echo abc > /dev/nvme0n2; '
@@ -225,7 +271,7 @@ class Temperatures(ModelCase):
 class Udev(UserCase):
     def test_records(self):
         self.needs('udevadm', 'mkfs.ext4', 'blkid', 'wipefs')
-        script = ('look() { sleep 1; udevadm settle; echo $?; udevadm info -q property /dev/nvme0n1 | grep ID_FS_TYPE; '
+        script = ('look() { udevadm settle; echo $?; udevadm info -q property /dev/nvme0n1 | grep ID_FS_TYPE; '
                   'ls -A /dev/disk/by-label 2> /dev/null; }; udevadm wait --timeout=5 /dev/nvme0n1 /dev/nvme0 /dev/ng0n1; echo $?; look; '
                   'mkfs.ext4 -qO ^has_journal -L one /dev/nvme0n1; look; e2label /dev/nvme0n1 two; look; '
                   'udevadm wait --timeout=5 /dev/disk/by-label/two; echo $?; nvme detach-ns /dev/nvme0 -n 1 -c 0; look 2> /dev/null; '
@@ -240,6 +286,27 @@ class Udev(UserCase):
             if at < 3:
                 self.ends(ended, 0, wanted.encode(), b'')
         self.assertEqual(os.path.exists('/run/udev'), before)
+
+    def test_newer_udevadm(self):
+        # (root's udevadm of systemd 262 asks there whether udev is there, and this is what its udevd answers)
+        script = ('import socket\nend = socket.socket(socket.AF_UNIX)\nend.connect("/run/udev/io.systemd.Udev")\n'
+                  'for _ in range(2):\n    end.sendall(b\'{"method":"io.systemd.service.Ping"}\\0\')\n    print(end.recv(64))')
+        self.ends(self.python(script), 0, b"b'{}\\x00'\n" * 2, b'')
+
+    @unittest.skipUnless(IS_ROOT, 'root alone can mount without a user namespace')
+    def test_records_of_the_machine(self):
+        outside = ('mount -t tmpfs run /run && mkdir -p /run/udev/data && : > /run/udev/data/machine && "$@"; '
+                   'ls -R /run/udev')
+        ended = run('unshare', '-m', 'sh', '-c', outside, 'sh', *self.command('sh', '-c', 'ls /run/udev/data | grep -c machine'))
+        self.ends(ended, 0, b'0\n/run/udev:\ndata\n\n/run/udev/data:\nmachine\n', b'')
+
+    @unittest.skipUnless(IS_ROOT, 'root alone can mount without a user namespace, and keep what blkid has seen')
+    def test_what_blkid_remembers(self):
+        self.needs('mkfs.ext4', 'blkid')
+        outside = 'mount -t tmpfs run /run && mkdir -p /run/udev /run/blkid && echo old > /run/blkid/blkid.tab; "$@"; cat /run/blkid/*'
+        inside = 'cat /run/blkid/*; mkfs.ext4 -qO ^has_journal /dev/nvme0n1; blkid > /dev/null; grep -c nvme0n1 /run/blkid/blkid.tab'
+        ended = run('unshare', '-m', 'sh', '-c', outside, 'sh', *self.command('sh', '-c', inside))
+        self.ends(ended, 0, b'1\nold\n', b"cat: '/run/blkid/*': No such file or directory\n")
 
     def test_without_blkid(self):
         self.needs('udevadm')

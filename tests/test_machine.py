@@ -6,15 +6,14 @@ import os
 import pathlib
 import re
 import shutil
+import stat
 import threading
 import unittest
 
-from tests.modelled import DEVICES, ModelCase, installed, mounts, signals, static_program, works
-from tests.support import TOP, Running, end_all, process_folder, run, until
+from tests.modelled import DEVICES, PROGRAMS, ModelCase, installed, mounts, signals, static_program, works
+from tests.support import IS_ROOT, NOBODY, TOP, Running, end_all, process_folder, run, until
 
 BYTES = b'MACHINE DATA 16\n' * 4096
-IS_ROOT = os.geteuid() == 0
-NOBODY = 'setpriv', '--reuid=65534', '--regid=65534', '--clear-groups'
 NESTED = 'unshare', '-U', '--map-user=1000', '--map-group=1000'
 
 BEGIN = 'echo MODELLED | dd of=/dev/nvme0n1 conv=notrunc 2> /dev/null; . "$place/attack.sh"; '
@@ -40,6 +39,7 @@ ATTACH = 'nvme attach-ns /dev/nvme1 -n 1 -c 1 > /dev/null'
 DETACH = 'nvme detach-ns /dev/nvme1 -n 1 -c 1 > /dev/null'
 WRITTEN = '/dev/nvme1n1 /dev/ng1n1 /sys/block/nvme1n1 /sys/class/nvme-generic/ng1n1'
 
+KERNEL = 'files of the kernel'
 # What a command tries, and what it prints then. $place/plain is a file of the machine, with CLOBBER.
 TRIES = {
     'links where the launcher writes': (
@@ -64,7 +64,7 @@ TRIES = {
         'busybox find /dev /sys -type b; ls -A /dev; busybox find /dev -maxdepth 1 -type c | wc -l',
         b'block\nchar\ndisk\nfd\nfull\nmqueue\nng0n1\nng0n3\nnull\nnvme0\nnvme0n1\nnvme0n3\nnvme1\nptmx\npts\nrandom\nshm\n'
         b'stderr\nstdin\nstdout\ntty\nurandom\nzero\n6\n'),
-    'files of the kernel': (
+    KERNEL: (
         'for f in /proc/sys/kernel/core_pattern /proc/sys/vm/swappiness /proc/sysrq-trigger /proc/irq/default_smp_affinity '
         '/sys/kernel/mm/ksm/run /sys/devices/system/cpu/cpu1/online /sys/fs/cgroup/cgroup.procs '
         '/sys/fs/cgroup/cpu/tasks "$place/sysfs/kernel/mm/ksm/run" "$place/proc/sys/kernel/core_pattern"; '
@@ -92,7 +92,7 @@ class Machine:
         private = ['unshare', '-m'] if kind == 'devices' else [*(NOBODY if IS_ROOT else ()), 'unshare', '-Urm']
         if not works(*private) or (kind == 'devices' and run('losetup', '--find').status != 0):
             case.skipTest('no such machine can be made here: there are no namespaces, or no loop devices')
-        self.holder = Running(*private, 'sh', TOP / 'tests/machine.sh', case.folder / 'new', process_folder(), kind,
+        self.holder = Running(*private, 'sh', TOP / 'tests/machine.sh', case.folder / 'new', os.path.commonpath([process_folder(), installed()]), kind,
                               self.disk)
         case.addCleanup(self.close)
         self.holder.comes(b'ready\n')
@@ -164,7 +164,7 @@ class MachineCase(ModelCase):
 
     def kill_device(self):
         """Kills the device as soon as a command asks for it."""
-        if until((self.folder / 'begun').exists, 60):
+        if until((self.folder / 'begun').exists):
             signals(DEVICES, 9)()
             (self.folder / 'killed').touch()
 
@@ -208,8 +208,14 @@ class Attacks(MachineCase):
         self.attacks('files', NESTED, WAYS)
 
     def test_tries(self):
+        self.tries({name: row for name, row in TRIES.items() if name != KERNEL})
+
+    def test_files_of_the_kernel(self):
+        self.tries({KERNEL: TRIES[KERNEL]})
+
+    def tries(self, rows):
         for machine, user in self.users():
-            for name, (script, wanted) in TRIES.items():
+            for name, (script, wanted) in rows.items():
                 with self.subTest(name):
                     ended = machine.model(script, user, options=['--data-limit=2M'])
                     self.assertEqual(ended.out, wanted, ended)
@@ -263,22 +269,38 @@ class Machines(MachineCase):
                     self.assertRegex(ended.err, b"nvme-model: the (current )?folder .*run (it|the command) from another")
 
     def test_the_rest_of_the_machine_is_there(self):
-        script = ('for f in null zero full random urandom tty fd/0 pts shm mqueue; do test -e /dev/$f || echo $f; done; '
+        script = ('for f in null zero full random urandom tty fd/0 pts ptmx shm; do test -e /dev/$f || echo $f; done; '
+                  'stat -f -c %T /dev/mqueue; '
                   'echo x > /dev/null; head -c 3 /dev/zero | wc -c; ls -A "$place" | grep -c seven; '
                   'test -w /tmp && echo yes; grep -c " /proc " /proc/self/mounts; echo kept > "$place/kept"; '
                   'cat /sys/class/net/lo/mtu | wc -l; nproc | wc -l; ls /sys/devices/system/cpu | grep -c -x online')
         for machine, user in self.users():
             # (the machine's /proc is covered by bwrap's, and this by the command's)
-            self.ends(machine.model(script, user), 0, b'3\n1\nyes\n3\n1\n1\n1\n', b'')
+            self.ends(machine.model(script, user), 0, b'mqueue\n3\n1\nyes\n3\n1\n1\n1\n', b'')
             self.assertEqual((self.folder / 'kept').read_bytes(), b'kept\n')
             (self.folder / 'kept').unlink()
 
+    def test_what_is_shown(self):
+        # of /sys, what this machine has of these folders
+        script = 'for f in /sys/fs/cgroup /sys/kernel/mm /sys/class/dmi /sys/devices/virtual/dmi; do ls -A $f 2> /dev/null | sed 1q; done'
+        self.ends(self.shell(script), 0, run('sh', '-c', script).out, b'')
+
     def test_devices_that_are_added(self):
         for machine, user in self.users():
-            for path in '/dev/nvme0', '/dev/nvme0n1', '/dev/null/x', str(self.folder / 'plain'), '/dev/mem', '/dev/vfio/vfio':
+            # (a device that may be added is elsewhere, another is one of blocks, and others have numbers beside the lists)
+            others = {'tmp/tun': (stat.S_IFCHR, 10, 200), 'dev/block/disk': (stat.S_IFBLK, 4, 64),
+                      'dev/block/mem': (stat.S_IFCHR, 1, 1), 'dev/block/vfio': (stat.S_IFCHR, 10, 196),
+                      'dev/block/disks': (stat.S_IFCHR, 10, 237)}
+            for path, (kind, *number) in others.items() if machine.kind == 'devices' else ():
+                os.mknod(machine.root / path, kind | 0o666, os.makedev(*number))
+            for path in ('/dev/nvme0', '/dev/nvme0n1', '/dev/null/x', str(self.folder / 'plain'),
+                         *(f'/{path}' for path in others)):
                 ended = machine.model('echo no', user, ['--device', path])
                 self.ends(ended, 72, b'')
-                self.assertIn(f'nvme-model: '.encode(), ended.err)
+                is_told = path.strip('/') in others and machine.kind == 'devices'
+                self.assertIn(b'is known to lead to no storage' if is_told else b'nvme-model: ', ended.err)
+            for path in others:
+                (machine.root / path).unlink(missing_ok=True)
         self.ends(self.shell('test -c /dev/net/tun && test ! -e /dev/fuse', options=['--device', '/dev/net/tun']), 0) if (
             os.path.exists('/dev/net/tun')) else None
 
@@ -376,6 +398,7 @@ class Machines(MachineCase):
 # Runs a command in a place where no mount namespace can be made, or where there is no bwrap.
 WITHOUT = ('unshare', '-Ur', 'sh', '-c', 'echo 0 > /proc/sys/user/max_mnt_namespaces; exec "$@"', 'sh')
 MISSING = b'nvme-model: the command runs without a sandbox ('
+UNREADABLE = '/usr/bin/python3', str(PROGRAMS / 'unreadable.py')
 
 
 class NoSandbox(MachineCase):
@@ -420,6 +443,25 @@ class NoSandbox(MachineCase):
                 self.assertRegex(ended.err, b'^' + re.escape(MISSING) + b'.*' + reason + b'.*\n$')
                 machine.is_unchanged()
 
+    def test_refused_where_no_call_is_answered(self):
+        reason = b"the memory of processes can't be read: Operation not permitted"
+        with contextlib.closing(Machine(self, 'none')) as machine:
+            self.assertIn(b': ' + reason + b'; --no-sandbox runs', machine.model('echo no', by=UNREADABLE).err)
+            for way in self.ways():
+                ended = machine.model('echo no', by=(*UNREADABLE, *way), options=['--no-sandbox'])
+                self.ends(ended, 72, b'')
+                self.assertTrue(ended.err.endswith(b'\nnvme-model: ' + reason + b'\n'), ended)
+
+    def test_no_data(self):
+        # an I/O command reaches nothing, not even a device that comes later
+        script = ('busybox sh -c "echo MACHINE > /dev/nvme0n1"; head -c 512 /dev/zero | nvme write /dev/nvme0n1 -s 0 -c 0 -z 512; '
+                  'busybox head -c 7 /dev/nvme0n1; busybox rm /dev/nvme0n1')
+        self.needs('busybox')
+        with contextlib.closing(Machine(self, 'none')) as machine:
+            ended = machine.model(script, by=list(self.ways())[1], options=['--no-sandbox'])
+            self.ends(ended, 0, b'MACHINE')
+            self.assertIn(b'(0x400b)', ended.err)
+
     def test_refused_where_nothing_tells(self):
         covered = 'unshare', '-m', 'sh', '-c', 'mount -t tmpfs x /sys && exec "$@"', 'sh'
         with contextlib.closing(Machine(self, 'none')) as machine:
@@ -440,8 +482,8 @@ class NoSandbox(MachineCase):
     def test_killed_launcher(self):
         # its folder goes, and processes that the command left running reach nothing
         with contextlib.closing(Machine(self, 'none')) as machine:
-            ended = machine.model('kill -9 $PPID; sleep 0.5; nvme id-ctrl /dev/nvme0 2> "$place/late"; '
-                                  'test -c /dev/nvme0 || echo end >> "$place/late"', by=WITHOUT,
+            ended = machine.model('kill -9 $PPID; until nvme id-ctrl /dev/nvme0 2>&1 | grep "No such"; do sleep 0.1; '
+                                  'done > "$place/late"; test -c /dev/nvme0 || echo end >> "$place/late"', by=WITHOUT,
                                   options=['--no-sandbox'])
             self.assertEqual(ended.status, 137, ended)
             self.assertTrue(until(lambda: (self.folder / 'late').exists() and

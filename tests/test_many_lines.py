@@ -3,7 +3,7 @@ hundreds of refusals. tests/scripts has single lines."""
 
 import json
 
-from tests.support import DEMO, Case, program, run
+from tests.support import DEMO, Case, large_file, program, run
 
 SCRIPT = program('nvme_script')
 REFUSAL = 'NVMe status: Invalid Namespace or Format (0x600b)'
@@ -126,13 +126,6 @@ class Refusals(Scripts):
         for depth in 2, 3, 4096:
             self.leaves(script, output, messages + f'line 303: {REFUSAL}\n', options=f'--depth {depth}')
 
-    def test_command_identifiers_begin_anew_after_65535_commands(self):
-        """Two commands read a log without errors, so the refused command is the 65,537th."""
-        script = 'error-log /dev/nvme0\n' * 32768 + 'id-ns /dev/nvme0 -n 0\nerror-log /dev/nvme0\n'
-        self.leaves(script, error_text(0, 1, 1), f'line 32769: {REFUSAL}\n')
-        script = 'list-ns /dev/nvme0 -n 4\n' * 65536 + 'id-ns /dev/nvme0 -n 0\nerror-log /dev/nvme0\n'
-        self.leaves(script, error_text(0, 1, 1), f'line 65537: {REFUSAL}\n')
-
 
 def listed(place, serial, nsid, blocks):
     """Returns a line of `list`, which has 120 bytes, and its JSON object, for a namespace with blocks of 512 bytes."""
@@ -171,14 +164,10 @@ class Lists(Scripts):
 
     def test_1024_namespaces_of_the_last_of_sixteen_controllers(self):
         """The identifiers of the controllers go down from 100, and the last controller has all namespaces."""
-        file = 'version = 1\nnn = 1024\ntnvmcap = 524288\nsubnqn = "n"\n[[format]]\nlbads = 9\n'
-        file += ''.join(f'[[controller]]\ncntlid = {cntlid}\nsn = "S"\nmn = "M"\nfr = "1"\n'
-                        for cntlid in range(100, 84, -1))
-        file += ''.join(f'[[namespace]]\nnsid = {nsid}\nbytes = 512\nformat = 0\ncontrollers = [85]\n'
-                        for nsid in range(1, 1025))
+        file = large_file(range(100, 84, -1), [85])
         self.leaves('list-ns /dev/nvme15 -n 1022\nlist-ns /dev/nvme0\nlist-ns /dev/nvme16\n',
                     '[   0]:0x3fe\n[   1]:0x3ff\n[   2]:0x400\n', 'line 3: no such device\n', 1, file)
-        lines = [listed(15, 'S', nsid, 1)[0] for nsid in range(1, 1025)]
-        self.assertEqual(lines[-1], '/dev/nvme15n1024   S                    M                                       '
+        lines = [listed(15, 'S15', nsid, 1)[0] for nsid in range(1, 1025)]
+        self.assertEqual(lines[-1], '/dev/nvme15n1024   S15                  M                                       '
                                     '       1024                  512    512\n')
         self.leaves('list', ''.join(lines), file=file, options='--window 16 --pace 4096')

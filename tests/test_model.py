@@ -4,7 +4,6 @@ nodes and the data of namespaces, signals, and the tools that are installed."""
 import contextlib
 import itertools
 import os
-import pathlib
 import shlex
 import shutil
 import signal
@@ -14,8 +13,9 @@ import threading
 import time
 import unittest
 
-from tests.modelled import CLIENT, DEVICES, PARTS, VERSION, ModelCase, compiled_c, installed, parts, signals
-from tests.support import TOP, Running, left_running, program, run, until
+from tests.modelled import (ASKING, CLIENT, DEVICES, PARTS, RECEIVING, VERSION, ModelCase, compiled_c, do_helpers,
+                            installed, parts, signals)
+from tests.support import IS_ROOT, LIMIT, TOP, Running, left_running, processes, program, run, until
 
 CHECK = 'check', 'check_client'
 PARTS_OF_CHECK = 'commands', 'wide', 'lengths', 'many', 'broken', 'killed', 'nodes'
@@ -34,12 +34,15 @@ class Ioctls(ModelCase):
         threading.Thread(target=self.send, daemon=True).start()
 
     def send(self):
-        """Sends the device each signal that a check asks for."""
+        """Does what a check asks for: sends the device a signal, or waits until so many calls wait for it (a negative
+        number) or no call is answered."""
         with contextlib.suppress(FileNotFoundError):
             while True:
                 number = int(self.env['ASKS'].read_text())
-                signals(DEVICES, number)()
-                self.env['ANSWERS'].write_text('sent')
+                if number > 0:
+                    signals(DEVICES, number)()
+                is_done = number > 0 or do_helpers(ASKING if number else RECEIVING, -number)
+                self.env['ANSWERS'].write_text('done' * is_done)
 
     def test_geometries(self):
         check = compiled_c(self.folder / 'check', CHECK, '-pthread')
@@ -71,10 +74,13 @@ class Ioctls(ModelCase):
     def test_device_is_killed_in_a_call(self):
         # each of several calls that wait for an answer gets one, and later calls fail at once
         check = compiled_c(self.folder / 'check', CHECK, '-pthread')
-        running = self.stepped('for i in 1 2 3 4; do "$1" many & done; sleep 0.3; step; wait; '
-                               'test -c /dev/nvme0 || echo gone', signals(DEVICES, 9), words=[check])
-        ended = running.end(60)
-        self.assertRegex(ended.out, b'(?s)^step\n.*nvme-model: the device ended.*gone\n$', ended)
+        def kill():
+            self.assertTrue(do_helpers(ASKING, 4))
+            signals(DEVICES, 9)()
+        running = self.stepped('step; for i in 1 2 3 4; do "$1" many & done; step; wait; '
+                               'test -c /dev/nvme0 || echo gone', signals(DEVICES, 19), kill, words=[check])
+        ended = running.end()
+        self.assertRegex(ended.out, b'(?s)^step\nstep\nnvme-model: the device ended.*gone\n$', ended)
 
 
 class Arguments(ModelCase):
@@ -239,13 +245,13 @@ class Subsystems(ModelCase):
         self.assertNotRegex(ended.err, rb'(?m)^nvme[013] taken Namespace Management \(0x0d\) ')
 
     def test_one_device_is_killed(self):
-        running = self.stepped('step; sleep 0.2; cat /dev/nvme2n1; test -c /dev/nvme3 || echo gone; '
+        running = self.stepped('step; while test -c /dev/nvme3; do sleep 0.1; done; cat /dev/nvme2n1; '
                                'nvme id-ctrl /dev/nvme1 | grep -c "^sn .*S1"; nvme id-ctrl /dev/nvme4 | grep "^sn "; '
                                'nvme reset /dev/nvme4; head -c 1 /dev/nvme0n1 | wc -c',
                                lambda: os.kill(parts(3)[DEVICES][1], 9),
                                options=['--subsystem', self.subsystem, '--subsystem', self.subsystem])
-        self.ends(running.end(60), 0, b'step\nnvme-model: the device ended, or answered what was not asked\n'
-                  b'cat: /dev/nvme2n1: No such device or address\ngone\n'
+        self.ends(running.end(), 0, b'step\nnvme-model: the device ended, or answered what was not asked\n'
+                  b'cat: /dev/nvme2n1: No such device or address\n'
                   b'1\nsn        : S0                  \n1\n')
 
 
@@ -260,13 +266,15 @@ class Signals(ModelCase):
     def test_passed_on(self):
         for name, status in BY_SIGNAL.items():
             with self.subTest(name):
-                running = self.begun('echo ready; exec sleep 100')
+                running = self.begun('echo ready; exec sleep 1000')
                 running.process.send_signal(signal.Signals['SIG' + name])
                 self.ends(running.end(), status, b'ready\n')
                 self.leaves_nothing()
-        running = self.begun('trap "exit 9" TERM; echo ready; while :; do sleep 0.1; done')
-        running.process.terminate()
-        self.ends(running.end(), 9, b'ready\n')
+        for name in (*BY_SIGNAL, 'USR1', 'USR2'):
+            with self.subTest(name, command='which takes it'):
+                running = self.begun(f'trap "exit 9" {name}; echo ready; while :; do sleep 0.1; done')
+                running.process.send_signal(signal.Signals['SIG' + name])
+                self.ends(running.end(), 9, b'ready\n')
 
         # once, for each signal, and whatever the command does first
         running = self.begun('trap "echo one" TERM; trap "exit 8" USR1; echo ready; while :; do sleep 0.1; done')
@@ -275,14 +283,13 @@ class Signals(ModelCase):
         running.process.send_signal(signal.SIGUSR1)
         self.ends(running.end(), 8, b'ready\none\n')
 
-        # a second one of a kind is lost
+        # and each time
         running = self.begun('trap "echo one" USR1; trap "exit 8" TERM; echo ready; while :; do sleep 0.1; done')
-        for _ in range(2):
+        for count in range(1, 4):
             running.process.send_signal(signal.SIGUSR1)
-            running.comes(b'one\n')
-        time.sleep(0.5)
+            self.assertTrue(until(lambda: running.hear(0) is None or running.heard.count(b'one\n') == count))
         running.process.terminate()
-        self.ends(running.end(), 8, b'ready\none\n')
+        self.ends(running.end(), 8, b'ready\none\none\none\n')
 
     def test_while_requests_and_data_are_under_way(self):
         script = ('while :; do nvme create-ns /dev/nvme0 -s 8 -c 8 -f 0; nvme delete-ns /dev/nvme0 -n 2; done '
@@ -298,12 +305,10 @@ class Signals(ModelCase):
 
     def test_killed_at_any_time(self):
         # nothing is left of the launcher, whenever it is killed: no process, no mount, no file
-        def looks():
-            return [name for place in ('/tmp', '/dev') for name in sorted(os.listdir(place))
-                    if name.startswith(('nvme-model', 'nvme0', 'nvme1', '.model'))]
-        before = looks()
+        place = self.folder / 'temporary'
+        place.mkdir()
         for delay in range(0, 100, 4):
-            running = Running(*self.command('sh', '-c', 'sleep 100 & sleep 100'))
+            running = Running(*self.command('sh', '-c', 'sleep 1000 & sleep 1000'), env={'TMPDIR': place})
             time.sleep(delay / 1000)
             running.process.kill()
             # (until it is awaited, its number remains)
@@ -311,12 +316,12 @@ class Signals(ModelCase):
             running.process.wait()
             self.end_waiting_bwrap()
             self.leaves_nothing()
-        self.assertEqual(looks(), before)
+        self.assertEqual(list(place.iterdir()), [])
 
-    @unittest.skipUnless(os.geteuid() == 0, 'root alone can become another user')
+    @unittest.skipUnless(IS_ROOT, 'root alone can become another user')
     def test_killed_after_a_call_of_another_user(self):
         running = self.begun('setpriv --reuid=65534 --regid=65534 --clear-groups test -b /dev/nvme0n1; echo ready; '
-                             'exec sleep 100')
+                             'exec sleep 1000')
         running.process.kill()
         running.process.wait()
         self.leaves_nothing()
@@ -324,16 +329,18 @@ class Signals(ModelCase):
     def end_waiting_bwrap(self):
         """Ends a process of bubblewrap whose parent was killed before it told the process to go on."""
         if not until(lambda: not left_running(), 30):
+            others = processes('comm', lambda name: name != b'bwrap\n')
+            self.assertTrue(until(lambda: not {*left_running()} & {*others}), 'not only bubblewrap is left')
             for number in left_running():
-                self.assertEqual(pathlib.Path(f'/proc/{number}/comm').read_text(), 'bwrap\n')
-                os.kill(number, signal.SIGKILL)
+                with contextlib.suppress(ProcessLookupError):
+                    os.kill(number, signal.SIGKILL)
 
     def test_what_is_left_in_the_background(self):
-        ended = self.shell('(sleep 0.3; echo late > "$1") & (setsid sh -c \'trap "" TERM HUP; sleep 0.3; echo late > "$1"\''
-                           ' sh "$1" &); exit 3', self.folder / 'late')
-        self.assertEqual(ended.status, 3)
-        time.sleep(0.6)
-        self.assertFalse((self.folder / 'late').exists())
+        # (each would go on for longer than the test waits for it)
+        ended = self.shell('(echo > "$1"; sleep 1000) & (setsid sh -c \'trap "" TERM HUP; echo > "$1"; sleep 1000\' sh "$2" &); '
+                           'until test -e "$1" && test -e "$2"; do sleep 0.1; done; exit 3', self.folder / 'one', self.folder / 'two')
+        self.ends(ended, 3, b'', b'')
+        self.assertTrue(until(lambda: not left_running()))
 
     def test_end_of_a_shell_at_a_terminal(self):
         # a shell of its own process group gives the terminal back, and ends with its own status
@@ -341,46 +348,46 @@ class Signals(ModelCase):
             with self.subTest(shell):
                 running = Running(*self.command(*shell.split(), '-i'), terminal=True, env={'PS1': 'ready: '})
                 self.addCleanup(running.process.kill)
-                running.comes(b'ready: ', 60)
+                running.comes(b'ready: ')
                 running.say(b'exit 3\n')
-                self.assertEqual(running.process.wait(60), 3)
+                self.assertEqual(running.process.wait(LIMIT), 3)
                 running.hear(0)
                 self.assertNotIn(b'annot set', running.heard)
 
     def test_typed_at_a_terminal(self):
-        for script, status in (('echo ready; exec sleep 100', 130),
+        for script, status in (('echo ready; exec sleep 1000', 130),
                                ('trap "test -c /dev/nvme0 && exit 5" INT; echo ready; while :; do sleep 0.1; done', 5)):
             with self.subTest(script):
                 running = Running(*self.command('sh', '-c', script), terminal=True)
                 running.comes(b'ready\n')
                 running.say(b'\x03')
-                self.assertEqual(running.process.wait(10), status)
+                self.assertEqual(running.process.wait(LIMIT), status)
                 self.leaves_nothing()
+        # it comes once
+        count = ('import signal\nsignal.pthread_sigmask(signal.SIG_BLOCK, {signal.SIGINT})\nprint("ready", flush=True)\n'
+                 'signal.sigwait({signal.SIGINT})\nprint("again" if signal.sigtimedwait({signal.SIGINT}, 1) else "once")')
+        running = Running(*self.command(sys.executable, '-c', count), terminal=True)
+        running.comes(b'ready\n')
+        running.say(b'\x03')
+        self.assertRegex(running.end().out, b'ready\n(?s:.*)once\n')
         # the command has terminals, and makes new ones
         running = Running(*self.command('sh', '-c', 'tty; script -qec "test -t 0 && echo inner" /dev/null'),
                           terminal=True)
         self.assertRegex(running.end().out, b'^/dev/console\n(?s:.*)inner')
-        # nothing is typed into the caller's terminal, however the request is written
-        types = (f'{sys.executable} -c \'import ctypes, os\nfor request in 0x5412, 0x541c, 0x100005412:\n'
-                 '    call = ctypes.CDLL(None, use_errno=True).syscall(ctypes.c_long(16), ctypes.c_long(0),\n'
-                 '                                                     ctypes.c_ulong(request), b"x")\n'
-                 '    print(call, os.strerror(ctypes.get_errno()))\'')
-        running = Running(*self.command('sh', '-c', types), terminal=True)
-        self.assertEqual(running.end().out, b'-1 Operation not permitted\n' * 3)
 
     @unittest.skipUnless(shutil.which('tmux') and shutil.which('bash'), 'tmux and bash are not installed')
     def test_job_control(self):
-        running = Running('bash', '--norc', '-i', terminal=True, env={'PS1': 'outside> ', 'TERM': 'xterm'})
+        running = Running('bash', '--norc', '-i', terminal=True, env={'PS1': 'outside> ', 'TERM': 'dumb'})
         self.addCleanup(running.process.kill)
-        for said, heard in (("{} sh -c 'echo rea\"\"dy; read x; echo got-$x; exit 3'", b'ready\n'), ('\x1a', b'outside> '),
-                            ('fg', b'\n'), ('line', b'outside> '), ('echo status-$?', b'outside> ')):
+        job = ("{} sh -c 'trap \"echo continued\" CONT; echo rea\"\"dy; until read x; do :; done; echo got-$x; exit 3'")
+        for said, heard in ((job, b'ready\n'), ('\x1a', b'outside> '), ('fg', b'continued\n'), ('line', b'outside> '),
+                            ('echo status-$?', b'status-3\noutside> ')):
             line = said.format(shlex.join(map(str, self.command()))) + '\n'
             running.say((said if said == '\x1a' else line).encode())
-            running.comes(heard, 20)
-            time.sleep(0.3)
+            running.comes(heard)
         running.say(b'exit\n')
         self.assertRegex(running.end().out, b'(?s)got-line\n.*status-3\n')
-        running = Running(*self.command('tmux', '-L', 'test', 'new', f'tty > {self.folder}/tty'), terminal=True,
+        running = Running(*self.command('tmux', '-S', self.folder / 'socket', 'new', f'tty > {self.folder}/tty'), terminal=True,
                           env={'TERM': 'xterm'})
         running.end()
         self.assertRegex((self.folder / 'tty').read_bytes(), b'^/dev/.*pts/[0-9]+\n$')

@@ -8,16 +8,16 @@ import stat
 import unittest
 
 from tests.modelled import ModelCase
-from tests.support import run
-from tests.test_machine import NOBODY, Machine, MachineCase
+from tests.support import IS_ROOT, NOBODY, run
+from tests.test_machine import Machine, MachineCase
 
-# A bwrap that first puts another file in a device's place, unless it is only tried.
+# A bwrap that first puts another file in a device's place.
 EXCHANGES = '''#!/bin/sh
-case "$*" in *--trial) ;; *) mv /dev/open/node /dev/open/kept && mv /dev/open/other /dev/open/node ;; esac
+mv /dev/open/node /dev/open/kept && mv /dev/open/other /dev/open/node
 PATH=${PATH#*:} exec bwrap "$@"
 '''
 
-# Mounts a file system whose server never answers, and runs a command there for a minute at most.
+# Mounts a file system whose server never answers, and runs a command there for five minutes at most.
 HANGS = '''import ctypes, os, subprocess, sys
 libc = ctypes.CDLL(None, use_errno=True)
 server = os.open("/dev/fuse", os.O_RDWR)
@@ -26,7 +26,7 @@ if libc.mount(b"hung", sys.argv[1].encode(), b"fuse", 0, options) < 0:
     sys.exit(77)
 ended = subprocess.Popen(sys.argv[2:])
 try:
-    status = ended.wait(60)
+    status = ended.wait(300)
 except subprocess.TimeoutExpired:
     status = 99
 os.close(server)
@@ -35,7 +35,7 @@ sys.exit(status)
 '''
 
 
-@unittest.skipUnless(os.geteuid() == 0, 'root alone can make nodes and mounts')
+@unittest.skipUnless(IS_ROOT, 'root alone can make nodes and mounts')
 class Mounts(MachineCase):
     def exchange(self, machine, user, other):
         """Runs a command whose added device becomes another file before bwrap binds it."""
@@ -56,6 +56,8 @@ class Mounts(MachineCase):
             block = os.stat(machine.root / 'dev/nvme0n1').st_rdev
             ways = {'loop-control': lambda path: os.mknod(path, stat.S_IFCHR | 0o666, os.makedev(10, 237)),
                     'a block device': lambda path: os.mknod(path, stat.S_IFBLK | 0o666, block),
+                    "a block device with a terminal's number": lambda path: os.mknod(path, stat.S_IFBLK | 0o666,
+                                                                                     os.makedev(4, 64)),
                     'a folder': lambda path: path.mkdir(),
                     'a file': lambda path: path.write_bytes(b''),
                     'a link': lambda path: path.symlink_to('/dev/nvme0n1')}
@@ -124,7 +126,7 @@ class Mounts(MachineCase):
                 self.assertEqual(ended.out, b'removed\n0\n', ended)
 
 
-@unittest.skipUnless(os.geteuid() == 0 and os.path.exists('/dev/fuse'), 'root alone can mount, and /dev/fuse is needed')
+@unittest.skipUnless(IS_ROOT and os.path.exists('/dev/fuse'), 'root alone can mount, and /dev/fuse is needed')
 class Hung(ModelCase):
     def test_start(self):
         place, user_of_files = self.folder / 'hung', ('setpriv', '--reuid=54321', '--regid=54321', '--clear-groups')

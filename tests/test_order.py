@@ -42,10 +42,6 @@ class Order(Case):
 
 
 class FullDevice(Case):
-    def test_told_at_the_end(self):
-        # a flush that fails before more is read shows at the end
-        self.ends(run(SCRIPT, source=b'list-ns /dev/nvme0\n', out='/dev/full'), 5, err=b'nvme-script: write fault\n')
-
     def test_told_in_the_next_line_that_prints(self):
         # the fault ends the run before the script ends
         talk = Running('sh', '-c', 'exec "$0" > /dev/full', SCRIPT)

@@ -3,16 +3,16 @@ which a command could change something outside that isn't a file: keys, control 
 
 import os
 import pathlib
+import re
 import subprocess
 import unittest
 
 from tests.modelled import CLIENT, DEVICES, WARNINGS, ModelCase, parts, process_folder, works
-from tests.support import TOP, Running, run
+from tests.support import IS_ROOT, NOBODY, TOP, USERS, Running, left_running, processes, run
 
-IS_ROOT = os.geteuid() == 0
-NOBODY = 'setpriv', '--reuid=65534', '--regid=65534', '--clear-groups'
-USERS = [(), NOBODY] if IS_ROOT else [()]
 NESTED = 'unshare', '-Ur'
+# What root may do in the sandbox: what files, other users and audit records need.
+RIGHTS = 0x200000fb
 
 
 def helper(name, *sources):
@@ -86,14 +86,36 @@ class Confined(ModelCase):
                     self.ends(run(*user, *self.command(*inside, pries, '1')), 0, b'end\n', b'')
 
     def test_rights(self):
-        # those of files, of other users and of audit records, for root alone
-        for user, inside, wanted in ((), (), [0x200000fb] * 5), ((), NOBODY, [0x200000fb, 0, 0, 0x200000fb, 0]), (
-                NOBODY, (), [0] * 5) if IS_ROOT else ((), (), [0] * 5),:
+        of_root = ((), (), [RIGHTS] * 5), ((), NOBODY, [RIGHTS, 0, 0, RIGHTS, 0]), (NOBODY, (), [0] * 5)
+        for user, inside, wanted in of_root if IS_ROOT else [((), (), [0] * 5)]:
             with self.subTest(user=user, inside=inside):
                 ended = run(*user, *self.command(*inside, 'grep', '^Cap', '/proc/self/status'))
                 found = dict(line.split() for line in ended.out.decode().splitlines())
                 self.assertEqual([*found], ['CapInh:', 'CapPrm:', 'CapEff:', 'CapBnd:', 'CapAmb:'])
                 self.assertEqual([int(number, 16) for number in found.values()], wanted)
+
+    def test_rights_of_the_launcher(self):
+        # its processes have the command's, and that to look at each process
+        def look():
+            for number in [number for part in parts() for number in part]:
+                status = pathlib.Path(f'/proc/{number}/status').read_text()
+                found = [int(re.search(rf'\n{name}:\t(.*)', status)[1], 16) for name in ('CapPrm', 'CapBnd')]
+                self.assertEqual(found, [rights | 1 << 19] * 2)
+        for user, rights in zip(USERS, (RIGHTS, 0) if IS_ROOT else (0,)):
+            with self.subTest(user=user):
+                self.ends(self.stepped('step', look, user=user).end(), 0, b'step\n')
+
+    def test_names(self):
+        # nobody finds it by the launcher's name
+        self.ends(self.shell('cat /proc/1/comm; tr -s "\\0" " " < /proc/1/cmdline; pgrep -f "[l]auncher|[i]nside"; echo'), 0,
+                  b'init\ninit \n', b'')
+
+    @unittest.skipUnless(IS_ROOT, 'root alone can look at what process 1 has open')
+    def test_process_one_has_nothing_open(self):
+        def look():
+            found = {*left_running()} & {*processes('comm', lambda name: name == b'init\n')}
+            self.assertEqual([os.listdir(f'/proc/{number}/fd') for number in found], [[]])
+        self.ends(self.stepped('step', look).end(), 0, b'step\n')
 
     def look(self):
         """Looks at what is confined, and at what the device has open."""
@@ -107,7 +129,7 @@ class Confined(ModelCase):
             for options in (), ('--trace=/dev/null',):
                 with self.subTest(user=user, options=options):
                     running = self.stepped('step', self.look, user=user, options=options)
-                    self.ends(running.end(60), 0, b'step\n')
+                    self.ends(running.end(), 0, b'step\n')
 
 
 # Types into a terminal, by two ioctls. Each prints its error.
@@ -154,12 +176,16 @@ class Outside(ModelCase):
 
     def test_priorities(self):
         # the caller's process group has processes outside, whose priorities stay
-        outside = 'sleep 100 & "$@"; cut -d " " -f 19 /proc/$!/stat; ionice -p $!; kill $!'
+        outside = 'sleep 1000 & "$@"; cut -d " " -f 19 /proc/$!/stat; ionice -p $!; kill $!'
+        by_old = 'for call in "97 1 0 19" "289 2 0 16390"; do "$1" $call; done'
+        ways = [(('python3', '-c', PRIORITIES), '0 0\n0 0\n19 16390\n')]
+        if run(helper('old', '-O1'), '20').status == 0:
+            ways.append((('sh', '-c', by_old, 'sh', helper('old', '-O1')), '0\n0\n'))
         for user in USERS:
-            with self.subTest(user=user):
-                command = self.command('python3', '-c', PRIORITIES)
-                ended = run('setsid', '-w', *user, 'sh', '-c', outside, 'sh', *command)
-                self.ends(ended, 0, f'0 0\n0 0\n19 16390\n{os.nice(0)}\nnone: prio 0\n'.encode(), b'')
+            for words, printed in ways:
+                with self.subTest(words[0], user=user):
+                    ended = run('setsid', '-w', *user, 'sh', '-c', outside, 'sh', *self.command(*words))
+                    self.ends(ended, 0, f'{printed}{os.nice(0)}\nnone: prio 0\n'.encode(), b'')
 
     def test_the_session(self):
         # nothing sets the priority of the caller's session, by whatever path
@@ -184,6 +210,16 @@ class Outside(ModelCase):
                 if ended.out.startswith(b'False'):
                     self.skipTest('the kernel has no keys')
                 self.ends(ended, 0, b'-1 38\n' * 3 + b"True 6 b'secret'\n", b'')
+
+    def test_memory_of_the_machine(self):
+        # (a segment of System V's shared memory, which is removed at once, and stays as long as it is attached)
+        outside = ('import ctypes, subprocess, sys\nlibc = ctypes.CDLL(None)\nlibc.shmat.restype = ctypes.c_void_p\n'
+                   'number = libc.shmget(0, 4096, 0o600)\nassert libc.shmat(number, None, 0)\nlibc.shmctl(number, 0, None)\n'
+                   'sys.exit(subprocess.run(sys.argv[1:]).returncode)')
+        look = 'wc -l < /proc/sysvipc/shm'
+        ended = run('python3', '-c', outside, 'sh', '-c', f'{look}; "$@"', 'sh', *self.command('sh', '-c', look))
+        lines = ended.out.split()
+        self.assertEqual((ended.status, int(lines[0]) > 1, lines[1]), (0, True, b'1'), ended)
 
     def test_control_groups(self):
         for user in USERS:

@@ -6,9 +6,10 @@ With UNPROVED=1 in the environment, `rt try` runs the sources on these rows, and
 
 import json
 import re
+import signal
 import typing
 
-from tests.support import DEMO, IS_UNPROVED, TOP, Case, Ended, process_folder, program, run, shell_line
+from tests.support import DEMO, IS_UNPROVED, TOP, Case, Ended, large_file, process_folder, program, run, run_unproved, shell_line
 
 SCRIPT = 'nvme_script' if IS_UNPROVED else program('nvme_script')
 TEXT = DEMO.read_text()
@@ -98,14 +99,9 @@ def geometry_shows_in_no_byte():
 
 def largest_list():
     """A list of 1,024 namespaces on each of sixteen controllers."""
-    text = 'version = 1\nnn = 1024\ntnvmcap = 524288\nsubnqn = "n"\n[[format]]\nlbads = 9\n'
-    for number in range(1, 17):
-        text += f'[[controller]]\ncntlid = {number}\nsn = "S"\nmn = "M"\nfr = "1"\n'
-    for number in range(1, 1025):
-        text += f'[[namespace]]\nnsid = {number}\nbytes = 512\nformat = 0\nshared = true\n'
-        text += f'controllers = {list(range(1, 17))}\n'
+    text = large_file(range(1, 17), range(1, 17))
     devices = [{'block_size': 512, 'bytes': 512, 'model': 'M', 'namespace': number,
-                'node': f'/dev/nvme{place}n{number}', 'serial': 'S'}
+                'node': f'/dev/nvme{place}n{number}', 'serial': f'S{place}'}
                for place in range(16) for number in range(1, 1025)]
     output = json.dumps({'devices': devices}, separators=(',', ':')).encode() + b'\n'
     for options in '', '--depth 17 --window 16 --pace 16':
@@ -225,8 +221,7 @@ def given_to_rt_try(rows):
         (folder / str(number)).write_bytes(row.script)
         if row.arguments:
             (folder / f'{number}.args').write_text(''.join(f'{word}\n' for word in row.arguments))
-    ended = run('rt', 'try', '--steps', '1', '--seconds', '300', '--cases', folder, cwd=TOP / 'crates/nvme_script',
-                limit=1800)
+    ended = run_unproved(TOP / 'crates/nvme_script', '--cases', folder)
     if not re.search(rb'\ncases=.*proved=no\n\Z', ended.err):
         raise AssertionError(ended)
     # `== NAME` comes before a case's output, and `case=NAME run=ended status=N` after its messages
@@ -242,12 +237,15 @@ def given_to_rt_try(rows):
 
 
 def with_little_memory(row):
-    """Runs a row with the least memory with which the program starts, in steps of 250 KiB."""
+    """Runs a row with the least memory with which the program starts, in steps of 250 KiB, or with one step more if its
+    stack has no room in that."""
+    def with_room(room):
+        return run('sh', '-c', 'ulimit -v "$0" && exec "$@"', str(room), SCRIPT, *row.arguments, source=row.script)
     for room in range(1250, 100000, 250):
-        ended = run('sh', '-c', 'ulimit -v "$0" && exec "$@"', str(room), SCRIPT, *row.arguments, source=row.script)
+        ended = with_room(room)
         if ended.status != 127:
             break
-    return ended
+    return with_room(room + 250) if ended.status == -signal.SIGSEGV else ended
 
 
 def outcome(row):

@@ -5,7 +5,7 @@ import re
 import sys
 import time
 
-from tests.modelled import ModelCase, installed
+from tests.modelled import DELAYING, ModelCase, do_helpers, installed
 from tests.support import TOP, run
 
 FORMAT = 'nvme format /dev/nvme0n1 --lbaf 1 --force'
@@ -117,16 +117,18 @@ class Refuse(ModelCase):
     def test_delays(self):
         started = time.monotonic()
         ended = self.ended([], f'{FORMAT} & sleep 0.3; nvme smart-log /dev/nvme0 > /dev/null; head -c 1 /dev/nvme0n1 | wc -c; '
-                           'nvme flush /dev/nvme0n1; echo now; wait', options=['--delay=format=3', '--delay=io:0,1=9'],
-                           left=[('delay io:0,1=9', 1)])
+                           'nvme flush /dev/nvme0n1; echo now; wait', options=['--delay=format=10', '--delay=io:0,1=9000'],
+                           left=[('delay io:0,1=9000', 1)])
         self.ends(ended, 0, b'1\nNVMe Flush: success\nnow\nSuccess formatting namespace:1\n')
-        self.assertTrue(3 <= time.monotonic() - started < 9)
+        self.assertGreaterEqual(time.monotonic() - started, 10)
         # a command is delayed and then refused, and one whose process has gone is carried out
-        ended = self.ended(['format=0x2002'], f'{FORMAT}; (timeout -s KILL 0.5 {FORMAT}) 2> /dev/null; echo "status $?"; '
-                           'until nvme id-ns /dev/nvme0n1 | grep -q "lbads:12 .*in use"; do sleep 0.1; done',
-                           options=['--delay=format,0,2=2'])
-        self.assertIn(b'(0x2002)', ended.err)
-        self.ends(ended, 0, b'status 137\n')
+        running = self.stepped(f'{FORMAT}; {FORMAT} & step; kill -KILL $!; wait $!; echo "status $?"; '
+                               'until nvme id-ns /dev/nvme0n1 | grep -q "lbads:12 .*in use"; do sleep 0.1; done',
+                               lambda: self.assertTrue(do_helpers(DELAYING, 1)),
+                               options=['--refuse=format=0x2002', '--delay=format,0,2=2'])
+        ended = running.end()
+        self.ends(ended, 0)
+        self.assertRegex(ended.out, rb'\(0x2002\)\nstep\n(?s:.*)status 137\n$')
 
     def test_commands_that_take_too_long(self):
         """A command that takes longer than its time fails, and its controller is reset, as under Linux."""

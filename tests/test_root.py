@@ -3,8 +3,7 @@
 import os
 
 from tests.modelled import ModelCase, compiled_c
-from tests.support import TOP, run
-from tests.test_machine import IS_ROOT, NOBODY
+from tests.support import IS_ROOT, NOBODY, TOP, run
 
 class Root(ModelCase):
     def ended(self, script, *words, options=(), user=NOBODY):
@@ -30,6 +29,10 @@ class Root(ModelCase):
         if os.path.exists('/usr/bin/sudo'):
             self.ends(self.ended('PATH=/usr/bin:/bin; /usr/bin/sudo -n id -u; env -i /usr/bin/sudo nvme 2>&1 | head -c 0; sudo id -u'), 0,
                       b'0\n0\n', b'')
+
+    def test_rights(self):
+        self.ends(self.ended('command -v sudo; grep CapEff /proc/self/status'), 0,
+                  b'/sys/fs/nvme-model/bin/sudo\nCapEff:\t00000000200000fb\n', b'')
 
     def test_provisioning(self):
         # what most scripts begin with, and what the nodes do then

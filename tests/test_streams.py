@@ -14,11 +14,8 @@ import subprocess
 import unittest
 
 from tests.modelled import ModelCase, installed, parts
-from tests.support import environment, until
+from tests.support import LIMIT, USERS, environment, until
 
-IS_ROOT = os.geteuid() == 0
-NOBODY = 'setpriv', '--reuid=65534', '--regid=65534', '--clear-groups'
-USERS = [(), NOBODY] if IS_ROOT else [()]
 NAMES = 'input', 'output', 'error'
 LIBC = ctypes.CDLL(None, use_errno=True)
 MEMFD_SECRET = 447
@@ -77,7 +74,7 @@ KINDS = {
     'secret memory': (lambda folder: [LIBC.syscall(MEMFD_SECRET, 0)], KERNEL)}
 
 # What the launcher has open besides the streams, and whether it must be in one of the sandbox's own mounts.
-KEPT = {r'socket:\[\d+\]': False, r'pipe:\[\d+\]': False, r'/proc/\d+/status': False, '/sys(/.*)?': True,
+KEPT = {r'socket:\[\d+\]': False, r'pipe:\[\d+\]': False, '/sys(/.*)?': True,
         r'/dev/#\d+ \(deleted\)': True,
         'anon_inode:.*(eventfd|inotify|signalfd|seccomp notify).*': False}
 
@@ -111,17 +108,18 @@ class StreamCase(ModelCase):
                                 env=environment())
 
     def launchers(self):
-        """Returns the folders in /proc of the launcher, its keeper and its helper."""
-        devices, *others = parts()
-        self.assertEqual([len(devices), *map(len, others)], [1] * 4)
-        return [pathlib.Path(f'/proc/{number}') for part in others for number in part]
+        """Returns the folders in /proc of the launcher, its keeper and its helpers, of which there may be many."""
+        devices, keepers, helpers, launcher = parts()
+        self.assertEqual([len(devices), len(keepers), len(launcher)], [1, 1, 1])
+        self.assertTrue(helpers)
+        return [pathlib.Path(f'/proc/{number}') for number in (*keepers, *helpers, *launcher)]
 
     def check_kept(self, process, streams):
         """Checks what a process has open: of a closed stream, /dev/null of the sandbox, which can't be used."""
         mounts = {line.split()[0] for line in (process / 'mountinfo').read_text().splitlines()}
         for entry in (process / 'fd').iterdir():
             try:
-                number, name = int(entry.name), os.readlink(entry)
+                number, name, file = int(entry.name), os.readlink(entry), entry.stat()
                 about = (process / 'fdinfo' / entry.name).read_text()
             except (FileNotFoundError, ProcessLookupError):
                 continue  # (it was closed meanwhile)
@@ -133,7 +131,7 @@ class StreamCase(ModelCase):
             elif streams[number] is None:
                 self.assertEqual((name, mount in mounts, bool(int(flags, 8) & os.O_PATH)), ('/dev/null', True, True))
             else:
-                self.assertTrue(os.path.samestat(entry.stat(), os.fstat(streams[number])), f'{number} is {name}')
+                self.assertTrue(os.path.samestat(file, os.fstat(streams[number])), f'{number} is {name}')
 
     def try_streams(self, user, kinds):
         """Starts a command with these kinds of streams, and checks whether it runs, and what the launcher has then."""
@@ -142,7 +140,7 @@ class StreamCase(ModelCase):
             reasons = [KINDS[kind][1] if number is not None else '' for kind, number in zip(kinds, streams)]
             process = self.start(user, streams)
             if any(reasons):
-                self.assertEqual(process.wait(60), 72, kinds)
+                self.assertEqual(process.wait(LIMIT), 72, kinds)
                 self.assertFalse(self.seen.exists(), kinds)
             else:
                 self.assertTrue(until(lambda: self.seen.exists() or process.poll() is not None))
@@ -152,7 +150,7 @@ class StreamCase(ModelCase):
                         self.check_kept(launcher, streams)
                 finally:
                     self.seen.unlink(missing_ok=True)
-                    self.assertEqual(process.wait(60), 0, kinds)
+                    self.assertEqual(process.wait(LIMIT), 0, kinds)
             if kinds[2] == 'messages':
                 said = os.pread(streams[2], 4096, 0).decode()
                 refused = [at for at in range(3) if reasons[at]]

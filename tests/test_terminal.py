@@ -1,18 +1,16 @@
 """Runs shells and pagers under ./nvme-model on a terminal, with the keys that a user types: Ctrl-C, Ctrl-Z, fg, and the
 end of a shell. The shell outside is bash, whose jobs are these runs."""
 
-import os
-import time
 import unittest
 
 from tests.modelled import ModelCase
-from tests.support import Running
+from tests.support import USERS, Running
 
-NOBODY = 'setpriv', '--reuid=65534', '--regid=65534', '--clear-groups'
-USERS = [(), NOBODY] if os.geteuid() == 0 else [()]
+SHELLS = 'bash --norc --noprofile', 'dash'
 INTERRUPT, SUSPEND = b'\x03', b'\x1a'
-# A command that says when it runs, so that a key that is typed after that reaches it.
-BEGUN = b"""sh -c 'trap "echo continued" CONT; echo begun; while :; do sleep 0.1; done'\n"""
+# A command that says when it runs, so that a key that is typed after that reaches it. (It starts no others: a process
+# that is stopped before it becomes a program keeps its parent, which waits in vfork, from being stopped.)
+BEGUN = b"""sh -c 'trap "echo continued" CONT; echo begun; until read -r line; do :; done'\n"""
 
 
 class Terminal(ModelCase):
@@ -22,7 +20,7 @@ class Terminal(ModelCase):
         env = {'PS1': 'outside: ', 'TERM': 'dumb', 'HOME': '/', 'LESS': '-d', 'model': words}
         shell = Running(*user, 'bash', '--norc', '--noprofile', '-i', terminal=True, env=env)
         self.addCleanup(shell.process.kill)
-        shell.comes(b'outside: ', 60)
+        shell.comes(b'outside: ')
         return shell
 
     def told(self, shell, line, prompt=b'outside: '):
@@ -33,9 +31,8 @@ class Terminal(ModelCase):
         return shell.heard.partition(b'\n')[2] if line.endswith(b'\n') else shell.heard
 
     def test_shells(self):
-        # (dash can't give the terminal back to the group that had it)
         for user in USERS:
-            for name in ['bash --norc --noprofile']:
+            for name in SHELLS:
                 with self.subTest(name, user=user):
                     shell = self.begun(user)
                     self.told(shell, f'$model env PS1="inside: " {name}\n'.encode(), b'inside: ')
@@ -46,16 +43,18 @@ class Terminal(ModelCase):
 
     def test_jobs_inside(self):
         for user in USERS:
-            with self.subTest(user=user):
-                shell = self.begun(user)
-                self.told(shell, b'$model env PS1="inside: " bash --norc --noprofile\n', b'inside: ')
-                self.told(shell, b'sh -c "echo begun; exec sleep 100"\n', b'begun\n')
-                self.assertIn(b'Stopped', self.told(shell, SUSPEND, b'inside: '))
-                self.told(shell, b'fg\n', b'100"\n')
-                time.sleep(1)  # (the shell gives the terminal to the job after it has named it)
-                self.told(shell, INTERRUPT, b'inside: ')
-                self.assertEqual(self.told(shell, b'echo $?\n', b'inside: '), b'130\ninside: ')
-                self.told(shell, b'exit\n')
+            for name in SHELLS:
+                with self.subTest(name, user=user):
+                    shell = self.begun(user)
+                    self.told(shell, f'$model env PS1="inside: " {name}\n'.encode(), b'inside: ')
+                    self.told(shell, BEGUN, b'begun\n')
+                    self.assertIn(b'Stopped', self.told(shell, SUSPEND, b'inside: '))
+                    self.told(shell, b'fg\n', b'continued\n')
+                    self.told(shell, INTERRUPT, b'inside: ')
+                    self.assertEqual(self.told(shell, b'echo $?\n', b'inside: '), b'130\ninside: ')
+                    self.told(shell, b'seq 1000 | less\n', b'\n:')
+                    self.told(shell, b'q', b'inside: ')
+                    self.told(shell, b'exit\n')
 
     def test_jobs(self):
         for user in USERS:
@@ -75,7 +74,7 @@ class Terminal(ModelCase):
             for line in '$model seq 1000 | less', '$model less -P: /etc/services', '$model sh -c "seq 1000 | less"':
                 with self.subTest(line, user=user):
                     shell = self.begun(user)
-                    self.told(shell, line.encode() + b'\n', b':')
+                    self.told(shell, line.encode() + b'\n', b'\n:')
                     self.told(shell, b'q')
                     self.assertEqual(self.told(shell, b'echo $?\n'), b'0\noutside: ')
 

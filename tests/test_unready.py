@@ -4,7 +4,7 @@ copy of the sources and run by `rt try`."""
 
 import shutil
 
-from tests.support import TOP, Case, copy_sources, run
+from tests.support import TOP, Case, copy_sources, run_unproved
 
 
 class Unready(Case):
@@ -15,7 +15,7 @@ class Unready(Case):
         crate = self.folder / 'crates/unready'
         (crate / 'src').mkdir(parents=True)
         shutil.copy(TOP / 'tests/unready.rt.txt', crate / 'src/main.rt')
-        ended = run('rt', 'try', '--steps', '1', '--seconds', '300', cwd=crate, limit=1800)
+        ended = run_unproved(crate)
         # which RDY is late, the read at which it is right, and the result: a run and a server end if a controller isn't
         # ready, and a list, like a reset, is answered with 12 bytes
         in_time, too_late = ((1, 1), (16, 16)), ((17, 16), (4294967295, 16))

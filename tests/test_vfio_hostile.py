@@ -4,13 +4,14 @@ import os
 import random
 import signal
 import socket
+import stat
 import struct
 import time
 
 from tests.as_client import (
     BAR, BIND, BIND_UNMASK, CONFIG, DEVICE_INFO, DMA_MAP, DMA_UNMAP, IRQ_INFO, MASK, REGION_INFO, REGION_READ,
     REGION_WRITE, RESET, SET_IRQS, UNBIND, UNMASK, VERSION, WANTS_NONE)
-from tests.driver import CC, COMMAND, CSTS, HEAD, IDENTIFY, PAGE, TAIL, counter, memory_file
+from tests.driver import CC, COMMAND, CSTS, HEAD, IDENTIFY, PAGE, TAIL, chosen, counter, memory_file
 from tests.served import ATTACH, CREATE, EINVAL, ENOENT, ENOTSUP, EVERY, GET_LOG, Served
 from tests.support import DEMO, run
 from tests.test_qemu import SANITIZERS, program
@@ -78,7 +79,7 @@ class Hostile(Served):
         # (they may come with any byte)
         message = struct.pack('<HHIIIQII', 1, REGION_READ, 32, 0, 0, 0, CONFIG, 4)
         for byte in message:
-            client.socket.sendmsg([bytes([byte])], [(socket.SOL_SOCKET, socket.SCM_RIGHTS, struct.pack('=i', file))])
+            socket.send_fds(client.socket, [bytes([byte])], [file])
         client.heard()
         self.keeps(kept)
         # the descriptor of a message among others is its own, also after a byte out of band
@@ -86,7 +87,7 @@ class Hostile(Served):
         for flag in 0, socket.MSG_OOB:
             client.socket.send(others[:-1])
             client.socket.send(others[-1:], flag)
-            client.socket.sendmsg([first], [(socket.SOL_SOCKET, socket.SCM_RIGHTS, struct.pack('=i', file))])
+            socket.send_fds(client.socket, [first], [file])
             client.socket.sendall(others)
             answers = [client.heard() for _ in range(7)]
             self.assertEqual([(command, error) for _, command, _, error, _ in answers],
@@ -192,11 +193,18 @@ class Hostile(Served):
 
     def test_several_subsystems(self):
         self.stop(self.server, signal.SIGINT)
-        self.server = self.start('--subsystem', DEMO, '--subsystem', DEMO, last=3)
+        self.server = self.start('--subsystem', DEMO, '--subsystem', DEMO, last=3,
+                                 by=('env', '--default-signal=HUP', 'sh', '-c', 'umask 0; exec "$0" "$@"'))
         guests = [self.guest(number) for number in range(4)]
         for guest in guests:
             guest.enable()
         self.assertEqual([guest.serial() for guest in guests], ['S0', 'S1'] * 2)
+        self.assertEqual([stat.S_IMODE(os.stat(f'{self.path}{number}').st_mode) for number in range(4)], [0o777] * 4)
+        self.stop(self.server, signal.SIGHUP)
+        # (one that is started with nohup goes on)
+        self.server = self.start(by=('env', '--ignore-signal=HUP'))
+        self.server.process.send_signal(signal.SIGHUP)
+        self.assertEqual(self.guest(0).config(0), 0x0010_1b36)
 
     def test_random_messages(self):
         for seed in SEEDS:
@@ -227,16 +235,10 @@ class Hostile(Served):
         guest.close()
 
 
-def chosen(lot, bits):
-    """Returns a number that is likely to be wrong, or to be right."""
-    near = lot.choice((0, 0, 1, 2, 4, 7, 0x14, 0x24, 0x28, 0x30, 0x1000, 0x1004, PAGE, 64 * PAGE, 1 << 31, 1 << 63))
-    return lot.choice((near, near, lot.getrandbits(64), lot.getrandbits(12), near + lot.randrange(-8, 9))) % 2 ** bits
-
-
 def random_ring(lot):
     """Returns two pages: entries of a submission ring, most of them with data that may lie anywhere, and zeros."""
     entries = (struct.pack('<BBHIQQQQ6I', lot.choice((IDENTIFY, GET_LOG, CREATE, ATTACH, lot.randrange(256))), 0, at,
-                           lot.choice((0, 1, EVERY)), 0, 0, chosen(lot, 64), chosen(lot, 64), lot.choice((1, 0x10, 0)),
+                           lot.choice((0, 1, EVERY)), 0, 0, chosen(lot), chosen(lot), lot.choice((1, 0x10, 0)),
                            *[0] * 5) for at in range(64))
     return b''.join(entries) + bytes(PAGE)
 
@@ -245,16 +247,16 @@ def random_payload(lot, command):
     if lot.random() < 0.05:
         return lot.randbytes(lot.randrange(60))
     if command == DMA_MAP:
-        return struct.pack('<IIQQQ', 32, lot.choice((3, 3, 1, chosen(lot, 32))), *(chosen(lot, 64) for _ in range(3)))
+        return struct.pack('<IIQQQ', 32, lot.choice((3, 3, 1, chosen(lot, 32))), *(chosen(lot) for _ in range(3)))
     if command == DMA_UNMAP:
-        return struct.pack('<IIQQ', 24, lot.choice((0, 0, 0, 2)), chosen(lot, 64), chosen(lot, 64))
+        return struct.pack('<IIQQ', 24, lot.choice((0, 0, 0, 2)), chosen(lot), chosen(lot))
     if command == SET_IRQS:
         return struct.pack('<5I', 20, lot.choice((BIND, UNBIND, MASK, UNMASK, BIND_UNMASK, lot.getrandbits(7))),
                            lot.choice((0, 1, chosen(lot, 32))), lot.choice((0, 0, chosen(lot, 32))),
                            lot.choice((0, 1, 2)))
     if command in (REGION_READ, REGION_WRITE):
         region, count = lot.choice((BAR, BAR, CONFIG, chosen(lot, 32))), lot.choice((4, 4, 8, 1, 256, chosen(lot, 14)))
-        offset = lot.choice((TAIL, HEAD, CC, COMMAND, chosen(lot, 64), lot.randrange(256)))
+        offset = lot.choice((TAIL, HEAD, CC, COMMAND, chosen(lot), lot.randrange(256)))
         data = lot.choice((lot.randrange(16).to_bytes(4, 'little'), b'\1\0\x46\0', lot.randbytes(4))) * 5000
         return struct.pack('<QII', offset, region, count) + (data[:count] if command == REGION_WRITE else b'')
     return struct.pack('<8I', *(chosen(lot, 32) for _ in range(8)))[:lot.choice((16, 32, 0))]

@@ -8,8 +8,10 @@ import sys
 import time
 
 from tests.as_client import (
-    BIND, BIND_UNMASK, MASK, MESSAGES, MESSAGE_CONTROL, PIN, SET_IRQS, STATUS, UNBIND, UNMASK)
+    BAR, BIND, BIND_UNMASK, MASK, MESSAGES, MESSAGE_CONTROL, PIN, REGION_WRITE, SET_IRQS, STATUS, UNBIND, UNMASK,
+    WANTS_NONE)
 from tests.driver import COMMAND, CSTS, HEAD, IDENTIFY, MASTER, NO_INTERRUPT, PAGE, TAIL, counter, is_raised, memory_file
+from tests.modelled import is_there
 from tests.served import EINVAL, Served
 from tests.support import DEMO
 
@@ -112,6 +114,10 @@ class Interrupts(Served):
         self.assertEqual(self.driver.config(STATUS, 2), 0x18)
         self.put()
         self.assertFalse(is_raised(pin))
+        # (another counter in its place was never raised)
+        pin = counter()
+        self.assertEqual(self.driver.set_irqs(BIND, PIN, file=pin), 0)
+        self.assertTrue(is_raised(pin, 10))
         self.assertEqual(self.driver.set_irqs(UNMASK, PIN), 0)
         self.assertTrue(is_raised(pin, 10))
         self.driver.take(), self.driver.take()
@@ -203,6 +209,29 @@ class Interrupts(Served):
         self.assertEqual(machine.ended, 2000)
         self.assertLess(machine.interrupts, 2200)
         self.assertFalse(is_raised(pin, 0.3))
+
+    def test_calls_of_the_kernel(self):
+        # two doorbells that come together cost the server three: it waits, sees them, and takes them as it interrupts
+        if not is_there('strace'):
+            self.skipTest('strace is not installed')
+        self.driver.close()
+        self.stop(self.server)
+        trace = self.folder / 'trace'
+        self.server = self.start(by=('strace', '-D', '-o', trace))
+        driver = self.guest()
+        driver.enable()
+        message = driver.counters()[1]
+        for _ in range(50):
+            driver.put(IDENTIFY, 2 * PAGE, dword10=1, rings=False)
+            driver.socket.sendall(b''.join(
+                struct.pack('<HHIIIQIII', 0, REGION_WRITE, 36, WANTS_NONE, 0, offset, BAR, 4, value)
+                for offset, value in ((HEAD, driver.head), (TAIL, driver.tail))))
+            self.assertTrue(is_raised(message, 10))
+            self.assertEqual(driver.advance(), 0)
+        self.stop(self.server)
+        self.server = self.start()
+        calls = ' '.join(line.partition('(')[0] for line in trace.read_text().splitlines())
+        self.assertIn(' '.join(['io_submit poll recvmsg'] * 49 + ['io_submit']), calls)
 
     def test_unmask_counter(self):
         # with KVM, a counter tells that the pin was seen

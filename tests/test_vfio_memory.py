@@ -10,8 +10,9 @@ from tests.served import EACCES, EEXIST, EINVAL, ENOENT, ENOSPC, GIBIBYTE, Serve
 class Memory(Served):
     def test_holes(self):
         # nothing is there: data in a hole is lost, and queues there are fatal
-        low, high = (0, 16 * PAGE), (0x40_0000, 16 * PAGE)
-        guest = self.guest(layout=[low, high])
+        guest = self.guest(layout=[(0, 16 * PAGE)])
+        high = Piece(0x40_0000, 16 * PAGE, offset=0x40_0000)
+        guest.add(high)
         guest.enable()
         self.assertEqual(guest.serial(0x40_0000), 'S0')
         for first in 16 * PAGE, 0x3f_f000, 0x41_0000, 1 << 32, REACHED - PAGE, REACHED, 1 << 63, NOWHERE:
@@ -20,6 +21,7 @@ class Memory(Served):
             self.assertEqual(guest.status_of(IDENTIFY, 8 * PAGE + 0x800, first, dword10=1), wanted, hex(first))
             self.assertEqual(guest.status_of(IDENTIFY, first + 0x801, 8 * PAGE, dword10=1), INVALID_OFFSET)
         self.assertEqual(guest.serial(), 'S0')
+        self.assertEqual(os.pread(high.file, high.offset, 0), bytes(high.offset))
         for rings in (16 * PAGE, PAGE), (0, 16 * PAGE), (NOWHERE, PAGE), (0, NOWHERE), (REACHED, PAGE), (0, 1 << 40):
             guest.enable(rings=rings)
             guest.set_register(TAIL, 1)

@@ -163,6 +163,15 @@ class Waiting(Served):
         self.assertEqual(client.config(0), 0x0010_1b36)
         client.say(DMA_MAP, struct.pack('<IIQQQ', 32, 3, 0, 0, PAGE), [memory_file(PAGE)])
         self.assertTrue(client.is_closed())
+        # (nor is anything left of a client whose receiver ends before it answers)
+        client = self.greeted()
+        for number in self.receivers():
+            os.kill(number, signal.SIGSTOP)
+        client.say(DMA_MAP, struct.pack('<IIQQQ', 32, 3, 0, 0, PAGE), [memory_file(PAGE)])
+        self.assertTrue(client.is_silent())
+        for number in self.receivers():
+            os.kill(number, signal.SIGKILL)
+        self.assertTrue(client.is_closed())
         self.goes_on(0)
         # a server that is killed leaves none
         self.greeted()
@@ -174,16 +183,33 @@ class Waiting(Served):
         self.server = self.start()
 
     def test_end_with_messages_left(self):
-        # a server that ends has read what its clients sent, so they find the end of a stream, and no reset
-        client = self.greeted()
-        client.socket.setblocking(False)
-        with contextlib.suppress(BlockingIOError):
-            while True:
-                client.say(REGION_READ, struct.pack('<QII', 0, BAR, 0x4000))
-        self.stop(self.server)
-        client.socket.settimeout(10)
-        while client.socket.recv(65536):
-            pass
+        # what clients sent is read although the server ends, so they find the end of a stream, and no reset
+        for number in signal.SIGTERM, signal.SIGKILL:
+            client = self.greeted()
+            client.socket.setblocking(False)
+            with contextlib.suppress(BlockingIOError):
+                while True:
+                    client.say(REGION_READ, struct.pack('<QII', 0, BAR, 0x4000))
+            self.server.process.send_signal(number)
+            self.assertEqual(self.server.end().status, -number)
+            client.socket.settimeout(10)
+            while client.socket.recv(65536):
+                pass
+            self.server = self.start()
+
+    def test_end_with_a_descriptor_left(self):
+        # nor does the server wait at its end until a descriptor is closed that a client sent
+        page = AbsentPage(self)
+        client, ends = self.greeted(), os.pipe()
+        page.write(ends[1])
+        with self.stopped():
+            client.say(DMA_MAP, struct.pack('<IIQQQ', 32, 3, 0, 0, PAGE), [ends[0]])
+            os.close(ends[0])
+            self.server.process.terminate()
+        begun_at = time.monotonic()
+        self.assertEqual(self.server.end().status, -signal.SIGTERM)
+        self.assertLess(time.monotonic() - begun_at, 3)
+        page.close()
         self.server = self.start()
 
     def test_turn_without_an_end(self):
@@ -205,7 +231,7 @@ class Waiting(Served):
     def test_few_descriptors(self):
         # where none is left, a request is refused by EMFILE, or a client waits, and the server goes on
         outcomes = set()
-        for most in range(9, 15):
+        for most in range(8, 14):
             self.stop(self.server)
             self.server = self.start(by=('sh', '-c', 'ulimit -n "$0"; exec "$@"', str(most)))
             outcomes.add(self.mapped())

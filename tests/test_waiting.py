@@ -4,18 +4,17 @@ user, as far as these can make such file systems."""
 
 import os
 import pathlib
+import select
 import subprocess
 import time
 import unittest
 from signal import SIGCONT, SIGKILL, SIGSTOP
 
-from tests.modelled import (DEVICES, HELPERS, KEEPERS, LAUNCHER, PROGRAMS, WARNINGS, ModelCase, parts, process_folder,
-                            signals, works)
-from tests.support import Running, environment, run
+from tests.modelled import (ASKING, DEVICES, HELPERS, KEEPERS, LAUNCHER, PROGRAMS, WARNINGS, ModelCase, do_helpers,
+                            parts, process_folder, signals, works)
+from tests.support import (IS_ROOT, LIMIT, NOBODY, USERS, Running, environment, left_running, processes, run,
+                           until)
 
-IS_ROOT = os.geteuid() == 0
-NOBODY = 'setpriv', '--reuid=65534', '--regid=65534', '--clear-groups'
-USERS = [(), NOBODY] if IS_ROOT else [()]
 # Gives a place where everybody can open /dev/fuse.
 EVERYBODY = ('unshare', '-m', 'sh', '-c', 'mount -t tmpfs fuse /mnt && mknod -m 666 /mnt/fuse c 10 229 && '
              'mount --bind /mnt/fuse /dev/fuse && umount -l /mnt && exec "$@"', 'sh')
@@ -31,21 +30,21 @@ class WaitingCase(ModelCase):
         self.needs('nvme')
         self.folder.chmod(0o777)
 
-    def begun(self, user, script, *words, options=(), outside=()):
+    def begun(self, user, script, *words, options=(), outside=(), meanwhile=None):
         """Starts a script over the demonstration file, and waits until it says `go`."""
         command = self.command('sh', '-c', script, 'sh', *words, options=options)
         running = Running(*outside, *user, *command)
         self.addCleanup(running.process.kill)
-        running.comes(b'go\n', 60)
+        if meanwhile:
+            meanwhile()
+        running.comes(b'go\n')
         return running
 
-    def ends_by_signal(self, running, limit=20):
+    def ends_by_signal(self, running):
         """Ends a command by SIGTERM, and returns its output."""
-        begun = time.monotonic()
         running.process.terminate()
-        ended = running.end(limit)
+        ended = running.end()
         self.assertEqual(ended.status, 143, ended)
-        self.assertLess(time.monotonic() - begun, limit, ended)
         self.leaves_nothing()
         return ended.out
 
@@ -69,12 +68,12 @@ class Hung(WaitingCase):
         (self.folder / 'm').mkdir(mode=0o777)
         (self.folder / 'm').chmod(0o777)
 
-    def mounted(self, script, rest, way, words=()):
+    def mounted(self, script, rest, way, words=(), **more):
         """Starts a script in a user namespace with a file system in $1, and then another one outside of that."""
         user, inside = way
         nested = ' '.join(inside) + f' unshare -Urm sh -c \'"$0" "$1" "$3" && {script}\' "{self.fuse}" "$@" & '
         return self.begun(user, nested + rest, self.folder / 'm', self.folder, self.log, *words,
-                          options=['--device', '/dev/fuse'], outside=EVERYBODY if IS_ROOT else ())
+                          options=['--device', '/dev/fuse'], outside=EVERYBODY if IS_ROOT else (), **more)
 
     def test_writers(self):
         # the server makes calls that are answered before it answers, while four writers make files
@@ -82,27 +81,33 @@ class Hung(WaitingCase):
                   'wait; for k in 1 2 3 4; do test -e "$1/w$k-25" || echo missing; done; echo go')
         for way in ways():
             with self.subTest(way=way):
-                out = self.ends_by_signal(self.mounted(script, 'sleep 100', way))
+                out = self.ends_by_signal(self.mounted(script, 'sleep 1000', way))
                 self.assertEqual(out, b'ready\ngo\n')
 
     def test_paths(self):
-        # more opens that hang than there are helpers at most
-        # (a short write would be handed over too, and so would a new name)
-        for count, time_for_all in (20, 1), (600, 8):
+        # more opens that hang than there are helpers at most, which can't write a short text meanwhile or make a file
+        for count, hung in (20, 20), (600, 511):
             for number, way in enumerate(ways()):
-                begun = f'"$2/begun{count}-{number}"'
-                script = (f'exec 9> {begun}; for i in $(seq {count}); do (: > "$1/hangs") & done; sleep {time_for_all}; '
-                          'printf "%80s\\n" x >&9; wait')
-                rest = f'until test -s {begun}; do sleep 0.1; done; {OTHERS}printf "%80s\\n" go; sleep 100'
+                begun = f'begun{count}-{number}'
+                script = f'for i in $(seq {count}); do (: > "$1/hangs") & done; wait'
+                rest = f'until test -e "$2/{begun}"; do sleep 0.1; done; {OTHERS}printf "%80s\\n" go; sleep 1000'
                 with self.subTest(count, way=way):
-                    out = self.ends_by_signal(self.mounted(script, rest, way), 60)
+                    out = self.ends_by_signal(self.mounted(script, rest, way, meanwhile=lambda: self.hang(hung, begun)))
                     # (with so many, others are told to try again; root's helpers aren't let into another user's file system)
                     self.assertRegex(out, rb'(?s)^ready\n(.*Resource temporarily unavailable\n){10}.*go\n$' if
                                      count == 600 and not way[1] else rb'^ready\n10\n1\n +go\n$')
 
+    def hang(self, count, begun):
+        """Waits until so many shells open a file, and makes one."""
+        def opening():
+            return ({*left_running()} & {*processes('comm', lambda text: text == b'sh\n')} &
+                    {*processes('syscall', lambda text: text.startswith(b'257 '))})
+        self.assertTrue(until(lambda: len(opening()) >= count))
+        (self.folder / begun).touch()
+
     def test_memory(self):
         script = 'python3 "$4" "$1/memory" 12 "$2/started"'
-        rest = 'until test -e "$2/started"; do sleep 0.1; done; ' + OTHERS + 'rm -f "$2/started"; echo go; sleep 100'
+        rest = 'until test -e "$2/started"; do sleep 0.1; done; ' + OTHERS + 'rm -f "$2/started"; echo go; sleep 1000'
         for way in ways():
             with self.subTest(way=way):
                 copy = self.file('hung_memory.py', (PROGRAMS / 'hung_memory.py').read_bytes())
@@ -114,7 +119,7 @@ class Hung(WaitingCase):
         script = 'python3 "$4" "$1/memory" 2 "$2/started" list'
         rest = ('until test -e "$2/started"; do sleep 0.1; done; rm -f "$2/started"; '
                 'nvme attach-ns /dev/nvme1 -n 1 -c 1 > /dev/null 2>&1 & sleep 2.5; ' +
-                OTHERS.partition('nvme')[0] + 'echo go; sleep 100')
+                OTHERS.partition('nvme')[0] + 'echo go; sleep 1000')
         for way in ways():
             with self.subTest(way=way):
                 copy = self.file('hung_memory.py', (PROGRAMS / 'hung_memory.py').read_bytes())
@@ -127,54 +132,68 @@ class Processes(WaitingCase):
         # calls of its controllers wait, and all others go on
         script = ('step; nvme id-ctrl /dev/nvme0 > /dev/null & '
                   '(echo 1 > /sys/class/nvme/nvme0/rescan_controller) 2> /dev/null & sleep 0.3; '
-                  + OTHERS.replace('nvme0', 'nvme2') + 'head -c 3 /dev/nvme0n1 | wc -c; echo go; sleep 100')
+                  + OTHERS.replace('nvme0', 'nvme2') + 'head -c 3 /dev/nvme0n1 | wc -c; echo go; sleep 1000')
         for user in USERS:
             with self.subTest(user=user):
                 running = self.stepped(script, lambda: os.kill(parts(2)[DEVICES][0], SIGSTOP), words=['x', self.folder],
                                        user=user, options=['--subsystem', self.subsystem])
-                running.comes(b'go\n', 60)
+                running.comes(b'go\n')
                 self.assertEqual(self.ends_by_signal(running), b'step\n10\n1\n3\ngo\n')
 
     def test_it_goes_on(self):
         script = 'step; (nvme id-ctrl /dev/nvme0 | grep -c S0) & sleep 0.3; step; wait'
         for user in USERS:
             running = self.stepped(script, signals(DEVICES, SIGSTOP), signals(DEVICES, SIGCONT), user=user)
-            self.ends(running.end(60), 0, b'step\nstep\n1\n')
+            self.ends(running.end(), 0, b'step\nstep\n1\n')
+
+    def test_messages(self):
+        # what a program writes to standard error is handed to nobody, so it comes although the helpers are stopped
+        for user in USERS:
+            with self.subTest(user=user):
+                running = self.stepped('step; ls /none; read -r line; echo end', signals(HELPERS, SIGSTOP), user=user)
+                running.comes(b"ls: cannot access '/none': No such file or directory\n")
+                signals(HELPERS, SIGCONT)()
+                self.assertRegex(running.end().out, b'^step\nls: .*\nend\n$')
 
     def test_many_callers(self):
         # more callers than helpers wait for a device, and each gets its answer
-        script = ('step; for i in $(seq 100); do (nvme id-ctrl /dev/nvme0 | grep -c S0) & done; sleep 3; '
+        script = ('step; for i in $(seq 100); do (nvme id-ctrl /dev/nvme0 | grep -c S0) & done; step; '
                   'echo x > "$1"; cat "$1"; step; wait')
         for user in USERS:
             with self.subTest(user=user):
-                running = self.stepped(script, signals(DEVICES, SIGSTOP), signals(DEVICES, SIGCONT), user=user,
-                                       words=[self.folder / f'file{len(user)}'])
-                self.ends(running.end(60), 0, b'step\nx\nstep\n' + b'1\n' * 100)
+                running = self.stepped(script, signals(DEVICES, SIGSTOP),
+                                       lambda: self.assertTrue(do_helpers(ASKING, 100)), signals(DEVICES, SIGCONT),
+                                       user=user, words=[self.folder / f'file{len(user)}'])
+                self.ends(running.end(), 0, b'step\nstep\nx\nstep\n' + b'1\n' * 100)
+
+    def kill_helpers(self):
+        """Kills the helpers as soon as one of them waits for its keeper."""
+        self.assertTrue(do_helpers(ASKING, 1))
+        signals(HELPERS, SIGKILL)()
 
     def test_killed_helpers(self):
         # the call of a helper that is killed fails, and others take its place
-        script = ('step; (nvme id-ctrl /dev/nvme0 2>&1 | grep -o "Input/output error") & sleep 2; step; wait; step; '
-                  + OTHERS * 2)
+        script = 'step; (nvme id-ctrl /dev/nvme0 2>&1 | grep -o "Input/output error") & step; wait; step; ' + OTHERS * 2
         for user in USERS:
             with self.subTest(user=user):
-                running = self.stepped(script, signals(DEVICES, SIGSTOP), signals(HELPERS, SIGKILL),
+                running = self.stepped(script, signals(DEVICES, SIGSTOP), self.kill_helpers,
                                        signals(DEVICES, SIGCONT), user=user, words=['x', self.folder])
                 # (the short write of the message may have been handed to a helper that was killed)
-                self.assertRegex(running.end(60).out, rb'^step\nstep\n(grep: write error: )?Input/output error\nstep\n'
+                self.assertRegex(running.end().out, rb'^step\nstep\n(grep: write error: )?Input/output error\nstep\n'
                                  rb'(10\n1\n){2}$')
 
     def test_killed_keeper(self):
         # nothing answers for its device any more, so all ends
         for user in USERS:
             with self.subTest(user=user):
-                running = self.stepped('step; sleep 100', signals(KEEPERS, SIGKILL), user=user)
-                self.ends(running.end(20), 72, b'step\nnvme-model: the process that talks with a device was killed\n')
+                running = self.stepped('step; sleep 1000', signals(KEEPERS, SIGKILL), user=user)
+                self.ends(running.end(), 72, b'step\nnvme-model: the process that talks with a device was killed\n')
 
     def test_killed_launcher(self):
         for user in USERS:
             with self.subTest(user=user):
-                running = self.stepped('step; sleep 100', signals(LAUNCHER, SIGKILL), user=user)
-                self.ends(running.end(20), 137, b'step\n')
+                running = self.stepped('step; sleep 1000', signals(LAUNCHER, SIGKILL), user=user)
+                self.ends(running.end(), 137, b'step\n')
                 self.leaves_nothing()
 
     def spent(self):
@@ -197,7 +216,7 @@ class Processes(WaitingCase):
         for user in USERS:
             with self.subTest(user=user):
                 running = self.stepped(script, self.is_idle, user=user, words=[program])
-                self.ends(running.end(60), 0, b'step\n4608\n')
+                self.ends(running.end(), 0, b'step\n4608\n')
 
     @unittest.skipUnless(IS_ROOT, 'root alone can take groups')
     def test_many_groups(self):
@@ -205,18 +224,18 @@ class Processes(WaitingCase):
         groups = '--groups=' + ','.join(map(str, range(1_000_000_000, 1_000_001_000)))
         for user in ('setpriv', groups), ('setpriv', '--reuid=65534', '--regid=65534', groups):
             with self.subTest(user=user[1:-1]):
-                self.assertEqual(self.ends_by_signal(self.begun(user, 'echo go; exec sleep 100')), b'go\n')
+                self.assertEqual(self.ends_by_signal(self.begun(user, 'echo go; exec sleep 1000')), b'go\n')
 
     def test_limits(self):
         # process 1 takes no turn in vain, and ends with the command
         spent = 'cut -d " " -f 14,15 /proc/1/stat | tr " " +'
         for limit in 'nofile=0:0', 'nproc=0:0', 'fsize=0:0', 'nofile=1:1', 'cpu=600:600':
             script = (f'prlimit --pid 1 --{limit}; a=$(({"$"}({spent}))); sleep 1; b=$(({"$"}({spent}))); '
-                      f'test $((b - a)) -lt 30 || echo $a $b; echo go; test -z "$1" || sleep 100; exit 5')
+                      f'test $((b - a)) -lt 30 || echo $a $b; echo go; test -z "$1" || sleep 1000; exit 5')
             for user in USERS:
                 with self.subTest(limit, user=user):
                     self.assertEqual(self.ends_by_signal(self.begun(user, script, 'x')), b'go\n')
-                    self.ends(self.begun(user, script, '').end(20), 5, b'go\n')
+                    self.ends(self.begun(user, script, '').end(), 5, b'go\n')
 
     def test_many_orphans(self):
         # a signal is passed on while processes without parents stop and end
@@ -241,11 +260,11 @@ class Processes(WaitingCase):
                                        options=['--trace', '--refuse', 'format=0x2002'])
                 process = subprocess.Popen([*user, *command], stderr=writer, stdout=subprocess.DEVNULL, env=environment())
                 self.addCleanup(process.kill)
-                os.close(writer)
-                time.sleep(3)
+                self.assertTrue(until(lambda: not select.select([], [writer], [], 0)[1]), 'the pipe is never full')
                 process.terminate()
-                self.assertEqual(process.wait(20), 143)
+                self.assertEqual(process.wait(LIMIT), 143)
                 os.close(reader)
+                os.close(writer)
                 self.leaves_nothing()
 
     def test_limits_of_the_caller(self):
@@ -284,19 +303,20 @@ class Processes(WaitingCase):
         for user in USERS:
             with self.subTest(user=user):
                 running = self.stepped(script, signals(DEVICES, SIGKILL), user=(*user, 'env', f'LD_PRELOAD={late}'))
-                self.ends(running.end(60), 0,
+                self.ends(running.end(), 0,
                           b'step\nnvme-model: the device ended, or answered what was not asked\ngone\n')
 
     @unittest.skipUnless(IS_ROOT, 'root alone can take the number of a user without processes')
     def test_too_few_processes(self):
         # a launcher that can't start what it needs says so
-        few = rb'nvme-model: (fork|the command can\'t have a namespace of processes): Resource temporarily unavailable\n'
+        few = rb'nvme-model: .*: Resource temporarily unavailable(; --no-sandbox runs the command without one)?\n'
         for count in range(4, 10):
             user = ('setpriv', f'--reuid={54321 + count}', '--regid=54321', '--clear-groups', 'bash', '-c',
                     'ulimit -u $1; shift; exec "$@"', 'bash')
-            ended = run(*user, str(count), *self.command('nvme', 'list-ns', '/dev/nvme0'), limit=60)
-            self.assertRegex(ended.err, b'^$' if ended.status == 0 else few + b'$', ended)
-            self.assertIn(ended.status, (0, 72))
+            ended = run(*user, str(count), *self.command('nvme', 'list-ns', '/dev/nvme0'))
+            is_enough = ended.status == 0
+            self.ends(ended, 0 if is_enough else 72, b'[   0]:0x1\n[   1]:0x3\n' if is_enough else b'')
+            self.assertRegex(ended.err, b'^$' if is_enough else few + b'$', ended)
 
     def test_many_changes(self):
         # more files are written than the kernel tells while a keeper waits; a node that became longer gets its length
@@ -328,7 +348,7 @@ class Processes(WaitingCase):
             with self.subTest(user=user):
                 running = self.stepped('python3 -c "$1"', signals(DEVICES, SIGSTOP), signals(DEVICES, SIGCONT),
                                        user=user, words=[program])
-                self.ends(running.end(60), 0, b'step\n10000\nstep\nend\n')
+                self.ends(running.end(), 0, b'step\n10000\nstep\nend\n')
 
 
 if __name__ == '__main__':

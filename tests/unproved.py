@@ -3,7 +3,7 @@ layout of the files. `python3 -m tests.run --quick` runs this."""
 
 import re
 
-from tests.support import TOP, Case, copy_sources, run
+from tests.support import TOP, Case, copy_sources, run, run_unproved
 
 
 def tests_written(crate):
@@ -22,7 +22,7 @@ def names():
 
 class Tests(Case):
     def check(self, crate):
-        ended = run('rt', 'try', '--test', '--steps', '1', '--seconds', '900', cwd=crate, limit=1800)
+        ended = run_unproved(crate, '--test')
         text = ended.out.decode()
         said = ended.line + '\n' + re.sub(r'(?m)^test \S+ \.\.\. ok\n', '', text) + ended.err.decode(errors='replace')
         told = re.findall(r'(?m)^test (\S+) \.\.\. (.*)$', text)
@@ -46,7 +46,7 @@ class Programs(Case):
         kinds = {'reads': b'r', 'output': b'o', 'messages': b'm'}
         wanted = [line for line in (crate / 'stdout').read_text().splitlines(True)
                   if ' cut by ' not in line or kinds[line.split()[4].rstrip(':')] in letters]
-        ended = run('rt', 'try', '--steps', '1', '--seconds', '900', cwd=crate, source=letters, limit=1800)
+        ended = run_unproved(crate, source=letters)
         self.ends(ended, 0, ''.join(wanted).encode())
 
     def test_output(self):

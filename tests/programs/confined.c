@@ -12,7 +12,7 @@
 #include <unistd.h>
 
 int has_sandbox = 1;
-const struct decided_call decided_calls[1];
+const struct decided_call decided_calls[1], old_decided_calls[1];
 
 void fail(const char *format, ...) { _exit(printf("%s\n", format) > 0); }
 void fail_by_errno(const char *what) { fail("%s", what); }

@@ -1,7 +1,10 @@
-/* Runs `test -b /dev/nvme0n1` by each call of the C library that runs a program, in a child that shares this memory.
-   The status is 0, or the number of the first way that failed. */
+/* Runs `test -b /dev/nvme0n1` by each call of the C library that runs a program, in a child that shares this memory if
+   the call doesn't make one itself. The status is 0, or the number of the first way that failed. */
 #define _GNU_SOURCE
 #include <fcntl.h>
+#include <spawn.h>
+#include <stdio.h>
+#include <stdlib.h>
 #include <sys/wait.h>
 #include <unistd.h>
 
@@ -35,6 +38,26 @@ static void run(int way) {
     }
 }
 
+/* (in a shell, the environment is that of this process) */
+static int spawns(int way) {
+    const char *line = "/usr/bin/test -b /dev/nvme0n1";
+    int how = -1;
+    pid_t child;
+    clearenv();
+    switch (way) {
+    case 8:
+        return system(line) == 0;
+    case 9: {
+        FILE *shell = popen(line, "r");
+        return shell && pclose(shell) == 0;
+    }
+    case 10:
+        return posix_spawn(&child, file, NULL, NULL, words, none) == 0 && waitpid(child, &how, 0) == child && how == 0;
+    default:
+        return posix_spawnp(&child, file, NULL, NULL, words, none) == 0 && waitpid(child, &how, 0) == child && how == 0;
+    }
+}
+
 int main(void) {
     for (int way = 0, how = 0; way < 8; way++) {
         if (vfork() == 0) {
@@ -45,5 +68,8 @@ int main(void) {
         if (how)
             return way + 1;
     }
+    for (int way = 8; way < 12; way++)
+        if (!spawns(way))
+            return way + 1;
     return 0;
 }

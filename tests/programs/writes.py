@@ -2,6 +2,7 @@
 
 import ctypes
 import errno
+import fcntl
 import mmap
 import os
 
@@ -18,13 +19,16 @@ x = os.open('/etc/passwd', os.O_RDONLY)
 fails(errno.ENOSPC, os.pwrite, f, b'x', 4608)
 fails(errno.ENOSPC, os.pwritev, f, [b'x'], 4608)
 fails(errno.ENOSPC, os.pwritev, f, [b'x'], 4608, os.RWF_DSYNC)
-fails(errno.ENOSPC, os.write, a, b'x')
 fails(errno.EINVAL, os.ftruncate, f, 5)
 fails(errno.EINVAL, os.truncate, '/dev/nvme0n3', 9999)
 fails(errno.EEXIST, os.open, '/dev/nvme0n3', os.O_RDWR | os.O_CREAT | os.O_EXCL)
 fails(errno.ENODEV, os.posix_fallocate, f, 0, 9999)
-fails(errno.EXDEV, os.copy_file_range, x, f, 50, 0, 4600)
+fails(errno.EINVAL, os.copy_file_range, x, f, 50, 0, 4600)
 fails(errno.EINVAL, os.sendfile, f, x, 0, 9)
+# (a block device has no end to append at)
+print(os.write(a, b'x'), os.pread(f, 1, 0))
+fcntl.fcntl(a, fcntl.F_SETFL, os.O_APPEND)
+fails(errno.ENOSPC, os.write, a, b'x')
 m = mmap.mmap(f, 4096)
 m[:5] = b'mmaps'
 m.flush()

@@ -1,14 +1,20 @@
 """Refuses each allocation of a run in turn, and checks what the run left behind: whole lines, and nothing of the line
 that was cut short. A run of many lines or requests uses no more memory than a run of a few."""
 
+import concurrent.futures
+
 from tests.support import TOP, Case, compiled, program, run
+
+# How many processes refuse the allocations of one program side by side.
+PARTS = 8
 
 
 class Refusing(Case):
-    def refused(self, number, crate, *arguments, source):
+    def refused(self, number, crate, *arguments, source, calls=None):
         """Runs a program in which the allocation with this number is refused, or no allocation if it is 0."""
-        refuse = {'LD_PRELOAD': compiled('refuse.c', '-ldl'), 'REFUSE': number, 'CALLS': self.folder / 'calls'}
-        return run(program(crate), *arguments, source=source, env=refuse)
+        refuse = {'LD_PRELOAD': compiled('allocations.c', '-ldl'), 'REFUSE': number,
+                  'CALLS': calls or self.folder / 'calls'}
+        return run(program(crate), *arguments, source=source, env=refuse, limit=3600)
 
     def whole(self, crate, *arguments, source):
         """Runs a program in which no allocation is refused. Returns how it ended, the number of its allocations, and
@@ -26,7 +32,7 @@ class EachAllocation(Refusing):
     operations = b'subsystem\nbring_up\npassthrough 0 6 cdw10=2 room=8\nsaw\n'
     other_file = '--subsystem', 'examples/two_controllers.toml'
 
-    def each(self, crate, *arguments, source, looks_itself=False):
+    def each(self, crate, *arguments, source):
         whole, allocations, _ = self.whole(crate, *arguments, source=source)
         messages = crate.replace('_', '-').encode() + b': out of memory\n'
         statuses = set()
@@ -34,9 +40,7 @@ class EachAllocation(Refusing):
             with self.subTest(allocation=number):
                 ended = self.refused(number, crate, *arguments, source=source)
                 statuses.add(ended.status)
-                if looks_itself:
-                    self.assertIn(ended.status, (0, 6), ended)
-                elif ended.status == 0:
+                if ended.status == 0:
                     # a vector that can't grow may get a smaller size instead: then nothing shows
                     self.ends(ended, 0, whole.out, b'')
                 else:
@@ -44,7 +48,23 @@ class EachAllocation(Refusing):
         self.assertIn(6, statuses, 'no refused allocation shows')
 
     def test_failing_tests(self):
-        self.each('nv_failing_tests', source=b'', looks_itself=True)
+        # (this program looks itself at what is left, so each allocation is refused in a copy of its process)
+        name = 'nv_failing_tests'
+        _, allocations, _ = self.whole(name, source=b'')
+        with concurrent.futures.ThreadPoolExecutor() as runners:
+            found = dict(pair for part in runners.map(self.copies, range(PARTS)) for pair in part)
+        self.assertEqual(sorted(found), [*range(1, allocations + 1)])
+        for number, status in found.items():
+            with self.subTest(allocation=number):
+                self.assertIn(status, (0, 6), self.refused(number, name, source=b'') if status not in (0, 6) else '')
+        self.assertIn(6, found.values(), 'no refused allocation shows')
+
+    def copies(self, part):
+        """Returns how copies ended in which an allocation was refused, by its number, for those with this rest."""
+        calls = self.folder / f'calls{part}'
+        ended = self.refused(f'{part}/{PARTS}', 'nv_failing_tests', source=b'', calls=calls)
+        self.ends(ended, 0, err=b'')
+        return [tuple(map(int, line.split())) for line in calls.read_text().splitlines()[:-1]]
 
     def test_script(self):
         self.each('nvme_script', source=self.script)
