@@ -24,7 +24,7 @@
  * nothing, and a turn returns 0. But a machine that is not null must have been opened and not closed, and each other
  * pointer must point to the memory that the call describes.
  *
- * What a driver finds missing: the controllers have admin queues and no I/O queues. They refuse each command that
+ * What drivers will miss: the controllers have admin queues and no I/O queues. They refuse each command that
  * nvme_records.h doesn't name with Invalid Command Opcode, such as Create I/O Submission Queue, Abort and Asynchronous
  * Event Request. They raise no interrupt: after a turn, look at the phase tag of the next completion. A shutdown
  * notification (CC.SHN) has no effect, and the shutdown status (CSTS.SHST) stays 0. */
