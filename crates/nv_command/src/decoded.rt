@@ -58,7 +58,8 @@ impl Opcode {
 impl<'a> Decoded<'a> {
     /// Decodes an entry, or returns the status of the first rule that it breaks: its opcode is
     /// unknown, it is fused or uses SGLs, or a field of it has no meaning. Bits without meaning are
-    /// ignored.
+    /// ignored. It is inlined, because its result is large.
+    #[inline(always)]
     pub fn of(entry: &Sqe) -> Result<Decoded<'a>, StatusCode>
         ensures { result ≡ decoded_of entry.now }
     {
