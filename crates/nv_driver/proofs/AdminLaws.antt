@@ -34,22 +34,28 @@ pub value_at : (ls : List QueuePairFields) (c : ℕ) (d : QueuePairFields) (e : 
 value_at ls c d e below = get_or-map pair_value ls c d e below
 
 -- a driver, its value, and the queue pair of a controller
-module _ {g : Geometry} {mem : PagedBytes} {more : Pages} {ls : List QueuePairFields} {d : DriverValue} {c : ℕ} {l : QueuePairFields}
-    (is : IsDriver g mem ls more) (value : driver_value g mem ls ≡ d) (ctrl : c < length d.pairs)
-    (here : l ≡ get_or ls c l) where
+pub record HasPair (g : Geometry) (mem : PagedBytes) (ls : List QueuePairFields) (more : Pages) (d : DriverValue)
+    (c : ℕ) (l : QueuePairFields) : Type 0 where
+  pub is : IsDriver g mem ls more
+  pub value : driver_value g mem ls ≡ d
+  pub ctrl : c < length d.pairs
+  pub here : l ≡ get_or ls c l
+
+module _ {g : Geometry} {mem : PagedBytes} {ls : List QueuePairFields} {more : Pages} {d : DriverValue} {c : ℕ}
+    {l : QueuePairFields} (h : HasPair g mem ls more d c l) where
   -- controller c has a queue pair among the driver's
   pub below : c < length ls
   below =
-      let many = ap (λ (v : DriverValue). length v.pairs) value in
-      let same = length-map ls pair_value in omega arith
+      let many = ap (λ (v : DriverValue). length v.pairs) h.value in
+      let same = length-map ls pair_value in omega (arith, h.ctrl)
 
   -- queue pair c of the driver's value is the value of that queue pair
   pub at : pair_at (map pair_value ls) c ≡ pair_value l
-  at = value_at ls c l no_pair below ∙ ap pair_value (sym here)
+  at = value_at ls c l no_pair below ∙ ap pair_value (sym h.here)
 
   -- so is that of the driver
   pub pair_is : pair_at d.pairs c ≡ pair_value l
-  pair_is = ap (λ (v : DriverValue). pair_at v.pairs c) (sym value) ∙ at
+  pair_is = ap (λ (v : DriverValue). pair_at v.pairs c) (sym h.value) ∙ at
 
   -- the driver and the queue pair agree on the command identifier that is due
   pub cid_is : (pair_at d.pairs c).next_cid ≡ l.next_cid
@@ -57,7 +63,7 @@ module _ {g : Geometry} {mem : PagedBytes} {more : Pages} {ls : List QueuePairFi
 
   -- its queue pair is where it was placed
   pub placed_at : IsPlaced g c (pair_value l)
-  placed_at = subst (IsPlaced g c) at (is.placed c no_pair below)
+  placed_at = subst (IsPlaced g c) at (h.is.placed c no_pair below)
 
   -- the geometry of the queue pair is the driver's
   pub shape_at : l.geometry ≡ g
@@ -72,7 +78,7 @@ module _ {g : Geometry} {mem : PagedBytes} {more : Pages} {ls : List QueuePairFi
     last = last;
     quiet = quiet;
     own = sym pair_is;
-    steps = subst (λ q. goes q l bytes last) (shape_at ∙ ap (λ (v : DriverValue). v.geometry) value) steps;
+    steps = subst (λ q. goes q l bytes last) (shape_at ∙ ap (λ (v : DriverValue). v.geometry) h.value) steps;
   }
 
   -- what a call leaves by the queue pair's geometry is left by the driver's
@@ -85,16 +91,16 @@ module _ {g : Geometry} {mem : PagedBytes} {more : Pages} {ls : List QueuePairFi
   ready_at {b} linked =
       let many = length-map ls pair_value in
       let low = below in
-      let banks = linked.left ∙ ap banks_of (sym value) in
+      let banks = linked.left ∙ ap banks_of (sym h.value) in
       let idle = idle_bank (mps_of g.page_size) g.page_size in
       record {
-        geometry = is.geometry;
+        geometry = h.is.geometry;
         shape = shape_at;
-        page_size = is.page_size;
+        page_size = h.is.page_size;
         depth = ap (λ (v : QueuePair). v.depth) placed_at;
-        quiet = subst IsQuiet (sym here) (is.quiet c l below);
-        laid = rw (is.page_size, at) at (is.settled.laid c no_pair (omega arith));
-        tags = rw at at (is.settled.tags c no_pair (omega arith));
+        quiet = subst IsQuiet (sym h.here) (h.is.quiet c l below);
+        laid = rw (h.is.page_size, at) at (h.is.settled.laid c no_pair (omega arith));
+        tags = rw at at (h.is.settled.tags c no_pair (omega arith));
         controller = rw banks (simp length-map below);
         bus = linked.bus;
         bank = ap (λ p. bank_at p c) banks ∙ get_or-map idle (map pair_value ls) c no_pair new_bank (omega arith)
@@ -177,9 +183,8 @@ settled_after end page_size old new vs c v u s below here size keeps ends laid t
         (rw (same_one d) (sq, rw (first, count) refl)) i d h
 
 -- what is left of a driver, of which a queue pair's number and next command identifier change
-module _ {g : Geometry} {mem new : PagedBytes} {more : Pages} {ls : List QueuePairFields} {d : DriverValue} {b b' : BusValue} {c : ℕ}
-    {l l' : QueuePairFields} {n next_cid end : ℕ} (is : IsDriver g mem ls more) (value : driver_value g mem ls ≡ d)
-    (ctrl : c < length d.pairs) (here : l ≡ get_or ls c l)
+module _ {g : Geometry} {mem new : PagedBytes} {ls : List QueuePairFields} {more : Pages} {d : DriverValue}
+    {b b' : BusValue} {c : ℕ} {l l' : QueuePairFields} {n next_cid end : ℕ} (h : HasPair g mem ls more d c l)
     (left : IsLeft g c end (record (pair_value l) { number = n; next_cid = next_cid })
     (side b l mem.page_size mem.bytes) (side b' l' new.page_size new.bytes)) where
   -- a queue pair with another number and command identifier is still where it was placed
@@ -192,28 +197,28 @@ module _ {g : Geometry} {mem new : PagedBytes} {more : Pages} {ls : List QueuePa
   driver_after ends =
       let many = length-map ls pair_value in
       let vs = map pair_value ls in
-      let low = below is value ctrl here in
+      let low = below h in
       let own : pair_value l ≡ get_or vs c (pair_value l) =
-      sym (value_at ls c l (pair_value l) low ∙ ap pair_value (sym here)) in
+      sym (value_at ls c l (pair_value l) low ∙ ap pair_value (sym h.here)) in
       let change = map-set pair_value ls c l' in
-      let page = left.page ∙ is.page_size in
+      let page = left.page ∙ h.is.page_size in
       record {
-        geometry = is.geometry;
+        geometry = h.is.geometry;
         page_size = page;
-        whole = rw (left.len, left.page) (is.whole);
-        numbered = rw (left.len, left.page) (is.numbered);
-        quiet = All-set IsQuiet ls c l' left.ready.quiet is.quiet;
+        whole = rw (left.len, left.page) h.is.whole;
+        numbered = rw (left.len, left.page) h.is.numbered;
+        quiet = All-set IsQuiet ls c l' left.ready.quiet h.is.quiet;
         placed = λ i e inside.
-            rw change (set_each (λ j v. IsPlaced g j v) vs c (pair_value l') (λ j q high differ. is.placed j q
+            rw change (set_each (λ j v. IsPlaced g j v) vs c (pair_value l') (λ j q high differ. h.is.placed j q
             (omega arith)) (subst (IsPlaced g c) (sym left.pair)
-            (stays_placed (pair_value l) (placed_at is value ctrl here))) i e
+            (stays_placed (pair_value l) (placed_at h))) i e
             (let longer = length-set ls c l' in let values = length-set vs c (pair_value l') in omega arith));
-        more = is.more ∙ ap (λ n. pages_behind g n (page_count mem)) (sym (length-set ls c l'))
+        more = h.is.more ∙ ap (λ n. pages_behind g n (page_count mem)) (sym (length-set ls c l'))
             ∙ rw (left.len, left.page) refl;
         settled = subst (IsSettled new.page_size new.bytes) (sym change)
             (settled_after end new.page_size mem.bytes new.bytes vs c (pair_value l) (pair_value l')
-            (rw (left.page) is.settled) (omega arith) own left.len (rw page left.others)
-            (rw page (λ i e h. ends i e (omega arith))) (rw (left.ready.page_size) left.ready.laid) left.ready.tags
+            (rw (left.page) h.is.settled) (omega arith) own left.len (rw page left.others)
+            (rw page (λ i e low. ends i e (omega arith))) (rw (left.ready.page_size) left.ready.laid) left.ready.tags
             (ap (λ (v : QueuePair). v.sq) left.pair) (ap (λ (v : QueuePair). v.first_page) left.pair)
             (ap (λ (v : QueuePair). v.page_count) left.pair));
       }
@@ -224,7 +229,7 @@ module _ {g : Geometry} {mem new : PagedBytes} {more : Pages} {ls : List QueuePa
       let idle = idle_bank (mps_of g.page_size) g.page_size in
       record {
         bus = left.ready.bus;
-        left = left.banks ∙ rw (left.ready.bank, linked.left ∙ ap banks_of (sym value), map-set pair_value ls c l')
+        left = left.banks ∙ rw (left.ready.bank, linked.left ∙ ap banks_of (sym h.value), map-set pair_value ls c l')
             (sym (map-set idle (map pair_value ls) c (pair_value l')));
       }
 
@@ -233,12 +238,12 @@ module _ {g : Geometry} {mem new : PagedBytes} {more : Pages} {ls : List QueuePa
       → f (pair_value l) ≡ record (pair_value l) { number = n; next_cid = next_cid }
       → driver_value g new (slice_set ls c l') ≡ record d { pairs = slice_set d.pairs c (f (pair_at d.pairs c)) }
   value_after f by =
-      rw (left.len, left.page, map-set pair_value ls c l', left.pair ∙ sym by ∙ ap f (sym (at is value ctrl here)))
-      (ap (λ (v : DriverValue). record v { pairs = slice_set v.pairs c (f (pair_at v.pairs c)) }) value)
+      rw (left.len, left.page, map-set pair_value ls c l', left.pair ∙ sym by ∙ ap f (sym (at h)))
+      (ap (λ (v : DriverValue). record v { pairs = slice_set v.pairs c (f (pair_at v.pairs c)) }) h.value)
 
 -- each queue pair of a driver ends within the memory
-pub ends_inside : {g : Geometry} {mem : PagedBytes} {more : Pages} {ls : List QueuePairFields} → IsDriver g mem ls more → (i : ℕ)
-    (e : QueuePair) → i < length ls → end_of g.page_size (get_or (map pair_value ls) i e) ≤ length mem.bytes
+pub ends_inside : {g : Geometry} {mem : PagedBytes} {more : Pages} {ls : List QueuePairFields}
+    → IsDriver g mem ls more → (i : ℕ) (e : QueuePair) → i < length ls → end_of g.page_size (get_or (map pair_value ls) i e) ≤ length mem.bytes
 ends_inside {ls = ls} is i e h =
     let many = length-map ls pair_value in (rw is.page_size at (is.settled.laid i e (omega arith))).inside
 

@@ -1,58 +1,55 @@
 -- An entry of a driver, over the queue pairs of its controllers and the pages after them.
 use Rattle.std.proofs.Common.{◌≡◌, ◌∙◌, ℕ, ◌+◌, ◌*◌, ◌<◌, ◌≤◌, List, ap, arith, get_or, length, map, subst, sym}
 use Rattle.std.proofs.Math.ListN.{length-set}
-use Rattle.nv_driver.proofs.Words.{DriverValue, Geometry, HasEntryPages, IsDriver, PagedBytes, QueuePair}
-use Rattle.nv_driver.proofs.Words.{QueuePairFields, driver_value, driver_with, end_of, length-map}
+use Rattle.nv_driver.proofs.Words.{DriverValue, Geometry, HasEntryPages, PagedBytes, QueuePair}
+use Rattle.nv_driver.proofs.Words.{QueuePairFields, driver_with, end_of, length-map}
 use Rattle.nv_driver.proofs.Words.{length-map-range_with_len, mul-le-mul_right, pages_of_entry, pair_of, pair_pages}
 use Rattle.nv_driver.proofs.Words.{pair_value, slice_set}
 use Rattle.nv_driver.specs.Driver.{page_count, pages_behind}
 use Rattle.nv_driver.proofs.ExchangeLaws.{CanPass}
-use Rattle.nv_driver.proofs.AdminLaws.{ready_at}
+use Rattle.nv_driver.proofs.AdminLaws.{HasPair, below, placed_at, ready_at, shape_at}
 use Rattle.nv_driver.proofs.Words.{BusValue, Sqe, SqeFits}
 use Rattle.nv_driver.specs.Linked.{IsLinked}
 use Rattle.std.proofs.Common.{refl, ◌-◌}
 use Rattle.nv_driver.specs.Layout.{pages_of}
 use Rattle.nv_host.specs.PageSets.{Pages}
-use Rattle.nv_driver.proofs.AdminLaws.{below, placed_at, shape_at}
 use Rattle.nv_driver.proofs.MemoryLaws.{pair_ends}
 
 -- the pages behind those of a driver's controllers
-module _ {g : Geometry} {mem : PagedBytes} {more : Pages} {ls : List QueuePairFields} {d : DriverValue}
-    (is : IsDriver g mem ls more) (value : driver_value g mem ls ≡ d) where
+module _ {g : Geometry} {mem : PagedBytes} {ls : List QueuePairFields} {more : Pages} {d : DriverValue} {c : ℕ}
+    {l : QueuePairFields} (at : HasPair g mem ls more d c l) where
   -- the driver's value says which they are
   pub more_is : more ≡ pages_behind d.geometry (length d.pairs) d.pages
-  more_is = is.more ∙ ap (λ n. pages_behind g n (page_count mem)) (sym (length-map ls pair_value))
-      ∙ ap (λ (v : DriverValue). pages_behind v.geometry (length v.pairs) v.pages) value
+  more_is = at.is.more ∙ ap (λ n. pages_behind g n (page_count mem)) (sym (length-map ls pair_value))
+      ∙ ap (λ (v : DriverValue). pages_behind v.geometry (length v.pairs) v.pages) at.value
 
   -- each queue pair ends before these pages
-  pub ends_before : {c : ℕ} {l : QueuePairFields} → c < length d.pairs → l ≡ get_or ls c l → {s : Pages} → s ≡ more
-      → (i : ℕ) (e : QueuePair) → i < length ls
+  pub ends_before : {s : Pages} → s ≡ more → (i : ℕ) (e : QueuePair) → i < length ls
       → end_of g.page_size (get_or (map pair_value ls) i e) ≤ s.first * l.geometry.page_size
-  ends_before ctrl here same i e h =
-      rw (same, is.more, shape_at is value ctrl here)
-      (omega (arith, ap (end_of g.page_size) (is.placed i e h), pair_ends g i (length ls) h))
+  ends_before same i e h =
+      rw (same, at.is.more, shape_at at)
+      (omega (arith, ap (end_of g.page_size) (at.is.placed i e h), pair_ends g i (length ls) h))
 
   -- they have room for an entry
-  pub can_pass : {c : ℕ} {l : QueuePairFields} {s : Pages} → c < length d.pairs → l ≡ get_or ls c l → s ≡ more
-      → HasEntryPages d → {b : BusValue} {e : Sqe} → IsLinked b d → SqeFits e
+  pub can_pass : {s : Pages} → s ≡ more → HasEntryPages d → {b : BusValue} {e : Sqe} → IsLinked b d → SqeFits e
       → CanPass l.geometry b c l mem.page_size mem.bytes e s
-  can_pass {c} {l} ctrl here same room {b} {e} linked fits =
-      let placed = placed_at is value ctrl here in
-      let has = rw (length-map ls pair_value) at (subst HasEntryPages (sym value) room) in
+  can_pass same room {b} {e} linked fits =
+      let placed = placed_at at in
+      let has = rw (length-map ls pair_value) at (subst HasEntryPages (sym at.value) room) in
       let first = pages_of g (length ls) in
       let all : first + (page_count mem - first) ≡ page_count mem = omega (arith, has) in
       let whole : page_count mem * g.page_size ≡ length mem.bytes =
-      ap (λ n. page_count mem * n) (sym is.page_size) ∙ is.whole in
-      rw (same, is.more) (subst (λ q. CanPass q b c l mem.page_size mem.bytes e
-      (pages_behind g (length ls) (page_count mem))) (sym (shape_at is value ctrl here)) (record {
-        ready = ready_at is value ctrl here linked;
+      ap (λ n. page_count mem * n) (sym at.is.page_size) ∙ at.is.whole in
+      rw (same, at.is.more) (subst (λ q. CanPass q b c l mem.page_size mem.bytes e
+      (pages_behind g (length ls) (page_count mem))) (sym (shape_at at)) (record {
+        ready = ready_at at linked;
         fits = fits;
         free = refl;
         behind = omega (
           arith,
           ap (λ (v : QueuePair). v.first_page) placed,
           ap (λ (v : QueuePair). v.page_count) placed,
-          mul-le-mul_right (pair_pages g) (below is value ctrl here),
+          mul-le-mul_right (pair_pages g) (below at),
         );
         inside = omega (arith, ap (λ n. n * g.page_size) all, whole);
         room = omega (arith, has);

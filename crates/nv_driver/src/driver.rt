@@ -45,7 +45,7 @@ use std::slice::{from_mut, from_ref};
 /// controller.
 #[derive(Drop)]
 pub struct Driver {
-    host: HostSide<FlatMemory>,
+    host: Box<HostSide<FlatMemory>>,
     geometry: CheckedGeometry,
     pairs: Vec<QueuePair>,
     /// The pages behind those of all controllers.
@@ -59,9 +59,9 @@ impl Model for Driver {
 
     ghost use Rattle.nv_driver.specs.Driver.{IsDriver, driver_value};
 
-    ghost view = { λ d. driver_value d.geometry d.host.mem d.pairs.items };
+    ghost view = { λ d. driver_value d.geometry d.host.value.mem d.pairs.items };
 
-    ghost invariant = { λ d. IsDriver d.geometry d.host.mem d.pairs.items d.more_pages };
+    ghost invariant = { λ d. IsDriver d.geometry d.host.value.mem d.pairs.items d.more_pages };
 }
 
 impl Driver {
@@ -131,11 +131,8 @@ impl Driver {
         let controllers = bus.controllers();
         let first = geometry.pages(controllers);
         let more = geometry.more_pages(with_entries);
-        let mut mem = FlatMemory::new(alloc, geometry.page_size, first + more)?;
-        let more_pages = PageSet::new(alloc, first, more)?;
-        let pairs = new_pairs(alloc, geometry, controllers)?;
-        enable_all(bus, &mut mem, &pairs, geometry)?;
-        let host = HostSide {
+        let mem = FlatMemory::new(alloc, geometry.page_size, first + more)?;
+        let side = HostSide {
             mem,
             buffers: Buffers {
                 spans: Spans::new(),
@@ -147,6 +144,12 @@ impl Driver {
                 status: Status::from_number(0),
             },
         };
+        let Ok(mut host) = Box::new(alloc, side) else {
+            return Err(DriverError::Memory);
+        };
+        let more_pages = PageSet::new(alloc, first, more)?;
+        let pairs = new_pairs(alloc, geometry, controllers)?;
+        enable_all(bus, &mut host.mem, &pairs, geometry)?;
         Ok(Driver {
             host,
             geometry,
@@ -270,14 +273,15 @@ impl Driver {
         let pair = &mut self.pairs[ctrl as usize];
         swap(&mut pair.pages, &mut self.more_pages);
         let requests = Requests::Entry { entry, bytes };
-        exchange_all(bus, ctrl, &mut self.host, pair, requests, &mut []);
+        let host = &mut *self.host;
+        exchange_all(bus, ctrl, host, pair, requests, &mut []);
         swap(&mut pair.pages, &mut self.more_pages);
         let HostSide {
             mem,
             buffers,
             taken,
             last,
-        } = &mut self.host;
+        } = host;
         let place = taken[0].place(self.geometry);
         let transfer = transfer_for(entry);
         let spans = &mut buffers.spans;

@@ -64,7 +64,8 @@ take-requires g c =
     let sent = ap (λ (b : Batch). b.sent) i.batch in
     let collected = ap (λ (b : Batch). b.collected) i.batch in
     let few : length_of c.outgoing-request.result.transfer ≤ of.most =
-    omega (arith, ap (λ (q : Request). length_of q.transfer) one.1, of.brief c.loop-number.number no_command.request one.0) in
+    let brief = of.brief c.loop-number.number no_command.request one.0 in
+    omega (arith, ap (λ (q : Request). length_of q.transfer) one.1, brief) in
     let size = ap (λ (q : Geometry). data_count q (length_of c.outgoing-request.result.transfer) + 2) same in
     let all = (data_fits g.begun.run.geometry (length_of c.outgoing-request.result.transfer) of.most
     i.under_way.begun.geometry few).1 in
@@ -169,15 +170,16 @@ loop-number-preserved g c =
           c.submit-next.result) e.set next;
     } in
     record {
-      under_way = rw (set-get_or (set c.loop-number.host.taken (n % 16) o) (n % 16) no_pages) (submits_at u sent (omega (
-        arith,
-        c.min.ensures,
-        c.from.ensures,
-        window,
-        sent,
-        collected,
-        c.loop-number-test.true,
-      )) (sym collected) (omega (arith, c.requires.1.1.1.1, sent, collected, told)) one.0
+      under_way = rw (set-get_or (set c.loop-number.host.taken (n % 16) o) (n % 16) no_pages)
+          (submits_at u sent (omega (
+            arith,
+            c.min.ensures,
+            c.from.ensures,
+            window,
+            sent,
+            collected,
+            c.loop-number-test.true,
+          )) (sym collected) (omega (arith, c.requires.1.1.1.1, sent, collected, told)) one.0
           (get_or_default g.begun.run.requests n no_command.request q one.0) sub);
       batch = ap (λ (b : Batch). record b { sent = b.sent + 1 }) i.batch;
       from = omega arith;

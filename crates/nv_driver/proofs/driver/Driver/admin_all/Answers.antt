@@ -12,8 +12,10 @@ use Rattle.nv_driver.specs.Exchange.{after_some}
 use Rattle.nv_driver.specs.Request.{request_of}
 use Rattle.nv_driver.specs.Sending.{SendsAll}
 use Rattle.nv_driver.specs.UnderWay.{run_of}
-use Rattle.nv_driver.proofs.AdminLaws.{cid_is, driver_after, ends_inside, goes_over, left_at, linked_after, ready_by, room_by}
-use Rattle.nv_driver.proofs.AdminLaws.{value_after}
+use Rattle.nv_driver.proofs.AdminLaws.{HasPair, cid_is, driver_after, ends_inside, goes_over, left_at, linked_after}
+use Rattle.nv_driver.proofs.AdminLaws.{ready_by, room_by, value_after}
+use Rattle.nv_driver.proofs.driver.Driver.admin_all.Given.{Over}
+use Rattle.nv_driver.proofs.driver.Driver.admin_all.Goals.{After-deref_mut}
 use Rattle.nv_driver.proofs.driver.Driver.admin_all.Goals as goal
 
 -- what holds for the request of each command holds for each request
@@ -22,10 +24,20 @@ each_of ks P each i d h =
     let below : i < length ks = omega (arith, h, length-map ks request_of) in
     subst P (sym (get_or-map request_of ks i (ActiveList 0) d below)) (each i (ActiveList 0) below)
 
+-- the driver and the controller's queue pair
+its_pair : (g : Over) (c : After-deref_mut g) → HasPair c.self.inside.geometry c.deref_mut.result.now.mem
+    c.self.inside.pairs.items c.self.inside.more_pages c.args.self.now c.args.ctrl c.index_mut-pair.result.now
+its_pair g c = record {
+  is = rw c.deref_mut.ensures.value c.self.invariant;
+  value = rw c.deref_mut.ensures.value c.self.view_is;
+  ctrl = c.requires.ctrl;
+  here = c.index_mut-pair.ensures.value;
+}
+
 pub exchange_all-requires : goal.exchange_all-requires
 exchange_all-requires g c κs within =
-    let here = c.index_mut-pair.ensures.value in
-    let ready = ready_by c.self.invariant c.self.view_is c.requires.ctrl here c.requires.linked in
+    let pair = its_pair g (goal.at.exchange_all-requires g c).After-deref_mut in
+    let ready = ready_by pair c.requires.linked in
     let s = (g.B.Bus.meaning c.args.bus.now).state in
     let enough = (limit_bounds s c.args.ctrl ready.bus.state (omega (arith, ready.controller, ready.bus.banks))).0 in
     let ks = c.args.commands.now in (
@@ -51,7 +63,7 @@ exchange_all-requires g c κs within =
                     omega (
                       arith,
                       mul-le-mul_right (pages_of_command c.index_mut-pair.result.now.geometry.page_size) few,
-                      room_by c.self.invariant c.self.view_is c.requires.ctrl here,
+                      room_by pair,
                     );
               },
               record { len = c.requires.len ∙ sym (length-map ks request_of); first = refl },
@@ -63,40 +75,36 @@ exchange_all-requires g c κs within =
 
 pub invariant_of-self : goal.invariant_of-self
 invariant_of-self g c =
-    driver_after c.self.invariant c.self.view_is c.requires.ctrl c.index_mut-pair.ensures.value
-    (left_at c.self.invariant c.self.view_is c.requires.ctrl c.index_mut-pair.ensures.value
-    c.exchange_all.ensures.left) (ends_inside c.self.invariant)
+    let pair = its_pair g (goal.at.invariant_of-self g c).After-deref_mut in
+    driver_after pair (left_at pair c.exchange_all.ensures.left) (ends_inside pair.is)
 
 pub returns-clause-answers : goal.returns-clause-answers
 returns-clause-answers g c =
     answers_all refl c.exchange_all.ensures.received refl
     ∙ ap (λ n. answers_of c.args.ctrl (g.B.Bus.meaning c.args.bus.now).state n c.args.commands.now)
-    (sym (cid_is c.self.invariant c.self.view_is c.requires.ctrl c.index_mut-pair.ensures.value))
+    (sym (cid_is (its_pair g (goal.at.returns-clause-answers g c).After-deref_mut)))
 
 pub returns-clause-state : goal.returns-clause-state
 returns-clause-state g c =
     c.exchange_all.ensures.state
     ∙ ap (λ n. state_after c.args.ctrl (g.B.Bus.meaning c.args.bus.now).state n c.args.commands.now)
-    (sym (cid_is c.self.invariant c.self.view_is c.requires.ctrl c.index_mut-pair.ensures.value))
+    (sym (cid_is (its_pair g (goal.at.returns-clause-state g c).After-deref_mut)))
 
 pub returns-clause-driver : goal.returns-clause-driver
 returns-clause-driver g c =
-    value_after c.self.invariant c.self.view_is c.requires.ctrl c.index_mut-pair.ensures.value
-    (left_at c.self.invariant c.self.view_is c.requires.ctrl c.index_mut-pair.ensures.value
-    (rw (length-map c.args.commands.now request_of) at c.exchange_all.ensures.left))
+    let pair = its_pair g (goal.at.returns-clause-driver g c).After-deref_mut in
+    value_after pair (left_at pair (rw (length-map c.args.commands.now request_of) at c.exchange_all.ensures.left))
     (after_some (length c.args.commands.now)) refl
 
 pub returns-clause-linked : goal.returns-clause-linked
 returns-clause-linked g c =
-    linked_after c.self.invariant c.self.view_is c.requires.ctrl c.index_mut-pair.ensures.value
-    (left_at c.self.invariant c.self.view_is c.requires.ctrl c.index_mut-pair.ensures.value
-    c.exchange_all.ensures.left) c.requires.linked
+    let pair = its_pair g (goal.at.returns-clause-linked g c).After-deref_mut in
+    linked_after pair (left_at pair c.exchange_all.ensures.left) c.requires.linked
 
 pub returns-clause-steps : goal.returns-clause-steps
 returns-clause-steps g c =
-    goes_over c.self.invariant c.self.view_is c.requires.ctrl c.index_mut-pair.ensures.value
-    (λ q l bytes. SendsAll g.B.Bus.was_written g.B.Ringing.was_rung g.B.Bus.was_turned
+    let pair = its_pair g (goal.at.returns-clause-steps g c).After-deref_mut in
+    goes_over pair (λ q l bytes. SendsAll g.B.Bus.was_written g.B.Ringing.was_rung g.B.Bus.was_turned
     (run_of q c.args.ctrl (g.B.Bus.meaning c.args.bus.now) l bytes (map request_of c.args.commands.now)) c.args.bus.now
     c.exchange_all.new.bus)
-    (ready_by c.self.invariant c.self.view_is c.requires.ctrl c.index_mut-pair.ensures.value c.requires.linked).quiet
-    c.exchange_all.ensures.paced.steps
+    (ready_by pair c.requires.linked).quiet c.exchange_all.ensures.paced.steps

@@ -1,25 +1,38 @@
 use Rattle.std.proofs.Common.{refl, subst, sym}
 use Rattle.nv_driver.proofs.Words.{HasEntryPages, renewed_pair}
-use Rattle.nv_driver.proofs.AdminLaws.{driver_after, ends_inside, linked_after, placed_at, ready_at, value_after}
+use Rattle.nv_driver.proofs.AdminLaws.{HasPair, driver_after, ends_inside, linked_after, placed_at, ready_at}
+use Rattle.nv_driver.proofs.AdminLaws.{value_after}
 use Rattle.nv_driver.proofs.PassthroughLaws.{room_stays}
+use Rattle.nv_driver.proofs.driver.Driver.reset.Given.{Over}
+use Rattle.nv_driver.proofs.driver.Driver.reset.Goals.{After-deref_mut}
 use Rattle.nv_driver.proofs.driver.Driver.reset.Goals as goal
+
+-- the driver and the controller's queue pair
+its_pair : (g : Over) (c : After-deref_mut g) → HasPair c.self.inside.geometry c.deref_mut.result.now.mem
+    c.self.inside.pairs.items c.self.inside.more_pages c.args.self.now c.args.ctrl c.index_mut-pair.result.now
+its_pair g c = record {
+  is = rw c.deref_mut.ensures.value c.self.invariant;
+  value = rw c.deref_mut.ensures.value c.self.view_is;
+  ctrl = c.requires.ctrl;
+  here = c.index_mut-pair.ensures.value;
+}
 
 pub reset-requires-clause-ready : goal.reset-requires-clause-ready
 reset-requires-clause-ready g c =
-    ready_at c.self.invariant c.self.view_is c.requires.ctrl c.index_mut-pair.ensures.value c.requires.linked
+    ready_at (its_pair g (goal.at.reset-requires-clause-ready g c).After-deref_mut) c.requires.linked
 
 pub reset-requires-clause-placed : goal.reset-requires-clause-placed
 reset-requires-clause-placed g c =
-    placed_at c.self.invariant c.self.view_is c.requires.ctrl c.index_mut-pair.ensures.value
+    placed_at (its_pair g (goal.at.reset-requires-clause-placed g c).After-deref_mut)
 
 pub invariant_of-self : goal.invariant_of-self
 invariant_of-self g c =
-    driver_after c.self.invariant c.self.view_is c.requires.ctrl c.index_mut-pair.ensures.value
-    (c.reset.ensures.left tt) (ends_inside c.self.invariant)
+    let pair = its_pair g (goal.at.invariant_of-self g c).After-deref_mut in
+    driver_after pair (c.reset.ensures.left tt) (ends_inside pair.is)
 
 pub returns-clause-driver : goal.returns-clause-driver
 returns-clause-driver g c =
-    value_after c.self.invariant c.self.view_is c.requires.ctrl c.index_mut-pair.ensures.value
+    value_after (its_pair g (goal.at.returns-clause-driver g c).After-deref_mut)
     (c.reset.ensures.left tt) renewed_pair refl
 
 pub returns-clause-entries : goal.returns-clause-entries
@@ -28,5 +41,5 @@ returns-clause-entries g c room =
 
 pub returns-clause-linked : goal.returns-clause-linked
 returns-clause-linked g c =
-    linked_after c.self.invariant c.self.view_is c.requires.ctrl c.index_mut-pair.ensures.value
+    linked_after (its_pair g (goal.at.returns-clause-linked g c).After-deref_mut)
     (c.reset.ensures.left tt) c.requires.linked
