@@ -23,8 +23,7 @@ returns-in-Entry-clause-answer g c =
     omega (arith, wanted.ensures.few, c.requires.few, c.requires.long) in
     let full = sent.room ∙ length-take-le wanted.result c.args.received.now within ∙ wanted.ensures.length in
     answered_by (point_of b d) h c.args.sent.now _ (rw (length-map d.pairs _) below) c.in-Entry.is
-    (c.returned.ensures ∙ ap (returned _ _) wanted.ensures.length)
-    (
+    (c.returned.ensures ∙ ap (returned _ _) wanted.ensures.length) (
       c.passthrough-told.result,
       returned_by b d h.controller h.entry c.args.sent.now _ below sent.answer sent.out full,
       refl,
