@@ -6,7 +6,6 @@ With UNPROVED=1 in the environment, `rt try` runs the sources on these rows, and
 
 import json
 import re
-import signal
 import typing
 
 from tests.support import DEMO, IS_UNPROVED, TOP, Case, Ended, large_file, process_folder, program, run, run_unproved, shell_line
@@ -237,15 +236,12 @@ def given_to_rt_try(rows):
 
 
 def with_little_memory(row):
-    """Runs a row with the least memory with which the program starts, in steps of 250 KiB, or with one step more if its
-    stack has no room in that."""
-    def with_room(room):
-        return run('sh', '-c', 'ulimit -v "$0" && exec "$@"', str(room), SCRIPT, *row.arguments, source=row.script)
-    for room in range(1250, 100000, 250):
-        ended = with_room(room)
+    """Runs a row with the least memory with which the program starts, in steps of 50 KiB."""
+    for room in range(1250, 100000, 50):
+        ended = run('sh', '-c', 'ulimit -v "$0" && exec "$@"', str(room), SCRIPT, *row.arguments, source=row.script)
         if ended.status != 127:
             break
-    return with_room(room + 250) if ended.status == -signal.SIGSEGV else ended
+    return ended
 
 
 def outcome(row):
