@@ -120,7 +120,7 @@ class WhichProgram(Copy):
         self.is_unproved()
 
     def test_edit_in_a_crate_above(self):
-        with open(self.copy / 'crates/nv_script_tests/src/lib.rt', 'a') as tests:
+        with open(self.copy / 'crates/nv_tests/src/lib.rt', 'a') as tests:
             tests.write('// a test\n')
         self.is_proved()
 

@@ -1,4 +1,4 @@
-use Rattle.nv_part_tests.proofs.lent.lend_any.Given as goal
+use Rattle.nv_tests.proofs.lent.lend_any.Given as goal
 
 -- the reference to the bytes
 abbrev pub ghosts-lend : goal.ghosts-lend

@@ -2,7 +2,7 @@ use Rattle.std.proofs.Common.{◌≡◌, ◌∙◌, ◌+◌, ◌*◌, ◌-◌, �
 use Rattle.nv_host.specs.Bytes.{with_bytes}
 use Rattle.nv_host.specs.FlatMemory.{only_page}
 use Rattle.nv_host.proofs.BytesLaws.{with_part}
-use Rattle.nv_script_tests.proofs.own_memory.OwnMemoryPagedMemory.fill.Goals as goal
+use Rattle.nv_tests.proofs.own_memory.OwnMemoryPagedMemory.fill.Goals as goal
 
 pub returns-clause-value : goal.returns-clause-value
 returns-clause-value g c =
