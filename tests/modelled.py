@@ -149,7 +149,11 @@ ASKING, DELAYING, RECEIVING = b'202 ', b'230 ', rb'16 \w+ 0xc0502100 '
 def do_helpers(what, least=None):
     """Waits until so many helpers do this, or all, and returns whether they do."""
     def are_at_it():
-        calls = [pathlib.Path(f'/proc/{number}/syscall').read_bytes() for number in parts()[HELPERS]]
+        calls = []
+        for number in parts()[HELPERS]:
+            # (one may end meanwhile)
+            with contextlib.suppress(FileNotFoundError, ProcessLookupError):
+                calls.append(pathlib.Path(f'/proc/{number}/syscall').read_bytes())
         return sum(bool(re.match(what, call)) for call in calls) >= (least or len(calls))
     return until(are_at_it)
 
