@@ -116,11 +116,16 @@ class Refuse(ModelCase):
 
     def test_delays(self):
         started = time.monotonic()
-        ended = self.ended([], f'{FORMAT} & sleep 0.3; nvme smart-log /dev/nvme0 > /dev/null; head -c 1 /dev/nvme0n1 | wc -c; '
-                           'nvme flush /dev/nvme0n1; echo now; wait', options=['--delay=format=10', '--delay=io:0,1=9000'],
-                           left=[('delay io:0,1=9000', 1)])
-        self.ends(ended, 0, b'1\nNVMe Flush: success\nnow\nSuccess formatting namespace:1\n')
-        self.assertGreaterEqual(time.monotonic() - started, 10)
+        ended = self.ended([], FORMAT, options=['--delay=format=3'])
+        self.ends(ended, 0, b'Success formatting namespace:1\n')
+        self.assertGreaterEqual(time.monotonic() - started, 3)
+        # (nothing else waits meanwhile, so this ends long before the delay)
+        running = self.stepped(f'{FORMAT} & step; nvme smart-log /dev/nvme0 > /dev/null; head -c 1 /dev/nvme0n1 | wc -c; '
+                               'nvme flush /dev/nvme0n1; echo now; kill -KILL $!',
+                               lambda: self.assertTrue(do_helpers(DELAYING, 1)),
+                               options=['--delay=format=9000', '--delay=io:0,1=9000'])
+        self.ends(running.end(), 0, b'step\n1\nNVMe Flush: success\nnow\n'
+                  b'nvme-model: --delay io:0,1=9000 delayed no command; 1 came\n')
         # a command is delayed and then refused, and one whose process has gone is carried out
         running = self.stepped(f'{FORMAT}; {FORMAT} & step; kill -KILL $!; wait $!; echo "status $?"; '
                                'until nvme id-ns /dev/nvme0n1 | grep -q "lbads:12 .*in use"; do sleep 0.1; done',
