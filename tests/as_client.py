@@ -10,6 +10,7 @@ import socket
 import struct
 
 from tests.driver import ACQ, AQA, ASQ, CC, COMMAND, CSTS, HEAD, MASTER, PAGE, TAIL, Driver, counter, memory_file
+from tests.support import LIMIT
 
 REACHED = 128 << 30
 (VERSION, DMA_MAP, DMA_UNMAP, DEVICE_INFO, REGION_INFO, IRQ_INFO, SET_IRQS, REGION_READ, REGION_WRITE,
@@ -30,11 +31,11 @@ class Refused(Exception):
 
 
 class Client:
-    """A connection to a function's socket, which answers within ten seconds."""
+    """A connection to a function's socket."""
 
     def __init__(self, path):
         self.socket = socket.socket(socket.AF_UNIX)
-        self.socket.settimeout(10)
+        self.socket.settimeout(LIMIT)
         self.socket.connect(os.fspath(path))
         self.number = 0
 

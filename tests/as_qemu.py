@@ -14,7 +14,7 @@ import sys
 
 from tests.driver import (
     ASQ, BASE, CC, COMMAND, CSTS, IDENTIFY, MASTER, PAGE, Driver, chosen, counter, is_raised, kept, memory_file)
-from tests.support import until
+from tests.support import LIMIT, until
 
 MEMORY, ANSWER, CONFIG_WRITE, CONFIG_READ, BAR_WRITE, BAR_READ, INTERRUPT, RESET = range(8)
 
@@ -140,7 +140,7 @@ def interrupts(first, second):
     first.put(IDENTIFY, 2 * PAGE, dword10=1)
     assert first.is_raised() and not first.is_raised()
     first.acknowledge()
-    assert first.is_raised(10)
+    assert first.is_raised(LIMIT)
     first.take()
     first.acknowledge()
     assert not first.is_raised(0.1)

@@ -8,7 +8,7 @@ import signal
 
 from tests.as_client import Client, Guest, machine_of
 from tests.driver import kept
-from tests.support import Case, Running, library, until
+from tests.support import Case, Running, left_running, library, until
 from tests.test_qemu import SANITIZERS, program
 
 GET_LOG, CREATE, ATTACH = 2, 0x0d, 0x15
@@ -38,6 +38,12 @@ class Served(Case):
         self.assertEqual(ended.status, -number, ended)
         self.assertFalse(list(self.folder.glob('s*')), 'sockets were left')
         return ended.out.decode()
+
+    def kill(self):
+        """Kills the server, and waits until nothing of it is left: a receiver that has just begun has its sockets."""
+        self.server.process.kill()
+        self.server.end()
+        self.assertTrue(until(lambda: not left_running()))
 
     def tearDown(self):
         self.stop(self.server)
@@ -69,10 +75,12 @@ class Served(Case):
         stat = pathlib.Path(f'/proc/{self.server.process.pid}/stat').read_text()
         return sum(map(int, stat.rpartition(')')[2].split()[11:13])) / os.sysconf('SC_CLK_TCK')
 
-    def woken(self):
-        """Returns how often the server has slept."""
+    def slept(self):
+        """Waits until the server sleeps in poll, and returns how often it has slept."""
+        number = self.server.process.pid
+        self.assertTrue(until(lambda: pathlib.Path(f'/proc/{number}/syscall').read_text().startswith('7 ')))
         return int(re.search(r'(?m)^voluntary_ctxt_switches:\s*(\d+)',
-                             pathlib.Path(f'/proc/{self.server.process.pid}/status').read_text())[1])
+                             pathlib.Path(f'/proc/{number}/status').read_text())[1])
 
     def keeps(self, count):
         """Checks how many descriptors the server has. (It closes those of a message after its answer.)"""

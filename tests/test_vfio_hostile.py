@@ -13,7 +13,7 @@ from tests.as_client import (
     REGION_WRITE, RESET, SET_IRQS, UNBIND, UNMASK, VERSION, WANTS_NONE)
 from tests.driver import CC, COMMAND, CSTS, HEAD, IDENTIFY, PAGE, TAIL, chosen, counter, memory_file
 from tests.served import ATTACH, CREATE, EINVAL, ENOENT, ENOTSUP, EVERY, GET_LOG, Served
-from tests.support import DEMO, run
+from tests.support import DEMO, LIMIT, run
 from tests.test_qemu import SANITIZERS, program
 
 SEEDS, MESSAGES_OF_A_SEED = range(8), 13000
@@ -106,12 +106,10 @@ class Hostile(Served):
         except socket.timeout:
             pass
         half.socket.sendall(struct.pack('<QII', 0, CONFIG, 4)[7:])
-        begun_at = time.monotonic()
         half.socket.recv(64)
         self.assertEqual(half.config(0), 0x0010_1b36)
-        self.assertLess(time.monotonic() - begun_at, 5)
         # (all its answers come, in their order)
-        deaf.socket.settimeout(10)
+        deaf.socket.settimeout(LIMIT)
         for number in range(2, deaf.number - 1):
             self.assertEqual(deaf.heard()[0], number)
 
@@ -173,8 +171,7 @@ class Hostile(Served):
         # a server that still runs keeps its sockets, and those of one that was killed are replaced
         ended = run(program(*SANITIZERS), '--vfio-user', '--socket', self.path)
         self.ends(ended, 72, b'', f'nvme-model: {self.path}0: Address already in use\n'.encode())
-        self.server.process.kill()
-        self.server.end()
+        self.kill()
         self.server = self.start()
         self.assertEqual(self.greeted().config(0), 0x0010_1b36)
 

@@ -13,7 +13,7 @@ from tests.as_client import (
 from tests.driver import COMMAND, CSTS, HEAD, IDENTIFY, MASTER, NO_INTERRUPT, PAGE, TAIL, counter, is_raised, memory_file
 from tests.modelled import is_there
 from tests.served import EINVAL, Served
-from tests.support import DEMO
+from tests.support import DEMO, LIMIT, left_running, until
 
 
 class Processors:
@@ -24,7 +24,7 @@ class Processors:
     def __init__(self, driver, pin, lot):
         self.driver, self.pin, self.lot = driver, pin, lot
         self.is_high = self.is_seen = False
-        self.sent = self.ended = self.interrupts = 0
+        self.sent = self.ended = self.interrupts = self.handled = 0
 
     def access(self, offset, value=None):
         """Writes or reads a register."""
@@ -59,11 +59,13 @@ class Processors:
             self.driver.advance()
             taken += 1
         self.ended += taken
+        self.handled += taken > 0
         self.access(HEAD, self.driver.head) if taken else None
 
     def run(self, count):
+        """Runs until so many commands have ended, and returns how many milliseconds this takes."""
         begun_at = time.monotonic()
-        while self.ended < count and time.monotonic() < begun_at + 120:
+        while self.ended < count and time.monotonic() < begun_at + LIMIT:
             # (if both processes wait, only an interrupt goes on)
             waits = self.sent - self.ended == 2 or self.sent == count
             self.look(0.05 if waits and not (self.is_high or self.is_seen) else 0)
@@ -71,6 +73,7 @@ class Processors:
                 self.handle()
             elif not waits:
                 self.send()
+        return 1000 * (time.monotonic() - begun_at)
 
 
 class Interrupts(Served):
@@ -117,9 +120,9 @@ class Interrupts(Served):
         # (another counter in its place was never raised)
         pin = counter()
         self.assertEqual(self.driver.set_irqs(BIND, PIN, file=pin), 0)
-        self.assertTrue(is_raised(pin, 10))
+        self.assertTrue(is_raised(pin, LIMIT))
         self.assertEqual(self.driver.set_irqs(UNMASK, PIN), 0)
-        self.assertTrue(is_raised(pin, 10))
+        self.assertTrue(is_raised(pin, LIMIT))
         self.driver.take(), self.driver.take()
         self.assertEqual(self.driver.config(STATUS, 2), 0x10)
         self.assertEqual(self.driver.set_irqs(UNMASK, PIN), 0)
@@ -128,11 +131,11 @@ class Interrupts(Served):
         self.put()
         self.assertFalse(is_raised(pin))
         self.driver.set_config(COMMAND, MASTER, 2)
-        self.assertTrue(is_raised(pin, 10))
+        self.assertTrue(is_raised(pin, LIMIT))
         # (a mask holds it back, and so do enabled messages)
         self.assertEqual(self.driver.set_irqs(MASK, PIN), 0)
         self.assertEqual(self.driver.set_irqs(UNMASK, PIN), 0)
-        self.assertTrue(is_raised(pin, 10))
+        self.assertTrue(is_raised(pin, LIMIT))
         self.assertEqual(self.driver.set_irqs(MASK, PIN), 0)
         self.put()
         self.assertFalse(is_raised(pin, 0.1))
@@ -151,7 +154,7 @@ class Interrupts(Served):
             for _ in range(5):
                 self.put()
                 self.assertEqual(self.driver.set_irqs(UNMASK, PIN), 0)
-            self.assertTrue(select.select([pin], [], [], 10)[0])
+            self.assertTrue(select.select([pin], [], [], LIMIT)[0])
             times = int.from_bytes(os.read(pin, 8), sys.byteorder)
             self.assertLessEqual(times, (time.monotonic() - begun_at) / 0.009)
             # (a head frees some of the completions, and the pin is raised at once for the others)
@@ -171,7 +174,7 @@ class Interrupts(Served):
         self.assertTrue(is_raised(pin))
         for take in self.driver.take, self.driver.enable:
             self.assertEqual(self.driver.set_irqs(UNMASK, PIN), 0)
-            self.assertTrue(select.select([pin], [], [], 10)[0])
+            self.assertTrue(select.select([pin], [], [], LIMIT)[0])
             take()
             self.driver.register(CSTS)
             self.assertFalse(is_raised(pin))
@@ -179,7 +182,7 @@ class Interrupts(Served):
             self.assertTrue(is_raised(pin))
         # (a pin that the client masked stays masked)
         self.assertEqual(self.driver.set_irqs(UNMASK, PIN), 0)
-        self.assertTrue(select.select([pin], [], [], 10)[0])
+        self.assertTrue(select.select([pin], [], [], LIMIT)[0])
         self.assertEqual(self.driver.set_irqs(MASK, PIN), 0)
         self.driver.take()
         self.put()
@@ -194,9 +197,9 @@ class Interrupts(Served):
         self.assertTrue(is_raised(pin))
         for _ in range(2):
             self.assertFalse(is_raised(pin, 0.3))
-            before = self.woken()
+            before = self.slept()
             self.assertFalse(is_raised(pin, 0.3))
-            self.assertEqual(self.woken(), before)
+            self.assertEqual(self.slept(), before)
             self.driver.set_config(COMMAND, MASTER | NO_INTERRUPT, 2)
             self.assertEqual(self.driver.set_irqs(UNMASK, PIN), 0)
 
@@ -205,9 +208,10 @@ class Interrupts(Served):
         pin = counter()
         self.assertEqual(self.driver.set_irqs(BIND, PIN, file=pin), 0)
         machine = Processors(self.driver, pin, random.Random(1))
-        machine.run(2000)
+        milliseconds = machine.run(2000)
         self.assertEqual(machine.ended, 2000)
-        self.assertLess(machine.interrupts, 2200)
+        # (there is one for what the handler takes at a time, and others come only every 10 milliseconds)
+        self.assertLess(machine.interrupts, machine.handled + milliseconds / 9)
         self.assertFalse(is_raised(pin, 0.3))
 
     def test_calls_of_the_kernel(self):
@@ -226,9 +230,10 @@ class Interrupts(Served):
             driver.socket.sendall(b''.join(
                 struct.pack('<HHIIIQIII', 0, REGION_WRITE, 36, WANTS_NONE, 0, offset, BAR, 4, value)
                 for offset, value in ((HEAD, driver.head), (TAIL, driver.tail))))
-            self.assertTrue(is_raised(message, 10))
+            self.assertTrue(is_raised(message, LIMIT))
             self.assertEqual(driver.advance(), 0)
         self.stop(self.server)
+        self.assertTrue(until(lambda: not left_running()), 'the trace has no end')
         self.server = self.start()
         calls = ' '.join(line.partition('(')[0] for line in trace.read_text().splitlines())
         self.assertIn(' '.join(['io_submit poll recvmsg'] * 49 + ['io_submit']), calls)
@@ -243,7 +248,7 @@ class Interrupts(Served):
         self.put()
         self.assertTrue(is_raised(pin))
         os.write(seen, struct.pack('=Q', 1))
-        self.assertTrue(is_raised(pin, 10))
+        self.assertTrue(is_raised(pin, LIMIT))
         self.driver.take()
         os.write(seen, struct.pack('=Q', 1))
         self.assertFalse(is_raised(pin, 0.3))
@@ -270,11 +275,9 @@ class Interrupts(Served):
         os.set_blocking(full, True)
         self.assertEqual(self.driver.set_irqs(BIND, MESSAGES, file=full), 0)
         os.write(full, struct.pack('=Q', 2 ** 64 - 2))
-        begun_at = time.monotonic()
         self.put()
         self.assertEqual(self.driver.take(), 0)
         self.assertEqual(self.greeted(1).config(0), 0x0010_1b36)
-        self.assertLess(time.monotonic() - begun_at, 5)
         self.assertEqual(os.read(full, 8), struct.pack('=Q', 2 ** 64 - 1))
         self.put()
         self.assertTrue(is_raised(full))
@@ -285,10 +288,16 @@ class Interrupts(Served):
         self.stop(self.server)
         self.server = self.start(*['--subsystem', DEMO] * 8, last=15)
         guests = [self.guest(number) for number in range(16)]
-        waits = []
+        usual, waits = [], []
+
+        def serial(times):
+            begun_at = time.monotonic()
+            self.assertEqual(guests[0].serial(), 'S0')
+            times.append(time.monotonic() - begun_at)
         for guest in guests:
             guest.enable()
         for _ in range(20):
+            serial(usual)
             for guest in guests[1:]:
                 full = counter()
                 os.set_blocking(full, True)
@@ -298,9 +307,8 @@ class Interrupts(Served):
                 guest.put(IDENTIFY, 2 * PAGE, dword10=1, rings=False)
             for guest in guests[1:]:
                 guest.set_register(TAIL, guest.tail)
-            begun_at = time.monotonic()
-            self.assertEqual(guests[0].serial(), 'S0')
-            waits.append(time.monotonic() - begun_at)
+            serial(waits)
             for guest in guests[1:]:
                 guest.take()
-        self.assertLess(min(waits), 0.1)
+        # (a busy machine makes both slow)
+        self.assertLess(min(waits), 0.1 + 10 * min(usual))

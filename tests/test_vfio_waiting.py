@@ -19,7 +19,7 @@ from tests.as_client import BAR, BIND, DMA_MAP, MESSAGES, PIN, REGION_READ, VERS
 from tests.driver import PAGE, counter, memory_file
 from tests.modelled import works
 from tests.served import EINVAL, EMFILE, ENOENT, Served
-from tests.support import Running, until
+from tests.support import LIMIT, Running
 
 USERFAULTFD, UFFDIO_API, UFFDIO_REGISTER = 323, 0xc018_aa3f, 0xc020_aa00
 PTRACE_SEIZE, PTRACE_INTERRUPT = 0x4206, 0x4207
@@ -30,7 +30,7 @@ class AbsentPage:
     """A page of this process that doesn't come until this is closed. What is copied from it waits."""
 
     def __init__(self, case):
-        self.file = LIBC.syscall(USERFAULTFD, os.O_CLOEXEC)
+        self.file = LIBC.syscall(USERFAULTFD, os.O_CLOEXEC | os.O_NONBLOCK)
         if self.file < 0:
             case.skipTest(f'userfaultfd: {os.strerror(ctypes.get_errno())}')
         self.memory = mmap.mmap(-1, PAGE)
@@ -44,7 +44,7 @@ class AbsentPage:
         """Writes the page to a file in a thread, which holds the file's lock from then on."""
         self.threads.append(threading.Thread(target=LIBC.write, args=(file, ctypes.c_void_p(self.at), PAGE)))
         self.threads[-1].start()
-        time.sleep(0.1)
+        assert select.select([self.file], [], [], LIMIT)[0], 'nobody waits for the page'
 
     def close(self):
         if self.file >= 0:
@@ -56,13 +56,11 @@ class AbsentPage:
 
 class Waiting(Served):
     def goes_on(self, ctrl=1):
-        """Checks that another client is served at once."""
-        begun_at = time.monotonic()
+        """Checks that another client is served, whatever waits meanwhile."""
         other = self.guest(ctrl)
         other.enable()
         self.assertEqual(other.serial(), f'S{ctrl}')
         other.close()
-        self.assertLess(time.monotonic() - begun_at, 3)
 
     @contextlib.contextmanager
     def stopped(self):
@@ -89,9 +87,7 @@ class Waiting(Served):
         running.comes(f'answered {EINVAL}\n'.encode())
         self.goes_on()
         # the server ends although its receiver can't
-        begun_at = time.monotonic()
         self.stop(self.server)
-        self.assertLess(time.monotonic() - begun_at, 3)
         self.server = self.start()
         running.process.kill()
         running.end()
@@ -102,9 +98,7 @@ class Waiting(Served):
         guest.enable()
         page = AbsentPage(self)
         page.write(guest.pieces[0].file)
-        begun_at = time.monotonic()
         self.assertEqual(guest.serial(), 'S0')
-        self.assertLess(time.monotonic() - begun_at, 3)
         self.goes_on()
 
     def test_locked_pipe(self):
@@ -139,7 +133,7 @@ class Waiting(Served):
         listener = socket.create_server(('127.0.0.1', 0))
         lingering = socket.create_connection(listener.getsockname())
         accepted, _ = listener.accept()
-        lingering.setsockopt(socket.SOL_SOCKET, socket.SO_LINGER, struct.pack('=ii', 1, 60))
+        lingering.setsockopt(socket.SOL_SOCKET, socket.SO_LINGER, struct.pack('=ii', 1, 3 * LIMIT))
         lingering.setblocking(False)
         with contextlib.suppress(BlockingIOError):
             while True:
@@ -175,11 +169,8 @@ class Waiting(Served):
         self.goes_on(0)
         # a server that is killed leaves none
         self.greeted()
-        left = self.receivers()
-        self.assertEqual(len(left), 1)
-        self.server.process.kill()
-        self.server.end()
-        self.assertTrue(until(lambda: not os.path.exists(f'/proc/{left[0]}')))
+        self.assertEqual(len(self.receivers()), 1)
+        self.kill()
         self.server = self.start()
 
     def test_end_with_messages_left(self):
@@ -192,7 +183,7 @@ class Waiting(Served):
                     client.say(REGION_READ, struct.pack('<QII', 0, BAR, 0x4000))
             self.server.process.send_signal(number)
             self.assertEqual(self.server.end().status, -number)
-            client.socket.settimeout(10)
+            client.socket.settimeout(LIMIT)
             while client.socket.recv(65536):
                 pass
             self.server = self.start()
@@ -206,9 +197,7 @@ class Waiting(Served):
             client.say(DMA_MAP, struct.pack('<IIQQQ', 32, 3, 0, 0, PAGE), [ends[0]])
             os.close(ends[0])
             self.server.process.terminate()
-        begun_at = time.monotonic()
         self.assertEqual(self.server.end().status, -signal.SIGTERM)
-        self.assertLess(time.monotonic() - begun_at, 3)
         page.close()
         self.server = self.start()
 
@@ -218,9 +207,7 @@ class Waiting(Served):
         for request in PTRACE_SEIZE, PTRACE_INTERRUPT:
             self.assertEqual(LIBC.ptrace(request, number, None, None), 0)
         os.waitpid(number, 0)
-        begun_at = time.monotonic()
         self.stop(self.server)
-        self.assertLess(time.monotonic() - begun_at, 10)
         self.server = self.start()
 
     def receivers(self):
@@ -246,7 +233,7 @@ class Waiting(Served):
         are there."""
         guest = self.client()
         guest.say(VERSION, bytes(4))
-        ready = select.select([guest.socket, self.server.hears], [], [], 300)[0]
+        ready = select.select([guest.socket, self.server.hears], [], [], LIMIT)[0]
         guest.close()
         if self.server.hears in ready:
             self.server.comes(b'nvme-model: a client waits, because the limit of open files or processes is too low\n')
