@@ -3,7 +3,7 @@
 where=$1
 shift
 caller=$$
-if [ "$(id -u)" = 0 ]; then setpriv --bounding-set=-all --inh-caps=-all sleep 600 & else sleep 600 & fi
+if [ "$(id -u)" = 0 ]; then setpriv --bounding-set=-all --inh-caps=-all sleep 9999 & else sleep 9999 & fi
 powerless=$!
 export caller powerless
 cd "$where" && exec 7< / 8< /dev

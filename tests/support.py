@@ -33,7 +33,7 @@ IS_ROOT = os.geteuid() == 0
 NOBODY = 'setpriv', '--reuid=65534', '--regid=65534', '--clear-groups'
 USERS = [(), NOBODY] if IS_ROOT else [()]
 # How many seconds the tests wait for anything: a busy machine takes long, and only a failure takes so long.
-LIMIT = 300
+LIMIT = 1200
 # (other users read what the tests make, and programs write the messages that the tests know)
 os.umask(0o022)
 for name in [name for name in os.environ if name.startswith('LC_') or name == 'LANGUAGE']:
@@ -66,7 +66,7 @@ def library():
     sources."""
     if run(TOP / 'tools/stamp', 'is-current', 'nvme_controller').status != 0:
         raise unittest.SkipTest('the library has not been made from the current sources: make library')
-    ended = run(TOP / 'tools/library', limit=600)
+    ended = run(TOP / 'tools/library')
     if ended.status != 0:
         raise AssertionError(f'the library could not be made\n{ended}')
     return TOP / 'out/library'
@@ -197,7 +197,7 @@ def status_of(process, limit=LIMIT):
     return process.wait(limit if has_ended else 0)
 
 
-def run(*command, source=b'', out=None, err=None, env=(), cwd=TOP, limit=600):
+def run(*command, source=b'', out=None, err=None, env=(), cwd=TOP, limit=LIMIT):
     """Runs a command to its end. Its input is `source`, which is bytes or the path of a file. Its output and its
     messages are returned, or go to the files `out` and `err`; with `err='&1'` both are returned in order as output.
 
@@ -308,7 +308,7 @@ class Case(unittest.TestCase):
         self.addCleanup(self.leaves_no_process)
 
     def leaves_no_process(self):
-        if not until(lambda: not left_running(), 60):
+        if not until(lambda: not left_running()):
             numbers = left_running()
             end_all()
             self.fail(f'these processes were left running: {numbers}')

@@ -3,7 +3,7 @@ that was cut short. A run of many lines or requests uses no more memory than a r
 
 import concurrent.futures
 
-from tests.support import TOP, Case, compiled, program, run
+from tests.support import LIMIT, TOP, Case, compiled, program, run
 
 # How many processes refuse the allocations of one program side by side.
 PARTS = 8
@@ -14,7 +14,7 @@ class Refusing(Case):
         """Runs a program in which the allocation with this number is refused, or no allocation if it is 0."""
         refuse = {'LD_PRELOAD': compiled('allocations.c', '-ldl'), 'REFUSE': number,
                   'CALLS': calls or self.folder / 'calls'}
-        return run(program(crate), *arguments, source=source, env=refuse, limit=3600)
+        return run(program(crate), *arguments, source=source, env=refuse, limit=3 * LIMIT)
 
     def whole(self, crate, *arguments, source):
         """Runs a program in which no allocation is refused. Returns how it ended, the number of its allocations, and

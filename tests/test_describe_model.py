@@ -31,7 +31,7 @@ def controllers_in(text):
 
 
 class RoundTrip(ModelCase):
-    def described(self, texts, limit=600):
+    def described(self, texts):
         """Returns the files of the subsystems of these files, each described by its controllers."""
         files = [self.file(f'{number}.toml', text.encode()) for number, text in enumerate(texts)]
         first, script = 0, ''
@@ -42,7 +42,7 @@ class RoundTrip(ModelCase):
             script += f'"$1" {names} > {path}.out || exit\n'
             first += count
         options = [word for path in files for word in ('--subsystem', path)]
-        self.ends(run(installed(), *options, 'sh', '-c', script, 'sh', DESCRIBE, limit=limit), 0, b'', b'')
+        self.ends(run(installed(), *options, 'sh', '-c', script, 'sh', DESCRIBE), 0, b'', b'')
         return [path.with_suffix('.toml.out').read_text() for path in files]
 
     def comes_back(self, text, found):

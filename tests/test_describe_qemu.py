@@ -8,7 +8,7 @@ import shutil
 
 from tests.modelled import ModelCase, installed
 from tests.support import TOP, program, run
-from tests.test_qemu import LIMIT, initial_files, kernel, why_not
+from tests.test_qemu import initial_files, kernel, why_not
 
 PYTHON = shutil.which('python3', path='/usr/bin')
 CONTROLLERS, NSIDS, FIDS = range(2), (1, 2, 3, 5), (1, 2, 4, 5, 6, 7, 8, 10, 11)
@@ -88,7 +88,7 @@ class Described(ModelCase):
         ended = run('qemu-system-x86_64', '-nodefaults', '-display', 'none', '-no-reboot', '-m', '512M', *words,
                     *MACHINE, '-serial', f'file:{console}', '-serial', f'file:{results}',
                     '-kernel', kernel()[0], '-initrd', guest_files(self.folder),
-                    '-append', 'console=ttyS0 panic=-1 no_timer_check', limit=LIMIT)
+                    '-append', 'console=ttyS0 panic=-1 no_timer_check')
         self.ends(ended, 0, b'')
         text = results.read_text(errors='replace')
         self.assertIn('END OF SCRIPT\n', text, console.read_text(errors='replace')[-3000:])
@@ -108,7 +108,7 @@ class Described(ModelCase):
         path = self.file('described.toml', file.encode())
         self.ends(run(program('nvme_script'), '--subsystem', path), 0, b'', b'')
         commands = ''.join(f'{command} > /dev/null || exit\n' for command in re.findall('(?m)^# (nvme set-.*)$', file))
-        ended = run(installed(), '--subsystem', path, 'sh', '-c', commands + shown(), limit=LIMIT)
+        ended = run(installed(), '--subsystem', path, 'sh', '-c', commands + shown())
         self.ends(ended, 0, err=b'')
         comments = re.sub(r'\n# ', ' ', '\n'.join(re.findall('(?m)^#.*', file)))
         here, count = answers(ended.out.decode()), 0

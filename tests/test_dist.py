@@ -15,7 +15,7 @@ import unittest
 
 from tests.modelled import VERSION, installed, why_no_sandbox
 from tests.pages import Page
-from tests.support import DEMO, IS_ROOT, NOBODY, TOP, Case, library, process_folder, run
+from tests.support import DEMO, IS_ROOT, LIMIT, NOBODY, TOP, Case, library, process_folder, run
 from tests.test_installed import LOOK
 
 DIST = TOP / 'tools/dist'
@@ -47,8 +47,7 @@ def made(number):
     library()
     into = process_folder() / f'dist {number}'
     mask, settings = [('022', {}), ('077', {'TZ': 'Asia/Tokyo', 'LC_ALL': 'C.UTF-8', 'HOME': '/'})][number]
-    return into, run('sh', '-c', f'umask {mask}; exec "$@"', 'sh', DIST, '--with-changes', '--into', into, env=settings,
-                     limit=900)
+    return into, run('sh', '-c', f'umask {mask}; exec "$@"', 'sh', DIST, '--with-changes', '--into', into, env=settings)
 
 
 def dist(number=0):
@@ -71,7 +70,7 @@ def unpacked():
     place.chmod(0o777)
     shutil.copy(dist() / f'{ARCHIVE}.tar.xz', place)
     (place / f'{ARCHIVE}.tar.xz').chmod(0o644)
-    ended = run('sh', '-c', f'umask 077; tar xf {ARCHIVE}.tar.xz && chmod -R a+rX,a-w {ARCHIVE}', cwd=place, limit=600)
+    ended = run('sh', '-c', f'umask 077; tar xf {ARCHIVE}.tar.xz && chmod -R a+rX,a-w {ARCHIVE}', cwd=place)
     if ended.status != 0:
         raise AssertionError(ended)
     return place / ARCHIVE
@@ -325,7 +324,7 @@ class Debian(Packages):
 
     @unittest.skipUnless(shutil.which('lintian'), 'there is no lintian')
     def test_lintian(self):
-        ended = run('lintian', '--allow-root', '--fail-on=none', '--show-overrides', *dist().glob('*.deb'), limit=600)
+        ended = run('lintian', '--allow-root', '--fail-on=none', '--show-overrides', *dist().glob('*.deb'))
         lines = ended.out.decode().splitlines()
         self.assertEqual([line for line in lines if line[:3] in ('E: ', 'W: ')], [], ended)
         overridden = {line.split()[2] for line in lines if line.startswith('O: ')}
@@ -413,7 +412,7 @@ class Again(Packages):
         said = {re.search(r'(?m)^# To make this again.*\n#\n((?:#     .*\n)+)', path.read_text())[1] for path in paths}
         self.assertEqual(len(said), 1)
         clone = cloned(self.folder / 'clone', *PROGRAMS, 'nvme_controller')
-        self.ends(run('sh', '-ec', said.pop().replace('# ', ''), cwd=clone, limit=3600), 0)
+        self.ends(run('sh', '-ec', said.pop().replace('# ', ''), cwd=clone, limit=3 * LIMIT), 0)
         one, two = ({path.name: sha256(path) for path in folder.iterdir()} for folder in (dist(), clone / 'out/dist'))
         self.assertEqual(one, two)
 
@@ -426,7 +425,7 @@ class Part(Case):
             if run(TOP / 'tools/stamp', 'is-current', name).status != 0:
                 self.skipTest(f'there is no proved {name} of these sources')
         clone = cloned(self.folder / 'clone', 'nvme_script', 'nvme_device')
-        ended = run(clone / 'tools/dist', cwd='/', limit=900)
+        ended = run(clone / 'tools/dist', cwd='/')
         self.ends(ended, 0)
         self.assertEqual(ended.err.decode().splitlines(), [
             f'dist: there is no proved {name} of these sources: {command} makes it' for name, command in (

@@ -17,7 +17,7 @@ class Ioctls(ModelCase):
         self.subsystem = self.file('qemu.toml', (TOP / 'tests/linux/demo.toml').read_bytes())
         job = shutil.copy(JOBS / f'{name}.sh', self.folder)
         self.needs(job)
-        ended = run(*user, *self.command('bash', job, options=options), err='&1', env={'LANG': 'C'}, limit=300)
+        ended = run(*user, *self.command('bash', job, options=options), err='&1', env={'LANG': 'C'})
         return (ended.out + b'status %d\n' % ended.status).decode().splitlines()
 
     def test_calls(self):

@@ -174,7 +174,7 @@ int main() {
     def test_simulation(self):
         self.ends(run('verilator', '--binary', '--Mdir', self.folder / 'obj', '--top-module', 'bench',
                       TOP / 'examples/c/bench.sv', TOP / 'examples/c/memory.c', '-CFLAGS', f'-I{self.library}',
-                      '-LDFLAGS', self.library / 'libnvme_controller.a', limit=600), 0)
+                      '-LDFLAGS', self.library / 'libnvme_controller.a'), 0)
         ended = run(self.folder / 'obj/Vbench')
         self.assertEqual(ended.status, 0, ended)
         self.assertIn(b'controllers: 2\nstatus: 00000001\ntaken: 1\ncommand identifier: 5\nphase tag: 1\n'

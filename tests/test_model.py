@@ -48,7 +48,7 @@ class Ioctls(ModelCase):
         check = compiled_c(self.folder / 'check', CHECK, '-pthread')
         for geometry, part in itertools.product(GEOMETRIES, PARTS_OF_CHECK):
             with self.subTest(geometry=geometry, part=part):
-                self.ends(self.model(check, part, options=geometry.split(), env=self.env, limit=900), 0, b'', b'')
+                self.ends(self.model(check, part, options=geometry.split(), env=self.env), 0, b'', b'')
         for geometry in GEOMETRIES:
             with self.subTest(geometry=geometry, part='gone'):
                 self.says(self.model(check, 'gone', options=geometry.split(), env=self.env), 0,
@@ -66,7 +66,7 @@ class Ioctls(ModelCase):
         env = {'ASAN_OPTIONS': 'verify_asan_link_order=0:detect_leaks=0', **self.env}
         for part in (*PARTS_OF_CHECK, 'gone'):
             with self.subTest(part):
-                ended = run(launcher, '--subsystem', self.subsystem, check, part, env=env, limit=900)
+                ended = run(launcher, '--subsystem', self.subsystem, check, part, env=env)
                 self.ends(ended, 0, b'')
                 for word in b'Sanitizer', b'runtime error', b'check: ':
                     self.assertNotIn(word, ended.err, ended)

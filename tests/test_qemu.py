@@ -17,14 +17,12 @@ import subprocess
 
 from tests.as_qemu import BROKEN
 from tests.modelled import CLIENT, PARTS, ModelCase, installed, is_there
-from tests.support import DEMO, TOP, Case, Running, difference, library, process_folder, run, until
+from tests.support import DEMO, LIMIT, TOP, Case, Running, difference, library, process_folder, run, until
 
 SCENARIOS = 'configuration', 'registers', 'commands', 'interrupts', 'sections', 'gone'
 SEEDS = range(8)
 # The kernel of tools/kernel.
 UNPACKED = TOP / 'out/kernel'
-# Seconds for a guest: its emulated processor needs some 20 of a real one, for which it waits on a busy machine.
-LIMIT = 1200
 COUNTS = r'nvme-model: controller (\d+): commands (\d+), refused (\d+)\n'
 ERROR = r'nvme-model: error (\d+): command (\d+), status 0x([0-9a-f]+), location 0x([0-9a-f]+), NSID 0x([0-9a-f]+)\n'
 
@@ -127,7 +125,7 @@ class Messages(Case):
 
     def said(self, scenario):
         env = {'PATH': f'{self.folder}:{os.environ["PATH"]}', 'SCENARIO': scenario}
-        return run(program(*SANITIZERS), '--summary', env=env, limit=60)
+        return run(program(*SANITIZERS), '--summary', env=env)
 
     def test_scenarios(self):
         for scenario in SCENARIOS:
@@ -357,7 +355,7 @@ class Drivers(ModelCase):
     def boot(self, *options):
         """Runs a machine until it would reset itself, and returns what the program reported at its end."""
         ended = run(program(), '--summary', '--subsystem', self.subsystem, '--', '-nodefaults', '-display', 'none',
-                    '-no-reboot', *options, limit=LIMIT)
+                    '-no-reboot', *options)
         self.ends(ended, 0, b'')
         return ended.err.decode()
 
@@ -377,7 +375,7 @@ class Drivers(ModelCase):
         self.assertEqual(len(re.findall('IO queues (?:not created|lost)', console)), 3, console[-3000:])
         self.assertEqual(re.findall(r'(?i)nvme.*(?:timeout|timed out|dead|abort)', console), [])
         script, logs = self.results.read_text().split('END OF SCRIPT\n')
-        wanted = self.model('sh', TOP / 'tests/guest.sh', limit=LIMIT)
+        wanted = self.model('sh', TOP / 'tests/guest.sh')
         self.assertEqual(difference('guest', wanted.out, script.encode()), [], console[-3000:])
         # what the guest read last, and what the program reported at its end
         self.assertTrue(logs.endswith('END OF LOGS\n'), logs)
@@ -405,13 +403,13 @@ class Drivers(ModelCase):
                 '-serial', 'stdio', '-kernel', kernel()[0], '-initrd', initial_files(),
                 '-append', 'console=ttyS0 panic=-1 no_timer_check plugged')
             self.addCleanup(machine.process.kill)
-            machine.comes(b'PLUGGED\n', limit=LIMIT)
+            machine.comes(b'PLUGGED\n')
             # (the guest no longer sees the controller before QEMU has removed it)
             self.order('device_del', 'DEVICE_DELETED', id='own')
-            machine.comes(b'UNPLUGGED\n', limit=LIMIT)
+            machine.comes(b'UNPLUGGED\n')
             self.order('device_add', **device)
-            machine.comes(b'END\n', limit=LIMIT)
-            ended = machine.end(LIMIT)
+            machine.comes(b'END\n')
+            ended = machine.end()
             self.assertEqual(ended.status, 0, ended)
             self.assertRegex(ended.out.decode(), rf'nsid:{nsid}\n1\nPLUGGED\nUNPLUGGED\n(\[.*\n)+END\n$')
         server.process.terminate()
@@ -436,11 +434,11 @@ class Drivers(ModelCase):
         (self.folder / 'here').mkdir()
         (self.folder / 'here/nvme-model').symlink_to(program())
         running = Running('sh', '-c', commands, cwd=self.folder / 'here', env={'HOME': self.folder})
-        self.assertTrue(until(lambda: (running.hear(1), b'job control turned off' in running.heard)[1], LIMIT))
+        self.assertTrue(until(lambda: (running.hear(1), b'job control turned off' in running.heard)[1]))
         running.say(b'until nvme id-ctrl /dev/nvme0 && nvme id-ctrl /dev/nvme1; do sleep 1; done 2> /dev/null |'
                     b' grep ^sn\necho serials: $(cat /sys/class/nvme/nvme?/serial)\n'
                     b'nvme list-ns /dev/nvme0; dmesg | grep nvme; echo b > /proc/sysrq-trigger\n')
-        ended = running.end(LIMIT)
+        ended = running.end()
         self.assertEqual(ended.status, 0, ended)
         said = ended.out.decode(errors='replace')
         self.assertEqual(set(re.findall(r'(?m)^sn +: (\S+)', said)), {'S0', 'S1'}, said[-3000:])
@@ -457,12 +455,14 @@ class Drivers(ModelCase):
             monitor.settimeout(LIMIT)
             monitor.connect(f'{self.folder}/monitor')
             lines = monitor.makefile('rw')
+            seen = [None]
             for command in {'execute': 'qmp_capabilities'}, {'execute': name, 'arguments': arguments}:
                 lines.write(json.dumps(command))
                 lines.flush()
                 answer = {}
                 while not answer.keys() & {'return', 'error'}:
                     answer = json.loads(lines.readline())
+                    seen.append(answer.get('event'))
                 self.assertEqual(answer, {'return': {}})
-            while event and answer.get('event') != event:
-                answer = json.loads(lines.readline())
+            while event not in seen:
+                seen.append(json.loads(lines.readline()).get('event'))

@@ -167,7 +167,7 @@ class Builds(Copy):
         # a line on the terminal changes, and an interrupted build says what is kept
         build = Running(self.command, '--build', terminal=True, env=self.env)
         total = len(run('tools/crates').out.splitlines())
-        line = rb'\x1b\[Knvme-script: 0 min [1-9]\d* s: 0 of %d crates are built; under way: nv_bits \(3 of 7 ' % total
+        line = rb'\x1b\[Knvme-script: (?!0 min 0 s)\d+ min \d+ s: 0 of %d crates are built; under way: nv_bits \(3 of 7 ' % total
         self.assertTrue(until(lambda: (build.hear(1), re.search(line, build.heard))[1]), build.heard)
         self.assertNotIn(b'building', build.heard)
         self.assertLess(max(map(len, build.heard.split(b'\x1b[K'))), 80)
@@ -392,5 +392,5 @@ class Real(Case):
         shutil.copy(TOP / 'examples/two_controllers.toml', own / '-two controllers.toml')
         arguments = '--subsystem=-two controllers.toml', '--depth', '2'
         wanted = run(SCRIPT, *arguments, source=self.script, cwd=own)
-        ended = run(own / 'link', *arguments, source=self.script, cwd=own, limit=1800)
+        ended = run(own / 'link', *arguments, source=self.script, cwd=own)
         self.ends(ended, wanted.status, wanted.out, LINE + b'\n' + wanted.err)
