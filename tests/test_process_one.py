@@ -70,13 +70,13 @@ class Confined(ModelCase):
     def test_numbers(self):
         # no number finds the launcher, its keeper, its helper or the device
         finds, most = helper('finds'), str(max(int(name) for name in os.listdir('/proc') if name.isdigit()) + 1000)
-        script = '"$1" "$2"; ls /proc | grep -c "^[0-9]"'
+        script = '"$1" "$2"; set -- /proc/[0-9]*; echo $#'
         for user in [*USERS, NESTED] if works(*NESTED) else USERS:
             for inside in [(), NOBODY] if IS_ROOT and not user else [()]:
                 with self.subTest(user=user, inside=inside):
                     ended = run(*user, *self.command(*inside, 'sh', '-c', script, 'sh', finds, most))
-                    # (process 1, the shell, ls and grep)
-                    self.ends(ended, 0, b'end\n4\n', b'')
+                    # (process 1 and the shell)
+                    self.ends(ended, 0, b'end\n2\n', b'')
 
     def test_process_one(self):
         pries = helper('pries')
