@@ -154,9 +154,11 @@ class Identities(CallCase):
 
     @unittest.skipUnless(IS_ROOT, 'root alone can become another user')
     def test_signals_of_users(self):
-        # a user whose calls are answered can't signal the launcher, by which root's command would get the signal
+        # a user whose calls are answered can't signal root's processes by them, and not process 1 meanwhile
         script = 'trap "echo signalled" TERM; ' + ' '.join(NOBODY) + ' python3 -c "$1" "$2"; echo end'
         tries = ('import os, signal, sys, threading, time\n'
+                 'signal.signal(signal.SIGTERM, signal.SIG_IGN)\n'
+                 'os.kill(0, signal.SIGTERM)\n'
                  'end, got = time.monotonic() + 2, 0\n'
                  'def call():\n'
                  '    while time.monotonic() < end:\n'
@@ -187,6 +189,21 @@ class Identities(CallCase):
         ended = self.shell(script, self.folder)
         self.assertEqual(set(ended.out.split()), {b'opened-1000', b'opened-0'}, ended)
         self.assertEqual([(self.folder / f'by-{number}').read_bytes() for number in (1001, 1002)], [b'x\n' * 3] * 2)
+
+    @unittest.skipUnless(IS_ROOT, 'root alone can become another user')
+    def test_one_user_after_another(self):
+        # by turns, processes that differ in one thing from others of the same user, which may write a file or not
+        file = self.file('file', b'')
+        os.chown(file, 2000, 1000)
+        file.chmod(0o060)
+        group = '--reuid=1000 --regid={} --clear-groups', '--reuid=1000 --regid=1001 --groups={}'
+        ways = {'in': group[0].format(1000), 'out': group[0].format(1001), 'also': group[1].format(1000),
+                'other': group[1].format(1002), 'root': '--reuid=0'}
+        script = ''.join(f'setpriv {words} sh -c \'(: > "$0") 2> /dev/null && echo {name}\' "$1"; '
+                         for name, words in ways.items())
+        weak = f'import ctypes, sys\n{WITHOUT_RIGHTS}\nopen(sys.argv[1], "w")\nprint("weak")'
+        script = f'for i in 1 2 3 4; do {script}python3 -c "$2" "$1" 2>&1 | tail -n 1 | cut -d " " -f 1; done'
+        self.ends(self.shell(script, file, weak), 0, b'in\nalso\nroot\nPermissionError:\n' * 4, b'')
 
 
 # What a process can do, by a line for each: whether it can write a file of /sys, set the session's priority, and open a
@@ -228,7 +245,9 @@ class Rights(CallCase):
             self.assertEqual(self.able(hidden), [*refused, 'done', 'done', 'EBADF', *same])
             # (the nodes belong to root, which may write them without rights, but isn't an administrator then)
             self.assertEqual(self.able(WITHOUT_RIGHTS), [*refused, 'done', 'EACCES', 'EBADF', *same])
-            self.assertEqual(self.able('', inside=NOBODY), ['EACCES'] * 4 + ['EBADF', *same])
+            # (a user is root in a namespace of its own alone)
+            for namespace in [(), ('unshare', '-Ur')][:1 + works('unshare', '-Ur')]:
+                self.assertEqual(self.able('', inside=(*NOBODY, *namespace)), ['EACCES'] * 4 + ['EBADF', *same])
             able = 'setpriv', '--reuid=1000', '--clear-groups', '--inh-caps=+dac_override', '--ambient-caps=+dac_override'
             self.assertEqual(self.able('', inside=able), [*refused, 'done', 'EACCES', 'EBADF', *same])
 

@@ -96,8 +96,8 @@ class StreamCase(ModelCase):
                 files.callback(os.close, number)
         return opened[0] if opened and opened[0] >= 0 else None
 
-    def start(self, user, streams):
-        """Starts a command that runs until the file `seen` is removed."""
+    def start(self, user, streams, path=()):
+        """Starts a command that runs until the file `seen` is removed, perhaps with a folder before all of PATH."""
         def close():
             for number in range(3):
                 if streams[number] is None:
@@ -105,7 +105,7 @@ class StreamCase(ModelCase):
         script = ': > "$1"; while test -e "$1"; do sleep 0.02; done'
         command = [*user, installed(), '--subsystem', self.subsystem, 'sh', '-c', script, 'sh', self.seen]
         return subprocess.Popen(command, stdin=streams[0], stdout=streams[1], stderr=streams[2], preexec_fn=close,
-                                env=environment())
+                                env=environment({'PATH': ':'.join([*map(str, path), os.environ['PATH']])}))
 
     def launchers(self):
         """Returns the folders in /proc of the launcher, its keeper and its helpers, of which there may be many."""
@@ -133,12 +133,12 @@ class StreamCase(ModelCase):
             else:
                 self.assertTrue(os.path.samestat(file, os.fstat(streams[number])), f'{number} is {name}')
 
-    def try_streams(self, user, kinds):
+    def try_streams(self, user, kinds, path=()):
         """Starts a command with these kinds of streams, and checks whether it runs, and what the launcher has then."""
         with contextlib.ExitStack() as files:
             streams = [self.stream(kind, files) for kind in kinds]
             reasons = [KINDS[kind][1] if number is not None else '' for kind, number in zip(kinds, streams)]
-            process = self.start(user, streams)
+            process = self.start(user, streams, path)
             if any(reasons):
                 self.assertEqual(process.wait(LIMIT), 72, kinds)
                 self.assertFalse(self.seen.exists(), kinds)
@@ -176,6 +176,15 @@ class Streams(StreamCase):
             kinds.append(chosen.choice(['messages', 'closed', 'pipe', chosen.choice(names)]))
             with self.subTest(number, kinds=kinds):
                 self.try_streams(USERS[number % len(USERS)], kinds)
+
+    def test_what_bwrap_leaves(self):
+        # the launcher keeps nothing that is open in bwrap
+        tools = self.folder / 'tools'
+        tools.mkdir()
+        self.file('tools/bwrap', b'#!/bin/bash\nexec 99< / 300< /\nPATH=${PATH#*:} exec bwrap "$@"\n').chmod(0o755)
+        for user in USERS:
+            with self.subTest(user=user):
+                self.try_streams(user, ['null', 'messages', 'messages'], [tools])
 
     def test_closed_for_the_command(self):
         script = ('for n in 0 1 2; do test -e /proc/$$/fd/$n && echo $n; done > "$1"; '

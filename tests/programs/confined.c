@@ -62,6 +62,7 @@ static const struct {
                      {"acct", SYS_acct, 1, 0},
                      {"a call of x32", 0x40000000 | SYS_getpid, 0, 0}},
   calls_of_devices[] = {{"a file to write", SYS_openat, AT_FDCWD, (long)"/dev/null"},
+                        {"a file to write by open", SYS_open, (long)"/dev/null", O_WRONLY},
                         {"another's limits", SYS_prlimit64, 1, 0},
                         {"kill", SYS_kill, -1, 0},
                         {"process_vm_readv", SYS_process_vm_readv, -1, 0},
