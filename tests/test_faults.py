@@ -1,8 +1,12 @@
 """Runs nvme-script and nvme-device over standard streams in which a call fails: a read in the middle of a script, even
 if the output can no longer be written, and writes that are interrupted. The device also gets requests that are cut
-short or too long."""
+short or too long. Calls of the launcher fail while it starts."""
 
-from tests.support import DEMO, TOP, Case, compiled, program, run
+import concurrent.futures
+import itertools
+
+from tests.modelled import ModelCase
+from tests.support import DEMO, TOP, USERS, Case, compiled, program, run
 
 
 class Faulty(Case):
@@ -75,3 +79,36 @@ class Device(Faulty):
         # it is answered with outcome 3
         ended = self.faulty(b'\0\0\0\0\1\0\x10\0' + b'0' * 64)
         self.ends(ended, 4, b'\0\0\0\0\0\0\3\0\0\0\0\0', b'nvme-device: request too long\n')
+
+
+# The functions of which each of the first calls fails (tests/failing_calls.c), by the names of the launcher outside of
+# the sandbox and in it.
+CALLS = {'nvme-model': 'access close_range fmemopen fopen fork mount open pipe2 realloc socketpair statx strdup write',
+         'launcher': 'chdir close_range fchmod fdopen fmemopen fopen fork fstat ftruncate inotify_add_watch inotify_init1 '
+                     'mmap mount open opendir pipe2 pthread_create read realloc signalfd socketpair stat write'}
+MOST, AT_ONCE = 6, 4
+
+
+class Launcher(ModelCase):
+    def failing(self, program, name, number):
+        """Returns how a run ends in which a call fails, or None if there are fewer calls."""
+        failed = self.folder / f'{program} {name} {number}'
+        env = f'CALL={failed.name}', f'FAILED={failed}', f'LD_PRELOAD={compiled("failing_calls.c", "-ldl")}'
+        ended = run(*USERS[-1], 'env', *env, *self.command('nvme', 'list-ns', '/dev/nvme0'))
+        return ended if failed.exists() else None
+
+    def each(self, row):
+        return [*itertools.takewhile(bool, (self.failing(*row, number) for number in range(1, MOST + 1)))]
+
+    def test_start(self):
+        # the command runs as if no call had failed, or it isn't run and a message says why
+        self.folder.chmod(0o777)
+        compiled('failing_calls.c', '-ldl')
+        rows = [(program, name) for program, names in CALLS.items() for name in names.split()]
+        with concurrent.futures.ThreadPoolExecutor(AT_ONCE) as runners:
+            for row, ends in zip(rows, runners.map(self.each, rows)):
+                for number, ended in enumerate(ends, 1):
+                    with self.subTest(row, number=number):
+                        self.ends(ended, ended.status and 72, b'' if ended.status else b'[   0]:0x1\n[   1]:0x3\n')
+                        self.assertRegex(ended.err, rb'nvme-model: .*\w.*\n' if ended.status else b'^')
+                self.assertIn(72, [ended.status for ended in ends], row)
