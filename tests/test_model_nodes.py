@@ -14,7 +14,7 @@ from tests.support import IS_ROOT, TOP, USERS, large_file, run
 CUT = 'until test $(busybox wc -c < /dev/nvme0n3) = 4608; do sleep 0.1; done; '
 # What programs/io_commands.py prints.
 IO_ANSWERS = (b'0 ;0 abc;0 abc;0 abc;0 abc;0 ;4285 ;0 ;0 ;4080 ;4080 ;4080 ;4002 ;4002 ;0 ;0 ;0 ;0 ;0 ;4080 ;4002 ;4001 ;EINVAL ;'
-              b'EINVAL ;EINVAL ;EINVAL ;')
+              b'EINVAL ;EINVAL ;4080 ;0 ;0 ;0 ;EINVAL ;EFAULT ;EFAULT ;EFAULT ;EINVAL ;')
 
 
 # What shell scripts print, by what they look at: each has a file of its own, $1.
@@ -314,7 +314,7 @@ class Library(ModelCase):
             with self.subTest(options):
                 made = self.folder / 'calls'
                 subprocess.run(['cc', '-w', *options, '-o', made, PROGRAMS / 'other_calls.c'], check=True)
-                self.ends(self.model(made), 0, b'1 1 1 4 data\n8 5\n', b'')
+                self.ends(self.model(made), 0, b'1 1 1 1 1 4 data\n8 11\n', b'')
 
     def test_preloaded_already(self):
         other = self.folder / 'other.so'

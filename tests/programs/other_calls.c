@@ -2,8 +2,10 @@
    of the C library, and then runs `test` without an environment. */
 #define _GNU_SOURCE
 #include <dlfcn.h>
+#include <errno.h>
 #include <fcntl.h>
 #include <stdio.h>
+#include <sys/mman.h>
 #include <sys/stat.h>
 #include <sys/uio.h>
 #include <unistd.h>
@@ -32,13 +34,20 @@ static int describe_as_before(const char *path, int file) {
 static int write_and_read(const char *path) {
     char text[4] = "", part[2] = "";
     const struct iovec to[] = {{text, 2}, {part, 2}}, from[] = {{"ab", 2}, {"cd", 2}};
-    int file = OLD("__open_2", const char *, int)(path, O_RDWR), done = 0;
+    int file = OLD("__open_2", const char *, int)(path, O_RDWR), plain = memfd_create("plain", 0), done = 0;
     done += pwritev(file, from, 2, 200) == 4 && pwritev2(file, from, 2, 202, 0) == 4;
     done += preadv(file, to, 2, 200) == 4 && text[1] == 'b' && part[0] == 'a';
     lseek(file, 200, SEEK_SET);
     done += readv(file, to, 1) == 2 && writev(file, from, 1) == 2;
     done += OLD("__openat_2", int, const char *, int)(AT_FDCWD, path, O_RDONLY) > 0;
-    done += ((ssize_t(*)(int, void *, size_t, size_t))dlsym(RTLD_DEFAULT, "__read_chk"))(file, text, 2, sizeof text) == 2;
+    ssize_t (*checked)(int, void *, size_t, size_t) = (__typeof__(checked))dlsym(RTLD_DEFAULT, "__read_chk");
+    done += checked(file, text, 2, sizeof text) == 2;
+    done += lseek(file, 0, SEEK_END) > 0 && checked(file, text, 2, sizeof text) == 0;
+    done += checked(open("/dev/nvme0", O_RDWR), text, 2, sizeof text) == -1 && errno == EINVAL;
+    done += pwritev(plain, from, 2, 0) == 4 && pwritev2(plain, from, 2, 0, 0) == 4;
+    done += writev(file, from, 0) == 0 && pwritev(file, from, 0, 0) == 0 && pwritev2(file, from, 0, 0, 0) == 0;
+    done += pwritev(file, from, 1, -5) == -1 && errno == EINVAL;
+    done += pwritev2(file, from, 1, -5, 0) == -1 && errno == EINVAL;
     return done;
 }
 
@@ -49,6 +58,8 @@ int main(int count, char **words) {
     int file = open("/dev/nvme0n3", O_RDWR);
     printf("%d ", fstatat(file, no, &about, AT_EMPTY_PATH) == 0 && S_ISBLK(about.st_mode));
     printf("%d ", statx(file, no, AT_EMPTY_PATH, STATX_TYPE, &more) == 0 && S_ISBLK(more.stx_mode));
+    printf("%d ", fstatat(file, "", &about, AT_EMPTY_PATH) == 0 && S_ISBLK(about.st_mode));
+    printf("%d ", fstatat(AT_FDCWD, no, &about, 0) == -1 && errno == EFAULT);
     int is_done = pwrite(file, "data", 4, 100) == 4 && freopen("/dev/nvme0n3", "w", stdin) != NULL;
     printf("%d %d %s\n", is_done, (int)pread(file, text, 4, 100), text);
     printf("%d %d\n", describe_as_before("/dev/nvme0n3", file), write_and_read("/dev/nvme0n3"));
