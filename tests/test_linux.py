@@ -101,8 +101,9 @@ class Written(UserCase):
                   'for c in foo "" "none x"; do w "$c" $q/queue/scheduler; done; '
                   'for c in foo -1 "" 99999999999999999999 0x10; do w "$c" $q/queue/read_ahead_kb; done; '
                   'for c in foo "" CHANGE "change x"; do w "$c" $q/uevent; done; '
-                  'for c in 0 0x0; do w $c $p/remove; w $c /sys/bus/pci/rescan; done; ls -d /dev/nvme0 $p')
-        self.ends(self.shell(TRY + script), 0, (12 * bad + bad + 4 * none + busy + 3 * bad + 5 * bad + 4 * bad + 4 * ' 0\n' +
+                  'for c in 0 0x0; do w $c $p/remove; w $c /sys/bus/pci/rescan; done; w 1 $p/rescan; w add /sys/class/nvme/nvme0/uevent; '
+                  'w "change 01234567-89ab-cdef-0123-456789abcdef" $q/uevent; ls -d /dev/nvme0 $p')
+        self.ends(self.shell(TRY + script), 0, (12 * bad + bad + 4 * none + busy + 3 * bad + 5 * bad + 4 * bad + 7 * ' 0\n' +
                   '/dev/nvme0\n/sys/devices/pci0001:00/0001:00:00.0\n').encode(), b'')
 
     def test_settings(self):
@@ -136,10 +137,10 @@ class Written(UserCase):
                   'blockdev --getmaxsect /dev/nvme0n1; lsblk -dno ROTA,DISC-MAX /dev/nvme0n1; blkdiscard /dev/nvme0n1; '
                   'blockdev --setra 100 /dev/nvme0n1; cat read_ahead_kb; cd /sys/bus/pci; a=0001:00:00.0; '
                   'echo vfio-pci > devices/$a/driver_override; echo $a > drivers/nvme/unbind; echo $a > drivers_probe; '
-                  'ls -d devices/$a/driver; echo $a > drivers/nvme/bind; echo > devices/$a/driver_override; echo $a > drivers_probe; '
-                  'ls -d devices/$a/driver; echo $a > drivers_probe')
+                  'ls -d devices/$a/driver; echo $a > drivers/nvme/bind; for w in nvme ""; do echo $w > devices/$a/driver_override; echo $a > drivers_probe; '
+                  'ls -d devices/$a/driver; echo $a > drivers_probe; echo $a > drivers/nvme/unbind; done')
         ended = self.shell(script)
-        self.ends(ended, 0, b'32\n   1       0B\n48\ndevices/0001:00:00.0/driver\n')
+        self.ends(ended, 0, b'32\n   1       0B\n48\n' + 2 * b'devices/0001:00:00.0/driver\n')
         self.assertEqual(ended.err, b'blkdiscard: /dev/nvme0n1: BLKDISCARD ioctl failed: Operation not supported\n'
                          b"ls: cannot access 'devices/0001:00:00.0/driver': No such file or directory\n"
                          b'sh: 1: echo: echo: I/O error\n', ended)
