@@ -139,7 +139,7 @@ static void try_order(void) {
 static void try_addresses(void) {
     static const unsigned long requests[] = {NVME_IOCTL_ADMIN_CMD, NVME_IOCTL_ADMIN64_CMD};
     uint64_t result = 0, range[2] = {0, 512};
-    int block = open("/dev/nvme0n3", O_RDONLY);
+    int block = open("/dev/nvme0n3", O_RDONLY), other = open("/dev/nvme0n3", O_RDWR);
     for (unsigned at = 0; at < 2; at++)
         for (unsigned to = 0; to < 2; to++) {
             errno = 0;
@@ -156,10 +156,12 @@ static void try_addresses(void) {
     }
     must(ioctl(block, BLKGETSIZE64, 8) == -1 && errno == EFAULT, "and of a number");
     must(ioctl(block, BLKDISCARD, range) == -1 && errno == EBADF, "a file for reading isn't discarded");
+    must(ioctl(other, BLKDISCARD, 8) == -1 && errno == EFAULT, "nor is a range discarded that isn't there");
     must(ioctl(-1, NVME_IOCTL_ID) == -1 && errno == EBADF, "a file that isn't open is told");
     done(0, identify(0x10, 0), 0);
     is_list(2, (uint32_t[]){1, 3});
     close(block);
+    close(other);
 }
 
 static volatile unsigned interruptions;
@@ -331,7 +333,7 @@ void try_nodes(void) {
 void try_gone(void) {
     uint64_t result;
     struct stat about;
-    int how;
+    int how, block = open("/dev/nvme0n1", O_RDWR);
     double begun = seconds();
     struct command command = identify(1, 0);
     ask_test(SIGSTOP);
@@ -347,5 +349,7 @@ void try_gone(void) {
     must(stat("/dev/nvme0", &about) == -1 && errno == ENXIO, "and stat");
     must(open("/dev/nvme0n1", O_RDWR) == -1 && errno == ENXIO, "of a namespace too");
     must(ioctl(files[0], NVME_IOCTL_RESET) == -1 && errno == ENXIO, "and a reset");
+    must(pwrite(block, "x", 1, 0) == -1 && errno == ENXIO, "and a write");
+    must(fsync(block) == -1 && errno == ENXIO && fdatasync(block) == -1 && errno == ENXIO, "and what waits for one");
     must(seconds() - begun < 600, "none of them waits");
 }
