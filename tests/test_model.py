@@ -160,7 +160,8 @@ class Arguments(ModelCase):
         none, text = self.folder / 'none', self.file('text', b'no program\n')
         self.ends(self.shell('exit 7'), 7, b'', b'')
         self.ends(self.shell('kill -KILL $$'), 137, b'', b'')
-        self.says(self.model(none), 127, f'nvme-model: {none}: ')
+        for path in none, '/dev/null/none':
+            self.says(self.model(path), 127, f'nvme-model: {path}: ')
         path = self.folder / 'path'
         path.mkdir()
         (path / 'bwrap').symlink_to(shutil.which('bwrap'))
