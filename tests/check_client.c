@@ -138,6 +138,7 @@ static void try_order(void) {
 /* Addresses that aren't there are told, and nothing is carried out. */
 static void try_addresses(void) {
     static const unsigned long requests[] = {NVME_IOCTL_ADMIN_CMD, NVME_IOCTL_ADMIN64_CMD};
+    static const unsigned char fixed[PAGE];
     uint64_t result = 0, range[2] = {0, 512};
     int block = open("/dev/nvme0n3", O_RDONLY), other = open("/dev/nvme0n3", O_RDWR);
     for (unsigned at = 0; at < 2; at++)
@@ -154,6 +155,9 @@ static void try_addresses(void) {
         fused.flags = (uint8_t)flags;
         must(send_command(files[0], &fused, &result) == -1 && errno == EINVAL, "flags that aren't 0 are refused");
     }
+    read.data = (void *)fixed;
+    must(send_command(files[0], &read, &result) == -1 && errno == EFAULT, "also if that is read-only");
+    must(ioctl(block, NVME_IOCTL_SUBMIT_IO, 8) == -1 && errno == EFAULT, "and that of an older command");
     must(ioctl(block, BLKGETSIZE64, 8) == -1 && errno == EFAULT, "and of a number");
     must(ioctl(block, BLKDISCARD, range) == -1 && errno == EBADF, "a file for reading isn't discarded");
     must(ioctl(other, BLKDISCARD, 8) == -1 && errno == EFAULT, "nor is a range discarded that isn't there");

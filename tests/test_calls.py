@@ -130,7 +130,7 @@ class Identities(CallCase):
     def test_groups_without_a_number(self):
         # a user namespace in which few users and groups have numbers; the others can't be taken by the launcher
         begin = 'until test -e "$1"; do sleep 0.02; done; shift; exec "$@"'
-        for groups, inside in (('--groups=5', '--keep-groups'), ('--groups=5,12,65534', '--keep-groups'),
+        for groups, inside in (('--groups=5', '--keep-groups'), ('--groups=5,7,12,65534', '--keep-groups'),
                                ('--clear-groups', '--clear-groups')):
             for user in ('--reuid=1000', '--regid=0'), ('--reuid=1000', '--regid=7'), ('--regid=7',):
                 with self.subTest(groups=groups, user=user):

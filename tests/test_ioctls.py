@@ -37,11 +37,11 @@ class Ioctls(ModelCase):
                              'busybox sh -c "echo x $how /dev/$n" 2>&1; done; busybox wc -c < /dev/$n; done'), 0,
                   3 * b'sh: write error: Invalid argument\n' + b'0\n' + 3 * b'sh: write error: Invalid argument\n' + b'0\n', b'')
         self.ends(self.model('env', '-i', static_program('asks'), '/dev/nvme0n1'), 0, b'1 0 1048576\n', b'')
-        # (BLKGETSIZE64, BLKBSZGET and BLKBSZSET of 32 bits)
+        # (BLKGETSIZE64, BLKBSZGET, BLKGETZONESZ, BLKBSZSET and none, of 32 bits)
         old = static_program('old', '-O1')
         if run(old, '20').status == 0:
-            self.ends(self.shell('for n in 0x80041272 0x80041270 0x40041271; do "$1" 54 0 $n text < /dev/nvme0n1; done', old), 0,
-                      b'0\n0\n-22\n', b'')
+            self.ends(self.shell('for n in 0x80041272 0x80041270 0x80041284 0x40041271 0x80041260; do "$1" 54 0 $n text < /dev/nvme0n1; done', old), 0,
+                      b'0\n0\n0\n-22\n-25\n', b'')
 
     def test_claims_side_by_side(self):
         # of several processes, one has the device at a time, and each gets it

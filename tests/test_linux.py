@@ -88,8 +88,9 @@ class Names(UserCase):
 
     def test_links_in_dev(self):
         self.ends(self.shell('ln -s nvme0n1 /dev/mine; mkdir /dev/group; ln -s ../nvme0 /dev/group/one; mv /dev/mine /dev/own; '
-                             'touch /dev/nvme7; ls /dev/nvme7; test -b /dev/own; echo $?; rm -r /dev/own /dev/group /dev/nvme7; '
-                             'test -e /dev/group; echo $?'), 0, b'/dev/nvme7\n0\n1\n', b'')
+                             'cd /dev; for n in nvme7 ng0 nvme256 nvme0n1025 "nvme0 (deleted)"; do : > "$n"; ls "$n"; rm "$n"; done; '
+                             'test -b own; echo $?; rm -r own group; test -e group; echo $?'), 0,
+                  b'nvme7\nng0\nnvme256\nnvme0n1025\nnvme0 (deleted)\n0\n1\n', b'')
 
 
 class Written(UserCase):
@@ -159,8 +160,12 @@ class Written(UserCase):
                   'lambda: os.sendfile(file, os.open("/etc/passwd", 0), 0, 2), lambda: os.ftruncate(file, 0)):\n'
                   '        try:\n            print(call())\n        except OSError as error:\n'
                   '            print(errno.errorcode[error.errno])\n'
+                  'libc = ctypes.CDLL(None, use_errno=True)\n'
+                  'for call, *words in (libc.write, file, ctypes.c_void_p(8), 2), (libc.unlink, ctypes.c_void_p(8)), '
+                  '(libc.write, file, b"1", ctypes.c_size_t((1 << 32) + 1)):\n'
+                  '    print(call(*words), errno.errorcode[ctypes.get_errno()])\n'
                   'print(open("/sys/block/nvme0n1/queue/scheduler").read(), os.path.exists("/dev/nvme0"))')
-        self.ends(self.python(script), 0, 8 * b'EINVAL\n' + b'[none] mq-deadline \n True\n', b'')
+        self.ends(self.python(script), 0, 8 * b'EINVAL\n' + 2 * b'-1 EFAULT\n' + b'-1 EINVAL\n[none] mq-deadline \n True\n', b'')
 
 
 OPEN = ('import fcntl\nnames = "nvme0", "ng0n1", "nvme0n1", "nvme1"\n'

@@ -431,7 +431,9 @@ class NoSandbox(MachineCase):
                           'test -b /dev/nvme0n2 && test -c /dev/nvme1 && test ! -e /dev/nvme1n1; '
                           'smartctl -i /dev/nvme0 | grep -c S0; '
                           'env -i PATH="$PATH" nvme id-ctrl //dev/nvme0 | grep -c S0; '
-                          'cd /dev; nvme id-ctrl nvme1 | grep -c S1')
+                          'cd /dev; nvme id-ctrl nvme1 | grep -c S1; stat -c %F nvme1; /usr/bin/python3 -c "open(\'/dev/nvme0\')"; '
+                          'blockdev --getra --getmaxsect --setro --getro nvme0n1; nvme detach-ns nvme0 -n 3 -c 0; '
+                          'nvme format /dev/nvme0n1 -l 1 -f; blockdev --getss nvme0n1; test -e nvme0n3; echo $?')
                 refused = machine.model('touch "$place/touched"', by=way)
                 self.ends(refused, 72, b'')
                 self.assertRegex(refused.err, b'^nvme-model: no sandbox can be made: .*' + reason +
@@ -439,7 +441,8 @@ class NoSandbox(MachineCase):
                 self.assertFalse((self.folder / 'touched').exists())
                 ended = machine.model(script, by=way, options=['--no-sandbox'])
                 self.ends(ended, 0, b'[   0]:0x1\n[   1]:0x3\ncreate-ns: Success, created nsid:2\n'
-                          b'attach-ns: Success, nsid:2\n1\n1\n1\n')
+                          b'attach-ns: Success, nsid:2\n1\n1\n1\ncharacter special file\n256\n256\n1\n'
+                          b'detach-ns: Success, nsid:3\nSuccess formatting namespace:1\n4096\n1\n')
                 self.assertRegex(ended.err, b'^' + re.escape(MISSING) + b'.*' + reason + b'.*\n$')
                 machine.is_unchanged()
 

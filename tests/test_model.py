@@ -97,7 +97,7 @@ class Arguments(ModelCase):
                 ('--no-notice=1 true', "option '--no-notice' doesn't allow an argument"),
                 ('--help=1', "option '--help' doesn't allow an argument"),
                 ('--d 3 true', "option '--d' is ambiguous; .*"), ('--p 4096 true', "option '--p' is ambiguous; .*"),
-                *((f'--data-limit {text} true', f'--data-limit {text}: {size}') for text in ('x', '5X', '1T', '-1', '9999999999G')),
+                *((f'--data-limit {text} true', f'--data-limit {text}: {size}') for text in ('x', '5X', '5KB', '1T', '-1', '9999999999G')),
                 ('--data-limit= true', f'--data-limit : {size}'),
                 *((f'--{name} {text} true', f'--{name} {text}: {range}') for name, range in ranges.items()
                   for text in ('x', '-1', '2x', '4294967296')),
@@ -143,6 +143,18 @@ class Arguments(ModelCase):
                       device == '/bin/false' else f'nvme-model: {parts}/nvme_device: No such file')
         (parts / 'library.so').unlink()
         self.says(run(launcher, 'true'), 72, f'nvme-model: {parts}/library.so: No such file')
+
+    def test_other_sandboxes(self):
+        # a bubblewrap that is too old, and one that ends without a word, whether or not there must be a sandbox
+        tool = self.folder / 'bwrap'
+        for script, said in (('echo "bwrap: Unknown option --size" >&2; exit 1', 'bwrap is older than 0.8: install a newer bubblewrap'),
+                             ('exit 1', 'bwrap ended without a reason')):
+            tool.write_text(f'#!/bin/sh\n{script}\n')
+            tool.chmod(0o755)
+            for options in [], ['--root', '--no-sandbox']:
+                ended = run(installed(), *options, 'true', env={'PATH': f'{self.folder}:{os.environ["PATH"]}'})
+                self.ends(ended, 72, b'', f'nvme-model: no sandbox can be made: {said}; --no-sandbox runs the command without '
+                          'one\n'.encode())
 
     def test_help(self):
         for words in (['--help'], ['--he'], ['--no-notice', '--help', 'false'], ['--help', '--bogus']):
@@ -356,12 +368,12 @@ class Signals(ModelCase):
                 self.assertNotIn(b'annot set', running.heard)
 
     def test_typed_at_a_terminal(self):
-        for script, status in (('echo ready; exec sleep 1000', 130),
-                               ('trap "test -c /dev/nvme0 && exit 5" INT; echo ready; while :; do sleep 0.1; done', 5)):
-            with self.subTest(script):
+        for script, key, status in (('echo ready; exec sleep 1000', b'\x03', 130), ('echo ready; exec sleep 1000', b'\x1c', 131),
+                                    ('trap "test -c /dev/nvme0 && exit 5" INT; echo ready; while :; do sleep 0.1; done', b'\x03', 5)):
+            with self.subTest(script, key=key):
                 running = Running(*self.command('sh', '-c', script), terminal=True)
                 running.comes(b'ready\n')
-                running.say(b'\x03')
+                running.say(key)
                 self.assertEqual(running.process.wait(LIMIT), status)
                 self.leaves_nothing()
         # it comes once

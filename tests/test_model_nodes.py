@@ -169,9 +169,10 @@ class Nodes(ModelCase):
                   b'')
         self.ends(self.python('for call in lambda: os.open("/sys/block/nvme0n1/size", os.O_RDWR), '
                               'lambda: os.truncate("/sys/block/nvme0n1/size", 0), '
-                              'lambda: os.open("size", os.O_WRONLY, dir_fd=os.open("/sys/block/nvme0n1", 0)):\n'
+                              'lambda: os.open("size", os.O_WRONLY, dir_fd=os.open("/sys/block/nvme0n1", 0)), '
+                              'lambda: os.open("/sys/block/nvme0n1/size", os.O_WRONLY | os.O_CREAT | os.O_EXCL):\n'
                               '    try:\n        print(call())\n    except OSError as error:\n'
-                              '        print(errno.errorcode[error.errno])\n'), 0, b'EACCES\n' * 3, b'')
+                              '        print(errno.errorcode[error.errno])\n'), 0, b'EACCES\n' * 3 + b'EEXIST\n', b'')
 
     def test_no_io_uring(self):
         # (a ring opens files without calls, so that nothing could refuse them: there is none, for no user)

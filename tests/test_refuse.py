@@ -151,7 +151,7 @@ class Refuse(ModelCase):
                 *((rule, 'there is no such command') for rule in (
                     '', '=1', 'bogus=1', 'forma=1', 'formats=1', '256=1', '0x=1', '-6=1', 'io=1', 'io:=1', 'io:256=1', ' format=1')),
                 *((rule, 'SKIP: 0 to 4294967295') for rule in (
-                    'format,=1', 'format,x=1', 'format,-1=1', 'format,4294967296=1', 'read,1 =1', 'format,1x=1')),
+                    'format,=1', 'format,x=1', 'format,-1=1', 'format,4294967296=1', 'format,99999999999999999999=1', 'read,1 =1', 'format,1x=1')),
                 *((rule, 'TIMES: 1 to 4294967295') for rule in ('format,1,=1', 'format,1,0=1', 'format,1,x=1')),
                 *((rule, 'the form is COMMAND[,SKIP[,TIMES]]=') for rule in (
                     'format', 'format=', 'format=0', 'format=0x15181', 'format=-1', 'format=1x', 'format=x', 'format,1,1,1=1',

@@ -292,6 +292,12 @@ class Processes(WaitingCase):
                     self.assertEqual((ended.returncode, ended.stderr.decode()),
                                      (72, f'nvme-model: the limit of {said} are needed\n'))
 
+    def test_few_addresses(self):
+        # (all helpers that there can be have more room for data)
+        for user in USERS:
+            by = *user, 'bash', '-c', 'ulimit -v 400000; exec "$@"', 'bash'
+            self.ends(run(*by, *self.command('nvme', 'list-ns', '/dev/nvme0')), 0, b'[   0]:0x1\n[   1]:0x3\n', b'')
+
     def test_many_words(self):
         words = [*map(str, range(30000)), 'x' * 100000]
         for user in USERS:

@@ -30,6 +30,8 @@ fails(errno.EBADF, os.fstat, 999)
 fails(errno.EBADF, os.write, 999, b'x')
 fails(errno.ENAMETOOLONG, os.stat, '/dev/nvme' + 5000 * '0')
 fails(errno.EINVAL, os.pwrite, f, b'x', -5)
+for path, number in (5000 * '0', errno.ENAMETOOLONG), ('', errno.ENOENT), ('/', errno.EISDIR):
+    fails(number, os.open, path, os.O_RDWR)
 # (a block device has no end to append at)
 print(os.write(a, b'x'), os.pread(f, 1, 0))
 fcntl.fcntl(a, fcntl.F_SETFL, os.O_APPEND)
