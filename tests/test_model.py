@@ -13,8 +13,8 @@ import threading
 import time
 import unittest
 
-from tests.modelled import (ASKING, CLIENT, DEVICES, PARTS, RECEIVING, VERSION, ModelCase, compiled_c, do_helpers,
-                            installed, parts, signals)
+from tests.modelled import (ASKING, CLIENT, DEVICES, PARTS, PROGRAMS, RECEIVING, VERSION, WARNINGS, ModelCase, compiled_c,
+                            do_helpers, installed, parts, signals)
 from tests.support import IS_ROOT, LIMIT, TOP, Running, left_running, processes, program, run, until
 
 CHECK = 'check', 'check_client'
@@ -143,6 +143,22 @@ class Arguments(ModelCase):
                       device == '/bin/false' else f'nvme-model: {parts}/nvme_device: No such file')
         (parts / 'library.so').unlink()
         self.says(run(launcher, 'true'), 72, f'nvme-model: {parts}/library.so: No such file')
+
+    def test_wrong_devices(self):
+        # (the letters are ways to be wrong: tests/programs/wrong_device.c)
+        place, wrong = self.folder / 'place', 'nvme-model: the device does not answer as it should\n'
+        shutil.copytree(installed().parents[1], place)
+        subprocess.run(['cc', *WARNINGS, '-I', CLIENT, '-o', place / 'lib/nvme-model/nvme_device', PROGRAMS / 'wrong_device.c'],
+                       check=True)
+        for way, status, said in (
+                ('0', 72, wrong), ('m', 72, wrong), ('f', 72, wrong), ('l', 72, 'nvme-model: the device ended before it answered\n'),
+                ('e', 72, f'nvme-model: the device ended, or answered what was not asked\n{wrong}'), ('n', 0, ''),
+                ('s', 0, '(nvmex{4995}\n)+'), ('o', 1, 'get-feature: No such device or address\n')):
+            with self.subTest(way):
+                ended = run(place / 'bin/nvme-model', '--subsystem', self.file('way', way.encode()), 'sh', '-c',
+                            'ls /dev/nvme*; nvme get-feature /dev/nvme0 -f 6 > /dev/null')
+                self.ends(ended, status, b'' if status == 72 else b'/dev/nvme0\n')
+                self.assertRegex(ended.err.decode(), f'^{said}$')
 
     def test_other_sandboxes(self):
         # a bubblewrap that is too old, and one that ends without a word, whether or not there must be a sandbox
