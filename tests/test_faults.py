@@ -83,10 +83,11 @@ class Device(Faulty):
 
 # The functions of which each of the first calls fails (tests/failing_calls.c), by the names of the launcher outside of
 # the sandbox and in it.
-CALLS = {'nvme-model': 'access close_range fmemopen fopen fork mount open pipe2 realloc socketpair statx strdup write',
-         'launcher': 'chdir close_range fchmod fdopen fmemopen fopen fork fstat ftruncate inotify_add_watch inotify_init1 '
-                     'mmap mount open opendir pipe2 pthread_create read realloc signalfd socketpair stat write'}
-MOST, AT_ONCE = 6, 4
+CALLS = {'nvme-model': 'access asprintf close_range fmemopen fopen fork ftruncate mount open pipe2 realloc socketpair statx '
+                       'strdup write',
+         'launcher': 'bind chdir close_range fchmod fdopen fmemopen fopen fork fstat ftruncate inotify_add_watch inotify_init1 '
+                     'mmap mount open opendir pipe2 prctl pthread_create read realloc signalfd socketpair stat write'}
+MOST, AT_ONCE = 7, 4
 
 
 class Launcher(ModelCase):
@@ -94,7 +95,8 @@ class Launcher(ModelCase):
         """Returns how a run ends in which a call fails, or None if there are fewer calls."""
         failed = self.folder / f'{program} {name} {number}'
         env = f'CALL={failed.name}', f'FAILED={failed}', f'LD_PRELOAD={compiled("failing_calls.c", "-ldl")}'
-        ended = run(*USERS[-1], 'env', *env, *self.command('nvme', 'list-ns', '/dev/nvme0'))
+        options = '--depth=4', f'--trace={self.folder}/trace of {name}'
+        ended = run(*USERS[-1], 'env', *env, *self.command('nvme', 'list-ns', '/dev/nvme0', options=options))
         return ended if failed.exists() else None
 
     def each(self, row):
@@ -111,4 +113,4 @@ class Launcher(ModelCase):
                     with self.subTest(row, number=number):
                         self.ends(ended, ended.status and 72, b'' if ended.status else b'[   0]:0x1\n[   1]:0x3\n')
                         self.assertRegex(ended.err, rb'nvme-model: .*\w.*\n' if ended.status else b'^')
-                self.assertIn(72, [ended.status for ended in ends], row)
+                self.assertTrue(any(ended.err for ended in ends), row)
