@@ -98,13 +98,13 @@ class Written(UserCase):
         bad, none, busy = 'Invalid argument 1\n', 'No such device 1\n', 'Device or resource busy 1\n'
         script = ('p=$(readlink -f /sys/class/nvme/nvme0/device); d=/sys/bus/pci/drivers/nvme; q=/sys/block/nvme0n1; '
                   'for c in foo "" -1 1x; do w "$c" $p/remove; w "$c" /sys/bus/pci/rescan; w "$c" $p/reset; done; w 0 $p/reset; '
-                  'w 0001:99:00.0 $d/bind; w foo $d/unbind; w 0001:00:00.1 $d/unbind; w ../x $d/unbind; w 0001:00:00.0 $d/bind; '
+                  'w 0001:99:00.0 $d/bind; w foo $d/unbind; w 0001:00:00.1 $d/unbind; w ../x $d/unbind; w "" $d/bind; w . $d/unbind; w 0001:00:00.0 $d/bind; '
                   'for c in foo "" "none x"; do w "$c" $q/queue/scheduler; done; '
                   'for c in foo -1 "" 99999999999999999999 0x10; do w "$c" $q/queue/read_ahead_kb; done; '
                   'for c in foo "" CHANGE "change x"; do w "$c" $q/uevent; done; '
                   'for c in 0 0x0; do w $c $p/remove; w $c /sys/bus/pci/rescan; done; w 1 $p/rescan; w add /sys/class/nvme/nvme0/uevent; '
                   'w "change 01234567-89ab-cdef-0123-456789abcdef" $q/uevent; ls -d /dev/nvme0 $p')
-        self.ends(self.shell(TRY + script), 0, (12 * bad + bad + 4 * none + busy + 3 * bad + 5 * bad + 4 * bad + 7 * ' 0\n' +
+        self.ends(self.shell(TRY + script), 0, (12 * bad + bad + 6 * none + busy + 3 * bad + 5 * bad + 4 * bad + 7 * ' 0\n' +
                   '/dev/nvme0\n/sys/devices/pci0001:00/0001:00:00.0\n').encode(), b'')
 
     def test_settings(self):
@@ -268,6 +268,12 @@ class Temperatures(ModelCase):
         ended = self.shell(script)
         lines = ended.out.split()
         self.assertEqual(lines, [b'nvme', b'0', b'84850', b'-273150', b'Composite', b'74850', b'1'], ended)
+
+    def test_without_thresholds(self):
+        # (as in Linux, there are no files of those that are 0)
+        self.subsystem.write_bytes((TOP / 'examples/thresholds.toml').read_bytes().replace(b'wctemp = 348', b'wctemp = 0').replace(
+            b'cctemp = 358', b'cctemp = 0'))
+        self.ends(self.shell('cd /sys/class/hwmon/hwmon0; ls -d temp1_*'), 0, b'temp1_alarm\ntemp1_input\ntemp1_label\n', b'')
 
     def test_no_errors_are_logged(self):
         self.ends(self.shell('nvme error-log /dev/nvme0 -e 1 | grep error_count; cat /sys/class/hwmon/hwmon0/temp1_max'), 0,

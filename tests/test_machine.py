@@ -290,7 +290,8 @@ class Machines(MachineCase):
             # (a device that may be added is elsewhere, another is one of blocks, and others have numbers beside the lists)
             others = {'tmp/tun': (stat.S_IFCHR, 10, 200), 'dev/block/disk': (stat.S_IFBLK, 4, 64),
                       'dev/block/mem': (stat.S_IFCHR, 1, 1), 'dev/block/vfio': (stat.S_IFCHR, 10, 196),
-                      'dev/block/disks': (stat.S_IFCHR, 10, 237)}
+                      'dev/block/disks': (stat.S_IFCHR, 10, 237), 'dev/block/high': (stat.S_IFCHR, 260, 64),
+                      'dev/block/misc': (stat.S_IFCHR, 10, 456)}
             for path, (kind, *number) in others.items() if machine.kind == 'devices' else ():
                 os.mknod(machine.root / path, kind | 0o666, os.makedev(*number))
             for path in ('/dev/nvme0', '/dev/nvme0n1', '/dev/null/x', str(self.folder / 'plain'),

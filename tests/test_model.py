@@ -14,8 +14,8 @@ import time
 import unittest
 
 from tests.modelled import (ASKING, CLIENT, DEVICES, PARTS, PROGRAMS, RECEIVING, VERSION, WARNINGS, ModelCase, compiled_c,
-                            do_helpers, installed, parts, signals)
-from tests.support import IS_ROOT, LIMIT, TOP, Running, left_running, processes, program, run, until
+                            do_helpers, installed, parts, signals, works)
+from tests.support import IS_ROOT, LIMIT, TOP, USERS, Running, left_running, processes, program, run, until
 
 CHECK = 'check', 'check_client'
 PARTS_OF_CHECK = 'commands', 'wide', 'lengths', 'many', 'broken', 'killed', 'nodes'
@@ -197,6 +197,11 @@ class Arguments(ModelCase):
                   b'nvme-model: nvme: No such file or directory: install the package nvme-cli\n')
         self.says(self.model(text), 126, f'nvme-model: {text}: ')
         self.ends(self.model('cat', source=b'some\nlines\n'), 0, b'some\nlines\n', b'')
+        # (in a container, the launcher may be process 1)
+        container = *USERS[-1], 'unshare', '-Urpf', '--mount-proc'
+        if works(*container):
+            for words in ['true'], ['--no-notice', 'true']:
+                self.ends(run(*container, installed(), *words), 0, b'', b'')
         self.ends(self.shell('echo "$@"', '--depth', '2', '--', '--trace'), 0, b'--depth 2 -- --trace\n', b'')
         self.ends(self.model('echo', '--depth', options=['--dep', '4', '--']), 0, b'--depth\n', b'')
         closed = ['sh', '-c', 'exec "$@" <&- >&- 2>&-', 'sh', *self.command('test', '-c', '/dev/nvme0')]

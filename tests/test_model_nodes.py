@@ -14,7 +14,7 @@ from tests.support import IS_ROOT, TOP, USERS, large_file, run
 CUT = 'until test $(busybox wc -c < /dev/nvme0n3) = 4608; do sleep 0.1; done; '
 # What programs/io_commands.py prints.
 IO_ANSWERS = (b'0 ;0 abc;0 abc;0 abc;0 abc;0 ;4285 ;0 ;0 ;4080 ;4080 ;4080 ;4002 ;4002 ;0 ;0 ;0 ;0 ;0 ;4080 ;4002 ;4001 ;EINVAL ;'
-              b'EINVAL ;EINVAL ;4080 ;0 ;0 ;0 ;EINVAL ;EFAULT ;EFAULT ;EFAULT ;EINVAL ;')
+              b'EINVAL ;EINVAL ;4080 ;4080 ;0 ;0 ;0 ;0 ;EINVAL ;EFAULT ;EFAULT ;EFAULT ;EINVAL ;')
 
 
 # What shell scripts print, by what they look at: each has a file of its own, $1.
@@ -142,6 +142,11 @@ class Nodes(ModelCase):
                                      options=['--no-notice']), 0,
                           b"ls: cannot access '/dev/nvme1n*': No such file or directory\n/dev/ng1n1\n/dev/nvme1n1\n"
                           b'/sys/class/block/nvme1n1/nsid\n', b'')
+        # so is the format of a namespace that has no nodes yet
+        self.ends(self.shell('nvme create-ns /dev/nvme0 -s 16 -c 16 -f 0 && nvme attach-ns /dev/nvme0 -n 2 -c 0 && '
+                             'nvme format /dev/nvme0 -n 2 -l 1 -f && nvme ns-rescan /dev/nvme0; '
+                             'cat /sys/block/nvme0n2/queue/logical_block_size', options=['--no-notice']), 0,
+                  b'create-ns: Success, created nsid:2\nattach-ns: Success, nsid:2\nSuccess formatting namespace:2\n4096\n', b'')
         # a namespace that was deleted and created meanwhile is another one
         self.ends(self.shell('echo old > /dev/nvme0n3; nvme delete-ns /dev/nvme0 -n 3; '
                              'nvme create-ns /dev/nvme0 -s 4 -c 4 -f 0 >&2; nvme ns-rescan /dev/nvme0; '
@@ -315,7 +320,7 @@ class Library(ModelCase):
             with self.subTest(options):
                 made = self.folder / 'calls'
                 subprocess.run(['cc', '-w', *options, '-o', made, PROGRAMS / 'other_calls.c'], check=True)
-                self.ends(self.model(made), 0, b'1 1 1 1 1 4 data\n8 11\n', b'')
+                self.ends(self.model(made), 0, b'1 1 1 1 1 1 1 4 data\n8 11\n', b'')
 
     def test_preloaded_already(self):
         other = self.folder / 'other.so'

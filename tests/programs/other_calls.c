@@ -59,6 +59,8 @@ int main(int count, char **words) {
     printf("%d ", fstatat(file, no, &about, AT_EMPTY_PATH) == 0 && S_ISBLK(about.st_mode));
     printf("%d ", statx(file, no, AT_EMPTY_PATH, STATX_TYPE, &more) == 0 && S_ISBLK(more.stx_mode));
     printf("%d ", fstatat(file, "", &about, AT_EMPTY_PATH) == 0 && S_ISBLK(about.st_mode));
+    printf("%d ", fstatat(AT_FDCWD, "", &about, AT_EMPTY_PATH) == 0 && S_ISDIR(about.st_mode));
+    printf("%d ", fstatat(AT_FDCWD, "/dev/nvme0", &about, AT_EMPTY_PATH) == 0 && S_ISCHR(about.st_mode));
     printf("%d ", fstatat(AT_FDCWD, no, &about, 0) == -1 && errno == EFAULT);
     int is_done = pwrite(file, "data", 4, 100) == 4 && freopen("/dev/nvme0n3", "w", stdin) != NULL;
     printf("%d %d %s\n", is_done, (int)pread(file, text, 4, 100), text);

@@ -30,6 +30,8 @@ fails(errno.EBADF, os.fstat, 999)
 fails(errno.EBADF, os.write, 999, b'x')
 fails(errno.ENAMETOOLONG, os.stat, '/dev/nvme' + 5000 * '0')
 fails(errno.EINVAL, os.pwrite, f, b'x', -5)
+fails(errno.ENOTTY, fcntl.ioctl, f, 0x5452, b'\1\0\0\0')  # FIOASYNC
+fails(errno.ENOTTY, os.tcsetpgrp, f, 1)
 for path, number in (5000 * '0', errno.ENAMETOOLONG), ('', errno.ENOENT), ('/', errno.EISDIR):
     fails(number, os.open, path, os.O_RDWR)
 # (a block device has no end to append at)
@@ -47,5 +49,9 @@ r, w = os.pipe()
 os.write(w, b's' * 99)
 os.lseek(f, 4600, 0)
 libc = ctypes.CDLL(None, use_errno=True)
+for place, size in (-512, 512), (0, 0), (0, -512):
+    done = libc.fallocate(f, 3, ctypes.c_long(place), ctypes.c_long(size)), ctypes.get_errno()
+    if done != (-1, errno.EINVAL):
+        print('fallocate', place, size, done)
 print(libc.splice(r, None, f, None, 99, 0) == 8 or ctypes.get_errno() in (errno.EINVAL, errno.ENOSPC))
 print(os.lseek(f, 0, 2))
