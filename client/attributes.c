@@ -3,31 +3,24 @@
    proved. */
 #include "launcher.h"
 #include <ctype.h>
-#include <fnmatch.h>
 
-#define FUNCTION "/sys/devices/pci*/*/"
+/* The events that can be written to a `uevent`. */
+static const char events[] = "add|remove|change|move|online|offline|bind|unbind";
 
-/* What a file takes that is no setting, as sys.txt has it for settings: anything, a number, of which 0 does nothing,
-   the number 1, the address of a PCI function, or an event. */
-static const char anything[] = "*", number[] = "0..0|1..4294967295=1", one[] = "1..1", address[] = "*",
-                  event[] = "add|remove|change|move|online|offline|bind|unbind";
-
-/* The files, with what the keeper is asked to do (KIND_ENTRY: nothing). */
-static const struct attribute {
-    const char *pattern, *taken;
+/* What a keeper is asked to do when a file was written that isn't there for a setting. (Other files do nothing.) */
+static const struct action {
+    const char *name;
     uint16_t kind;
-    enum presence wanted;
-} attributes[] = {{"/sys/bus/pci/rescan", number, KIND_PRESENCE, BOUND},
-                  {"/sys/bus/pci/drivers_probe", address, KIND_PRESENCE, BOUND},
-                  {"/sys/bus/pci/drivers/nvme/bind", address, KIND_PRESENCE, BOUND},
-                  {"/sys/bus/pci/drivers/nvme/unbind", address, KIND_PRESENCE, UNBOUND},
-                  {FUNCTION "remove", number, KIND_PRESENCE, REMOVED},
-                  {FUNCTION "rescan", number, KIND_ENTRY, 0},
-                  {FUNCTION "reset", one, KIND_RESET, 0},
-                  {FUNCTION "nvme/*/reset_controller", anything, KIND_RESET, 0},
-                  {FUNCTION "nvme/*/rescan_controller", anything, KIND_SCAN, 0},
-                  {FUNCTION "nvme/*/nvme*/uevent", event, KIND_PROBE, 0},
-                  {"/sys/*/uevent", event, KIND_ENTRY, 0}};
+    uint32_t length;
+} actions[] = {{"/sys/bus/pci/rescan", KIND_PRESENCE, BOUND},
+               {"/sys/bus/pci/drivers_probe", KIND_PRESENCE, BOUND},
+               {"/sys/bus/pci/drivers/nvme/bind", KIND_PRESENCE, BOUND},
+               {"/sys/bus/pci/drivers/nvme/unbind", KIND_PRESENCE, UNBOUND},
+               {"remove", KIND_PRESENCE, REMOVED},
+               {"reset", KIND_RESET, 0},
+               {"reset_controller", KIND_RESET, 0},
+               {"rescan_controller", KIND_SCAN, 1},
+               {NULL, 0, 0}};
 
 /* ---- texts */
 
@@ -44,7 +37,7 @@ static void read_text(const char *path, char text[MOST_WRITTEN + 1]) {
 /* Replaces what is written to a file by the text that it then has, and returns whether the file takes it. (Linux reads
    numbers as those in C, but for a queue.) */
 static int take(const char *path, const char *taken, char text[MOST_WRITTEN + 1]) {
-    char forms[MOST_TAKEN], *rest, *shown, kind;
+    char forms[128], *rest, *shown, kind;
     long long least, most, unit;
     errno = 0;
     long long number = strtoll(text, &rest, strstr(path, "/queue/") ? 10 : 0);
@@ -97,24 +90,22 @@ uint64_t queue_setting(const struct node *node, const char *name, uint64_t usual
     return *text ? strtoull(text, NULL, 10) * (strstr(name, "_kb") ? 2 : 1) : usual;
 }
 
-/* Asks for what a file is there for, of one controller or namespace. */
-static int tell(const struct attribute *attribute, unsigned controller, unsigned nsid) {
-    uint32_t length = attribute->kind == KIND_PRESENCE ? attribute->wanted : attribute->kind == KIND_SCAN ? 1 : nsid;
-    return ask_controller(controller, attribute->kind, length) < 0 ? -ENODEV : 0;
+static int ask(const struct action *action, unsigned controller) {
+    return ask_controller(controller, action->kind, action->length) < 0 ? -ENODEV : 0;
 }
 
-/* (the rescan of the bus brings back all controllers that were removed) */
-static int tell_all(const struct attribute *attribute) {
+/* Brings back all controllers that were removed. */
+static int rescan_bus(const struct action *action) {
     const struct device *last = devices + device_count - 1;
     int result = 0;
     for (unsigned at = 0; at < last->first + last->count; at++)
-        if (presence_of(at) == REMOVED && tell(attribute, at, 0) < 0)
+        if (presence_of(at) == REMOVED && ask(action, at) < 0)
             result = -ENODEV;
     return result;
 }
 
 /* Binds the driver to the PCI function with an address, unless that wants another one, or unbinds it. */
-static int bind_function(const struct attribute *row, const char *address) {
+static int bind_function(const struct action *action, const char *address) {
     char path[PATH_MAX], wanted[MOST_WRITTEN + 1];
     unsigned controller;
     snprintf(path, sizeof path, "/sys/bus/pci/devices/%s", address);
@@ -122,26 +113,26 @@ static int bind_function(const struct attribute *row, const char *address) {
         return -ENODEV;
     strcat(path, "/driver_override");
     read_text(path, wanted);
-    int is_probe = strcmp(row->pattern, "/sys/bus/pci/drivers_probe") == 0;
+    int is_probe = strcmp(action->name, "/sys/bus/pci/drivers_probe") == 0;
     int fits = strcmp(wanted, "(null)") == 0 || strcmp(wanted, "nvme") == 0;
-    if (row->wanted == UNBOUND ? presence_of(controller) != BOUND : !fits)
+    if (action->length == UNBOUND ? presence_of(controller) != BOUND : !fits)
         return is_probe ? 0 : -ENODEV;
-    if (presence_of(controller) == row->wanted)
+    if (presence_of(controller) == action->length)
         return is_probe ? 0 : -EBUSY;
-    return tell(row, controller, 0);
+    return ask(action, controller);
 }
 
-/* (the identifier of who causes an event may follow it) */
-static void cut_identifier(char *text) {
+/* (the identifier of who causes an event may follow it; only the data of a block device is looked at) */
+static int write_event(unsigned controller, uint32_t nsid, char *text) {
     char *rest = text + strcspn(text, " ");
     if (strspn(rest + strspn(rest, " "), "-0123456789abcdefABCDEF") == 36)
         *rest = '\0';
+    if (!take("uevent", events, text))
+        return -EINVAL;
+    return nsid != 0 && ask_controller(controller, KIND_PROBE, nsid) < 0 ? -ENODEV : 0;
 }
 
-static int write_setting(const char *path, unsigned controller, char *text) {
-    char taken[MOST_TAKEN];
-    if (!find_setting(path, taken))
-        return -EACCES;
+static int write_setting(const char *path, const char *taken, unsigned controller, char *text) {
     if (*taken == '*' && !*text)
         strcpy(text, "(null)");
     int is_taken = take(path, taken, text), is_size = strcmp(strrchr(path, '/'), "/max_sectors_kb") == 0;
@@ -151,24 +142,27 @@ static int write_setting(const char *path, unsigned controller, char *text) {
 }
 
 int write_attribute(char *path, char *text) {
-    const struct attribute *row = attributes, *end = attributes + sizeof attributes / sizeof *attributes;
-    struct node node = {.kind = 'b'};
+    unsigned controller = 0, nsid = 0;
     char *deleted = strstr(path, " (deleted)"); /* (it has another text since it was opened) */
     if (deleted)
         *deleted = '\0';
     text[strlen(text) - (*text && text[strlen(text) - 1] == '\n')] = '\0';
-    sscanf(path, "/sys/devices/pci%*x:%x/%*[^/]/nvme/%*[^/]/nvme%*un%u", &node.controller, &node.nsid);
-    while (row < end && fnmatch(row->pattern, path, strncmp(row->pattern, "/sys/*", 6) == 0 ? 0 : FNM_PATHNAME) != 0)
-        row++;
-    if (row == end)
-        return write_setting(path, node.controller, text);
-    if (row->taken == address)
-        return bind_function(row, text);
-    if (row->taken == event)
-        cut_identifier(text);
-    if (!take(path, row->taken, text))
+    sscanf(path, "/sys/devices/pci%*x:%x/%*[^/]/nvme/%*[^/]/nvme%*un%u", &controller, &nsid);
+    const struct line *line = find_written(path);
+    const struct action *action = actions;
+    if (!line)
+        return -EACCES;
+    if (line->mark == '&')
+        return write_event(controller, nsid, text);
+    if (line->mark == '~')
+        return write_setting(path, line->taken, controller, text);
+    while (action->name && strcmp(action->name, line->name) != 0)
+        action++;
+    if (strncmp(line->name, "/sys/bus/pci/drivers", 20) == 0)
+        return bind_function(action, text);
+    if (!take(path, line->taken, text))
         return -EINVAL;
-    if (row->kind == KIND_ENTRY || (row->taken == number && strcmp(text, "0") == 0))
+    if (!action->name || (*line->taken == '0' && strcmp(text, "0") == 0))
         return 0;
-    return row == attributes ? tell_all(row) : tell(row, node.controller, node.nsid);
+    return action == actions ? rescan_bus(action) : ask(action, controller);
 }

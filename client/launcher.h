@@ -128,26 +128,31 @@ int read_volume(const struct node *node, struct volume *volume);
 int serve_keeper(struct device *device, const struct request_header *request, const char *data);
 enum presence presence_of(unsigned controller);
 
-/* sysfs.c: puts the files of /sys that are there at first; learns what a controller says of itself; shows its
-   subsystem, its PCI function, itself with its node, or its temperature, or shows it no more; puts the temperature by
-   its health log; puts and removes the files of a namespace, with its nodes if these are new; puts the record that udev
-   has of a block device, with what blkid says of its data; returns the greatest number of sectors in a transfer of a
-   controller; finds what a file of /sys takes, if it is a setting; gives a namespace that is shown anew the settings
-   that a format sets; and puts the text of a setting, in a keeper, and returns 0 or an error's number as a negative
-   one. */
+/* sysfs.c: what Identify says of each controller; puts the files of /sys that are there at first; shows a part of it, of
+   a controller or of one of its namespaces, or hides it; shows the temperature of a controller by its health log; puts
+   the record that udev has of a block device, with what blkid says of its data, or removes it (NULL); returns the
+   greatest number of sectors in a transfer of a controller; finds the line of a file of /sys that can be written; gives
+   a namespace that is shown anew the settings that a format sets; and puts the text of a setting, in a keeper, and
+   returns 0 or an error's number as a negative one. */
+enum part { TOP, SUBSYSTEM, FUNCTION, CONTROLLER, HEALTH, BLOCK, RECORD, GENERIC, PARTS };
+extern unsigned char identities[MOST_CONTROLLERS][IDENTIFY_BYTES];
 void begin_sys(void);
-enum part { SUBSYSTEM, FUNCTION, CONTROLLER, HEALTH };
-void know_controller(unsigned controller, const unsigned char *identity);
-void show_part(unsigned controller, enum part part, int is_there);
-void put_health(unsigned controller, const unsigned char *log);
-void put_namespace(unsigned controller, uint32_t nsid, const struct volume *volume, int is_new);
-void remove_namespace(unsigned controller, uint32_t nsid);
+void show(enum part part, unsigned controller, uint32_t nsid);
+void hide(enum part part, unsigned controller, uint32_t nsid);
+void show_health(unsigned controller, const unsigned char *log);
+void put_record(unsigned controller, uint32_t nsid, const char *said);
 unsigned most_sectors(unsigned controller);
-enum { MOST_TAKEN = 128 };
-int find_setting(const char *path, char taken[MOST_TAKEN]);
+const struct line *find_written(const char *path);
 void reset_settings(unsigned controller, uint32_t nsid);
 int put_setting(const char *path, const char *text);
-void put_record(unsigned controller, uint32_t nsid, const char *lines);
+
+/* A line of sys.txt: an entry, or a folder with its path as the text. */
+struct line {
+    const char *name, *text;
+    const char *taken; /* what a file takes that can be written */
+    char mark;         /* what is before the text, or none (0) */
+    char *last;        /* the text in the folder of this kind that was made last, or NULL */
+};
 
 /* filter.c: has the calls of this thread, and of the processes that it starts, handed over to who reads `calls`; and
    lets this process, the launcher or one that becomes a device, make only the calls that it needs. (Helpers and keepers

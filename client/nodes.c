@@ -144,7 +144,9 @@ static void put(const struct device *device, unsigned controller, uint32_t nsid)
         close(old);
     is_written[nsid] |= has_sandbox && lseek(volume->file, 0, SEEK_DATA) >= 0;
     shown[controller][nsid] = CURRENT;
-    put_namespace(controller, nsid, volume, 1);
+    show(BLOCK, controller, nsid);
+    put_record(controller, nsid, "");
+    show(GENERIC, controller, nsid);
 }
 
 enum presence presence_of(unsigned controller) { return presences[controller]; }
@@ -160,7 +162,9 @@ static void mark_gone(char kind, unsigned controller, uint32_t nsid) {
 
 static void hide_namespace(const struct device *device, unsigned controller, uint32_t nsid) {
     mark_gone('g', controller, nsid);
-    remove_namespace(controller, nsid);
+    hide(GENERIC, controller, nsid);
+    put_record(controller, nsid, NULL);
+    hide(BLOCK, controller, nsid);
     shown[controller][nsid] = HIDDEN;
     leave_file(volume_at(device, nsid));
 }
@@ -212,7 +216,7 @@ static int measure(struct device *device, unsigned controller, uint32_t nsid) {
     if (identify(device, controller, nsid, CNS_NAMESPACE, data) < 0)
         return -1;
     unsigned power = data[128 + 4 * (data[26] & 15) + 2];
-    if (power == 0 || power >= 32)
+    if (power < 9 || power >= 32)
         return -1;
     volume->blocks = number_at(data, 8);
     volume->power = power;
@@ -273,7 +277,7 @@ static void show_anew(struct device *device, uint32_t nsid) {
         cannot("/dev");
     for (unsigned at = device->first; at < device->first + device->count; at++)
         if (shown[at][nsid] == CURRENT)
-            put_namespace(at, nsid, volume, 0);
+            show(BLOCK, at, nsid);
 }
 
 /* Clears the data of a formatted namespace, and makes it as long as the new format requires. */
@@ -293,12 +297,6 @@ static void clear_namespace(struct device *device, unsigned controller, uint32_t
         }
     show_anew(device, nsid);
     list_blocks();
-}
-
-static void show_health(struct device *device, unsigned controller) {
-    unsigned char log[IDENTIFY_BYTES];
-    if (ask(device, controller, OPCODE_GET_LOG, EVERY_NSID, HEALTH_LOG, log) >= 0)
-        put_health(controller, log);
 }
 
 /* (a command for all namespaces formats those that are active on the controller) */
@@ -325,16 +323,16 @@ void look_for_changes(struct device *device, const struct request_header *reques
 /* ---- controllers */
 
 static int show_controller(struct device *device, unsigned controller) {
-    unsigned char data[IDENTIFY_BYTES];
-    if (identify(device, controller, 0, CNS_CONTROLLER, data) < 0)
+    unsigned char log[IDENTIFY_BYTES];
+    if (identify(device, controller, 0, CNS_CONTROLLER, identities[controller]) < 0)
         return -1;
-    know_controller(controller, data);
-    show_part(controller, FUNCTION, 1);
-    if (presences[controller] == BOUND) {
-        show_part(controller, SUBSYSTEM, 1);
-        show_part(controller, CONTROLLER, 1);
-        show_health(device, controller);
-    }
+    show(FUNCTION, controller, 0);
+    if (presences[controller] != BOUND)
+        return 0;
+    show(SUBSYSTEM, controller, 0);
+    show(CONTROLLER, controller, 0);
+    if (ask(device, controller, OPCODE_GET_LOG, EVERY_NSID, HEALTH_LOG, log) >= 0)
+        show_health(controller, log);
     return 0;
 }
 
@@ -351,12 +349,12 @@ static int set_presence(struct device *device, unsigned controller, enum presenc
         if (is_shown(controller, nsid))
             hide_namespace(device, controller, nsid);
     mark_gone('c', controller, 0);
-    show_part(controller, HEALTH, 0);
-    show_part(controller, CONTROLLER, 0);
+    hide(HEALTH, controller, 0);
+    hide(CONTROLLER, controller, 0);
     if (is_alone)
-        show_part(controller, SUBSYSTEM, 0);
+        hide(SUBSYSTEM, controller, 0);
     if (wanted == REMOVED)
-        show_part(controller, FUNCTION, 0);
+        hide(FUNCTION, controller, 0);
     else if (show_controller(device, controller) < 0)
         return -ENODEV;
     scan(device, controller, 1);

@@ -3,44 +3,42 @@
    domain that the machine doesn't have. None of this is proved. */
 #include "launcher.h"
 #include <ctype.h>
-#include <dirent.h>
 #include <ftw.h>
 #include <stdarg.h>
 #include <time.h>
 
-/* The folders below /sys, and the nodes and links of /dev, as sys.txt describes them. */
-extern const char folders[];
-__asm__(".section .rodata\nfolders: .incbin \"sys.txt\"\n.byte 0\n.previous");
+/* The text of sys.txt, its lines, and its folders, each with its lines, of which the last one has no name, and with the
+   folder that was made last. */
+extern char sys_text[];
+__asm__(".data\nsys_text: .incbin \"sys.txt\"\n.byte 0\n.previous");
+enum { MOST_LINES = 512, MOST_TEXT = 4096 };
+static struct line lines[MOST_LINES];
+static struct folder {
+    struct line *lines;
+    int last;
+} folders[PARTS];
 
-/* A kind of folder: where its path and its lines are, which are found by its name, the folder that was made last, and
-   the texts of that one's own entries, each behind the one before, and how many settings had been changed then. */
-struct folder {
-    const char *name, *at;
-    int last, turn;
-    char texts[2][4096];
-    unsigned changes;
-};
+static int *is_changed; /* whether a keeper has changed a setting */
 
-static struct folder top = {.name = "\n[top] "}, subsystem = {.name = "\n[subsystem] "},
-                     function = {.name = "\n[function] "}, controller = {.name = "\n[controller] "},
-                     hwmon = {.name = "\n[hwmon] "}, block = {.name = "\n[block] "},
-                     record = {.name = "\n[record] "}, generic = {.name = "\n[generic] "};
-
-static unsigned *changes; /* how many settings were changed, by all keepers */
-
-/* The line of an entry: its name, and its text with the mark before it, which is > ! + = & ? ~ or none (0). */
-struct line {
-    const char *name, *text;
-    size_t name_length, text_length;
-    char mark;
-};
-
-/* Reads a line, and returns where the next one begins, or NULL at a folder's end. */
-static const char *read_line(const char *at, struct line *line) {
-    size_t length = strcspn(at, "\n"), name = strcspn(at, " \n");
-    size_t before = name + (name < length), mark = length > before && strchr(">!+=&?~", at[before]) != NULL;
-    *line = (struct line){at, at + before + mark, name, length - before - mark, mark ? at[before] : '\0'};
-    return length > 0 ? at + length + 1 : NULL;
+/* Reads the lines, among which the folders have the order of the parts. */
+static void read_lines(void) {
+    struct folder *folder = folders;
+    struct line *line = lines;
+    for (char *rest = sys_text, *at; (at = strsep(&rest, "\n"));) {
+        if (*at == '#')
+            continue;
+        if (*at == '[')
+            (folder++)->lines = line;
+        line->name = strsep(&at, " ");
+        line->mark = at && *at && strchr(">!+=&?~@", *at) ? *at++ : '\0';
+        line->taken = at;
+        if (line->mark == '~') {
+            at = strstr(at, " : ") + strlen(" : ");
+            at[-3] = '\0';
+        }
+        line->text = at && line->mark != '!' ? at : "";
+        line++;
+    }
 }
 
 /* Each function has some memory with its registers. */
@@ -49,23 +47,28 @@ static uint32_t address_of(unsigned controller) { return 0xfe000000 + controller
 
 /* ---- the values, each after its name */
 
-static struct {
+static struct value {
     const char *name;
     char text[2048];
 } values[64];
 
-/* What Identify Controller says of each controller, up to its name. */
-enum { IDENTITY_BYTES = 1024 };
-static unsigned char identities[MOST_CONTROLLERS][IDENTITY_BYTES];
+/* What Identify Controller says of each controller. */
+unsigned char identities[MOST_CONTROLLERS][IDENTIFY_BYTES];
+
+/* Finds a value, or the place of a new one. */
+static struct value *find_value(const char *name, size_t length) {
+    struct value *value = values;
+    while (value->name && (strncmp(value->name, name, length) != 0 || value->name[length]))
+        value++;
+    return value;
+}
 
 __attribute__((format(printf, 2, 3))) static void set(const char *name, const char *format, ...) {
-    unsigned at = 0;
+    struct value *value = find_value(name, strlen(name));
     va_list texts;
-    while (values[at].name && strcmp(values[at].name, name) != 0)
-        at++;
-    values[at].name = name;
+    value->name = name;
     va_start(texts, format);
-    vsnprintf(values[at].text, sizeof values[at].text, format, texts);
+    vsnprintf(value->text, sizeof value->text, format, texts);
     va_end(texts);
 }
 
@@ -87,20 +90,10 @@ static void set_name(const char *whole, const char *digits, const char *name, co
     set(name, "%s", part);
 }
 
-static void set_numbers(char kind, unsigned number, uint32_t nsid) {
-    set("n", "%u", nsid);
-    set("nsid_hex", "%08x", nsid);
-    set("major", "%u", major_of(kind));
-    set("minor", "%u", minor_of(kind, number, nsid));
-}
-
-/* Sets the values of a controller, or of one of its namespaces. */
-static void set_node(char kind, unsigned number, uint32_t nsid) {
+/* Sets the values of a controller. */
+static void set_controller(unsigned number) {
     const unsigned char *identity = identities[number];
     const char *text = (const char *)identity;
-    struct timespec now;
-    clock_gettime(CLOCK_MONOTONIC, &now);
-    set("now", "%llu", 1000000ULL * (unsigned long long)now.tv_sec + (unsigned long long)now.tv_nsec / 1000);
     set("k", "%u", (unsigned)(device_of(number) - devices));
     set("is_bound", "%d", presence_of(number) == BOUND);
     set("driver", "%s", presence_of(number) == BOUND ? "DRIVER=nvme\n" : "");
@@ -108,6 +101,7 @@ static void set_node(char kind, unsigned number, uint32_t nsid) {
     set("slot", "%02x", number);
     set("first", "%016x", address_of(number));
     set("last", "%016x", address_of(number) + REGISTER_BYTES - 1);
+    set("bar", "%x", address_of(number) | 4);
     const unsigned vendor = (unsigned)number_at(identity, 2), subsystem = (unsigned)number_at(identity + 2, 2);
     set("vendor", "%04x", vendor);
     set("subsystem_vendor", "%04x", subsystem);
@@ -120,45 +114,67 @@ static void set_node(char kind, unsigned number, uint32_t nsid) {
     set("nqn", "%.256s", text + 768);
     set("fua", "%d", identity[525] & 1);
     set("cache", "%s", identity[525] & 1 ? "back" : "through");
+    set("most_kb", "%u", most_sectors(number) / 2);
     set_name("serial_text", "serial_hex", "serial_name", identity + 4, 20);
     set_name("model_text", "model_hex", "model_name", identity + 24, 40);
     set_name("firmware_text", "firmware_hex", "firmware_name", identity + 64, 8);
-    set_numbers(kind, number, nsid);
 }
 
-/* Replaces the words in a part of a text with their values, and | with the end of a line, as far as there is room. */
-static void expand(char *into, size_t room, const char *text, size_t length) {
-    const char *const last = into + room - 1;
-    for (const char *end = text + length; text < end && into < last; text++) {
+/* Sets the values of what a folder shows: a controller, or one of its namespaces. */
+static void set_values(enum part part, unsigned number, uint32_t nsid) {
+    const struct volume *volume = volume_of(&(struct node){.controller = number, .nsid = nsid});
+    const char kind = part == GENERIC ? 'g' : nsid != 0 ? 'b' : 'c';
+    struct timespec now;
+    clock_gettime(CLOCK_MONOTONIC, &now);
+    set("now", "%llu", 1000000ULL * (unsigned long long)now.tv_sec + (unsigned long long)now.tv_nsec / 1000);
+    set_controller(number);
+    set("n", "%u", nsid);
+    set("nsid_hex", "%08x", nsid);
+    set("major", "%u", major_of(kind));
+    set("minor", "%u", minor_of(kind, number, nsid));
+    set("file", "%d", volume->file);
+    if (volume->state == KNOWN) {
+        set("size", "%ju", volume->blocks << (volume->power - 9));
+        set("block", "%u", 1U << volume->power);
+        set("ro", "%d", volume->is_read_only);
+    }
+}
+
+/* Sets the registers that depend on the geometry, as they are while a controller is ready. So do the addresses of its
+   queues: each controller's rings, and after them the pages of its outstanding commands. */
+static void set_registers(unsigned place) {
+    const uint64_t page = geometry[PAGE_SIZE], submission = (64 * geometry[DEPTH] + page - 1) / page;
+    const uint64_t completion = (16 * geometry[DEPTH] + page - 1) / page;
+    const uint64_t pages = submission + completion + geometry[WINDOW] * ((16384 + page - 1) / page + 3);
+    const uint64_t asq = place * pages * page, acq = asq + submission * page;
+    set("cc", "%x", 0x00460001 | ((uint32_t)__builtin_ctzll(page) - 12) << 7);
+    set("aqa", "%x", (uint32_t)(geometry[DEPTH] - 1) * 0x10001);
+    set("asq", "%x %x", (uint32_t)asq, (uint32_t)(asq >> 32));
+    set("acq", "%x %x", (uint32_t)acq, (uint32_t)(acq >> 32));
+}
+
+/* Replaces the words in a text with their values, and | with the end of a line, as far as there is room. */
+static void expand(char *into, size_t room, const char *text) {
+    char *const last = into + room - 1, *end;
+    while (*text && into < last) {
         size_t name = *text == '{' ? strcspn(text + 1, "}") : 0;
-        unsigned at = 0;
-        while (name > 0 && (strncmp(values[at].name, text + 1, name) != 0 || values[at].name[name] != '\0'))
-            at++;
-        size_t size = name > 0 ? strlen(values[at].text) : 1;
-        size = size < (size_t)(last - into) ? size : (size_t)(last - into);
-        memcpy(into, name > 0 ? values[at].text : *text == '|' ? "\n" : text, size);
-        into += size;
-        text += name > 0 ? name + 1 : 0;
+        if (name > 0) {
+            end = memccpy(into, find_value(text + 1, name)->text, '\0', (size_t)(last - into));
+            into = end ? end - 1 : last;
+            text += name + 1;
+        } else
+            *into++ = *text == '|' ? '\n' : *text;
+        text++;
     }
     *into = '\0';
 }
 
-/* Makes the name of an entry, which is a path if the entry isn't in the folder itself. */
-static void expand_name(char into[PATH_MAX], const struct line *line) {
-    size_t skipped = strncmp(line->name, "//", 2) == 0;
-    strcpy(into, *line->name == '/' && !skipped ? "/sys" : "");
-    expand(into + strlen(into), PATH_MAX - strlen(into), line->name + skipped, line->name_length - skipped);
-}
-
 /* Makes the path of a folder, which becomes a value, and returns its first line. */
-static const char *expand_path(char into[PATH_MAX], struct folder *folder) {
-    if (!folder->at)
-        folder->at = strstr(folders, folder->name) + strlen(folder->name);
-    size_t length = strcspn(folder->at, "\n");
-    strcpy(into, "/sys/");
-    expand(into + strlen(into), PATH_MAX - strlen(into), folder->at, length);
-    set("path", "%s", into + strlen("/sys/"));
-    return folder->at + length + 1;
+static struct line *expand_path(char path[PATH_MAX], const struct folder *folder) {
+    strcpy(path, "/sys/");
+    expand(path + strlen(path), PATH_MAX - strlen(path), folder->lines->text);
+    set("path", "%s", path + strlen("/sys/"));
+    return folder->lines + 1;
 }
 
 /* ---- the files */
@@ -182,12 +198,23 @@ static void make_folders(char *path) {
     }
 }
 
+/* Gives a file a mode and bytes, by a text that has the mode, how many bytes there are, and the dwords that aren't 0. */
+static int put_bytes(int file, const char *text) {
+    uint32_t dwords[REGISTER_BYTES / 4] = {0};
+    char *at;
+    mode_t mode = (mode_t)strtoul(text, &at, 8);
+    size_t size = strtoul(at, &at, 10);
+    for (unsigned place = 0; *at; place++)
+        dwords[place] = (uint32_t)strtoul(at, &at, 16);
+    return fchmod(file, mode) == 0 && write(file, dwords, size) == (ssize_t)size ? 0 : -1;
+}
+
 /* Makes an entry of a folder, if it isn't there. */
 static int make(int folder, const char *name, char mark, const char *text) {
     char link[32];
     if (mark == '>')
         return symlinkat(text, folder, name);
-    if (((mark == '=' || mark == '+') && strcmp(text, "-1") == 0) || (mark == '?' && !*text))
+    if (mark == '?' && !*text)
         return 0;
     if (mark == '=') {
         snprintf(link, sizeof link, "/proc/self/fd/%.10s", text);
@@ -197,10 +224,10 @@ static int make(int folder, const char *name, char mark, const char *text) {
         return mkdirat(folder, name, 0755);
     const mode_t mode = mark == '!' ? 0200 : mark == '+' ? 0600 : mark == '&' || mark == '~' ? 0644 : 0444;
     int file = openat(folder, name, O_WRONLY | O_CREAT | O_EXCL | O_CLOEXEC, mode);
-    int is_text = mark != '!' && mark != '+' && *text;
-    int result = file >= 0 && (!is_text || dprintf(file, "%s\n", text) == (int)strlen(text) + 1) ? 0 : -1;
-    if (file >= 0)
-        close(file);
+    if (file < 0)
+        return -1;
+    int result = mark == '@' ? put_bytes(file, text) : !*text || dprintf(file, "%s\n", text) > 0 ? 0 : -1;
+    close(file);
     return result;
 }
 
@@ -222,56 +249,27 @@ static void put(int folder, char *name, char mark, const char *text) {
     }
 }
 
-static int open_folder(char *path) {
-    if (mkdir(path, 0755) < 0 && errno == ENOENT) {
-        make_folders(path);
-        mkdir(path, 0755);
-    }
-    int folder = open(path, O_PATH | O_DIRECTORY | O_NOFOLLOW | O_CLOEXEC);
-    if (folder < 0)
-        cannot(path);
-    return folder;
-}
-
-/* Adds a link in /dev that udev makes to those that its record has. */
-static void add_link(const char *name) {
-    unsigned at = 0;
-    while (strcmp(values[at].name, "links") != 0)
-        at++;
-    size_t length = strlen(values[at].text);
-    snprintf(values[at].text + length, sizeof values[at].text - length, "S:%s\n", name + strlen("/dev/"));
-}
-
-/* Makes a folder and its entries. One that is the same as in the last folder of this kind, where no setting was changed
-   since, becomes another name of that one. (A link whose name ends with a value that is empty isn't made.) */
+/* Makes a folder and its entries. One that is the same as in the last folder of this kind becomes another name of that
+   one (but a setting only as long as none was changed). */
 static void put_folder(struct folder *folder) {
-    char path[PATH_MAX], name[PATH_MAX], *before = folder->texts[folder->turn];
-    struct line line;
-    if (!has_sandbox)
-        return;
-    set("links", "%s", "");
-    const char *next = expand_path(path, folder);
-    char *text = folder->texts[folder->turn = !folder->turn], *end = text + sizeof folder->texts[0];
-    int at = open_folder(path);
-    while ((next = read_line(next, &line)) && at >= 0) {
-        expand_name(name, &line);
-        size_t taken = line.mark == '~' ? (size_t)(strstr(line.text, " : ") + strlen(" : ") - line.text) : 0;
-        expand(text, (size_t)(end - text), line.text + taken, line.text_length - taken);
-        if (name[strlen(name) - 1] == '/' && line.mark == '>')
-            continue;
-        if (strncmp(name, "/dev/disk/", 10) == 0 && line.mark == '>')
-            add_link(name);
-        int is_own = *name != '/', is_same = folder->last > 0 && is_own && strcmp(text, before) == 0;
-        is_same &= line.mark != '~' || folder->changes == *changes;
+    char path[PATH_MAX], name[PATH_MAX], text[MOST_TEXT];
+    struct line *line = expand_path(path, folder);
+    put(AT_FDCWD, strcat(path, "/"), '\0', "");
+    int at = open(path, O_PATH | O_DIRECTORY | O_NOFOLLOW | O_CLOEXEC);
+    for (; *line->name && at >= 0; line++) {
+        expand(name, sizeof name, line->name);
+        expand(text, sizeof text, line->text);
+        int is_same = line->last && strcmp(text, line->last) == 0 && *name != '/' && (line->mark != '~' || !*is_changed);
         if (!is_same || linkat(folder->last, name, at, name, 0) < 0)
-            put(at, name, line.mark, text);
-        before += is_own ? strlen(before) + 1 : 0;
-        text += is_own && strlen(text) + 1 < (size_t)(end - text) ? strlen(text) + 1 : 0;
+            put(at, name, line->mark, text);
+        if (!is_same) {
+            free(line->last);
+            line->last = strdup(text);
+        }
     }
     if (folder->last > 0)
         close(folder->last);
     folder->last = at;
-    folder->changes = *changes;
 }
 
 /* Removes a link, but none that another folder has made, and the folder of the last one, as udev does. */
@@ -287,77 +285,70 @@ static void remove_link(char *name, const char *text) {
         rmdir(name);
 }
 
-/* Removes what a folder has elsewhere, and then the folder (of records, all is elsewhere). */
-static void remove_folder(struct folder *folder) {
-    char path[PATH_MAX], name[PATH_MAX], text[PATH_MAX];
-    struct line line;
+void begin_sys(void) {
+    is_changed = share(sizeof *is_changed);
+    read_lines();
+    if (has_sandbox)
+        put_folder(&folders[TOP]);
+}
+
+void show(enum part part, unsigned number, uint32_t nsid) {
     if (!has_sandbox)
         return;
-    for (const char *next = expand_path(path, folder); (next = read_line(next, &line));) {
-        if (*line.name != '/')
-            continue;
-        expand_name(name, &line);
-        expand(text, sizeof text, line.text, line.text_length);
-        if (line.mark == '>')
+    set_values(part, number, nsid);
+    if (part == FUNCTION)
+        set_registers(number - device_of(number)->first);
+    put_folder(&folders[part]);
+}
+
+/* Removes what a folder has elsewhere, and then the folder. */
+void hide(enum part part, unsigned number, uint32_t nsid) {
+    char path[PATH_MAX], name[PATH_MAX], text[PATH_MAX];
+    if (!has_sandbox)
+        return;
+    set_values(part, number, nsid);
+    for (const struct line *line = expand_path(path, &folders[part]); *line->name; line++) {
+        expand(name, sizeof name, line->name);
+        expand(text, sizeof text, line->text);
+        if (*name == '/' && line->mark == '>')
             remove_link(name, text);
-        else
+        else if (*name == '/')
             unlink(name);
     }
-    if (folder != &record)
-        remove_all(path);
+    remove_all(path);
 }
 
-/* Puts a file of bytes in the folder of a function. */
-static void put_bytes(const char *name, const void *bytes, size_t size, mode_t mode) {
-    char path[PATH_MAX];
-    expand_path(path, &function);
-    strcat(path, name);
-    unlink(path);
-    int file = open(path, O_WRONLY | O_CREAT | O_EXCL | O_CLOEXEC, mode);
-    if (file < 0 || write(file, bytes, size) != (ssize_t)size)
-        cannot(path);
-    close(file);
+/* Sets a temperature in thousandths of a degree (0 Kelvin is none, unless it is measured). */
+static void set_kelvin(const char *name, const unsigned char *at, int is_measured) {
+    int kelvin = (int)number_at(at, 2);
+    set(name, kelvin > 0 || is_measured ? "%d" : "", 1000 * kelvin - 273150);
 }
 
-/* Puts the registers as they are while the controller is ready, in its first page of memory. The addresses of its
-   queues follow from the geometry: each controller's rings, and after them the pages of its outstanding commands. */
-static void put_registers(unsigned place) {
-    const uint64_t page = geometry[PAGE_SIZE], submission = (64 * geometry[DEPTH] + page - 1) / page;
-    const uint64_t completion = (16 * geometry[DEPTH] + page - 1) / page;
-    const uint64_t pages = place * (submission + completion + geometry[WINDOW] * ((16384 + page - 1) / page + 3));
-    const uint64_t queues[] = {pages * page, (pages + submission) * page};
-    const uint32_t enabled = 0x00460001 | ((uint32_t)__builtin_ctzll(page) - 12) << 7;
-    const uint32_t depths = (uint32_t)(geometry[DEPTH] - 1) * 0x10001;
-    const uint32_t dwords[10] = {0x01010fff, 0x00400020, 0x00010400, 0, 0, enabled, 0, 1, 0, depths};
-    unsigned char registers[REGISTER_BYTES] = {0};
-    memcpy(registers, dwords, sizeof dwords);
-    memcpy(registers + sizeof dwords, queues, sizeof queues);
-    put_bytes("/resource0", registers, sizeof registers, 0400);
+void show_health(unsigned number, const unsigned char *log) {
+    set_kelvin("temperature", log + 1, 1);
+    set_kelvin("warning", identities[number] + 266, 0);
+    set_kelvin("critical", identities[number] + 268, 0);
+    set("alarm", "%d", log[0] >> 1 & 1);
+    show(HEALTH, number, 0);
 }
 
-/* Puts what an ordinary user reads of a function's configuration: its identifiers, a command register by which it reads
-   and writes memory, its class, and where its registers are. */
-static void put_configuration(const unsigned char *identity, uint32_t address) {
-    const uint32_t vendor = (uint32_t)number_at(identity, 2), subsystem_vendor = (uint32_t)number_at(identity + 2, 2);
-    put_bytes("/config", (const uint32_t[16]){vendor, 0x0406, 0x010802 << 8, 0, address | 4, [11] = subsystem_vendor},
-              64, 0444);
+unsigned most_sectors(unsigned number) {
+    const unsigned usual = 2560, mdts = identities[number][77];
+    return mdts != 0 && mdts < 9 ? 8u << mdts : usual;
 }
 
-void begin_sys(void) {
-    changes = share(sizeof *changes);
-    put_folder(&top);
-}
+/* ---- settings */
 
-int find_setting(const char *path, char taken[MOST_TAKEN]) {
-    size_t whole = strlen(path);
-    struct line line;
-    for (const char *at = folders; *at; at += strcspn(at, "\n") + 1) {
-        read_line(at, &line);
-        size_t length = line.name_length;
-        if (line.mark == '~' && length < whole && strncmp(path + whole - length, line.name, length) == 0)
-            return snprintf(taken, MOST_TAKEN, "%.*s", (int)(strstr(line.text, " : ") - line.text), line.text) > 0;
-    }
-    return 0;
+const struct line *find_written(const char *path) {
+    const struct line *found = NULL;
+    size_t whole = strlen(path), length, longest = 0;
+    for (const struct line *line = lines; line->name; line++)
+        if (line->mark && strchr("!&~", line->mark) && (length = strlen(line->name)) > longest && length <= whole &&
+            strcmp(path + whole - length, line->name) == 0) {
+            found = line;
+            longest = length;
+        }
+    return found;
 }
 
 void reset_settings(unsigned number, uint32_t nsid) {
@@ -370,105 +361,54 @@ void reset_settings(unsigned number, uint32_t nsid) {
 }
 
 int put_setting(const char *path, const char *text) {
-    __atomic_add_fetch(changes, 1, __ATOMIC_SEQ_CST);
+    __atomic_store_n(is_changed, 1, __ATOMIC_SEQ_CST);
     if (unlink(path) < 0)
         return -ENODEV;
     return make(AT_FDCWD, path, '~', text) < 0 ? -ENOSPC : 0;
 }
 
-void know_controller(unsigned number, const unsigned char *identity) {
-    memcpy(identities[number], identity, IDENTITY_BYTES);
+/* ---- records */
+
+/* Makes the links that a block device's record names, or removes them. */
+static void follow_record(const char *path, int is_there) {
+    char line[PATH_MAX], name[PATH_MAX], target[64];
+    FILE *record = fopen(path, "re");
+    expand(target, sizeof target, "../../nvme{x}n{n}");
+    while (record && fgets(line, sizeof line, record)) {
+        line[strcspn(line, "\n")] = '\0';
+        if (strncmp(line, "S:disk/", 7) != 0 || snprintf(name, sizeof name, "/dev/%s", line + 2) >= PATH_MAX)
+            continue;
+        if (is_there)
+            put(AT_FDCWD, name, '>', target);
+        else
+            remove_link(name, target);
+    }
+    if (record)
+        fclose(record);
 }
 
-void show_part(unsigned number, enum part part, int is_there) {
-    static struct folder *const parts[] = {&subsystem, &function, &controller, &hwmon};
-    set_node('c', number, 0);
-    if (!is_there)
-        return remove_folder(parts[part]);
-    put_folder(parts[part]);
-    if (part != FUNCTION || !has_sandbox)
-        return;
-    put_registers(number - device_of(number)->first);
-    put_configuration(identities[number], address_of(number));
-}
-
-/* Sets a temperature in thousandths of a degree (0 Kelvin is none, unless it is measured). */
-static void set_kelvin(const char *name, const unsigned char *at, int is_measured) {
-    int kelvin = (int)number_at(at, 2);
-    set(name, kelvin > 0 || is_measured ? "%d" : "", 1000 * kelvin - 273150);
-}
-
-void put_health(unsigned number, const unsigned char *log) {
-    set_kelvin("temperature", log + 1, 1);
-    set_kelvin("warning", identities[number] + 266, 0);
-    set_kelvin("critical", identities[number] + 268, 0);
-    set("alarm", "%d", log[0] >> 1 & 1);
-    show_part(number, HEALTH, 1);
-}
-
-unsigned most_sectors(unsigned number) {
-    const unsigned usual = 2560, mdts = identities[number][77];
-    return mdts != 0 && mdts < 9 ? 8u << mdts : usual;
-}
-
-/* Sets a value that blkid's lines have, if it can be the name of a link. */
+/* Sets a record's line for a link by what blkid's lines have, if that can be the name of one. */
 static void set_probed(const char *name, const char *lines, const char *key) {
     const char *at = strstr(lines, key), *text = at ? at + strlen(key) : "";
-    int length = (int)strcspn(text, "\n");
-    int is_name = !memchr(text, '/', (size_t)length) && !strstr(lines, "ID_FS_USAGE=raid");
-    set(name, "%.*s", is_name && length < NAME_MAX ? length : 0, text);
+    int length = (int)strcspn(text, "\n"), may_be = length > 0 && length < NAME_MAX && !strstr(lines, "ID_FS_USAGE=raid");
+    set(name, may_be && !memchr(text, '/', (size_t)length) ? "S:disk/by-%s/%.*s\n" : "", name, length, text);
 }
 
-/* Removes the links in a folder that lead to a block device, whose numbers are set. */
-static void remove_links(const char *folder) {
-    static const char text[] = "../../nvme{x}n{n}";
-    char path[PATH_MAX], target[64];
-    DIR *entries = has_sandbox ? opendir(folder) : NULL;
-    struct dirent *entry;
-    expand(target, sizeof target, text, strlen(text));
-    while (entries && (entry = readdir(entries))) {
-        snprintf(path, sizeof path, "%s/%s", folder, entry->d_name);
-        remove_link(path, target);
-    }
-    if (entries)
-        closedir(entries);
-}
-
-/* Replaces the record of a block device, whose numbers are set, and the links that it names. */
-static void replace_record(const char *lines) {
-    remove_links("/dev/disk/by-label");
-    remove_links("/dev/disk/by-uuid");
-    set("probed", "%s", lines);
-    set_probed("label", lines, "E:ID_FS_LABEL_ENC=");
-    set_probed("uuid", lines, "E:ID_FS_UUID_ENC=");
-    put_folder(&record);
-}
-
-void put_record(unsigned number, uint32_t nsid, const char *lines) {
-    set_node('b', number, nsid);
-    replace_record(lines);
-}
-
-void put_namespace(unsigned number, uint32_t nsid, const struct volume *volume, int is_new) {
-    uint64_t size = volume->power < 9 ? volume->blocks >> (9 - volume->power) : volume->blocks << (volume->power - 9);
-    set_node('b', number, nsid);
-    set("most_kb", "%u", most_sectors(number) / 2);
-    set("size", "%llu", (unsigned long long)size);
-    set("block", "%llu", 1ULL << volume->power);
-    set("ro", "%d", volume->is_read_only);
-    set("file", "%d", is_new ? volume->file : -1);
-    put_folder(&block);
-    if (is_new)
-        replace_record("");
-    set_numbers('g', number, nsid);
-    put_folder(&generic);
-}
-
-void remove_namespace(unsigned number, uint32_t nsid) {
-    set_node('b', number, nsid);
-    replace_record("");
-    remove_folder(&record);
-    remove_folder(&block);
-    set_numbers('g', number, nsid);
-    remove_folder(&generic);
+void put_record(unsigned number, uint32_t nsid, const char *said) {
+    char name[PATH_MAX], text[MOST_TEXT];
+    const struct line *line = folders[RECORD].lines + 1;
+    if (!has_sandbox)
+        return;
+    set_values(RECORD, number, nsid);
+    expand(name, sizeof name, line->name);
+    follow_record(name, 0);
+    unlink(name);
+    if (!said)
+        return;
+    set("probed", "%s", said);
+    set_probed("label", said, "E:ID_FS_LABEL_ENC=");
+    set_probed("uuid", said, "E:ID_FS_UUID_ENC=");
+    expand(text, sizeof text, line->text);
+    put(AT_FDCWD, name, '\0', text);
+    follow_record(name, 1);
 }

@@ -125,7 +125,7 @@ class Written(UserCase):
 
     def test_settings_are_of_one_device(self):
         # (files of two namespaces may be one file until one is set; what comes later has the usual text)
-        script = ('cd /sys/block; echo 2 > nvme0n1/queue/nomerges; nvme create-ns /dev/nvme0 -s 8 -c 8 -f 0 > /dev/null; '
+        script = ('cd /sys/block; echo 2 > nvme0n1/queue/nomerges; nvme format /dev/nvme0n1 -l 0 -f > /dev/null; nvme create-ns /dev/nvme0 -s 8 -c 8 -f 0 > /dev/null; '
                   'nvme attach-ns /dev/nvme0 -n 2 -c 0 > /dev/null; cat nvme0n[123]/queue/nomerges; { echo 1; echo 0; } > nvme0n1/queue/nomerges; '
                   'cat nvme0n1/queue/nomerges; exec 3> nvme0n1/queue/nomerges; nvme detach-ns /dev/nvme0 -n 1 -c 0 > /dev/null; echo 1 >&3; '
                   'nvme attach-ns /dev/nvme0 -n 1 -c 0 > /dev/null; cat nvme0n1/queue/nomerges; '
