@@ -3,7 +3,6 @@
    keeper asks it in turn. The preloaded library has udevadm wait for keepers (calls.c). None of this is proved. */
 #include "launcher.h"
 #include <linux/close_range.h>
-#include <poll.h>
 #include <sys/prctl.h>
 #include <sys/socket.h>
 #include <sys/un.h>
@@ -12,7 +11,7 @@
 enum { MOST_SECONDS = 10 };
 
 static int prober; /* the socket to the process */
-static int control, varlink; /* the sockets that root's udevadm connects to: that of systemd 257, and that of 262 */
+static int sockets[2]; /* that root's udevadm connects to: that of systemd 256 and older ones, and of newer ones */
 
 /* Runs blkid for each node that is named. What it prints is the answer, up to an empty text. */
 __attribute__((noreturn)) static void run_prober(int keepers) {
@@ -60,39 +59,29 @@ void start_prober(void) {
         run_prober(ends[1]);
     close(ends[1]);
     prober = ends[0];
-    control = listen_at("/run/udev/control", SOCK_SEQPACKET);
-    varlink = listen_at("/run/udev/io.systemd.Udev", SOCK_STREAM);
+    sockets[0] = listen_at("/run/udev/control", SOCK_SEQPACKET);
+    sockets[1] = listen_at("/run/udev/io.systemd.Udev", SOCK_STREAM);
 }
 
-/* (the older one waits until its connection is closed, after a message of type 0) */
-static void greet_older(int caller) {
+/* (an older udevadm waits until its connection is closed, after a message of type 0; a newer one waits for an answer to
+   a text, which ends with a zero) */
+static void greet(int caller, int is_newer) {
     enum { TYPE = 20 };
     char message[512];
-    while (read(caller, message, sizeof message) > TYPE && message[TYPE])
-        continue;
-}
-
-/* (the newer one waits for an answer; texts end with a zero) */
-static void greet_newer(int caller) {
-    char text[512];
     ssize_t length;
-    while ((length = read(caller, text, sizeof text)) > 0)
-        if (text[length - 1] == '\0' && write(caller, "{}", 3) < 0)
+    while ((length = read(caller, message, sizeof message)) > 0)
+        if (is_newer ? message[length - 1] == '\0' && write(caller, "{}", 3) < 0 : length <= TYPE || !message[TYPE])
             break;
+    close(caller);
 }
 
 void greet_udevadm(void) {
-    static void (*const greet[])(int caller) = {greet_older, greet_newer};
-    struct pollfd ready[] = {{.fd = control, .events = POLLIN}, {.fd = varlink, .events = POLLIN}};
     prctl(PR_SET_NAME, "greeter");
     for (;;) {
-        poll(ready, 2, -1);
+        unsigned ready = await_files(sockets, 2, -1);
         for (unsigned at = 0; at < 2; at++)
-            if (ready[at].revents) {
-                int caller = accept4(ready[at].fd, NULL, NULL, SOCK_CLOEXEC);
-                greet[at](caller);
-                close(caller);
-            }
+            if (ready >> at & 1)
+                greet(accept4(sockets[at], NULL, NULL, SOCK_CLOEXEC), at == 1);
     }
 }
 
