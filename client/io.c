@@ -32,8 +32,9 @@ static int clear(const struct volume *data, uint64_t first, uint64_t count) {
     int how = FALLOC_FL_PUNCH_HOLE | FALLOC_FL_KEEP_SIZE, power = (int)data->power;
     if (!is_within(data, first, count))
         return OUT_OF_RANGE;
-    return count == 0 || fallocate(data->file, how, (off_t)(first << power), (off_t)(count << power)) == 0 ? DONE
-                                                                                                           : -errno;
+    if (count > 0 && fallocate(data->file, how, (off_t)(first << power), (off_t)(count << power)) < 0)
+        return -errno;
+    return DONE;
 }
 
 /* Deallocates ranges of blocks, all or none. */
@@ -128,7 +129,7 @@ int submit_io(const struct call *call) {
 /* ---- admin commands of drives with namespace management that the controllers don't have, which a keeper answers from
    what these say */
 
-enum { OPCODE_GET_LOG = 0x02, CNS_NAMESPACE = 0x00, CNS_CONTROLLER = 0x01, CNS_ALLOCATED = 0x11, CNS_ATTACHED = 0x12 };
+enum { CNS_ALLOCATED = 0x11, CNS_ATTACHED = 0x12 };
 
 /* A command's answer is a page of data, and its status is returned. */
 typedef int answer(struct device *device, unsigned controller, const unsigned char *entry, unsigned char *page);
@@ -154,15 +155,14 @@ static int list_identifiers(struct device *device, unsigned controller, const un
 /* The controllers of the subsystem, or those to which a namespace is attached, in the order of their identifiers. */
 static int list_controllers(struct device *device, unsigned controller, const unsigned char *entry,
                             unsigned char *page) {
-    static unsigned char is_listed[UINT16_MAX + 1], is_active[MOST_NSID + 1], data[IDENTIFY_BYTES];
+    static unsigned char is_listed[UINT16_MAX + 1], is_active[MOST_NSID + 1];
     int is_of_one = entry[40] == CNS_ATTACHED;
     int status = is_of_one ? look_for(device, controller, entry, CNS_ALLOCATED) : DONE;
     unsigned count = 0;
     memset(is_listed, 0, sizeof is_listed);
     for (unsigned at = device->first; at < device->first + device->count && status == DONE; at++)
-        if ((!is_of_one || (list_active(device, at, is_active) >= 0 && is_active[number_at(entry + 4, 4)])) &&
-            identify(device, at, 0, CNS_CONTROLLER, data) >= 0)
-            is_listed[number_at(data + 78, 2)] = 1;
+        if (!is_of_one || (list_active(device, at, is_active) >= 0 && is_active[number_at(entry + 4, 4)]))
+            is_listed[number_at(identities[at] + 78, 2)] = 1;
     for (unsigned id = (unsigned)number_at(entry + 42, 2); id <= UINT16_MAX; id++)
         if (is_listed[id])
             put_dword(page + 2 * ++count, id);
@@ -172,11 +172,9 @@ static int list_controllers(struct device *device, unsigned controller, const un
 
 /* The firmware that Identify names is in the first slot. */
 static int list_firmware(struct device *device, unsigned controller, const unsigned char *entry, unsigned char *page) {
-    unsigned char data[IDENTIFY_BYTES];
-    (void)entry;
+    (void)device, (void)entry;
     page[0] = 1;
-    if (identify(device, controller, 0, CNS_CONTROLLER, data) >= 0)
-        memcpy(page + 8, data + 64, 8);
+    memcpy(page + 8, identities[controller] + 64, 8);
     return DONE;
 }
 

@@ -6,8 +6,7 @@
 #include <grp.h>
 #include <sys/inotify.h>
 
-enum { CNS_NAMESPACE = 0, CNS_CONTROLLER = 1, MOST_NAME = 40 };
-enum { OPCODE_GET_LOG = 0x02 };
+enum { MOST_NAME = 40 };
 
 /* What each controller shows of an NSID: no nodes, those of its namespace, or those of one that has gone since. */
 static enum shown { HIDDEN, CURRENT, OUTDATED } (*shown)[MOST_NSID + 1];
@@ -87,7 +86,9 @@ static unsigned char is_written[MOST_NSID + 1]; /* whether the data may be other
 static const struct group *disk; /* to which root's block devices belong, as on Linux */
 
 static void set_length(const struct volume *volume, off_t length) {
-    if (volume->file > 0 && ftruncate(volume->file, length) < 0)
+    struct stat about;
+    if (volume->file > 0 && fstat(volume->file, &about) == 0 && about.st_size != length &&
+        ftruncate(volume->file, length) < 0)
         cannot("/dev");
 }
 
@@ -267,17 +268,24 @@ static void forget_namespace(struct device *device, uint32_t nsid) {
         shown[at][nsid] = is_shown(at, nsid) ? OUTDATED : HIDDEN;
 }
 
-/* (the library sees by the mode of the file whether it may write) */
-static void show_anew(struct device *device, uint32_t nsid) {
+/* Shows a namespace as it is since it was formatted or made read-only. (The library sees by the mode of the file whether
+   it may write.) */
+static void show_anew(struct device *device, uint32_t nsid, int is_formatted) {
     struct volume *volume = volume_at(device, nsid);
     struct stat about;
     if (volume->file > 0 &&
         (fstat(volume->file, &about) < 0 ||
          fchmod(volume->file, (about.st_mode & 0777) | (volume->is_read_only ? READ_ONLY : 0)) < 0))
         cannot("/dev");
-    for (unsigned at = device->first; at < device->first + device->count; at++)
-        if (shown[at][nsid] == CURRENT)
-            show(BLOCK, at, nsid);
+    for (unsigned at = device->first; at < device->first + device->count; at++) {
+        if (shown[at][nsid] != CURRENT)
+            continue;
+        if (is_formatted) {
+            reset_settings(at, nsid);
+            put_record(at, nsid, "");
+        }
+        show(BLOCK, at, nsid);
+    }
 }
 
 /* Clears the data of a formatted namespace, and makes it as long as the new format requires. */
@@ -290,12 +298,7 @@ static void clear_namespace(struct device *device, unsigned controller, uint32_t
     if (measure(device, controller, nsid) < 0)
         return;
     set_length(volume, length_of(volume));
-    for (unsigned at = device->first; at < device->first + device->count; at++)
-        if (is_shown(at, nsid)) {
-            reset_settings(at, nsid);
-            put_record(at, nsid, "");
-        }
-    show_anew(device, nsid);
+    show_anew(device, nsid, 1);
     list_blocks();
 }
 
@@ -338,16 +341,12 @@ static int show_controller(struct device *device, unsigned controller) {
 
 /* (as when it is pulled out, or comes back, which resets it) */
 static int set_presence(struct device *device, unsigned controller, enum presence wanted) {
-    unsigned char data[IDENTIFY_BYTES];
     int is_alone = 1;
-    if (wanted == BOUND && ask(device, controller, KIND * KIND_RESET, 0, 0, data) < 0)
+    if (wanted == BOUND && ask(device, controller, KIND * KIND_RESET, 0, 0, NULL) < 0)
         return -ENODEV;
     presences[controller] = wanted;
     for (unsigned at = device->first; at < device->first + device->count; at++)
         is_alone &= presences[at] != BOUND;
-    for (uint32_t nsid = 1; nsid <= MOST_NSID; nsid++)
-        if (is_shown(controller, nsid))
-            hide_namespace(device, controller, nsid);
     mark_gone('c', controller, 0);
     hide(HEALTH, controller, 0);
     hide(CONTROLLER, controller, 0);
@@ -381,13 +380,10 @@ void make_nodes(void) {
         make_controllers(devices + at);
 }
 
-/* Restores the length of a namespace's data if it is another one. (A process that doesn't load the library can make the
-   file shorter or longer until it closes it.) */
+/* (a process that doesn't load the library can make a file shorter or longer until it closes it) */
 static void repair(const struct device *device, uint32_t nsid) {
     const struct volume *volume = volume_at(device, nsid);
-    struct stat about;
-    if (volume->state == KNOWN && volume->file > 0 && fstat(volume->file, &about) == 0 &&
-        about.st_size != length_of(volume))
+    if (volume->state == KNOWN)
         set_length(volume, length_of(volume));
 }
 
@@ -440,7 +436,7 @@ int serve_keeper(struct device *device, const struct request_header *request, co
     if (request->kind == KIND_SCAN)
         scan(device, request->controller, request->length);
     else if (request->kind == KIND_SHOW)
-        show_anew(device, request->length);
+        show_anew(device, request->length, 0);
     else if (request->kind == KIND_PROBE) {
         repair_files(device);
         is_written[request->length] = request->length > 0;

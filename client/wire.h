@@ -21,8 +21,9 @@ enum { MOST_NSID = 1024 };
 enum { KIND_ENTRY = 0, KIND_RESET = 1, KIND_LIST = 2 };
 enum { ANSWERED = 0, NO_CONTROLLER = 1, NO_KIND = 2, TOO_LONG = 3 };
 
-/* Opcodes of the admin commands that the launcher sends, or after which it looks for changes. */
-enum { OPCODE_IDENTIFY = 0x06, OPCODE_MANAGEMENT = 0x0d, OPCODE_ATTACHMENT = 0x15, OPCODE_FORMAT = 0x80 };
+/* Opcodes of the admin commands that the launcher sends, with what it asks for, or after which it looks for changes. */
+enum { OPCODE_GET_LOG = 0x02, OPCODE_IDENTIFY = 0x06, CNS_NAMESPACE = 0, CNS_CONTROLLER = 1 };
+enum { OPCODE_MANAGEMENT = 0x0d, OPCODE_ATTACHMENT = 0x15, OPCODE_FORMAT = 0x80 };
 
 struct request_header {
     uint16_t controller;
