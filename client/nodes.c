@@ -105,32 +105,26 @@ static void move_data(int from, int to) {
     }
 }
 
-/* Whether the data has no file with a name. (One that lost all of its names gets none again.) */
-static int has_no_name(const struct volume *volume) {
-    struct stat about;
-    return volume->file <= 0 || (fstat(volume->file, &about) == 0 && about.st_nlink == 0);
-}
-
-/* Makes a file without a name for the data, which moves there. Returns the file where it was, or 0. */
-static int make_data(struct volume *volume) {
+/* Makes a file for the data of a namespace, which has no name until there are nodes. */
+static void make_data(struct volume *volume) {
     struct stat about = {.st_ino = 0};
-    int file = open("/dev", O_TMPFILE | O_RDWR | O_CLOEXEC, 0660), old = volume->file;
+    volume->file = open("/dev", O_TMPFILE | O_RDWR | O_CLOEXEC, 0660);
     volume->is_read_only = 0;
-    if (file < 0 || ftruncate(file, length_of(volume)) < 0 || fstat(file, &about) < 0 ||
-        (disk && fchown(file, (uid_t)-1, disk->gr_gid) < 0 && errno != EPERM && errno != EINVAL))
+    if (volume->file < 0 || ftruncate(volume->file, length_of(volume)) < 0 || fstat(volume->file, &about) < 0 ||
+        (disk && fchown(volume->file, (uid_t)-1, disk->gr_gid) < 0 && errno != EPERM && errno != EINVAL))
         cannot("/dev");
-    if (old > 0 && file >= 0)
-        move_data(old, file);
     volume->inode = about.st_ino;
-    volume->file = file;
-    return old;
 }
 
-/* Moves the data of a namespace without nodes to another file. Who has the old one open finds its end at once. */
+/* Moves the data of a namespace without nodes to another file, because one that lost all of its names gets none again.
+   Who has the old one open finds its end at once. */
 static void leave_file(struct volume *volume) {
-    if (volume->file <= 0 || !has_no_name(volume))
+    struct stat about;
+    int old = volume->file;
+    if (old <= 0 || fstat(old, &about) < 0 || about.st_nlink > 0)
         return;
-    int old = make_data(volume);
+    make_data(volume);
+    move_data(old, volume->file);
     if (ftruncate(old, 0) < 0 || fchmod(old, 0) < 0)
         cannot("/dev");
     close(old);
@@ -140,9 +134,8 @@ static void leave_file(struct volume *volume) {
 
 static void put(const struct device *device, unsigned controller, uint32_t nsid) {
     struct volume *volume = volume_at(device, nsid);
-    int old = has_sandbox && has_no_name(volume) ? make_data(volume) : 0;
-    if (old > 0)
-        close(old);
+    if (has_sandbox && volume->file <= 0)
+        make_data(volume);
     is_written[nsid] |= has_sandbox && lseek(volume->file, 0, SEEK_DATA) >= 0;
     shown[controller][nsid] = CURRENT;
     show(BLOCK, controller, nsid);
