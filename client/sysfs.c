@@ -120,26 +120,6 @@ static void set_controller(unsigned number) {
     set_name("firmware_text", "firmware_hex", "firmware_name", identity + 64, 8);
 }
 
-/* Sets the values of what a folder shows: a controller, or one of its namespaces. */
-static void set_values(enum part part, unsigned number, uint32_t nsid) {
-    const struct volume *volume = volume_of(&(struct node){.controller = number, .nsid = nsid});
-    const char kind = part == GENERIC ? 'g' : nsid != 0 ? 'b' : 'c';
-    struct timespec now;
-    clock_gettime(CLOCK_MONOTONIC, &now);
-    set("now", "%llu", 1000000ULL * (unsigned long long)now.tv_sec + (unsigned long long)now.tv_nsec / 1000);
-    set_controller(number);
-    set("n", "%u", nsid);
-    set("nsid_hex", "%08x", nsid);
-    set("major", "%u", major_of(kind));
-    set("minor", "%u", minor_of(kind, number, nsid));
-    set("file", "%d", volume->file);
-    if (volume->state == KNOWN) {
-        set("size", "%ju", volume->blocks << (volume->power - 9));
-        set("block", "%u", 1U << volume->power);
-        set("ro", "%d", volume->is_read_only);
-    }
-}
-
 /* Sets the registers that depend on the geometry, as they are while a controller is ready. So do the addresses of its
    queues: each controller's rings, and after them the pages of its outstanding commands. */
 static void set_registers(unsigned place) {
@@ -151,6 +131,27 @@ static void set_registers(unsigned place) {
     set("aqa", "%x", (uint32_t)(geometry[DEPTH] - 1) * 0x10001);
     set("asq", "%x %x", (uint32_t)asq, (uint32_t)(asq >> 32));
     set("acq", "%x %x", (uint32_t)acq, (uint32_t)(acq >> 32));
+}
+
+/* Sets the values of what a folder shows: a controller, or one of its namespaces. */
+static void set_values(enum part part, unsigned number, uint32_t nsid) {
+    const struct volume *volume = volume_of(&(struct node){.controller = number, .nsid = nsid});
+    const char kind = part == GENERIC ? 'g' : nsid != 0 ? 'b' : 'c';
+    struct timespec now;
+    clock_gettime(CLOCK_MONOTONIC, &now);
+    set("now", "%llu", 1000000ULL * (unsigned long long)now.tv_sec + (unsigned long long)now.tv_nsec / 1000);
+    set_controller(number);
+    set_registers(number - device_of(number)->first);
+    set("n", "%u", nsid);
+    set("nsid_hex", "%08x", nsid);
+    set("major", "%u", major_of(kind));
+    set("minor", "%u", minor_of(kind, number, nsid));
+    set("file", "%d", volume->file);
+    if (volume->state == KNOWN) {
+        set("size", "%ju", volume->blocks << (volume->power - 9));
+        set("block", "%u", 1U << volume->power);
+        set("ro", "%d", volume->is_read_only);
+    }
 }
 
 /* Replaces the words in a text with their values, and | with the end of a line, as far as there is room. */
@@ -249,10 +250,26 @@ static void put(int folder, char *name, char mark, const char *text) {
     }
 }
 
-/* Makes a folder and its entries. One that is the same as in the last folder of this kind becomes another name of that
-   one (but a setting only as long as none was changed). */
-static void put_folder(struct folder *folder) {
+/* Removes a link, but none that another folder has made, and the folder of the last one, as udev does. */
+static void remove_link(char *name, const char *text) {
+    char found[PATH_MAX];
+    read_link(name, found);
+    if (strcmp(found, text) != 0)
+        return;
+    unlink(name);
+    *strrchr(name, '/') = '\0';
+    if (strncmp(name, "/dev/disk/", 10) == 0)
+        rmdir(name);
+}
+
+/* (an entry that is the same as in the last folder of this kind becomes another name of that one, but a setting only as
+   long as none was changed) */
+void show(enum part part, unsigned number, uint32_t nsid) {
     char path[PATH_MAX], name[PATH_MAX], text[MOST_TEXT];
+    struct folder *folder = folders + part;
+    if (!has_sandbox)
+        return;
+    set_values(part, number, nsid);
     struct line *line = expand_path(path, folder);
     put(AT_FDCWD, strcat(path, "/"), '\0', "");
     int at = open(path, O_PATH | O_DIRECTORY | O_NOFOLLOW | O_CLOEXEC);
@@ -272,33 +289,10 @@ static void put_folder(struct folder *folder) {
     folder->last = at;
 }
 
-/* Removes a link, but none that another folder has made, and the folder of the last one, as udev does. */
-static void remove_link(char *name, const char *text) {
-    char found[PATH_MAX];
-    ssize_t length = readlink(name, found, sizeof found - 1);
-    found[length < 0 ? 0 : length] = '\0';
-    if (strcmp(found, text) != 0)
-        return;
-    unlink(name);
-    *strrchr(name, '/') = '\0';
-    if (strncmp(name, "/dev/disk/", 10) == 0)
-        rmdir(name);
-}
-
 void begin_sys(void) {
     is_changed = share(sizeof *is_changed);
     read_lines();
-    if (has_sandbox)
-        put_folder(&folders[TOP]);
-}
-
-void show(enum part part, unsigned number, uint32_t nsid) {
-    if (!has_sandbox)
-        return;
-    set_values(part, number, nsid);
-    if (part == FUNCTION)
-        set_registers(number - device_of(number)->first);
-    put_folder(&folders[part]);
+    show(TOP, 0, 0);
 }
 
 /* Removes what a folder has elsewhere, and then the folder. */
@@ -339,16 +333,14 @@ unsigned most_sectors(unsigned number) {
 
 /* ---- settings */
 
+/* (of entries that are elsewhere, the name is the whole path, and those that can be written are the first ones) */
 const struct line *find_written(const char *path) {
-    const struct line *found = NULL;
-    size_t whole = strlen(path), length, longest = 0;
-    for (const struct line *line = lines; line->name; line++)
-        if (line->mark && strchr("!&~", line->mark) && (length = strlen(line->name)) > longest && length <= whole &&
-            strcmp(path + whole - length, line->name) == 0) {
-            found = line;
-            longest = length;
-        }
-    return found;
+    const struct line *line = lines;
+    for (size_t whole = strlen(path), length; line->name; line++)
+        if (line->mark && strchr("!&~", line->mark) && (length = strlen(line->name)) <= whole &&
+            strcmp(path + whole - length, line->name) == 0)
+            return line;
+    return NULL;
 }
 
 void reset_settings(unsigned number, uint32_t nsid) {
