@@ -163,19 +163,13 @@ static void hide_namespace(const struct device *device, unsigned controller, uin
     leave_file(volume_at(device, nsid));
 }
 
-/* Returns the kinds of nodes that there are with an NSID, or of the controller with 0. */
-static const char *kinds_of(unsigned controller, uint32_t nsid) {
-    return presences[controller] != BOUND ? "" : nsid == 0 ? "c" : is_shown(controller, nsid) ? "gb" : "";
-}
-
 void lose_nodes(const struct device *device) {
     char path[MOST_NAME];
     for (unsigned controller = device->first; has_sandbox && controller < device->first + device->count; controller++)
         for (uint32_t nsid = 0; nsid <= MOST_NSID; nsid++)
-            for (const char *kind = kinds_of(controller, nsid); *kind; kind++) {
+            for (const char *kind = nsid == 0 ? "c" : is_shown(controller, nsid) ? "gb" : ""; *kind; kind++) {
                 print_path(path, *kind, controller, nsid);
-                unlink(path);
-                if (mknod(path, LOST_NODE, 0) < 0)
+                if (unlink(path) == 0 && mknod(path, LOST_NODE, 0) < 0)
                     cannot(path);
             }
 }
