@@ -291,18 +291,17 @@ static void clear_namespace(struct device *device, unsigned controller, uint32_t
 
 /* (a command for all namespaces formats those that are active on the controller) */
 void look_for_changes(struct device *device, const struct request_header *request, const struct answer_header *answer) {
-    uint32_t nsid = (uint32_t)number_at(request->entry + 4, 4), deletes = request->entry[40] & 15;
-    unsigned opcode = request->kind == KIND_ENTRY ? request->entry[0] : 0,
-             controller = device->first + request->controller;
+    const uint32_t nsid = (uint32_t)number_at(request->entry + 4, 4);
+    const unsigned opcode = request->kind == KIND_ENTRY ? request->entry[0] : 0;
+    const unsigned controller = device->first + request->controller;
+    const int deletes = opcode == OPCODE_MANAGEMENT && request->entry[40] & 15;
     unsigned char is_active[MOST_NSID + 1] = {0};
     if (answer->outcome != 0 || answer->status != 0)
         return;
-    if (opcode == OPCODE_MANAGEMENT && !deletes)
-        nsid = answer->dword_0;
     if (opcode == OPCODE_FORMAT && nsid == EVERY_NSID)
         list_active(device, controller, is_active);
     for (uint32_t at = 1; at <= MOST_NSID; at++)
-        if (opcode == OPCODE_MANAGEMENT && (at == nsid || nsid == EVERY_NSID))
+        if (deletes && (at == nsid || nsid == EVERY_NSID))
             forget_namespace(device, at);
         else if (opcode == OPCODE_FORMAT && (at == nsid || is_active[at]))
             clear_namespace(device, controller, at);

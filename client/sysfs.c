@@ -172,8 +172,7 @@ static void expand(char *into, size_t room, const char *text) {
 
 /* Makes the path of a folder, which becomes a value, and returns its first line. */
 static struct line *expand_path(char path[PATH_MAX], const struct folder *folder) {
-    strcpy(path, "/sys/");
-    expand(path + strlen(path), PATH_MAX - strlen(path), folder->lines->text);
+    expand(path, PATH_MAX, folder->lines->text);
     set("path", "%s", path + strlen("/sys/"));
     return folder->lines + 1;
 }
