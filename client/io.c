@@ -132,36 +132,35 @@ int submit_io(const struct call *call) {
 enum { CNS_ALLOCATED = 0x11, CNS_ATTACHED = 0x12 };
 
 /* A command's answer is a page of data, and its status is returned. */
-typedef int answer(struct device *device, unsigned controller, const unsigned char *entry, unsigned char *page);
+typedef int answer(unsigned controller, const unsigned char *entry, unsigned char *page);
 
 /* Looks whether a namespace is active or allocated. */
-static int look_for(struct device *device, unsigned controller, const unsigned char *entry, uint32_t cns) {
+static int look_for(unsigned controller, const unsigned char *entry, uint32_t cns) {
     uint32_t nsid = (uint32_t)number_at(entry + 4, 4);
     unsigned char data[IDENTIFY_BYTES];
     if (nsid == EVERY_NSID && cns == CNS_ALLOCATED)
         return INVALID_FIELD;
-    if (nsid == EVERY_NSID || identify(device, controller, nsid, cns, data) < 0)
+    if (nsid == EVERY_NSID || identify(controller, nsid, cns, data) < 0)
         return INVALID_NAMESPACE;
     return number_at(data, 8) == 0 ? INVALID_FIELD : DONE;
 }
 
 /* A namespace has no identifiers, but that of its command set. */
-static int list_identifiers(struct device *device, unsigned controller, const unsigned char *entry,
-                            unsigned char *page) {
+static int list_identifiers(unsigned controller, const unsigned char *entry, unsigned char *page) {
     memcpy(page, (const unsigned char[]){4, 1, 0, 0, 0}, 5);
-    return look_for(device, controller, entry, CNS_NAMESPACE);
+    return look_for(controller, entry, CNS_NAMESPACE);
 }
 
 /* The controllers of the subsystem, or those to which a namespace is attached, in the order of their identifiers. */
-static int list_controllers(struct device *device, unsigned controller, const unsigned char *entry,
-                            unsigned char *page) {
+static int list_controllers(unsigned controller, const unsigned char *entry, unsigned char *page) {
+    const struct device *device = device_of(controller);
     static unsigned char is_listed[UINT16_MAX + 1], is_active[MOST_NSID + 1];
     int is_of_one = entry[40] == CNS_ATTACHED;
-    int status = is_of_one ? look_for(device, controller, entry, CNS_ALLOCATED) : DONE;
+    int status = is_of_one ? look_for(controller, entry, CNS_ALLOCATED) : DONE;
     unsigned count = 0;
     memset(is_listed, 0, sizeof is_listed);
     for (unsigned at = device->first; at < device->first + device->count && status == DONE; at++)
-        if (!is_of_one || (list_active(device, at, is_active) >= 0 && is_active[number_at(entry + 4, 4)]))
+        if (!is_of_one || (list_active(at, is_active) >= 0 && is_active[number_at(entry + 4, 4)]))
             is_listed[number_at(identities[at] + 78, 2)] = 1;
     for (unsigned id = (unsigned)number_at(entry + 42, 2); id <= UINT16_MAX; id++)
         if (is_listed[id])
@@ -171,18 +170,18 @@ static int list_controllers(struct device *device, unsigned controller, const un
 }
 
 /* The firmware that Identify names is in the first slot. */
-static int list_firmware(struct device *device, unsigned controller, const unsigned char *entry, unsigned char *page) {
-    (void)device, (void)entry;
+static int list_firmware(unsigned controller, const unsigned char *entry, unsigned char *page) {
+    (void)entry;
     page[0] = 1;
     memcpy(page + 8, identities[controller] + 64, 8);
     return DONE;
 }
 
 /* The namespaces that came to a controller, or left it, since its nodes were looked for. */
-static int list_changes(struct device *device, unsigned controller, const unsigned char *entry, unsigned char *page) {
+static int list_changes(unsigned controller, const unsigned char *entry, unsigned char *page) {
     unsigned char is_active[MOST_NSID + 1];
     (void)entry;
-    list_active(device, controller, is_active);
+    list_active(controller, is_active);
     for (uint32_t nsid = 1; nsid <= MOST_NSID; nsid++)
         if (is_active[nsid] != is_shown(controller, nsid)) {
             put_dword(page, nsid);
@@ -215,7 +214,7 @@ int supply(struct device *device, const struct request_header *request, void *da
     int is_log = row->opcode == OPCODE_GET_LOG;
     uint64_t from = is_log ? number_at(entry + 48, 8) : 0, size = row->size - from;
     int is_wrong = is_log && (from % 4 || from > row->size || (nsid != 0 && nsid != EVERY_NSID));
-    int status = is_wrong ? INVALID_FIELD : row->answer(device, device->first + request->controller, entry, page);
+    int status = is_wrong ? INVALID_FIELD : row->answer(device->first + request->controller, entry, page);
     *answer = (struct answer_header){.status = (uint16_t)status, .length = request->length};
     memset(data, 0, request->length);
     if (status == DONE)

@@ -120,16 +120,16 @@ void probe_written(const struct device *device);
 int read_name(const char *name, struct node *node);
 struct device *device_of(unsigned controller);
 int is_shown(unsigned controller, uint32_t nsid);
-int identify(struct device *device, unsigned controller, uint32_t nsid, uint32_t cns, void *data);
-int list_active(struct device *device, unsigned controller, unsigned char is_active[MOST_NSID + 1]);
+int identify(unsigned controller, uint32_t nsid, uint32_t cns, void *data);
+int list_active(unsigned controller, unsigned char is_active[MOST_NSID + 1]);
 int open_data(const struct node *node);
 struct volume *volume_of(const struct node *node);
 int read_volume(const struct node *node, struct volume *volume);
 int serve_keeper(struct device *device, const struct request_header *request, const char *data);
 enum presence presence_of(unsigned controller);
 
-/* sysfs.c: what Identify says of each controller; puts the files of /sys that are there at first; shows a part of it, of
-   a controller or of one of its namespaces, or hides it; shows the temperature of a controller by its health log; puts
+/* sysfs.c: what Identify says of each controller; puts the files of /sys that are there at first; shows a part of a
+   controller or of one of its namespaces, or hides it; shows the temperature of a controller by its health log; puts
    the record that udev has of a block device, with what blkid says of its data, or removes it (NULL); returns the
    greatest number of sectors in a transfer of a controller; finds the line of a file of /sys that can be written; gives
    a namespace that is shown anew the settings that a format sets; and puts the text of a setting, in a keeper, and

@@ -132,8 +132,8 @@ static void leave_file(struct volume *volume) {
 
 /* ---- namespaces */
 
-static void put(const struct device *device, unsigned controller, uint32_t nsid) {
-    struct volume *volume = volume_at(device, nsid);
+static void put(unsigned controller, uint32_t nsid) {
+    struct volume *volume = volume_at(device_of(controller), nsid);
     if (has_sandbox && volume->file <= 0)
         make_data(volume);
     is_written[nsid] |= has_sandbox && lseek(volume->file, 0, SEEK_DATA) >= 0;
@@ -154,13 +154,13 @@ static void mark_gone(char kind, unsigned controller, uint32_t nsid) {
         close(file);
 }
 
-static void hide_namespace(const struct device *device, unsigned controller, uint32_t nsid) {
+static void hide_namespace(unsigned controller, uint32_t nsid) {
     mark_gone('g', controller, nsid);
     hide(GENERIC, controller, nsid);
     put_record(controller, nsid, NULL);
     hide(BLOCK, controller, nsid);
     shown[controller][nsid] = HIDDEN;
-    leave_file(volume_at(device, nsid));
+    leave_file(volume_at(device_of(controller), nsid));
 }
 
 void lose_nodes(const struct device *device) {
@@ -180,7 +180,8 @@ void lose_nodes(const struct device *device) {
 enum { KIND = 0x100, HEALTH_LOG = 127 << 16 | 0x02 };
 
 /* Sends a request, and returns the length of the data that came, or -1. */
-static int ask(struct device *device, unsigned controller, unsigned what, uint32_t nsid, uint32_t dword, void *data) {
+static int ask(unsigned controller, unsigned what, uint32_t nsid, uint32_t dword, void *data) {
+    struct device *device = device_of(controller);
     struct request_header header = {.controller = (uint16_t)(controller - device->first),
                                     .kind = (uint16_t)(what / KIND),
                                     .length = IDENTIFY_BYTES};
@@ -191,17 +192,17 @@ static int ask(struct device *device, unsigned controller, unsigned what, uint32
     return exchange(device, &header, data, &answer) == 0 && answer.status == 0 ? (int)answer.length : -1;
 }
 
-int identify(struct device *device, unsigned controller, uint32_t nsid, uint32_t cns, void *data) {
-    return ask(device, controller, OPCODE_IDENTIFY, nsid, cns, data);
+int identify(unsigned controller, uint32_t nsid, uint32_t cns, void *data) {
+    return ask(controller, OPCODE_IDENTIFY, nsid, cns, data);
 }
 
 /* Finds out how long a namespace is, if this isn't known. */
-static int measure(struct device *device, unsigned controller, uint32_t nsid) {
+static int measure(unsigned controller, uint32_t nsid) {
     unsigned char data[IDENTIFY_BYTES];
-    struct volume *volume = volume_at(device, nsid);
+    struct volume *volume = volume_at(device_of(controller), nsid);
     if (volume->state == KNOWN)
         return 0;
-    if (identify(device, controller, nsid, CNS_NAMESPACE, data) < 0)
+    if (identify(controller, nsid, CNS_NAMESPACE, data) < 0)
         return -1;
     unsigned power = data[128 + 4 * (data[26] & 15) + 2];
     if (power < 9 || power >= 32)
@@ -212,40 +213,40 @@ static int measure(struct device *device, unsigned controller, uint32_t nsid) {
     return 0;
 }
 
-int list_active(struct device *device, unsigned controller, unsigned char is_active[MOST_NSID + 1]) {
+int list_active(unsigned controller, unsigned char is_active[MOST_NSID + 1]) {
     unsigned char list[IDENTIFY_BYTES];
     memset(is_active, 0, MOST_NSID + 1);
     if (presences[controller] != BOUND)
         return 0;
-    int length = ask(device, controller, KIND * KIND_LIST, 0, 0, list);
+    int length = ask(controller, KIND * KIND_LIST, 0, 0, list);
     for (int at = 0; at < length; at += 4)
         is_active[number_at(list + at, 4) % (MOST_NSID + 1)] = 1;
     return length;
 }
 
 /* Shows a namespace at a controller to which it is attached, and hides any other one that had its NSID. */
-static void update(struct device *device, unsigned controller, uint32_t nsid, int is_active) {
+static void update(unsigned controller, uint32_t nsid, int is_active) {
     enum shown wanted = is_active ? CURRENT : HIDDEN;
     if (is_shown(controller, nsid) && shown[controller][nsid] != wanted)
-        hide_namespace(device, controller, nsid);
-    if (shown[controller][nsid] != wanted && measure(device, controller, nsid) == 0)
-        put(device, controller, nsid);
+        hide_namespace(controller, nsid);
+    if (shown[controller][nsid] != wanted && measure(controller, nsid) == 0)
+        put(controller, nsid);
 }
 
 /* (namespaces with one NSID come together, because their files of /sys have texts in common) */
-static void scan(struct device *device, unsigned first, unsigned count) {
+static void scan(unsigned first, unsigned count) {
     static unsigned char is_active[MOST_CONTROLLERS][MOST_NSID + 1];
     for (unsigned controller = first; controller < first + count; controller++)
-        if (list_active(device, controller, is_active[controller]) < 0)
+        if (list_active(controller, is_active[controller]) < 0)
             return;
     for (uint32_t nsid = 1; nsid <= MOST_NSID; nsid++)
         for (unsigned controller = first; controller < first + count; controller++)
-            update(device, controller, nsid, is_active[controller][nsid]);
+            update(controller, nsid, is_active[controller][nsid]);
     list_blocks();
 }
 
 /* Removes the data of a namespace that no longer exists, even for processes that have it open. */
-static void forget_namespace(struct device *device, uint32_t nsid) {
+static void forget_namespace(const struct device *device, uint32_t nsid) {
     struct volume *volume = volume_at(device, nsid);
     set_length(volume, 0);
     if (volume->file > 0)
@@ -255,9 +256,9 @@ static void forget_namespace(struct device *device, uint32_t nsid) {
         shown[at][nsid] = is_shown(at, nsid) ? OUTDATED : HIDDEN;
 }
 
-/* Shows a namespace as it is since it was formatted or made read-only. (The library sees by the mode of the file whether
-   it may write.) */
-static void show_anew(struct device *device, uint32_t nsid, int is_formatted) {
+/* Shows a namespace as it is since it was formatted or made read-only. (The library sees by the mode of the file
+   whether it may write.) */
+static void show_anew(const struct device *device, uint32_t nsid, int is_formatted) {
     struct volume *volume = volume_at(device, nsid);
     struct stat about;
     if (volume->file > 0 &&
@@ -276,13 +277,13 @@ static void show_anew(struct device *device, uint32_t nsid, int is_formatted) {
 }
 
 /* Clears the data of a formatted namespace, and makes it as long as the new format requires. */
-static void clear_namespace(struct device *device, unsigned controller, uint32_t nsid) {
+static void clear_namespace(const struct device *device, unsigned controller, uint32_t nsid) {
     struct volume *volume = volume_at(device, nsid);
     if (volume->state != KNOWN)
         return;
     __atomic_store_n(&volume->state, UNKNOWN, __ATOMIC_SEQ_CST);
     set_length(volume, 0);
-    if (measure(device, controller, nsid) < 0)
+    if (measure(controller, nsid) < 0)
         return;
     set_length(volume, length_of(volume));
     show_anew(device, nsid, 1);
@@ -299,36 +300,36 @@ void look_for_changes(struct device *device, const struct request_header *reques
     if (answer->outcome != 0 || answer->status != 0)
         return;
     if (opcode == OPCODE_FORMAT && nsid == EVERY_NSID)
-        list_active(device, controller, is_active);
+        list_active(controller, is_active);
     for (uint32_t at = 1; at <= MOST_NSID; at++)
         if (deletes && (at == nsid || nsid == EVERY_NSID))
             forget_namespace(device, at);
         else if (opcode == OPCODE_FORMAT && (at == nsid || is_active[at]))
             clear_namespace(device, controller, at);
     if (request->kind == KIND_RESET || (!waits && (opcode == OPCODE_MANAGEMENT || opcode == OPCODE_ATTACHMENT)))
-        scan(device, device->first, device->count);
+        scan(device->first, device->count);
 }
 
 /* ---- controllers */
 
-static int show_controller(struct device *device, unsigned controller) {
+static int show_controller(unsigned controller) {
     unsigned char log[IDENTIFY_BYTES];
-    if (identify(device, controller, 0, CNS_CONTROLLER, identities[controller]) < 0)
+    if (identify(controller, 0, CNS_CONTROLLER, identities[controller]) < 0)
         return -1;
     show(FUNCTION, controller, 0);
     if (presences[controller] != BOUND)
         return 0;
     show(SUBSYSTEM, controller, 0);
     show(CONTROLLER, controller, 0);
-    if (ask(device, controller, OPCODE_GET_LOG, EVERY_NSID, HEALTH_LOG, log) >= 0)
+    if (ask(controller, OPCODE_GET_LOG, EVERY_NSID, HEALTH_LOG, log) >= 0)
         show_health(controller, log);
     return 0;
 }
 
 /* (as when it is pulled out, or comes back, which resets it) */
-static int set_presence(struct device *device, unsigned controller, enum presence wanted) {
+static int set_presence(const struct device *device, unsigned controller, enum presence wanted) {
     int is_alone = 1;
-    if (wanted == BOUND && ask(device, controller, KIND * KIND_RESET, 0, 0, NULL) < 0)
+    if (wanted == BOUND && ask(controller, KIND * KIND_RESET, 0, 0, NULL) < 0)
         return -ENODEV;
     presences[controller] = wanted;
     for (unsigned at = device->first; at < device->first + device->count; at++)
@@ -340,30 +341,26 @@ static int set_presence(struct device *device, unsigned controller, enum presenc
         hide(SUBSYSTEM, controller, 0);
     if (wanted == REMOVED)
         hide(FUNCTION, controller, 0);
-    else if (show_controller(device, controller) < 0)
+    else if (show_controller(controller) < 0)
         return -ENODEV;
-    scan(device, controller, 1);
+    scan(controller, 1);
     return 0;
 }
 
-/* Makes the files that describe the controllers, and then the nodes. */
-static void make_controllers(struct device *device) {
-    for (unsigned at = device->first; at < device->first + device->count; at++) {
-        presences[at] = BOUND;
-        if (show_controller(device, at) < 0)
-            fail("the device does not answer as it should");
-    }
-    scan(device, device->first, device->count);
-}
-
+/* (first the files that describe the controllers) */
 void make_nodes(void) {
+    const struct device *last = devices + device_count - 1;
     disk = geteuid() == 0 ? getgrnam("disk") : NULL;
     shown = share(MOST_CONTROLLERS * sizeof *shown);
     volumes = share(MOST_DEVICES * sizeof *volumes);
     presences = share(MOST_CONTROLLERS * sizeof *presences);
     begin_sys();
-    for (unsigned at = 0; at < device_count; at++)
-        make_controllers(devices + at);
+    for (unsigned at = 0; at < last->first + last->count; at++) {
+        presences[at] = BOUND;
+        if (show_controller(at) < 0)
+            fail("the device does not answer as it should");
+    }
+    scan(0, last->first + last->count);
 }
 
 /* (a process that doesn't load the library can make a file shorter or longer until it closes it) */
@@ -420,7 +417,7 @@ int serve_keeper(struct device *device, const struct request_header *request, co
     if (request->kind == KIND_PRESENCE)
         return set_presence(device, request->controller, request->length);
     if (request->kind == KIND_SCAN)
-        scan(device, request->controller, request->length);
+        scan(request->controller, request->length);
     else if (request->kind == KIND_SHOW)
         show_anew(device, request->length, 0);
     else if (request->kind == KIND_PROBE) {

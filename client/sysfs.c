@@ -198,7 +198,7 @@ static void make_folders(char *path) {
     }
 }
 
-/* Gives a file a mode and bytes, by a text that has the mode, how many bytes there are, and the dwords that aren't 0. */
+/* Gives a file a mode and bytes. The text has the mode, the number of bytes, and dwords, after which all are 0. */
 static int put_bytes(int file, const char *text) {
     uint32_t dwords[REGISTER_BYTES / 4] = {0};
     char *at;
@@ -275,7 +275,8 @@ void show(enum part part, unsigned number, uint32_t nsid) {
     for (; *line->name && at >= 0; line++) {
         expand(name, sizeof name, line->name);
         expand(text, sizeof text, line->text);
-        int is_same = line->last && strcmp(text, line->last) == 0 && *name != '/' && (line->mark != '~' || !*is_changed);
+        int may_differ = *name == '/' || (line->mark == '~' && *is_changed);
+        int is_same = !may_differ && line->last && strcmp(text, line->last) == 0;
         if (!is_same || linkat(folder->last, name, at, name, 0) < 0)
             put(at, name, line->mark, text);
         if (!is_same) {
@@ -381,8 +382,9 @@ static void follow_record(const char *path, int is_there) {
 /* Sets a record's line for a link by what blkid's lines have, if that can be the name of one. */
 static void set_probed(const char *name, const char *lines, const char *key) {
     const char *at = strstr(lines, key), *text = at ? at + strlen(key) : "";
-    int length = (int)strcspn(text, "\n"), may_be = length > 0 && length < NAME_MAX && !strstr(lines, "ID_FS_USAGE=raid");
-    set(name, may_be && !memchr(text, '/', (size_t)length) ? "S:disk/by-%s/%.*s\n" : "", name, length, text);
+    int length = (int)strcspn(text, "\n");
+    int is_name = length > 0 && length < NAME_MAX && !memchr(text, '/', (size_t)length);
+    set(name, is_name && !strstr(lines, "ID_FS_USAGE=raid") ? "S:disk/by-%s/%.*s\n" : "", name, length, text);
 }
 
 void put_record(unsigned number, uint32_t nsid, const char *said) {
