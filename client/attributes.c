@@ -34,8 +34,8 @@ static void read_text(const char *path, char text[MOST_WRITTEN + 1]) {
         close(file);
 }
 
-/* Replaces what is written to a file by the text that it then has, and returns whether the file takes it. (Linux reads
-   numbers as those in C, but for a queue.) */
+/* Replaces what is written to a file by the text that it then has, and returns 0, or an error's number as a negative
+   one. (Linux reads numbers as those in C, but for a queue.) */
 static int take(const char *path, const char *taken, char text[MOST_WRITTEN + 1]) {
     char forms[128], *rest, *shown, kind;
     long long least, most, unit;
@@ -52,13 +52,15 @@ static int take(const char *path, const char *taken, char text[MOST_WRITTEN + 1]
         if (is_range ? !is_number || number < least || number > most || (kind == '%' && left != 0)
                      : *form != '*' && strcmp(form, text) != 0)
             continue;
+        if (shown && strcmp(shown, "!") == 0)
+            return -ERANGE;
         if (shown)
             strcpy(text, shown);
         else if (is_range)
             snprintf(text, MOST_WRITTEN + 1, "%lld", number - left);
-        return 1;
+        return 0;
     }
-    return 0;
+    return -EINVAL;
 }
 
 /* ---- what is done */
@@ -127,18 +129,19 @@ static int write_event(unsigned controller, uint32_t nsid, char *text) {
     char *rest = text + strcspn(text, " ");
     if (strspn(rest + strspn(rest, " "), "-0123456789abcdefABCDEF") == 36)
         *rest = '\0';
-    if (!take("uevent", events, text))
-        return -EINVAL;
-    return nsid != 0 && ask_controller(controller, KIND_PROBE, nsid) < 0 ? -ENODEV : 0;
+    int result = take("uevent", events, text);
+    if (result < 0 || nsid == 0)
+        return result;
+    return ask_controller(controller, KIND_PROBE, nsid) < 0 ? -ENODEV : 0;
 }
 
 static int write_setting(const char *path, const char *taken, unsigned controller, char *text) {
     if (*taken == '*' && !*text)
         strcpy(text, "(null)");
-    int is_taken = take(path, taken, text), is_size = strcmp(strrchr(path, '/'), "/max_sectors_kb") == 0;
-    if (!is_taken || (is_size && atoi(text) > (int)most_sectors(controller) / 2))
+    int result = take(path, taken, text), is_size = strcmp(strrchr(path, '/'), "/max_sectors_kb") == 0;
+    if (is_size && atoi(text) > (int)most_sectors(controller) / 2)
         return -EINVAL;
-    return set(path, controller, text);
+    return result < 0 ? result : set(path, controller, text);
 }
 
 int write_attribute(char *path, char *text) {
@@ -160,9 +163,8 @@ int write_attribute(char *path, char *text) {
         action++;
     if (strncmp(line->name, "/sys/bus/pci/drivers", 20) == 0)
         return bind_function(action, text);
-    if (!take(path, line->taken, text))
-        return -EINVAL;
-    if (!action->name || (*line->taken == '0' && strcmp(text, "0") == 0))
-        return 0;
+    int result = take(path, line->taken, text);
+    if (result < 0 || !action->name || (*line->taken == '0' && strcmp(text, "0") == 0))
+        return result;
     return action == actions ? rescan_bus(action) : ask(action, controller);
 }

@@ -96,15 +96,18 @@ class Names(UserCase):
 class Written(UserCase):
     def test_what_is_refused(self):
         bad, none, busy = 'Invalid argument 1\n', 'No such device 1\n', 'Device or resource busy 1\n'
+        large = 'Numerical result out of range 1\n'
         script = ('p=$(readlink -f /sys/class/nvme/nvme0/device); d=/sys/bus/pci/drivers/nvme; q=/sys/block/nvme0n1; '
                   'for c in foo "" -1 1x; do w "$c" $p/remove; w "$c" /sys/bus/pci/rescan; w "$c" $p/reset; done; w 0 $p/reset; '
                   'w 0001:99:00.0 $d/bind; w foo $d/unbind; w 0001:00:00.1 $d/unbind; w ../x $d/unbind; w "" $d/bind; w . $d/unbind; w 0001:00:00.0 $d/bind; '
                   'for c in foo "" "none x"; do w "$c" $q/queue/scheduler; done; '
                   'for c in foo -1 "" 99999999999999999999 0x10; do w "$c" $q/queue/read_ahead_kb; done; '
                   'for c in foo "" CHANGE "change x"; do w "$c" $q/uevent; done; '
+                  'for c in max_retries=256 max_retries=-1 io_timeout=4294967296; do w ${c#*=} /sys/module/nvme_core/parameters/${c%=*}; done; '
+                  'w 65536 /sys/module/nvme/parameters/io_queue_depth; '
                   'for c in 0 0x0; do w $c $p/remove; w $c /sys/bus/pci/rescan; done; w 1 $p/rescan; w add /sys/class/nvme/nvme0/uevent; '
                   'w "change 01234567-89ab-cdef-0123-456789abcdef" $q/uevent; ls -d /dev/nvme0 $p')
-        self.ends(self.shell(TRY + script), 0, (12 * bad + bad + 6 * none + busy + 3 * bad + 5 * bad + 4 * bad + 7 * ' 0\n' +
+        self.ends(self.shell(TRY + script), 0, (12 * bad + bad + 6 * none + busy + 3 * bad + 5 * bad + 4 * bad + large + bad + large + bad + 7 * ' 0\n' +
                   '/dev/nvme0\n/sys/devices/pci0001:00/0001:00:00.0\n').encode(), b'')
 
     def test_settings(self):
