@@ -90,6 +90,19 @@ static void set_name(const char *whole, const char *digits, const char *name, co
     set(name, "%s", part);
 }
 
+/* Sets the registers that depend on the geometry, as they are while a controller is ready. So do the addresses of its
+   queues: each controller's rings, and after them the pages of its outstanding commands. */
+static void set_registers(unsigned place) {
+    const uint64_t page = geometry[PAGE_SIZE], submission = (64 * geometry[DEPTH] + page - 1) / page;
+    const uint64_t completion = (16 * geometry[DEPTH] + page - 1) / page;
+    const uint64_t pages = submission + completion + geometry[WINDOW] * ((16384 + page - 1) / page + 3);
+    const uint64_t asq = place * pages * page, acq = asq + submission * page;
+    set("cc", "%x", 0x00460001 | ((uint32_t)__builtin_ctzll(page) - 12) << 7);
+    set("aqa", "%x", (uint32_t)(geometry[DEPTH] - 1) * 0x10001);
+    set("asq", "%x %x", (uint32_t)asq, (uint32_t)(asq >> 32));
+    set("acq", "%x %x", (uint32_t)acq, (uint32_t)(acq >> 32));
+}
+
 /* Sets the values of a controller. */
 static void set_controller(unsigned number) {
     const unsigned char *identity = identities[number];
@@ -118,30 +131,21 @@ static void set_controller(unsigned number) {
     set_name("serial_text", "serial_hex", "serial_name", identity + 4, 20);
     set_name("model_text", "model_hex", "model_name", identity + 24, 40);
     set_name("firmware_text", "firmware_hex", "firmware_name", identity + 64, 8);
+    set_registers(number - device_of(number)->first);
 }
 
-/* Sets the registers that depend on the geometry, as they are while a controller is ready. So do the addresses of its
-   queues: each controller's rings, and after them the pages of its outstanding commands. */
-static void set_registers(unsigned place) {
-    const uint64_t page = geometry[PAGE_SIZE], submission = (64 * geometry[DEPTH] + page - 1) / page;
-    const uint64_t completion = (16 * geometry[DEPTH] + page - 1) / page;
-    const uint64_t pages = submission + completion + geometry[WINDOW] * ((16384 + page - 1) / page + 3);
-    const uint64_t asq = place * pages * page, acq = asq + submission * page;
-    set("cc", "%x", 0x00460001 | ((uint32_t)__builtin_ctzll(page) - 12) << 7);
-    set("aqa", "%x", (uint32_t)(geometry[DEPTH] - 1) * 0x10001);
-    set("asq", "%x %x", (uint32_t)asq, (uint32_t)(asq >> 32));
-    set("acq", "%x %x", (uint32_t)acq, (uint32_t)(acq >> 32));
-}
-
-/* Sets the values of what a folder shows: a controller, or one of its namespaces. */
+/* Sets the values of what a folder shows: a controller, or one of its namespaces. (Those of a controller change only
+   with its own folders.) */
 static void set_values(enum part part, unsigned number, uint32_t nsid) {
     const struct volume *volume = volume_of(&(struct node){.controller = number, .nsid = nsid});
     const char kind = part == GENERIC ? 'g' : nsid != 0 ? 'b' : 'c';
+    static unsigned known = MOST_CONTROLLERS;
     struct timespec now;
     clock_gettime(CLOCK_MONOTONIC, &now);
     set("now", "%llu", 1000000ULL * (unsigned long long)now.tv_sec + (unsigned long long)now.tv_nsec / 1000);
-    set_controller(number);
-    set_registers(number - device_of(number)->first);
+    if (part < BLOCK || number != known)
+        set_controller(number);
+    known = number;
     set("n", "%u", nsid);
     set("nsid_hex", "%08x", nsid);
     set("major", "%u", major_of(kind));
