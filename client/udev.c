@@ -11,7 +11,7 @@
 enum { MOST_SECONDS = 10 };
 
 static int prober; /* the socket to the process */
-static int sockets[2]; /* that root's udevadm connects to: that of systemd 256 and older ones, and of newer ones */
+static int sockets[2]; /* that root's udevadm connects to: up to that of systemd 257, and that of 262 */
 
 /* Runs blkid for each node that is named. What it prints is the answer, up to an empty text. */
 __attribute__((noreturn)) static void run_prober(int keepers) {
@@ -87,7 +87,7 @@ void greet_udevadm(void) {
 
 /* (each line becomes one of the record's) */
 void probe(unsigned controller, uint32_t nsid) {
-    char name[32], said[8192], lines[8192], *line, *rest;
+    char name[32], said[4096], lines[2 * sizeof said], *line, *rest;
     size_t length = 0, room = sizeof said - 1;
     ssize_t count = -1;
     take_turn(F_WRLCK);
