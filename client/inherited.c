@@ -1,7 +1,6 @@
 /* What comes into the sandbox from outside: the standard streams, other open files, and devices. Each is on a list of
    what may come, and all else is refused or closed. None of this is proved. */
 #include "launcher.h"
-#include <linux/magic.h>
 #include <sys/statfs.h>
 #include <sys/sysmacros.h>
 
@@ -19,60 +18,19 @@ static const unsigned char added_minors[] = {200, 229, 232, 238, 241};
    and more serial ports and consoles of virtual machines. The console (5, 1) is one too, but not a master (5, 2). */
 static const unsigned char terminals[] = {3, 4, 136, 137, 138, 139, 140, 141, 142, 143, 166, 188, 204, 229};
 
-/* The file systems that hold files, and can be written as outside, by their names and the numbers of their kinds (which
-   autofs and nsfs lack, because they have no files of the machine). All others, such as a second sysfs, are read-only.
+/* The file systems that hold files, and can be written as outside: names, and then the numbers of their kind, which
+   autofs and nsfs lack, because they have no files of the machine. All others, such as a second sysfs, are read-only.
    */
-static const struct {
-    const char *names;
-    unsigned numbers[5];
-} file_systems[] = {{" 9p ", {V9FS_MAGIC}},
-                    {" afs ", {AFS_SUPER_MAGIC, AFS_FS_MAGIC}},
-                    {" aufs ", {0x61756673}},
-                    {" autofs nsfs ", {0}},
-                    {" bcachefs ", {0xca451a4e}},
-                    {" btrfs ", {BTRFS_SUPER_MAGIC}},
-                    {" ceph ", {CEPH_SUPER_MAGIC}},
-                    {" cifs smb3 smbfs ", {CIFS_SUPER_MAGIC, SMB2_SUPER_MAGIC, SMB_SUPER_MAGIC}},
-                    {" coda ", {CODA_SUPER_MAGIC}},
-                    {" cramfs ", {CRAMFS_MAGIC}},
-                    {" ecryptfs ", {ECRYPTFS_SUPER_MAGIC}},
-                    {" erofs ", {EROFS_SUPER_MAGIC_V1}},
-                    {" exfat ", {EXFAT_SUPER_MAGIC}},
-                    {" ext2 ext3 ext4 ", {EXT4_SUPER_MAGIC}},
-                    {" f2fs ", {F2FS_SUPER_MAGIC}},
-                    {" fuse fuseblk virtiofs ", {FUSE_SUPER_MAGIC}},
-                    {" gfs2 ", {0x01161970}},
-                    {" hfs hfsplus ", {0x4244, 0x482b}},
-                    {" hpfs ", {HPFS_SUPER_MAGIC}},
-                    {" iso9660 ", {ISOFS_SUPER_MAGIC}},
-                    {" jfs ", {0x3153464a}},
-                    {" lustre ", {0x0bd00bd0}},
-                    {" minix ",
-                     {MINIX_SUPER_MAGIC, MINIX_SUPER_MAGIC2, MINIX2_SUPER_MAGIC, MINIX2_SUPER_MAGIC2,
-                      MINIX3_SUPER_MAGIC}},
-                    {" msdos vfat ", {MSDOS_SUPER_MAGIC}},
-                    {" nfs nfs4 ", {NFS_SUPER_MAGIC}},
-                    {" nilfs2 ", {NILFS_SUPER_MAGIC}},
-                    {" ntfs ntfs3 ", {0x5346544e, 0x7366746e}},
-                    {" ocfs2 ", {OCFS2_SUPER_MAGIC}},
-                    {" overlay ", {OVERLAYFS_SUPER_MAGIC}},
-                    {" ramfs ", {RAMFS_MAGIC}},
-                    {" reiserfs ", {REISERFS_SUPER_MAGIC}},
-                    {" romfs ", {0x7275}},
-                    {" squashfs ", {SQUASHFS_MAGIC}},
-                    {" tmpfs ", {TMPFS_MAGIC}},
-                    {" udf ", {UDF_SUPER_MAGIC}},
-                    {" vboxsf ", {0x786f4256}},
-                    {" xfs ", {XFS_SUPER_MAGIC}},
-                    {" zfs ", {0x2fc12fc1}}};
-enum { FILE_SYSTEMS = sizeof file_systems / sizeof *file_systems };
+static const char file_systems[] =
+    " 9p 0x1021997 afs 0x5346414f 0x6b414653 aufs 0x61756673 autofs nsfs bcachefs 0xca451a4e btrfs 0x9123683e "
+    "ceph 0xc36400 cifs smb3 smbfs 0xff534d42 0xfe534d42 0x517b coda 0x73757245 cramfs 0x28cd3d45 ecryptfs 0xf15f "
+    "erofs 0xe0f5e1e2 exfat 0x2011bab0 ext2 ext3 ext4 0xef53 f2fs 0xf2f52010 fuse fuseblk virtiofs 0x65735546 "
+    "gfs2 0x1161970 hfs 0x4244 hfsplus 0x482b hpfs 0xf995e849 iso9660 0x9660 jfs 0x3153464a lustre 0xbd00bd0 "
+    "minix 0x137f 0x138f 0x2468 0x2478 0x4d5a msdos vfat 0x4d44 nfs nfs4 0x6969 nilfs2 0x3434 "
+    "ntfs 0x5346544e ntfs3 0x7366746e ocfs2 0x7461636f overlay 0x794c7630 ramfs 0x858458f6 reiserfs 0x52654973 "
+    "romfs 0x7275 squashfs 0x73717368 tmpfs 0x1021994 udf 0x15013346 vboxsf 0x786f4256 xfs 0x58465342 zfs 0x2fc12fc1 ";
 
-int holds_files(const char *kind) {
-    for (unsigned at = 0; at < FILE_SYSTEMS; at++)
-        if (strstr(file_systems[at].names, kind))
-            return 1;
-    return strncmp(kind, " fuse.", 6) == 0;
-}
+int holds_files(const char *kind) { return strstr(file_systems, kind) || strncmp(kind, " fuse.", 6) == 0; }
 
 static int is_machine_node(dev_t number) {
     return number == makedev(TERMINAL_MAJOR, 0) ||
@@ -114,11 +72,10 @@ void check_node(const char *path) {
 
 static int is_in_files(int file) {
     struct statfs about;
-    int is_found = 0;
-    for (unsigned at = 0; fstatfs(file, &about) == 0 && at < FILE_SYSTEMS; at++)
-        for (const unsigned *number = file_systems[at].numbers; number < file_systems[at].numbers + 5; number++)
-            is_found |= *number != 0 && (unsigned)about.f_type == *number;
-    return is_found;
+    char number[16] = "";
+    if (fstatfs(file, &about) == 0)
+        snprintf(number, sizeof number, " 0x%x ", (unsigned)about.f_type);
+    return *number && strstr(file_systems, number) != NULL;
 }
 
 /* Returns why an open file may not come into the sandbox, or NULL. (The entries of a folder may be nodes.) */
