@@ -4,19 +4,18 @@
 #include <sys/statfs.h>
 #include <sys/sysmacros.h>
 
-enum { MEMORY_MAJOR = 1, TERMINAL_MAJOR = 5, MISC_MAJOR = 10 };
+/* Lists of devices, by a major with each minor that is meant, or with none if all are. The nodes of the machine that
+   each command has are null, zero, full, random, urandom and tty. */
+static const char always[] = " 1:3 1:5 1:7 1:8 1:9 5:0 ";
 
-/* The nodes of the machine that each command has besides tty: null, zero, full, random and urandom. */
-static const unsigned char memory_minors[] = {3, 5, 7, 8, 9};
-
-/* What --device may add: device numbers of terminals, video, sound, serial ports and so on, and of /dev/net/tun,
-   /dev/fuse, /dev/kvm, vhost-net and vhost-vsock. None of them leads to storage or types for the user. */
-static const unsigned char added_majors[] = {4, 5, 29, 81, 108, 116, 136, 166, 188, 195, 204, 226, 229};
-static const unsigned char added_minors[] = {200, 229, 232, 238, 241};
+/* What --device may add: terminals, video, sound, serial ports and so on, and /dev/net/tun, /dev/fuse, /dev/kvm,
+   vhost-net and vhost-vsock. None of them leads to storage or types for the user. */
+static const char added[] = " 4: 5: 29: 81: 108: 116: 136: 166: 188: 195: 204: 226: 229:"
+                            " 10:200 10:229 10:232 10:238 10:241 ";
 
 /* The terminals: consoles and serial ports (4), the slaves of older (3) and of today's pseudoterminals (136 to 143),
    and more serial ports and consoles of virtual machines. The console (5, 1) is one too, but not a master (5, 2). */
-static const unsigned char terminals[] = {3, 4, 136, 137, 138, 139, 140, 141, 142, 143, 166, 188, 204, 229};
+static const char terminals[] = " 3: 4: 5:1 136: 137: 138: 139: 140: 141: 142: 143: 166: 188: 204: 229: ";
 
 /* The file systems that hold files, and can be written as outside: names, and then the numbers of their kind, which
    autofs and nsfs lack, because they have no files of the machine. All others, such as a second sysfs, are read-only.
@@ -32,18 +31,11 @@ static const char file_systems[] =
 
 int holds_files(const char *kind) { return strstr(file_systems, kind) || strncmp(kind, " fuse.", 6) == 0; }
 
-static int is_machine_node(dev_t number) {
-    return number == makedev(TERMINAL_MAJOR, 0) ||
-           (major(number) == MEMORY_MAJOR && minor(number) <= UINT8_MAX &&
-            memchr(memory_minors, (int)minor(number), sizeof memory_minors));
-}
-
-/* Whether a device may be added. */
-static int is_addable(dev_t number) {
-    int is_misc = major(number) == MISC_MAJOR;
-    unsigned sought = is_misc ? minor(number) : major(number);
-    size_t count = is_misc ? sizeof added_minors : sizeof added_majors;
-    return sought <= UINT8_MAX && memchr(is_misc ? added_minors : added_majors, (int)sought, count);
+static int is_in(const char *list, dev_t device) {
+    char of_all[16], of_one[32];
+    snprintf(of_all, sizeof of_all, " %u: ", major(device));
+    snprintf(of_one, sizeof of_one, " %u:%u ", major(device), minor(device));
+    return strstr(list, of_all) || strstr(list, of_one);
 }
 
 char *find_device(const char *path) {
@@ -51,20 +43,15 @@ char *find_device(const char *path) {
     struct stat about;
     if (!whole || stat(whole, &about) < 0)
         fail_by_errno(path);
-    if (strncmp(whole, "/dev/", 5) != 0 || !S_ISCHR(about.st_mode) || !is_addable(about.st_rdev))
+    if (strncmp(whole, "/dev/", 5) != 0 || !S_ISCHR(about.st_mode) || !is_in(added, about.st_rdev))
         fail("--device %s: this isn't a character device that is known to lead to no storage", path);
     return whole;
-}
-
-static int is_terminal(dev_t number) {
-    return number == makedev(TERMINAL_MAJOR, 1) ||
-           (major(number) <= UINT8_MAX && memchr(terminals, (int)major(number), sizeof terminals));
 }
 
 void check_node(const char *path) {
     struct stat about;
     int is_device = stat(path, &about) == 0 && S_ISCHR(about.st_mode);
-    if (!is_device || !(is_machine_node(about.st_rdev) || is_addable(about.st_rdev) || is_terminal(about.st_rdev)))
+    if (!is_device || !(is_in(always, about.st_rdev) || is_in(added, about.st_rdev) || is_in(terminals, about.st_rdev)))
         fail("%s isn't the device that it was before the sandbox was made", path);
 }
 
@@ -87,7 +74,7 @@ static const char *why_not(int file) {
         return strerror(errno);
     mode_t kind = about.st_mode & S_IFMT;
     if (kind == S_IFIFO || kind == S_IFSOCK || (kind == S_IFREG && is_in_files(file)) ||
-        (kind == S_IFCHR && (is_machine_node(about.st_rdev) || (is_terminal(about.st_rdev) && isatty(file)))))
+        (kind == S_IFCHR && (is_in(always, about.st_rdev) || (is_in(terminals, about.st_rdev) && isatty(file)))))
         return NULL;
     if (kind == S_IFCHR || kind == S_IFBLK)
         return "is a device of this machine";
