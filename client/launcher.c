@@ -16,8 +16,7 @@
 
 struct device *devices;
 unsigned device_count;
-int has_sandbox, waits;
-uint64_t geometry[NUMBERS] = {[DEPTH] = 32, [PAGE_SIZE] = 4096, [WINDOW] = 1};
+int has_sandbox;
 
 /* The descriptors that the launcher outside hands on: of the current folder, until it was found inside; of the words
    that it was started with, until they were read; of the process outside, which passes signals on; of where it reads

@@ -31,8 +31,8 @@ struct device {
 extern struct device *devices; /* (in shared memory, as all that helpers read) */
 extern unsigned device_count;
 extern int has_sandbox;     /* whether /dev and /sys are the command's own */
-extern int waits;           /* whether nodes wait for a scan or a reset, because of --no-notice */
-extern uint64_t geometry[NUMBERS];
+extern unsigned waits;      /* whether nodes wait for a scan or a reset, because of --no-notice */
+extern unsigned geometry[NUMBERS];
 extern sigset_t blocked;    /* the signals that were blocked at the start, and are for the command and the devices */
 extern char library[], program[]; /* the paths of the library and of the device's program */
 
@@ -55,8 +55,8 @@ enum { MOST_ADDED = 64 };
 struct options {
     const char *subsystems[MOST_DEVICES], *added[MOST_ADDED], *trace_file;
     char *device_words[NUMBERS + 4]; /* a device's program and options */
-    unsigned subsystem_count, added_count, device_word_count;
-    int has_trace, may_lack_sandbox, is_root;
+    unsigned subsystem_count, added_count, device_word_count, may_lack_sandbox, is_root;
+    int has_trace;
     unsigned long long limit; /* of the memory for data */
 };
 extern struct options options;
