@@ -28,8 +28,7 @@ static void drop_rights(uint32_t others) {
             prctl(PR_CAPBSET_DROP, right);
     for (unsigned at = 0; at < 2; at++)
         rights[at].effective = rights[at].inheritable = rights[at].permitted;
-    if (syscall(SYS_capset, &version, rights) < 0)
-        fail_by_errno("rights can't be dropped");
+    must((int)syscall(SYS_capset, &version, rights), "rights can't be dropped");
 }
 
 /* Is process 1 while the command runs. (It is in a session of its own, because the terminal's keys would end it if
@@ -79,9 +78,7 @@ __attribute__((noreturn)) static void begin(char **arguments) {
         show_own_processes();
         drop_rights(1U << CAP_SYS_PTRACE);
     }
-    pid_t command = fork();
-    if (command < 0)
-        fail_by_errno("fork");
+    pid_t command = must(fork(), "fork");
     if (command > 0)
         be_first(command);
     if (close_range(STDERR_FILENO + 1, ~0U, 0) < 0 || ioctl(-1, SETTLE_REQUEST) < 0)
@@ -95,9 +92,8 @@ __attribute__((noreturn)) static void begin(char **arguments) {
 static void *start_first(void *arguments) {
     const unsigned long namespaces = has_sandbox ? CLONE_NEWPID | CLONE_NEWNS : 0;
     filter_calls();
-    first = (pid_t)syscall(SYS_clone, namespaces | SIGCHLD, NULL, NULL, NULL, 0L);
-    if (first < 0)
-        fail_by_errno("the command can't have a namespace of processes");
+    first = must((pid_t)syscall(SYS_clone, namespaces | SIGCHLD, NULL, NULL, NULL, 0L),
+                 "the command can't have a namespace of processes");
     if (first == 0)
         begin(arguments);
     return NULL;

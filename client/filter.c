@@ -166,8 +166,7 @@ void confine_launcher(void) {
     decide_by(SYS_ioctl, 1, BPF_JEQ, launcher_requests, COUNT(launcher_requests), SECCOMP_RET_ALLOW);
     decide_by(SYS_prctl, 0, BPF_JEQ, launcher_options, COUNT(launcher_options), SECCOMP_RET_ALLOW);
     decide_by(SYS_clone, 0, BPF_JSET, &namespaces, 1, MISSING);
-    if (end_list() < 0)
-        fail_by_errno("the launcher's calls can't be limited");
+    must(end_list(), "the launcher's calls can't be limited");
 }
 
 /* (A device opens files to read them, when it starts, and changes limits of its own alone. It becomes its program under

@@ -89,9 +89,7 @@ static void begin_process(void) {
 
 static void start_keeper(struct device *device) {
     int watcher = watch_nodes();
-    pid_t process = fork();
-    if (process < 0)
-        fail_by_errno("fork");
+    pid_t process = must(fork(), "fork");
     if (process > 0) {
         device->keeper = process;
         close(watcher);
@@ -237,10 +235,7 @@ void begin_helpers(void) {
     while (load(&shared->count) < FIRST_HELPERS)
         if (!add_helper(FIRST_HELPERS))
             fail_by_errno("fork");
-    pid_t greeter = has_sandbox ? fork() : launcher;
-    if (greeter < 0)
-        fail_by_errno("fork");
-    if (greeter == 0) {
+    if (has_sandbox && must(fork(), "fork") == 0) {
         begin_process();
         greet_udevadm();
     }

@@ -59,6 +59,12 @@ void fail(const char *format, ...) {
 
 void fail_by_errno(const char *what) { fail("%s: %s", what, strerror(errno)); }
 
+int must(int result, const char *what) {
+    if (result < 0)
+        fail_by_errno(what);
+    return result;
+}
+
 void cannot(const char *path) {
     if (command == 0)
         fail_by_errno(path);
@@ -140,8 +146,7 @@ static void check_limit(__rlimit_resource_t which, rlim_t least, const char *nam
 }
 
 void keep_as(int number, int file, const char *name) {
-    if (file < 0 || dup2(file, number) < 0)
-        fail_by_errno(name);
+    must(dup2(must(file, name), number), name);
     if (file != number)
         close(file);
 }
@@ -170,9 +175,7 @@ static void open_files(void) {
 static int run(char **arguments) {
     struct rlimit files;
     block_signals(); /* (bwrap lets some through) */
-    const int ends = signalfd(-1, &watched, SFD_CLOEXEC | SFD_NONBLOCK);
-    if (ends < 0)
-        fail_by_errno("signalfd");
+    const int ends = must(signalfd(-1, &watched, SFD_CLOEXEC | SFD_NONBLOCK), "signalfd");
     trace = options.trace_file ? TRACE_TO : STDERR_FILENO;
     if (has_sandbox)
         list_devices();
@@ -182,8 +185,7 @@ static int run(char **arguments) {
     status_of_failure = FAILED;
     reason = STDERR_FILENO;
     close(REASON);
-    if (write(OUTSIDE, "", 1) != 1)
-        fail_by_errno("the process outside");
+    must((int)write(OUTSIDE, "", 1), "the process outside");
     umask(0);
     devices = share(MOST_DEVICES * sizeof *devices);
     /* (each namespace has its data in an open file) */
@@ -249,8 +251,8 @@ static void begin_inside(void) {
     if (chdir(here) < 0 || stat(".", &about) < 0 ||
         (!is_replaced(here) && (about.st_dev != outside.st_dev || about.st_ino != outside.st_ino)))
         fail("the folder %s isn't there for the command: run it from another one", here);
-    if (close_range(STDERR_FILENO + 1, WORDS, 0) < 0 || close_range(FILES + options.subsystem_count, ~0U, 0) < 0)
-        fail_by_errno("close_range");
+    must(close_range(STDERR_FILENO + 1, WORDS, 0), "close_range");
+    must(close_range(FILES + options.subsystem_count, ~0U, 0), "close_range");
     if (!options.trace_file)
         close(TRACE_TO);
 }
@@ -277,12 +279,11 @@ static int await_launcher(pid_t launcher, int channel) {
    line that tells why, or else NULL. */
 static const char *run_launcher(int is_inside, char **arguments) {
     int ends[2], reasons[2];
-    if (socketpair(AF_UNIX, SOCK_SEQPACKET | SOCK_CLOEXEC, 0, ends) < 0 || pipe2(reasons, O_CLOEXEC | O_NONBLOCK) < 0 ||
-        (is_inside && (write(ends[0], &blocked, sizeof blocked) < 0 || write(ends[0], here, sizeof here) < 0)))
-        fail_by_errno("pipe");
-    pid_t process = fork();
-    if (process < 0)
-        fail_by_errno("fork");
+    must(socketpair(AF_UNIX, SOCK_SEQPACKET | SOCK_CLOEXEC, 0, ends), "socketpair");
+    must(pipe2(reasons, O_CLOEXEC | O_NONBLOCK), "pipe");
+    if (is_inside && (write(ends[0], &blocked, sizeof blocked) < 0 || write(ends[0], here, sizeof here) < 0))
+        fail_by_errno("socket");
+    pid_t process = must(fork(), "fork");
     if (process == 0) {
         close(ends[0]);
         keep_as(OUTSIDE, ends[1], "socket");
@@ -310,10 +311,8 @@ static const char *why_no_sandbox(const char *line) {
    device. */
 static int begin_outside(char **arguments) {
     const char *node = a_real_node();
-    if (access(library, R_OK) < 0)
-        fail_by_errno(library);
-    if (access(program, X_OK) < 0)
-        fail_by_errno(program);
+    must(access(library, R_OK), library);
+    must(access(program, X_OK), program);
     for (unsigned at = 0; at < options.added_count; at++)
         find_device(options.added[at]);
     if (!getcwd(here, sizeof here))
@@ -359,11 +358,9 @@ int main(int count, char **arguments) {
             exit(fputs(qemu_usage, stdout) >= 0 && fflush(stdout) == 0 ? 0 : FAILED);
         if (is_qemu) {
             find_parts("qemu");
-            execv(program, arguments);
-            fail_by_errno(program);
+            must(execv(program, arguments), program);
         }
-        if (close_range(STDERR_FILENO + 1, ~0U, CLOSE_RANGE_CLOEXEC) < 0)
-            fail_by_errno("close_range");
+        must(close_range(STDERR_FILENO + 1, ~0U, CLOSE_RANGE_CLOEXEC), "close_range");
     }
     arguments[0] = "nvme-model";
     options.limit = (uint64_t)sysconf(_SC_PHYS_PAGES) * (uint64_t)sysconf(_SC_PAGESIZE) / 4;

@@ -169,8 +169,7 @@ static int look_at(const char *path, struct statx *about) {
 static void find_dev(struct mount *dev) {
     struct statx about;
     FILE *mounts = open_mounts();
-    if (look_at("/dev", &about) < 0)
-        fail_by_errno("/dev");
+    must(look_at("/dev", &about), "/dev");
     while (read_mount(mounts, dev) && dev->identifier != about.stx_mnt_id)
         continue;
     if (!dev->path[1])
@@ -243,14 +242,12 @@ static void add_sys(void) {
 }
 
 /* Adds a copy of a program, of the library or of what stands for sudo, with permissions for every user. */
-static void add_part(int file, const char *from, const char *to) {
-    if (file < 0)
-        fail_by_errno(from);
+static void add_part(int file, const char *to) {
     add_words("--perms 0555 --ro-bind-data %d", file);
     add(to);
 }
 
-static void add_file(const char *from, const char *to) { add_part(open(from, O_RDONLY), from, to); }
+static void add_file(const char *from, const char *to) { add_part(must(open(from, O_RDONLY), from), to); }
 
 /* What stands for sudo. */
 extern const char stand_in[], stand_in_end[];
@@ -258,10 +255,10 @@ __asm__(".section .rodata\nstand_in: .incbin \"sudo.sh\"\nstand_in_end:\n.previo
 
 static void add_stand_in(const char *to) {
     const size_t size = (size_t)(stand_in_end - stand_in);
-    int file = memfd_create("sudo", 0);
-    if (file < 0 || write(file, stand_in, size) != (ssize_t)size || lseek(file, 0, SEEK_SET) < 0)
+    int file = must(memfd_create("sudo", 0), "sudo");
+    if (pwrite(file, stand_in, size, 0) != (ssize_t)size)
         fail_by_errno("sudo");
-    add_part(file, "sudo", to);
+    add_part(file, to);
 }
 
 /* Makes a user root in a namespace of its own, in which nobody else has a number, with a stand-in for sudo, whose files
@@ -292,9 +289,8 @@ static void compose(void) {
 
 /* Writes what the user namespace needs: "deny", or that a user or group, and no other, is the same one there. */
 static void write_map(const char *path, const char *format, unsigned number) {
-    int file = open(path, O_WRONLY | O_CLOEXEC);
-    if (file < 0 || dprintf(file, format, number, number) < 0)
-        fail_by_errno(path);
+    int file = must(open(path, O_WRONLY | O_CLOEXEC), path);
+    must(dprintf(file, format, number, number), path);
 }
 
 /* Becomes bwrap, which starts the launcher with its word, in a place where the machine's later mounts aren't
@@ -302,14 +298,12 @@ static void write_map(const char *path, const char *format, unsigned number) {
 void enter_sandbox(void) {
     unsigned user = geteuid(), group = getegid();
     if (unshare(CLONE_NEWNS) < 0) {
-        if (unshare(CLONE_NEWUSER | CLONE_NEWNS) < 0)
-            fail_by_errno("no namespace can be made");
+        must(unshare(CLONE_NEWUSER | CLONE_NEWNS), "no namespace can be made");
         write_map("/proc/self/setgroups", "deny", 0);
         write_map("/proc/self/uid_map", "%u %u 1", user);
         write_map("/proc/self/gid_map", "%u %u 1", group);
     }
-    if (mount(NULL, "/", NULL, MS_REC | MS_PRIVATE, NULL) < 0)
-        fail_by_errno("mounts can't be private");
+    must(mount(NULL, "/", NULL, MS_REC | MS_PRIVATE, NULL), "mounts can't be private");
     compose();
     exchange_errors();
     execvp(words[0], words);
@@ -369,8 +363,8 @@ static void mount_proc(const char *path) {
     while ((entry = readdir(entries))) {
         snprintf(from, sizeof from, SETTINGS "/%s", entry->d_name);
         snprintf(to, sizeof to, "%s/%s", path, entry->d_name);
-        if (entry->d_name[0] != '.' && mount(from, to, NULL, MS_BIND | MS_REC, NULL) < 0)
-            fail_by_errno(to);
+        if (entry->d_name[0] != '.')
+            must(mount(from, to, NULL, MS_BIND | MS_REC, NULL), to);
     }
     closedir(entries);
 }
@@ -379,8 +373,7 @@ static void mount_proc(const char *path) {
 void show_own_processes(void) {
     static struct mount found;
     FILE *mounts = open_mounts();
-    if (mount(NULL, "/sys", NULL, MS_REMOUNT | MS_BIND | MS_RDONLY | MS_NOSUID | MS_NODEV, NULL) < 0)
-        fail_by_errno("/sys");
+    must(mount(NULL, "/sys", NULL, MS_REMOUNT | MS_BIND | MS_RDONLY | MS_NOSUID | MS_NODEV, NULL), "/sys");
     while (read_mount(mounts, &found))
         if (strcmp(found.kind, " proc ") == 0 && strcmp(found.root, "/") == 0 && reach_of(&found) == REACHED)
             mount_proc(found.path);

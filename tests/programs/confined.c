@@ -16,6 +16,7 @@ const struct decided_call decided_calls[1], old_decided_calls[1];
 
 void fail(const char *format, ...) { _exit(printf("%s\n", format) > 0); }
 void fail_by_errno(const char *what) { fail("%s", what); }
+int must(int result, const char *what) { return result < 0 ? (fail("%s", what), 0) : result; }
 
 /* (each has an argument that it would refuse itself) */
 static const struct {
