@@ -11,24 +11,14 @@
 #include <sys/resource.h>
 #include <sys/signalfd.h>
 #include <sys/socket.h>
-#include <sys/uio.h>
 #include <sys/wait.h>
 
 struct device *devices;
 unsigned device_count;
 int has_sandbox;
 
-/* The descriptors that the launcher outside hands on: of the current folder, until it was found inside; of the words
-   that it was started with, until they were read; of the process outside, which passes signals on; of where it reads
-   why the command can't be started, until it is; of the trace; and of the subsystem files, until the devices have them.
-   Inside, it has these and the streams alone, and adds sockets and a pipe of each device (device.c), folders of its
-   own /sys (sysfs.c), the data of namespaces and what tells of changes in /dev (nodes.c), and what the ends of
-   processes and calls come from. */
-enum { HERE = 200, WORDS, OUTSIDE, REASON, TRACE_TO, FILES };
-
 static pid_t command;
 static int status;                     /* of the command, or of the launcher inside, once it has ended */
-static int reason = STDERR_FILENO;     /* where it is written why this process fails */
 static int status_of_failure = FAILED; /* its status then */
 static sigset_t watched;               /* the signals that are passed on, and that of an ended process */
 static char here[PATH_MAX];            /* the current folder */
@@ -41,16 +31,14 @@ static void lose_devices(void) {
         device->state = LOST;
 }
 
-/* (a short `write` of process 1 would be handed over, before anybody is there to answer it) */
 void fail(const char *format, ...) {
-    char text[2 * PATH_MAX], line[2 * PATH_MAX + 20];
+    char text[2 * PATH_MAX];
     va_list values;
     va_start(values, format);
     vsnprintf(text, sizeof text, format, values);
     va_end(values);
-    struct iovec whole = {line, (size_t)sprintf(line, "nvme-model: %s\n", text)};
-    if (takes_line(reason))
-        (void)!writev(reason, &whole, 1);
+    if (takes_line(STDERR_FILENO))
+        fprintf(stderr, "nvme-model: %s\n", text);
     if (command > 0)
         kill(command, SIGTERM);
     lose_devices();
@@ -183,8 +171,7 @@ static int run(char **arguments) {
     status_of_failure = NO_SANDBOX;
     pid_t started = start_command(arguments, ends);
     status_of_failure = FAILED;
-    reason = STDERR_FILENO;
-    close(REASON);
+    restore_errors();
     must((int)write(OUTSIDE, "", 1), "the process outside");
     umask(0);
     devices = share(MOST_DEVICES * sizeof *devices);
@@ -229,11 +216,9 @@ static char **take_words(int *count) {
     return words;
 }
 
-/* Exchanges standard error and where the reason of a failure is written, which bwrap takes for standard error. */
-void exchange_errors(void) {
-    int kept = dup(STDERR_FILENO);
-    keep_as(STDERR_FILENO, dup(REASON), "standard error");
-    keep_as(REASON, kept, "standard error");
+void restore_errors(void) {
+    keep_as(STDERR_FILENO, ERRORS, "standard error");
+    hold_streams();
 }
 
 /* Takes what the process outside handed on. This process is the first one of its kind, so all others end with it. */
@@ -244,7 +229,6 @@ static void begin_inside(void) {
     has_sandbox = 1;
     strcpy(library, MODEL_FOLDER "/library.so");
     strcpy(program, MODEL_FOLDER "/device");
-    hold_streams();
     check_mounts();
     /* (the folder is another one if a mount covers it, and /dev, /sys and /proc always are) */
     fstat(HERE, &outside);
@@ -287,7 +271,8 @@ static const char *run_launcher(int is_inside, char **arguments) {
     if (process == 0) {
         close(ends[0]);
         keep_as(OUTSIDE, ends[1], "socket");
-        keep_as(reason = REASON, reasons[1], "pipe");
+        keep_as(ERRORS, dup(STDERR_FILENO), "standard error");
+        keep_as(STDERR_FILENO, reasons[1], "pipe");
         if (!is_inside)
             exit(run(arguments));
         status_of_failure = NO_SANDBOX;
@@ -345,11 +330,9 @@ static int begin_outside(char **arguments) {
 
 int main(int count, char **arguments) {
     int is_inside = getpid() == 1 && count == 2 && strcmp(arguments[1], INSIDE) == 0;
-    if (is_inside) {
-        exchange_errors();
-        reason = REASON;
+    if (is_inside)
         arguments = take_words(&count);
-    } else {
+    else {
         int is_qemu = count > 1 && (strcmp(arguments[1], "--qemu") == 0 || strcmp(arguments[1], "--vfio-user") == 0);
         if (!is_qemu)
             check_streams();

@@ -39,8 +39,8 @@ extern char library[], program[]; /* the paths of the library and of the device'
 /* launcher.c: `fail` reports why the launcher can't continue, and ends everything that was started; `fail_by_errno`
    adds why the last call failed; `must` does so if a call's result is negative, and returns it; `cannot` reports by errno that a path can't be made, which ends the launcher only
    before the command runs; `keep_as` gives an open file another number; `last_line` reads all that a program writes to
-   a pipe, closes it, and returns the last line, without the program's name at its beginning; and `exchange_errors` has
-   bwrap tell there why it fails. */
+   a pipe, closes it, and returns the last line, without the program's name at its beginning; and `restore_errors` has
+   standard error be the caller's again. */
 enum { NO_SANDBOX = 71, FAILED = 72, NOT_EXECUTABLE = 126, NOT_FOUND = 127 };
 __attribute__((noreturn, format(printf, 1, 2))) void fail(const char *format, ...);
 __attribute__((noreturn)) void fail_by_errno(const char *what);
@@ -48,7 +48,15 @@ int must(int result, const char *what);
 void cannot(const char *path);
 void keep_as(int number, int file, const char *name);
 const char *last_line(int file, const char *program);
-void exchange_errors(void);
+void restore_errors(void);
+
+/* The descriptors that the launcher outside hands on: of the current folder, until it was found inside; of the words
+   that it was started with, until they were read; of the process outside, which passes signals on; of standard error,
+   in whose place that process reads why the command can't be started, until it is; of the trace; and of the subsystem
+   files, until the devices have them. Inside, it has these and the streams alone, and adds sockets and a pipe of each
+   device (device.c), folders of its own /sys (sysfs.c), the data of namespaces and what tells of changes in /dev
+   (nodes.c), and what the ends of processes and calls come from. */
+enum { HERE = 200, WORDS, OUTSIDE, ERRORS, TRACE_TO, FILES };
 
 /* options.c: what the options choose, and reads them; returns where the command's words begin; and reports that a
    number isn't one that an option of the layout takes. */

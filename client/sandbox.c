@@ -213,11 +213,9 @@ static void add_dev(void) {
               options.limit);
     for (unsigned at = 0; at < sizeof nodes / sizeof *nodes; at++)
         bind_to("--dev-bind-try", nodes[at], nodes[at]);
-    for (int file = 0; file <= STDERR_FILENO; file++)
-        if (isatty(file) && ttyname(file)) {
-            bind_to("--dev-bind-try", ttyname(file), "/dev/console");
-            break;
-        }
+    const char *terminal = ttyname(STDIN_FILENO) ?: ttyname(STDOUT_FILENO) ?: ttyname(ERRORS);
+    if (terminal)
+        bind_to("--dev-bind-try", terminal, "/dev/console");
     for (unsigned at = 0; at < options.added_count; at++)
         add_below("--dev-bind", find_device(options.added[at]));
 }
@@ -305,9 +303,7 @@ void enter_sandbox(void) {
     }
     must(mount(NULL, "/", NULL, MS_REC | MS_PRIVATE, NULL), "mounts can't be private");
     compose();
-    exchange_errors();
     execvp(words[0], words);
-    exchange_errors();
     if (errno == ENOENT)
         _exit(NOT_FOUND);
     fail_by_errno(words[0]);
