@@ -2,7 +2,6 @@
    makes the sandbox, and becomes it. bwrap starts the launcher again inside, with the rights of the command and no
    others. None of this is proved. */
 #include "launcher.h"
-#include <dirent.h>
 #include <glob.h>
 #include <sched.h>
 #include <stdarg.h>
@@ -22,13 +21,18 @@ static const char rights[] = "--cap-drop ALL --cap-add CAP_CHOWN --cap-add CAP_D
    process of the sandbox. (Where the kernel has Yama, no other process but its parent could.) */
 static const char own_rights[] = "--cap-add CAP_SYS_ADMIN --cap-add CAP_SETPCAP --cap-add CAP_SYS_PTRACE";
 
-const char *a_real_node(void) {
-    static glob_t found;
-    int result = glob("/{dev/{nvme*,ng[0-9]*},sys/class/{nvme,nvme-generic,nvme-subsystem}/*,sys/class/block/nvme*}",
-                      GLOB_BRACE, NULL, &found);
-    if (result == GLOB_NOSPACE)
+/* Returns the paths that a pattern fits, and NULL after the last one. */
+static char **find(const char *pattern) {
+    static char *none[1];
+    glob_t found;
+    int result = glob(pattern, GLOB_BRACE, NULL, &found);
+    if (result != 0 && result != GLOB_NOMATCH)
         fail("out of memory");
-    return result == 0 ? found.gl_pathv[0] : NULL;
+    return result == 0 ? found.gl_pathv : none;
+}
+
+const char *a_real_node(void) {
+    return *find("/{dev/{nvme*,ng[0-9]*},sys/class/{nvme,nvme-generic,nvme-subsystem}/*,sys/class/block/nvme*}");
 }
 
 /* ---- the arguments of bwrap, which this process becomes, so that nothing here needs to be closed or freed */
@@ -79,13 +83,30 @@ struct mount {
     char options[1024], kind[64];                /* the kind of file system, between blanks */
 };
 
-/* Reads the next mount, and replaces the octal numbers in its path. */
-static int read_mount(FILE *mounts, struct mount *mount) {
+/* (all mounts are read at once, so that the list doesn't grow while more are made) */
+static FILE *open_mounts(void) {
+    char *text = NULL;
+    size_t room = 0;
+    FILE *file = fopen("/proc/self/mountinfo", "re"), *mounts = NULL;
+    ssize_t length = file ? getdelim(&text, &room, '\0', file) : -1;
+    if (length <= 0 || fclose(file) != 0 || !(mounts = fmemopen(text, (size_t)length, "r")))
+        fail_by_errno("/proc/self/mountinfo");
+    return mounts;
+}
+
+/* Reads the next mount, and replaces the octal numbers in its path. After the last one, it returns 0, and goes on with
+   the first one. */
+static int read_mount(struct mount *mount) {
+    static FILE *mounts;
     static char *line;
     static size_t room;
     unsigned byte;
-    if (getline(&line, &room, mounts) <= 0)
+    mounts = mounts ?: open_mounts();
+    if (getline(&line, &room, mounts) <= 0) {
+        fclose(mounts);
+        mounts = NULL;
         return 0;
+    }
     const char *behind = strstr(line, " - ");
     if (!behind ||
         sscanf(line, "%llu %*d %u:%u %16383s %16383s %1023s", &mount->identifier, mount->number,
@@ -99,33 +120,18 @@ static int read_mount(FILE *mounts, struct mount *mount) {
     return 1;
 }
 
-/* (all mounts are read at once, so that the list doesn't grow while more are made) */
-static FILE *open_mounts(void) {
-    char *text = NULL;
-    size_t room = 0;
-    FILE *file = fopen("/proc/self/mountinfo", "re"), *mounts = NULL;
-    ssize_t length = file ? getdelim(&text, &room, '\0', file) : -1;
-    if (length <= 0 || fclose(file) != 0 || !(mounts = fmemopen(text, (size_t)length, "r")))
-        fail_by_errno("/proc/self/mountinfo");
-    return mounts;
-}
-
 /* Adds what can be written in /proc besides processes, as far as the caller sees it, and read-only. The command's /proc
    gets it from there. (The kernel lets a user mount another /proc only if nothing covers a part of the first one.) */
 static void add_settings(void) {
-    DIR *entries = opendir("/proc");
-    struct dirent *entry;
+    char **from = find("/proc/[!0-9]*"), to[PATH_MAX];
     struct stat about;
-    char from[PATH_MAX], to[PATH_MAX];
-    if (!entries)
-        fail_by_errno("/proc");
+    if (!*from)
+        fail("/proc can't be read");
     add_words("--perms 0755 --dir " SETTINGS);
-    while ((entry = readdir(entries))) {
-        snprintf(from, sizeof from, "/proc/%s", entry->d_name);
-        snprintf(to, sizeof to, SETTINGS "/%s", entry->d_name);
-        if (!strchr(".0123456789", entry->d_name[0]) && lstat(from, &about) == 0 && !S_ISLNK(about.st_mode) &&
-            (S_ISDIR(about.st_mode) || about.st_mode & 0222))
-            bind_to("--ro-bind-try", from, to);
+    for (; *from; from++) {
+        snprintf(to, sizeof to, SETTINGS "%s", *from + strlen("/proc"));
+        if (lstat(*from, &about) == 0 && !S_ISLNK(about.st_mode) && (S_ISDIR(about.st_mode) || about.st_mode & 0222))
+            bind_to("--ro-bind-try", *from, to);
     }
 }
 
@@ -141,19 +147,16 @@ int is_replaced(const char *path) { return is_in("/dev", path) || is_in("/proc",
    the machine lacks one, no folder is made in its /run, of which the command has a copy then. */
 static void add_run(void) {
     static const char *const own[] = {"/run/udev", "/run/blkid"};
-    struct dirent *entry;
-    DIR *entries = access(own[0], F_OK) < 0 || access(own[1], F_OK) < 0 ? opendir("/run") : NULL;
-    char path[PATH_MAX], target[PATH_MAX];
-    if (entries)
+    int is_copied = access("/run", F_OK) == 0 && (access(own[0], F_OK) < 0 || access(own[1], F_OK) < 0);
+    char target[PATH_MAX];
+    if (is_copied)
         add_words("--perms 0755 --tmpfs /run");
-    while (entries && (entry = readdir(entries))) {
-        snprintf(path, sizeof path, "/run/%s", entry->d_name);
-        ssize_t length = readlink(path, target, sizeof target - 1);
-        target[length < 0 ? 0 : length] = '\0';
-        if (length > 0)
-            bind_to("--symlink", target, path);
-        else if (strcmp(entry->d_name, ".") != 0 && strcmp(entry->d_name, "..") != 0)
-            bind_to("--bind-try", path, path);
+    for (char **path = find("/run/{*,.[!.]*,..?*}"); is_copied && *path; path++) {
+        read_link(*path, target);
+        if (*target)
+            bind_to("--symlink", target, *path);
+        else
+            bind_to("--bind-try", *path, *path);
     }
     for (unsigned at = 0; at < sizeof own / sizeof *own; at++)
         add_words("--perms 0755 --tmpfs %s", own[at]);
@@ -167,14 +170,14 @@ static int look_at(const char *path, struct statx *about) {
 
 /* Finds the mount that the machine's /dev is in, and its place in that file system. */
 static void find_dev(struct mount *dev) {
+    static struct mount mount;
     struct statx about;
-    FILE *mounts = open_mounts();
     must(look_at("/dev", &about), "/dev");
-    while (read_mount(mounts, dev) && dev->identifier != about.stx_mnt_id)
-        continue;
+    while (read_mount(&mount))
+        if (mount.identifier == about.stx_mnt_id)
+            *dev = mount;
     if (!dev->path[1])
         strcat(dev->root, dev->root[1] ? "/dev" : "dev");
-    fclose(mounts);
 }
 
 /* Adds the machine's mounts, which bwrap makes nodev. One that isn't a file system of files, and another view of /dev,
@@ -184,10 +187,9 @@ static void add_mounts(void) {
     static struct mount mount, dev;
     struct statx about;
     find_dev(&dev);
-    FILE *mounts = open_mounts();
     bind_to("--bind", "/", "/");
     add_run();
-    while (read_mount(mounts, &mount)) {
+    while (read_mount(&mount)) {
         int is_view = memcmp(mount.number, dev.number, sizeof dev.number) == 0 &&
                       (is_in(mount.root, dev.root) || is_in(dev.root, mount.root));
         if (strcmp(mount.path, "/") == 0 || is_replaced(mount.path) || (holds_files(mount.kind) && !is_view) ||
@@ -224,14 +226,12 @@ static void add_dev(void) {
    model with few namespaces needs less than the least size.) */
 static void add_sys(void) {
     const unsigned long long least = 64 << 20;
-    glob_t interfaces = {0};
     add_words("--size %llu --perms 0755 --tmpfs /sys --perms 0755 --dir /sys/fs --perms 0755 --dir " MODEL_FOLDER,
               options.limit > least ? options.limit : least);
     for (unsigned at = 0; at < sizeof shown / sizeof *shown; at++)
         add_below("--ro-bind-try", shown[at]);
-    glob("/sys/class/net/*", 0, NULL, &interfaces);
-    for (size_t at = 0; at < interfaces.gl_pathc; at++) {
-        char *path = realpath(interfaces.gl_pathv[at], NULL);
+    for (char **interface = find("/sys/class/net/*"); *interface; interface++) {
+        char *path = realpath(*interface, NULL);
         if (path && is_in("/sys/devices", path) && !is_in("/sys/devices/virtual", path))
             add_below("--ro-bind-try", path);
     }
@@ -336,8 +336,7 @@ static int is_made(const char *path) {
    file since it was looked at) */
 void check_mounts(void) {
     static struct mount mount;
-    FILE *mounts = open_mounts();
-    while (read_mount(mounts, &mount)) {
+    while (read_mount(&mount)) {
         if (is_in("/dev", mount.path) && !is_made(mount.path) && reach_of(&mount) == REACHED)
             check_node(mount.path);
         enum reach reach = is_replaced(mount.path) ? HIDDEN : reach_of(&mount);
@@ -345,33 +344,26 @@ void check_mounts(void) {
         if (reach != HIDDEN && (is_left || !strstr(mount.options, ",nodev")))
             fail("%s is a mount of this machine that can't be kept from the command", mount.path);
     }
-    fclose(mounts);
 }
 
 /* ---- what the command sees of processes */
 
 static void mount_proc(const char *path) {
-    char from[PATH_MAX], to[5 * PATH_MAX];
-    struct dirent *entry;
-    DIR *entries = opendir(SETTINGS);
-    if (!entries || mount("proc", path, "proc", MS_NOSUID | MS_NODEV | MS_NOEXEC, NULL) < 0)
-        fail_by_errno(path);
-    while ((entry = readdir(entries))) {
-        snprintf(from, sizeof from, SETTINGS "/%s", entry->d_name);
-        snprintf(to, sizeof to, "%s/%s", path, entry->d_name);
-        if (entry->d_name[0] != '.')
-            must(mount(from, to, NULL, MS_BIND | MS_REC, NULL), to);
+    char **from = find(SETTINGS "/*"), to[5 * PATH_MAX];
+    if (!*from)
+        fail(SETTINGS " can't be read");
+    must(mount("proc", path, "proc", MS_NOSUID | MS_NODEV | MS_NOEXEC, NULL), path);
+    for (; *from; from++) {
+        snprintf(to, sizeof to, "%s%s", path, *from + strlen(SETTINGS));
+        must(mount(*from, to, NULL, MS_BIND | MS_REC, NULL), to);
     }
-    closedir(entries);
 }
 
 /* (parts of /proc are mounts as well; and the launcher goes on to write to /sys, where this namespace isn't) */
 void show_own_processes(void) {
     static struct mount found;
-    FILE *mounts = open_mounts();
     must(mount(NULL, "/sys", NULL, MS_REMOUNT | MS_BIND | MS_RDONLY | MS_NOSUID | MS_NODEV, NULL), "/sys");
-    while (read_mount(mounts, &found))
+    while (read_mount(&found))
         if (strcmp(found.kind, " proc ") == 0 && strcmp(found.root, "/") == 0 && reach_of(&found) == REACHED)
             mount_proc(found.path);
-    fclose(mounts);
 }
