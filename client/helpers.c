@@ -16,26 +16,25 @@
 enum { FIRST_HELPERS = 2, USUAL_HELPERS = 8, MOST_HELPERS = 512 };
 
 struct helper {
-    pid_t process;                  /* 0 if there is none */
-    enum { WORKING, ASKING } state; /* whether it waits for a keeper, which wakes it by a change of this */
-    int result;                     /* of its last request: 0, or -1 if the device is gone */
+    pid_t process;         /* 0 if there is none */
+    _Atomic unsigned state; /* whether it waits for a keeper, which wakes it by a change of this */
+    int result;            /* of its last request: 0, or -1 if the device is gone */
     struct request_header request;
     struct answer_header answer;
     union notice notice; /* the call that it answers, whose identifier is 0 until it has one */
+    unsigned char data[MOST_DATA]; /* of its request */
 };
+enum { WORKING, ASKING };
 
 static pid_t launcher;
 static struct helper *helpers, *self; /* (`self` only in a helper) */
-static unsigned char *all_data;       /* room for the data of each helper's request */
 static unsigned most_helpers = MOST_HELPERS;
-static int needed;                    /* where the last helper without a call tells that it has one */
+static int needed; /* where the last helper without a call tells that it has one */
 
 /* What they share besides: the numbers of helpers, and of calls that were answered. */
 static struct {
-    unsigned count, answered;
+    _Atomic unsigned count, answered;
 } *shared;
-
-static unsigned load(const unsigned *number) { return __atomic_load_n(number, __ATOMIC_SEQ_CST); }
 
 unsigned await_files(const int *files, unsigned count, int milliseconds) {
     struct pollfd waits[3];
@@ -59,19 +58,17 @@ void *share(size_t size) {
     return shared;
 }
 
-static struct helper *end(void) { return helpers + load(&shared->count); }
-static unsigned state_of(const struct helper *helper) { return __atomic_load_n(&helper->state, __ATOMIC_SEQ_CST); }
-static void *data_of(const struct helper *helper) { return all_data + (helper - helpers) * (ptrdiff_t)MOST_DATA; }
+static struct helper *end(void) { return helpers + shared->count; }
 
 /* ---- keepers */
 
 /* Carries out the request of a helper. */
 static void serve(struct device *device, struct helper *helper) {
     struct request_header request = helper->request;
-    helper->result = serve_keeper(device, &request, data_of(helper));
+    helper->result = serve_keeper(device, &request, (char *)helper->data);
     if (helper->result == NOT_OURS)
-        helper->result = carry_out(&request, data_of(helper), &helper->answer);
-    __atomic_store_n(&helper->state, WORKING, __ATOMIC_SEQ_CST);
+        helper->result = carry_out(&request, helper->data, &helper->answer);
+    helper->state = WORKING;
     syscall(SYS_futex, &helper->state, FUTEX_WAKE, 1, NULL, NULL, 0);
 }
 
@@ -117,9 +114,9 @@ int ask_keeper(const struct request_header *header, struct answer_header *answer
     if (device->state == LOST)
         return -1;
     self->request = *header;
-    __atomic_store_n(&self->state, ASKING, __ATOMIC_SEQ_CST);
+    self->state = ASKING;
     (void)!write(device->asks[1], &place, sizeof place);
-    while (state_of(self) == ASKING)
+    while (self->state == ASKING)
         syscall(SYS_futex, &self->state, FUTEX_WAIT, ASKING, NULL, NULL, 0);
     *answer = self->answer;
     return self->result;
@@ -131,7 +128,7 @@ int ask_controller(unsigned controller, uint16_t kind, uint32_t length) {
     return result == -1 ? -ENXIO : result;
 }
 
-void *own_data(void) { return data_of(self); }
+void *own_data(void) { return self->data; }
 
 /* ---- helpers */
 
@@ -165,19 +162,19 @@ __attribute__((noreturn)) static void help(struct helper *helper) {
             _exit(0);
         }
         answer_call(&helper->notice);
-        __atomic_add_fetch(&shared->answered, 1, __ATOMIC_SEQ_CST);
+        shared->answered++;
     }
 }
 
 /* Starts a helper, in the place of one that has ended or beside the others, and returns whether it could. */
 static int add_helper(unsigned most) {
     struct helper *place = helpers;
-    while (place < end() && (place->process != 0 || state_of(place) == ASKING))
+    while (place < end() && (place->process != 0 || place->state == ASKING))
         place++;
     if (place >= helpers + most)
         return 0;
     if (place == end())
-        __atomic_add_fetch(&shared->count, 1, __ATOMIC_SEQ_CST);
+        shared->count++;
     pid_t process = fork();
     if (process == 0)
         help(place);
@@ -197,10 +194,10 @@ unsigned await_signals(int signals, int others) {
     enum { PATIENCE = 5 };
     int is_short = !is_any_idle() && !add_helper(USUAL_HELPERS);
     const int files[] = {signals, others, is_short ? calls : needed};
-    unsigned before = load(&shared->answered), ready = await_files(files, 3, -1);
+    unsigned before = shared->answered, ready = await_files(files, 3, -1);
     if (ready & 4 && !is_short)
         eventfd_read(needed, &(eventfd_t){0});
-    if (ready == 4 && is_short && await_files(files, 2, PATIENCE) == 0 && load(&shared->answered) == before) {
+    if (ready == 4 && is_short && await_files(files, 2, PATIENCE) == 0 && shared->answered == before) {
         drop_helpers();
         add_helper(most_helpers);
     }
@@ -223,16 +220,15 @@ void note_end(pid_t process) {
 
 void begin_helpers(void) {
     launcher = getpid();
-    helpers = share(MOST_HELPERS * sizeof *helpers);
-    while ((all_data = map((size_t)most_helpers * MOST_DATA)) == MAP_FAILED && most_helpers > USUAL_HELPERS)
+    while ((helpers = map(most_helpers * sizeof *helpers)) == MAP_FAILED && most_helpers > USUAL_HELPERS)
         most_helpers /= 2;
-    if (all_data == MAP_FAILED)
+    if (helpers == MAP_FAILED)
         fail_by_errno("memory can't be shared");
     shared = share(sizeof *shared);
     needed = eventfd(0, EFD_CLOEXEC | EFD_NONBLOCK);
     for (unsigned at = 0; at < device_count; at++)
         start_keeper(devices + at);
-    while (load(&shared->count) < FIRST_HELPERS)
+    while (shared->count < FIRST_HELPERS)
         if (!add_helper(FIRST_HELPERS))
             fail_by_errno("fork");
     if (has_sandbox && must(fork(), "fork") == 0) {
