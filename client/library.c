@@ -30,8 +30,11 @@ static_assert(sizeof(struct stat) == sizeof(struct stat64) && O_LARGEFILE == 0, 
         next;                                                                                                          \
     })
 
-/* The calls that replace those of the C library are visible from outside. SAME gives a call a second name. */
+/* The calls that replace those of the C library are visible from outside. SAME gives a call a second name, or its name
+   to one of these whose words are others than the C library declares. (The compiler would believe that a path is never
+   NULL, as is declared there, and that nothing calls what SAME alone names.) */
 #define PUBLIC __attribute__((visibility("default")))
+#define NAMED __attribute__((noipa, used)) static
 #define SAME(name, as) __asm__(".globl " #name "\n.type " #name ", @function\n.set " #name ", " #as)
 
 static char library[PATH_MAX]; /* this library's own path */
@@ -99,9 +102,10 @@ PUBLIC int access(const char *path, int mode) {
     return result;
 }
 
-/* ---- calls that open: the names of nodes without a sandbox stand for empty files with these names */
+/* ---- calls that open: the names of nodes without a sandbox stand for empty files with these names (a mode that isn't
+   given is any number, which the kernel doesn't look at) */
 
-static int open_place(int directory, const char *path, int flags, mode_t mode) {
+NAMED int open_below(int directory, const char *path, int flags, mode_t mode) {
     struct node node;
     int found = is_name(directory, path, &node);
     if (found == 0)
@@ -109,32 +113,16 @@ static int open_place(int directory, const char *path, int flags, mode_t mode) {
     return found < 0 ? -1 : memfd_create(node.name, flags & O_CLOEXEC ? MFD_CLOEXEC : 0);
 }
 
-/* Takes the mode after the flags, which is there only if a file may be created. */
-#define TAKE_MODE(mode, flags) \
-    mode_t mode = 0; \
-    if (flags & O_CREAT || (flags & O_TMPFILE) == O_TMPFILE) { \
-        va_list rest; \
-        va_start(rest, flags); \
-        mode = va_arg(rest, mode_t); \
-        va_end(rest); \
-    }
+NAMED int open_path(const char *path, int flags, mode_t mode) { return open_below(AT_FDCWD, path, flags, mode); }
 
-PUBLIC int open(const char *path, int flags, ...) {
-    TAKE_MODE(mode, flags)
-    return open_place(AT_FDCWD, path, flags, mode);
-}
-
-PUBLIC int openat(int directory, const char *path, int flags, ...) {
-    TAKE_MODE(mode, flags)
-    return open_place(directory, path, flags, mode);
-}
-
-SAME(open64, open);
-SAME(openat64, openat);
-SAME(__open_2, open);
-SAME(__openat_2, openat);
-SAME(__open64_2, open);
-SAME(__openat64_2, openat);
+SAME(open, open_path);
+SAME(open64, open_path);
+SAME(__open_2, open_path);
+SAME(__open64_2, open_path);
+SAME(openat, open_below);
+SAME(openat64, open_below);
+SAME(__openat_2, open_below);
+SAME(__openat64_2, open_below);
 
 /* ---- calls that describe a file */
 
@@ -155,9 +143,7 @@ PUBLIC int fstat(int file, struct stat *about) {
     return result < 0 ? result : describe(is_node(file, about, &node), &node, about);
 }
 
-/* (the compiler would believe that a path is never NULL, as the C library's declarations say, and that nothing calls
-   what SAME alone names) */
-__attribute__((noipa, used)) static int describe_place(int directory, const char *path, struct stat *about, int flags) {
+NAMED int describe_place(int directory, const char *path, struct stat *about, int flags) {
     struct node node;
     if (flags & AT_EMPTY_PATH && (!path || !*path) && directory != AT_FDCWD)
         return fstat(directory, about);
@@ -374,15 +360,11 @@ SAME(fallocate64, fallocate);
 
 /* The launcher answers the ioctls of nodes (calls.c). If a signal came before it took one, nothing was done. Linux
    wouldn't interrupt it, so it is made again. Others would be answered as those of a file, as those of any file are. */
-PUBLIC int ioctl(int file, unsigned long request, ...) {
+NAMED int answer(int file, unsigned long request, void *argument) {
     unsigned type = request >> 8 & 0xff;
     int is_answered = type == NVME_TYPE || type == BLOCK_TYPE || (uint32_t)request == GEOMETRY_REQUEST, result;
     int is_of_any = request == FIONBIO || request == FIOCLEX || request == FIONCLEX || request == FIOASYNC;
     struct stat about;
-    va_list rest;
-    va_start(rest, request);
-    void *argument = va_arg(rest, void *);
-    va_end(rest);
     if (!is_answered && !is_of_any && kind_of(file, &about) > 0)
         return fails_by(ENOTTY);
     while ((result = NEXT(ioctl)(file, request, argument)) < 0 && errno == EINTR && is_answered)
@@ -391,6 +373,7 @@ PUBLIC int ioctl(int file, unsigned long request, ...) {
         errno = EINTR;
     return result;
 }
+SAME(ioctl, answer);
 
 /* ---- calls that run programs: if the environment was replaced or emptied, the library is added to it again. All of it
    is on the stack, so a child that shares its parent's memory doesn't change that memory. */
