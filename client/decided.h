@@ -15,7 +15,7 @@
 #endif
     {IN_SANDBOX, __NR_splice, {ALWAYS, 0, 0}, ANSWER, answer_splice},
     {IN_SANDBOX, __NR_fallocate, {ALWAYS, 0, 0}, ANSWER, answer_fallocate},
-    {IN_SANDBOX, __NR_copy_file_range, {ALWAYS, 0, 0}, ANSWER, answer_copy},
+    {IN_SANDBOX, __NR_copy_file_range, {ALWAYS, 0, 0}, ANSWER, answer_splice},
     /* what writes few bytes, as to a file of /sys (but not messages), and what makes or removes names */
     {IN_SANDBOX, __NR_write, {EQUALS, 0, STDERR_FILENO}, SECCOMP_RET_ALLOW, NULL},
     {IN_SANDBOX, __NR_write, {EXCEEDS, 2, MOST_WRITTEN}, SECCOMP_RET_ALLOW, NULL},

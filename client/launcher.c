@@ -114,14 +114,12 @@ static void block_signals(void) {
 
 /* Finds the library and a program, which are in ../lib/nvme-model beside the launcher's folder. */
 static void find_parts(const char *name) {
-    char parts[PATH_MAX];
-    ssize_t length = readlink("/proc/self/exe", parts, sizeof parts - 64);
-    parts[length < 0 ? 0 : length] = '\0';
+    char folder[PATH_MAX];
+    read_link("/proc/self/exe", folder);
     for (int level = 0; level < 2; level++)
-        *(strrchr(parts, '/') ?: parts) = '\0';
-    strcat(parts, "/lib/nvme-model");
-    snprintf(library, sizeof library, "%s/library.so", parts);
-    snprintf(program, sizeof program, "%s/%s", parts, name);
+        *(strrchr(folder, '/') ?: folder) = '\0';
+    snprintf(library, sizeof library, "%s/lib/nvme-model/library.so", folder);
+    snprintf(program, sizeof program, "%s/lib/nvme-model/%s", folder, name);
 }
 
 /* Fails by a limit with which the launcher can't begin. */

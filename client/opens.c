@@ -138,7 +138,6 @@ static int refuse_node(struct call *call, __u64 file, int error) {
 
 static int answer_ftruncate(struct call *call, const __u64 *words) { return refuse_node(call, words[0], -EINVAL); }
 static int answer_splice(struct call *call, const __u64 *words) { return refuse_node(call, words[2], -EINVAL); }
-static int answer_copy(struct call *call, const __u64 *words) { return refuse_node(call, words[2], -EINVAL); }
 
 static int answer_fallocate(struct call *call, const __u64 *words) {
     int is_hole = (words[1] & (FALLOC_FL_PUNCH_HOLE | FALLOC_FL_ZERO_RANGE)) != 0;
