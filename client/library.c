@@ -18,9 +18,6 @@
 #include <sys/uio.h>
 #include <unistd.h>
 
-/* (so calls whose names end with 64 do the same as the others) */
-static_assert(sizeof(struct stat) == sizeof(struct stat64) && O_LARGEFILE == 0, "files have 64-bit sizes");
-
 /* The C library's own call. */
 #define NEXT(name)                                                                                                     \
     ({                                                                                                                 \
@@ -36,6 +33,12 @@ static_assert(sizeof(struct stat) == sizeof(struct stat64) && O_LARGEFILE == 0, 
 #define PUBLIC __attribute__((visibility("default")))
 #define NAMED __attribute__((noipa, used)) static
 #define SAME(name, as) __asm__(".globl " #name "\n.type " #name ", @function\n.set " #name ", " #as)
+
+/* Each of these calls has a second name that ends with 64. */
+static_assert(sizeof(struct stat) == sizeof(struct stat64) && O_LARGEFILE == 0, "files have 64-bit sizes");
+__asm__(".irp name, open, openat, stat, lstat, fstat, fstatat, __xstat, __lxstat, __fxstat, __fxstatat, readdir,"
+        "pread, pwrite, pwritev, lseek, fallocate\n"
+        ".globl \\name\\()64\n.type \\name\\()64, @function\n.set \\name\\()64, \\name\n.endr");
 
 static char library[PATH_MAX]; /* this library's own path */
 static struct stat dev;        /* of /dev, where nodes are files */
@@ -116,11 +119,9 @@ NAMED int open_below(int directory, const char *path, int flags, mode_t mode) {
 NAMED int open_path(const char *path, int flags, mode_t mode) { return open_below(AT_FDCWD, path, flags, mode); }
 
 SAME(open, open_path);
-SAME(open64, open_path);
 SAME(__open_2, open_path);
 SAME(__open64_2, open_path);
 SAME(openat, open_below);
-SAME(openat64, open_below);
 SAME(__openat_2, open_below);
 SAME(__openat64_2, open_below);
 
@@ -194,14 +195,6 @@ PUBLIC int __fxstat(int version, int file, struct stat *about) { return (void)ve
 PUBLIC int __fxstatat(int version, int directory, const char *path, struct stat *about, int flags) {
     return (void)version, fstatat(directory, path, about, flags);
 }
-SAME(stat64, stat);
-SAME(lstat64, lstat);
-SAME(fstat64, fstat);
-SAME(fstatat64, fstatat);
-SAME(__xstat64, __xstat);
-SAME(__lxstat64, __lxstat);
-SAME(__fxstat64, __fxstat);
-SAME(__fxstatat64, __fxstatat);
 
 /* (the entry of a folder says that a node is a file, while `stat` says that it is a device) */
 PUBLIC struct dirent *readdir(DIR *directory) {
@@ -212,7 +205,6 @@ PUBLIC struct dirent *readdir(DIR *directory) {
         entry->d_type = DT_UNKNOWN;
     return entry;
 }
-SAME(readdir64, readdir);
 
 /* ---- calls that write: a namespace's block device doesn't grow, so a write stops at its end, and a write after the
    end finds no space; a character device takes no bytes */
@@ -294,8 +286,6 @@ WRITES(pwritev, (int file, const struct iovec *pieces, int count, off_t at), pie
        pieces, count, at)
 WRITES(pwritev2, (int file, const struct iovec *pieces, int count, off_t at, int flags), pieces, count, at, flags, file,
        pieces, count, at, flags)
-SAME(pwrite64, pwrite);
-SAME(pwritev64, pwritev);
 SAME(pwritev64v2, pwritev2);
 
 /* A call that reads. A character device has nothing to read, which is told only if nothing was read, because others are
@@ -312,7 +302,6 @@ READS(read, (int file, void *into, size_t size), file, into, size)
 READS(__read_chk, (int file, void *into, size_t size, size_t room), file, into, size, room)
 READS(pread, (int file, void *into, size_t size, off_t at), file, into, size, at)
 READS(readv, (int file, const struct iovec *pieces, int number), file, pieces, number)
-SAME(pread64, pread);
 
 /* ---- other calls on a block device */
 
@@ -329,7 +318,6 @@ PUBLIC off_t lseek(int file, off_t by, int from) {
     }
     return NEXT(lseek)(file, by, from);
 }
-SAME(lseek64, lseek);
 
 /* If it has no data any more, because its controller was pulled out, nothing that was written is safe. */
 #define SYNCS(name) \
@@ -356,7 +344,6 @@ PUBLIC int fallocate(int file, int mode, off_t from, off_t size) {
         return fails_by(EOPNOTSUPP);
     return NEXT(fallocate)(file, punched, from, size);
 }
-SAME(fallocate64, fallocate);
 
 /* The launcher answers the ioctls of nodes (calls.c). If a signal came before it took one, nothing was done. Linux
    wouldn't interrupt it, so it is made again. Others would be answered as those of a file, as those of any file are. */

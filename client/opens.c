@@ -78,8 +78,7 @@ static int find_and_open(struct call *call, int folder, uint64_t path, const str
     if (file < 0 && how->flags & O_CREAT && !may_create(call, folder, text))
         return -EACCES;
     int result = file < 0 ? NOT_OURS : open_found(call, file, how->flags, is_length);
-    if (file >= 0)
-        close(file);
+    close(file);
     call->opened = result >= 0 ? (int)how->flags : NOT_OPENED;
     return result;
 }
