@@ -37,10 +37,10 @@ extern sigset_t blocked;    /* the signals that were blocked at the start, and a
 extern char library[], program[]; /* the paths of the library and of the device's program */
 
 /* launcher.c: `fail` reports why the launcher can't continue, and ends everything that was started; `fail_by_errno`
-   adds why the last call failed; `must` does so if a call's result is negative, and returns it; `cannot` reports by errno that a path can't be made, which ends the launcher only
-   before the command runs; `keep_as` gives an open file another number; `last_line` reads all that a program writes to
-   a pipe, closes it, and returns the last line, without the program's name at its beginning; and `restore_errors` has
-   standard error be the caller's again. */
+   adds why the last call failed; `must` does so if a call's result is negative, and returns it; `cannot` reports by
+   errno that a path can't be made, which ends the launcher only before the command runs; `keep_as` gives an open file
+   another number; `last_line` reads all that a program writes to a pipe, closes it, and returns the last line, without
+   the program's name at its beginning; and `restore_errors` has standard error be the caller's again. */
 enum { NO_SANDBOX = 71, FAILED = 72, NOT_EXECUTABLE = 126, NOT_FOUND = 127 };
 __attribute__((noreturn, format(printf, 1, 2))) void fail(const char *format, ...);
 __attribute__((noreturn)) void fail_by_errno(const char *what);
