@@ -40,8 +40,9 @@ class Ioctls(ModelCase):
         # (BLKGETSIZE64, BLKBSZGET, BLKGETZONESZ, BLKBSZSET and none, of 32 bits)
         old = static_program('old', '-O1')
         if run(old, '20').status == 0:
-            self.ends(self.shell('for n in 0x80041272 0x80041270 0x80041284 0x40041271 0x80041260; do "$1" 54 0 $n text < /dev/nvme0n1; done', old), 0,
-                      b'0\n0\n0\n-22\n-25\n', b'')
+            script = ('for n in 0x80041272 0x80041270 0x80041284 0x40041271 0x80041260; do '
+                      '"$1" 54 0 $n text < /dev/nvme0n1; done')
+            self.ends(self.shell(script, old), 0, b'0\n0\n0\n-22\n-25\n', b'')
 
     def test_claims_side_by_side(self):
         # of several processes, one has the device at a time, and each gets it

@@ -99,7 +99,8 @@ class Written(UserCase):
         large = 'Numerical result out of range 1\n'
         script = ('p=$(readlink -f /sys/class/nvme/nvme0/device); d=/sys/bus/pci/drivers/nvme; q=/sys/block/nvme0n1; '
                   'for c in foo "" -1 1x; do w "$c" $p/remove; w "$c" /sys/bus/pci/rescan; w "$c" $p/reset; done; w 0 $p/reset; '
-                  'w 0001:99:00.0 $d/bind; w foo $d/unbind; w 0001:00:00.1 $d/unbind; w ../x $d/unbind; w "" $d/bind; w . $d/unbind; w 0001:00:00.0 $d/bind; '
+                  'w 0001:99:00.0 $d/bind; w foo $d/unbind; w 0001:00:00.1 $d/unbind; w ../x $d/unbind; '
+                  'w "" $d/bind; w . $d/unbind; w 0001:00:00.0 $d/bind; '
                   'for c in foo "" "none x"; do w "$c" $q/queue/scheduler; done; '
                   'for c in foo -1 "" 99999999999999999999 0x10; do w "$c" $q/queue/read_ahead_kb; done; '
                   'for c in foo "" CHANGE "change x"; do w "$c" $q/uevent; done; '
@@ -141,7 +142,8 @@ class Written(UserCase):
                   'blockdev --getmaxsect /dev/nvme0n1; lsblk -dno ROTA,DISC-MAX /dev/nvme0n1; blkdiscard /dev/nvme0n1; '
                   'blockdev --setra 100 /dev/nvme0n1; cat read_ahead_kb; cd /sys/bus/pci; a=0001:00:00.0; '
                   'echo vfio-pci > devices/$a/driver_override; echo $a > drivers/nvme/unbind; echo $a > drivers_probe; '
-                  'ls -d devices/$a/driver; echo $a > drivers/nvme/bind; for w in nvme ""; do echo $w > devices/$a/driver_override; echo $a > drivers_probe; '
+                  'ls -d devices/$a/driver; echo $a > drivers/nvme/bind; for w in nvme ""; do '
+                  'echo $w > devices/$a/driver_override; echo $a > drivers_probe; '
                   'ls -d devices/$a/driver; echo $a > drivers_probe; echo $a > drivers/nvme/unbind; done')
         ended = self.shell(script)
         self.ends(ended, 0, b'32\n   1       0B\n48\n' + 2 * b'devices/0001:00:00.0/driver\n')
@@ -274,9 +276,10 @@ class Temperatures(ModelCase):
 
     def test_without_thresholds(self):
         # (as in Linux, there are no files of those that are 0)
-        self.subsystem.write_bytes((TOP / 'examples/thresholds.toml').read_bytes().replace(b'wctemp = 348', b'wctemp = 0').replace(
-            b'cctemp = 358', b'cctemp = 0'))
-        self.ends(self.shell('cd /sys/class/hwmon/hwmon0; ls -d temp1_*'), 0, b'temp1_alarm\ntemp1_input\ntemp1_label\n', b'')
+        file = (TOP / 'examples/thresholds.toml').read_bytes()
+        self.subsystem.write_bytes(file.replace(b'wctemp = 348', b'wctemp = 0').replace(b'cctemp = 358', b'cctemp = 0'))
+        self.ends(self.shell('cd /sys/class/hwmon/hwmon0; ls -d temp1_*'), 0,
+                  b'temp1_alarm\ntemp1_input\ntemp1_label\n', b'')
 
     def test_no_errors_are_logged(self):
         self.ends(self.shell('nvme error-log /dev/nvme0 -e 1 | grep error_count; cat /sys/class/hwmon/hwmon0/temp1_max'), 0,

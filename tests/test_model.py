@@ -163,14 +163,15 @@ class Arguments(ModelCase):
     def test_other_sandboxes(self):
         # a bubblewrap that is too old, and one that ends without a word, whether or not there must be a sandbox
         tool = self.folder / 'bwrap'
-        for script, said in (('echo "bwrap: Unknown option --size" >&2; exit 1', 'bwrap is older than 0.8: install a newer bubblewrap'),
+        for script, said in (('echo "bwrap: Unknown option --size" >&2; exit 1',
+                              'bwrap is older than 0.8: install a newer bubblewrap'),
                              ('exit 1', 'bwrap ended without a reason')):
             tool.write_text(f'#!/bin/sh\n{script}\n')
             tool.chmod(0o755)
             for options in [], ['--root', '--no-sandbox']:
                 ended = run(installed(), *options, 'true', env={'PATH': f'{self.folder}:{os.environ["PATH"]}'})
-                self.ends(ended, 72, b'', f'nvme-model: no sandbox can be made: {said}; --no-sandbox runs the command without '
-                          'one\n'.encode())
+                told = f'nvme-model: no sandbox can be made: {said}; --no-sandbox runs the command without one\n'
+                self.ends(ended, 72, b'', told.encode())
 
     def test_help(self):
         for words in (['--help'], ['--he'], ['--no-notice', '--help', 'false'], ['--help', '--bogus']):

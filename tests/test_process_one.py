@@ -252,7 +252,8 @@ class Outside(ModelCase):
         self.ends(ended, 0, b'made\n')
 
     def test_sizes(self):
-        for options, sizes in (('--data-limit=0',), b'4\n4\n65536\n'), (('--data-limit=4M',), b'4096\n4096\n65536\n'), (('--data-limit=128M',), b'131072\n' * 3):
+        for options, sizes in ((('--data-limit=0',), b'4\n4\n65536\n'), (('--data-limit=4M',), b'4096\n4096\n65536\n'),
+                               (('--data-limit=128M',), b'131072\n' * 3)):
             ended = self.shell('for folder in /dev /dev/shm /sys; do df -k $folder | tail -n 1 | tr -s " " | '
                                'cut -d " " -f 2; done', options=options)
             self.ends(ended, 0, sizes, b'')

@@ -9,7 +9,8 @@ import struct
 import sys
 
 
-def sent(opcode, first=0, count=1, data=b"", path="/dev/nvme0n1", nsid=1, request=0xc0484e43, flags=0, cdw11=0, address=0):
+def sent(opcode, first=0, count=1, data=b"", path="/dev/nvme0n1", nsid=1, request=0xc0484e43, flags=0, cdw11=0,
+         address=0):
     room = ctypes.create_string_buffer(data, max(len(data), 1))
     address = address or ctypes.addressof(room)
     fields = [opcode, flags, 0, nsid, 0, 0, 0, address, 0, len(data), first, cdw11, count - 1, 0, 0, 0, 0, 0]
@@ -40,7 +41,8 @@ def every():
     sent(8, 5); sent(5, 5, data=zeros); sent(1, 5, data=block); sent(9, 0, data=struct.pack("<IIQ", 0, 1, 5), cdw11=4)
     sent(5, 5, data=zeros); sent(9, 0, data=struct.pack("<IIQ", 0, 2, 2047), cdw11=4); sent(9, 1, data=zeros[:16])
     sent(0x7f); sent(2, data=zeros, nsid=3); sent(2, data=zeros, flags=1); sent(2, data=zeros, path="/dev/nvme0")
-    sent(8, 2047, 2); sent(0x0c, 1 << 31); sent(9, data=struct.pack("<IIQ", 0, 0, 7), cdw11=4); sent(9, data=struct.pack("<IIQ", 0, 1, 7)); sent(1, 5, data=block, request=0x40304e42)
+    sent(8, 2047, 2); sent(0x0c, 1 << 31); sent(9, data=struct.pack("<IIQ", 0, 0, 7), cdw11=4)
+    sent(9, data=struct.pack("<IIQ", 0, 1, 7)); sent(1, 5, data=block, request=0x40304e42)
     sent(5, 5, data=block, request=0x40304e42); sent(2, data=zeros, request=0x40304e42, flags=1)
     sent(1, data=block, address=8); sent(2, data=block, address=8); sent(9, data=zeros[:16], cdw11=4, address=8)
     sent(9, request=0x40304e42); os.system("nvme detach-ns /dev/nvme0 -n 1 -c 0 > /dev/null")
