@@ -49,8 +49,10 @@ __attribute__((noreturn)) static void be_first(pid_t command) {
 static void prepend(const char *name, const char *value) {
     const char *before = getenv(name);
     char *whole;
-    if (asprintf(&whole, "%s%s%s", value, before ? ":" : "", before ? before : "") < 0 || setenv(name, whole, 1) < 0)
-        fail("out of memory");
+    if (asprintf(&whole, "%s%s%s", value, before ? ":" : "", before ? before : "") < 0 || setenv(name, whole, 1) < 0) {
+        fputs("nvme-model: out of memory\n", stderr);
+        _exit(FAILED);
+    }
 }
 
 /* (a stream that is closed for the command is one that can't be used) */

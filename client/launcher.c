@@ -304,6 +304,8 @@ static int begin_outside(char **arguments) {
     const char *line = run_launcher(1, NULL);
     if (!line)
         return status;
+    if (status == FAILED && !*line) /* (it has said why) */
+        return status;
     if (status == FAILED)
         fail("%s", line);
     line = why_no_sandbox(line);

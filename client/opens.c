@@ -100,7 +100,7 @@ static int answer_openat2(struct call *call, const __u64 *words) {
     unsigned char room[PATH_MAX];
     struct open_how how;
     if (words[3] < sizeof how || words[3] > sizeof room || copy_in(call, words[2], room, words[3]) < 0 ||
-        syscall(SYS_openat2, -1, "", room, words[3]) >= 0 || errno != ENOENT)
+        (syscall(SYS_openat2, -1, "", room, words[3]), errno != ENOENT))
         return NOT_OURS;
     memcpy(&how, room, sizeof how);
     return find_and_open(call, (int)words[0], words[1], &how, 0);
@@ -121,7 +121,7 @@ static int is_attribute(struct call *call, char name[PATH_MAX]) {
 static int answer_write(struct call *call, const __u64 *words) {
     char name[PATH_MAX], text[MOST_WRITTEN + 1] = "";
     call->file = (int)words[0];
-    if (words[2] > MOST_WRITTEN || !is_attribute(call, name))
+    if (words[2] == 0 || words[2] > MOST_WRITTEN || !is_attribute(call, name))
         return NOT_OURS;
     if (copy_in(call, words[1], text, words[2]) < 0)
         return -EFAULT;

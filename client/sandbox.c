@@ -147,7 +147,9 @@ int is_replaced(const char *path) { return is_in("/dev", path) || is_in("/proc",
    the machine lacks one, no folder is made in its /run, of which the command has a copy then. */
 static void add_run(void) {
     static const char *const own[] = {"/run/udev", "/run/blkid"};
-    int is_copied = access("/run", F_OK) == 0 && (access(own[0], F_OK) < 0 || access(own[1], F_OK) < 0);
+    /* (bwrap would make a folder that isn't there in the machine) */
+    must(access("/run", F_OK), "/run");
+    int is_copied = access(own[0], F_OK) < 0 || access(own[1], F_OK) < 0;
     char target[PATH_MAX];
     if (is_copied)
         add_words("--perms 0755 --tmpfs /run");

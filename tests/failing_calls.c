@@ -6,6 +6,7 @@
 #include <dlfcn.h>
 #include <errno.h>
 #include <fcntl.h>
+#include <glob.h>
 #include <stdio.h>
 #include <stdlib.h>
 #include <string.h>
@@ -54,6 +55,8 @@ FAILS(access, -1)
 FAILS(asprintf, -1)
 FAILS(bind, -1)
 FAILS(chdir, -1)
+FAILS(dup, -1)
+FAILS(dup2, -1)
 FAILS(close_range, -1)
 FAILS(fchmod, -1)
 FAILS(fdopen, 0)
@@ -62,12 +65,12 @@ FAILS(fopen, 0)
 FAILS(fork, -1)
 FAILS(fstat, -1)
 FAILS(ftruncate, -1)
+FAILS(glob, GLOB_NOSPACE)
 FAILS(inotify_add_watch, -1)
 FAILS(inotify_init1, -1)
 FAILS(mmap, -1)
 FAILS(mount, -1)
 FAILS(open, -1)
-FAILS(opendir, 0)
 FAILS(pipe2, -1)
 FAILS(prctl, -1)
 FAILS(pthread_create, ENOMEM)

@@ -5,6 +5,7 @@ tests/linux/keep makes), but for the lines of JOB.differs, each below the senten
 import difflib
 import os
 import shutil
+import sys
 import unittest
 
 from tests.modelled import ModelCase
@@ -110,6 +111,12 @@ class Written(UserCase):
                   'w "change 01234567-89ab-cdef-0123-456789abcdef" $q/uevent; ls -d /dev/nvme0 $p')
         self.ends(self.shell(TRY + script), 0, (12 * bad + bad + 6 * none + busy + 3 * bad + 5 * bad + 4 * bad + large + bad + large + bad + 7 * ' 0\n' +
                   '/dev/nvme0\n/sys/devices/pci0001:00/0001:00:00.0\n').encode(), b'')
+
+    def test_no_bytes(self):
+        # a write of none is no error, and does nothing
+        script = ('import os; p = "/sys/class/nvme/nvme0/"; names = "reset_controller", "device/remove", "device/reset"; '
+                  'print(*(os.write(os.open(p + name, os.O_WRONLY), b"") for name in names), os.path.exists("/dev/nvme0"))')
+        self.ends(self.shell(sys.executable + ' -c "$1"', script), 0, b'0 0 0 True\n', b'')
 
     def test_settings(self):
         script = ('cd /sys/block/nvme0n1/queue; for s in mq-deadline none; do echo $s > scheduler; cat scheduler; done; '
