@@ -192,18 +192,16 @@ class Identities(CallCase):
 
     @unittest.skipUnless(IS_ROOT, 'root alone can become another user')
     def test_one_user_after_another(self):
-        # by turns, processes that differ in one thing from others of the same user, which may write a file or not
-        file = self.file('file', b'')
-        os.chown(file, 2000, 1000)
-        file.chmod(0o060)
+        # by turns, processes that differ in one thing from others, which may write a node or not
         group = '--reuid=1000 --regid={} --clear-groups', '--reuid=1000 --regid=1001 --groups={}'
         ways = {'in': group[0].format(1000), 'out': group[0].format(1001), 'also': group[1].format(1000),
-                'other': group[1].format(1002), 'root': '--reuid=0'}
-        script = ''.join(f'setpriv {words} sh -c \'(: > "$0") 2> /dev/null && echo {name}\' "$1"; '
+                'other': group[1].format(1002), 'owner': '--reuid=2000 --regid=1001 --groups=1002', 'root': '--reuid=0'}
+        script = ''.join(f'setpriv {words} sh -c "(: > /dev/nvme0n3) 2> /dev/null && echo {name}"; '
                          for name, words in ways.items())
-        weak = f'import ctypes, sys\n{WITHOUT_RIGHTS}\nopen(sys.argv[1], "w")\nprint("weak")'
-        script = f'for i in 1 2 3 4; do {script}python3 -c "$2" "$1" 2>&1 | tail -n 1 | cut -d " " -f 1; done'
-        self.ends(self.shell(script, file, weak), 0, b'in\nalso\nroot\nPermissionError:\n' * 4, b'')
+        weak = f'import ctypes\n{WITHOUT_RIGHTS}\nopen("/dev/nvme0n3", "w")'
+        script = ('chown 2000:1000 /dev/nvme0n3; chmod 260 /dev/nvme0n3; '
+                  f'for i in 1 2 3 4; do {script}python3 -c "$1" 2>&1 | tail -n 1 | cut -d " " -f 1; done')
+        self.ends(self.shell(script, weak), 0, b'in\nalso\nowner\nroot\nPermissionError:\n' * 4, b'')
 
 
 # What a process can do, by a line for each: whether it can write a file of /sys, set the session's priority, and open a

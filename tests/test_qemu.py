@@ -163,12 +163,13 @@ class Messages(Case):
                   b'nvme-model: ' + b'x' * 107 + b': the path is too long for a socket\n')
 
     def test_launcher(self):
-        place = installed().parent.parent / 'lib/nvme-model/qemu'
-        if not place.exists():
-            shutil.copy(program(), place)
+        # (in a folder of its own, because other tests share the first one, and find the program there)
+        launcher = self.folder / 'installed/bin/nvme-model'
+        shutil.copytree(installed().parents[1], launcher.parents[1])
+        shutil.copy(program(), launcher.parents[1] / 'lib/nvme-model/qemu')
         for option in '--qemu', '--vfio-user':
-            self.ends(run(installed(), option, '--help'), 0, run(program(), '--help').out, b'')
-            self.assertIn(b'see nvme-model --help\n', run(installed(), '--no-notice', option, 'true').err)
+            self.ends(run(launcher, option, '--help'), 0, run(program(), '--help').out, b'')
+            self.assertIn(b'see nvme-model --help\n', run(launcher, '--no-notice', option, 'true').err)
 
     def ended(self, script, *words, **more):
         """Runs the program over a stand-in with this script."""
