@@ -196,12 +196,12 @@ class Identities(CallCase):
         group = '--reuid=1000 --regid={} --clear-groups', '--reuid=1000 --regid=1001 --groups={}'
         ways = {'in': group[0].format(1000), 'out': group[0].format(1001), 'also': group[1].format(1000),
                 'other': group[1].format(1002), 'owner': '--reuid=2000 --regid=1001 --groups=1002', 'root': '--reuid=0'}
-        script = ''.join(f'setpriv {words} sh -c "(: > /dev/nvme0n3) 2> /dev/null && echo {name}"; '
-                         for name, words in ways.items())
+        order = 'in', 'out', 'also', 'out', 'also', 'other', 'owner', 'root'
+        script = ''.join(f'setpriv {ways[name]} sh -c "(: > /dev/nvme0n3) 2> /dev/null && echo {name}"; ' for name in order)
         weak = f'import ctypes\n{WITHOUT_RIGHTS}\nopen("/dev/nvme0n3", "w")'
         script = ('chown 2000:1000 /dev/nvme0n3; chmod 260 /dev/nvme0n3; '
                   f'for i in 1 2 3 4; do {script}python3 -c "$1" 2>&1 | tail -n 1 | cut -d " " -f 1; done')
-        self.ends(self.shell(script, weak), 0, b'in\nalso\nowner\nroot\nPermissionError:\n' * 4, b'')
+        self.ends(self.shell(script, weak), 0, b'in\nalso\nalso\nowner\nroot\nPermissionError:\n' * 4, b'')
 
 
 # What a process can do, by a line for each: whether it can write a file of /sys, set the session's priority, and open a

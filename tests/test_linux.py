@@ -325,6 +325,12 @@ class Udev(UserCase):
         ended = run('unshare', '-m', 'sh', '-c', outside, 'sh', *self.command('sh', '-c', 'ls /run/udev/data | grep -c machine'))
         self.ends(ended, 0, b'0\n/run/udev:\ndata\n\n/run/udev/data:\nmachine\n', b'')
 
+    @unittest.skipUnless(IS_ROOT, 'root alone can mount without a user namespace')
+    def test_nothing_is_made_in_run(self):
+        outside = 'mount -t tmpfs run /run && "$@"; ls -A /run'
+        ended = run('unshare', '-m', 'sh', '-c', outside, 'sh', *self.command('ls', '-d', '/run/blkid', '/run/udev'))
+        self.ends(ended, 0, b'/run/blkid\n/run/udev\n', b'')
+
     @unittest.skipUnless(IS_ROOT, 'root alone can mount without a user namespace, and keep what blkid has seen')
     def test_what_blkid_remembers(self):
         self.needs('mkfs.ext4', 'blkid')
