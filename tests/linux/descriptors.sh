@@ -36,4 +36,4 @@ for request in 0x5421, 0x5450, 0x5451, 0x12ff, 0x5331, 0x5382, 0x030d:
 t('of a block device', lambda: fcntl.ioctl(c, 0x1260)); t('unknown', lambda: fcntl.ioctl(c, 0x4e99)); p = select.poll(); p.register(f); p.register(c); t('poll', lambda: [e for _, e in p.poll(0)]); e = select.epoll(); t('epoll', lambda: e.register(f)); t('epoll c', lambda: e.register(c))
 t('name', lambda: os.readlink('/proc/self/fd/%d' % f)); t('again', lambda: os.read(os.open('/proc/self/fd/%d' % f, os.O_RDONLY), 2)); t('pieces', lambda: os.preadv(f, [bytearray(2)], 0)); t('sync', lambda: os.pwritev(f, [b'a'], 0, os.RWF_DSYNC))
 END
-sleep 99 < $D & until [ "$(readlink /proc/$!/fd/0)" = $D ]; do sleep 0.1; done; fuser $D 2> /dev/null | wc -w; readlink /proc/$!/fd/0; kill $!
+sleep 99 < $D & while kill -0 $! && [ "$(readlink /proc/$!/fd/0)" != $D ]; do sleep 0.1; done; fuser $D 2> /dev/null | wc -w; readlink /proc/$!/fd/0; kill $!

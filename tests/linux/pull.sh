@@ -2,7 +2,7 @@
 p=$(readlink -f /sys/class/nvme/nvme0/device); a=$(basename $p); d=/sys/bus/pci/drivers/nvme; e=$(mktemp)
 w() { (echo $1 > $2) 2> /dev/null; echo "${2##*/} $?"; }
 come() { for i in 1 2 3 4 5 6 7 8 9; do [ -e /dev/ng0n3 ] && break; sleep 0.5; done; ls /dev/nvme*; }
-(while head -c 100 /dev/zero; do sleep 0.2; done) 2> /dev/null | dd of=/dev/nvme0n2 bs=100 2> $e & exec 7< /dev/nvme0 8< /dev/nvme0n1; until [ "$(readlink /proc/$!/fd/1)" = /dev/nvme0n2 ]; do sleep 0.1; done; w 1 $p/remove; wait; head -1 $e; rm $e
+(while head -c 100 /dev/zero; do sleep 0.2; done) 2> /dev/null | dd of=/dev/nvme0n2 bs=100 2> $e & exec 7< /dev/nvme0 8< /dev/nvme0n1; while kill -0 $! && [ "$(readlink /proc/$!/fd/1)" != /dev/nvme0n2 ]; do sleep 0.1; done; w 1 $p/remove; wait; head -1 $e; rm $e
 ls /dev/nvme* /dev/ng* /dev/disk/by-id 2>&1 | sort; nvme list | wc -l; lsblk -dno NAME | grep -c nvme; ls /sys/block | grep -c nvme; readlink /proc/self/fd/7 /proc/self/fd/8; nvme id-ctrl /dev/nvme0 2>&1 | head -1
 python3 - << 'END'
 import errno, fcntl, os
