@@ -24,7 +24,7 @@ PARTED = 'test_machine', 'test_waiting', 'test_wrapper'
 LONGEST = *PARTED, 'test_dist', 'test_model', 'test_qemu', 'test_unready'
 # What a reason to skip a test may begin with, each with what allows it.
 ALLOWED = {
-    **dict.fromkeys(('root alone', 'true device nodes can be made by root alone', '/dev/kmsg can not be read'),
+    **dict.fromkeys(('root alone', 'true device nodes can be made by root alone'),
                     'an ordinary user can run the tests too'),
     **dict.fromkeys(('programs of 32 bits ', 'programs of 64 bits ', 'the kernel runs no programs of 32 bits',
                      'the kernel has no keys', 'userfaultfd: ', 'there is no /dev/fuse that can be used',
