@@ -1,5 +1,5 @@
 # A controller goes and comes back while files are open, is reset, and refuses what it isn't there for.
-p=$(readlink -f /sys/class/nvme/nvme0/device); a=$(basename $p); d=/sys/bus/pci/drivers/nvme; e=$(mktemp)
+p=$(readlink -f /sys/class/nvme/nvme0/device); a=$(basename $p); d=/sys/bus/pci/drivers/nvme; e=$(mktemp -p /tmp)
 w() { (echo $1 > $2) 2> /dev/null; echo "${2##*/} $?"; }
 come() { for i in 1 2 3 4 5 6 7 8 9; do [ -e /dev/ng0n3 ] && break; sleep 0.5; done; ls /dev/nvme*; }
 (while head -c 100 /dev/zero; do sleep 0.2; done) 2> /dev/null | dd of=/dev/nvme0n2 bs=100 2> $e & exec 7< /dev/nvme0 8< /dev/nvme0n1; while kill -0 $! && [ "$(readlink /proc/$!/fd/1)" != /dev/nvme0n2 ]; do sleep 0.1; done; w 1 $p/remove; wait; head -1 $e; rm $e
