@@ -115,6 +115,13 @@ module _ {g : Geometry} {mem : PagedBytes} {ls : List QueuePairFields} {more : P
   pub room_by : l.pages.count ≡ l.geometry.window * pages_of_command l.geometry.page_size
   room_by = rw shape_at (ap (λ (v : QueuePair). v.page_count) placed_at ∙ set_room g)
 
+  -- each queue pair ends within the memory
+  pub ends_inside : (i : ℕ) (e : QueuePair) → i < length ls
+      → end_of g.page_size (get_or (map pair_value ls) i e) ≤ length mem.bytes
+  ends_inside i e low =
+      let many = length-map ls pair_value in
+      (rw h.is.page_size at (h.is.settled.laid i e (omega arith))).inside
+
 -- ---- after the command
 
 -- what holds for the other queue pairs, and for this one, holds for each
@@ -240,12 +247,6 @@ module _ {g : Geometry} {mem new : PagedBytes} {ls : List QueuePairFields} {more
   value_after f by =
       rw (left.len, left.page, map-set pair_value ls c l', left.pair ∙ sym by ∙ ap f (sym (at h)))
       (ap (λ (v : DriverValue). record v { pairs = slice_set v.pairs c (f (pair_at v.pairs c)) }) h.value)
-
--- each queue pair of a driver ends within the memory
-pub ends_inside : {g : Geometry} {mem : PagedBytes} {more : Pages} {ls : List QueuePairFields}
-    → IsDriver g mem ls more → (i : ℕ) (e : QueuePair) → i < length ls → end_of g.page_size (get_or (map pair_value ls) i e) ≤ length mem.bytes
-ends_inside {ls = ls} is i e h =
-    let many = length-map ls pair_value in (rw is.page_size at (is.settled.laid i e (omega arith))).inside
 
 -- one command is a list of one command
 pub after_first : (d : DriverValue) (c : ℕ) → after_commands d c 1 ≡ after_command d c

@@ -4,8 +4,9 @@ use Rattle.std.proofs.Common.{min, ◌≡◌, ◌∙◌, ℕ, ◌+◌, ◌-◌, 
 use Rattle.std.proofs.Common.{[], ◌∷◌, ◌++◌, get_or, length-take, length-append, All, refl, ◌≢◌, ◌%◌, AllPairs, add-one}
 use Rattle.std.proofs.Common.{false, true}
 use Rattle.nv_driver.proofs.Words.{Answer, Batch, BusValue, Command, Cqe, HasAnswers, Holds, IsAnswered, IsBus}
-use Rattle.nv_driver.proofs.Words.{IsOnWay, IsReadable, IsTold, IsUnderWay, QueuePairFields, Request, Run, Sent, answers_to}
-use Rattle.nv_driver.proofs.Words.{awaited_completion, bank_at, collected_one, completion_at, known_to, length_of}
+use Rattle.nv_driver.proofs.Words.{IsOnWay, IsReadable, IsTold, IsUnderWay, QueuePairFields, Request, Run, Sent}
+use Rattle.nv_driver.proofs.Words.{answers_to, awaited_completion, bank_at, collected_one, completion_at, known_to}
+use Rattle.nv_driver.proofs.Words.{length_of}
 use Rattle.nv_driver.proofs.Words.{get_or_default, own_pages, received_from, request_of, setting_of, slice_set, slot}
 use Rattle.nv_driver.proofs.Words.{transfer_by, way, with_register_at, Bell, Collect, Tell, Turn}
 use Rattle.nv_driver.specs.Schedule.{places as places_of, Event, answer_from, answer_to, state_after_all, step_after}

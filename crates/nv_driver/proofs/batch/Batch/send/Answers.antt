@@ -49,6 +49,17 @@ sent_as g c =
       of.can n no_command.request below,
     )
 
+-- the window has room for it
+has_room : (g : given.Over) (c : After-outgoing-request g)
+    → c.loop-number.self.sent < c.loop-number.self.collected + g.begun.run.geometry.window
+has_room g c =
+    let i = c.loop-number.invariant in
+    let window = ap (λ (q : Geometry). q.window)
+    (c.geometry.view_is ∙ c.geometry-geometry.ensures ∙ geometry_is c.requires.1.1.1.0) in
+    let sent = ap (λ (b : Batch). b.sent) i.batch in
+    let collected = ap (λ (b : Batch). b.collected) i.batch in
+    omega (arith, c.min.ensures, c.from.ensures, window, sent, collected, c.loop-number-test.true)
+
 pub page_count-count-requires : goal.page_count-count-requires
 page_count-count-requires g c =
     let one = sent_as g c in
@@ -58,11 +69,10 @@ pub take-requires : goal.take-requires
 take-requires g c =
     let i = c.loop-number.invariant in
     let of = c.requires.1.1.0 in
-    let one = sent_as g (goal.at.take-requires g c).After-outgoing-request in
+    let past = (goal.at.take-requires g c).After-outgoing-request in
+    let one = sent_as g past in
     let same = c.geometry-geometry.ensures ∙ geometry_is c.requires.1.1.1.0 in
-    let window = ap (λ (q : Geometry). q.window) (c.geometry.view_is ∙ same) in
     let sent = ap (λ (b : Batch). b.sent) i.batch in
-    let collected = ap (λ (b : Batch). b.collected) i.batch in
     let few : length_of c.outgoing-request.result.transfer ≤ of.most =
     let brief = of.brief c.loop-number.number no_command.request one.0 in
     omega (arith, ap (λ (q : Request). length_of q.transfer) one.1, brief) in
@@ -76,15 +86,7 @@ take-requires g c =
         c.page_count-count.ensures.pages,
         size,
         all,
-        set_has i.under_way of (omega (
-          arith,
-          c.min.ensures,
-          c.from.ensures,
-          window,
-          sent,
-          collected,
-          c.loop-number-test.true,
-        )) (omega (arith, sent, one.0)),
+        set_has i.under_way of (has_room g past) (omega (arith, sent, one.0)),
       );
     }
 
@@ -110,11 +112,9 @@ pub submit-next-requires : goal.submit-next-requires
 submit-next-requires g c =
     let i = c.loop-number.invariant in
     let u = i.under_way in
-    let one = sent_as g (goal.at.submit-next-requires g c).After-outgoing-request in
+    let past = (goal.at.submit-next-requires g c).After-outgoing-request in
+    let one = sent_as g past in
     let same = c.geometry-geometry.ensures ∙ geometry_is c.requires.1.1.1.0 in
-    let window = ap (λ (q : Geometry). q.window) (c.geometry.view_is ∙ same) in
-    let sent = ap (λ (b : Batch). b.sent) i.batch in
-    let collected = ap (λ (b : Batch). b.collected) i.batch in
     let e = c.take.ensures in
     let o = c.take.new.self in
     let x = c.outgoing-request.result in
@@ -125,7 +125,7 @@ submit-next-requires g c =
     let place = place_of_set g.begun.run.geometry c.loop-number.pair.pages (all_pages o)
     (g.M.PagedMemory.bytes c.loop-number.host.mem) (g.M.PagedMemory.page_len c.loop-number.host.mem) len
     u.begun.geometry u.page_size (still_inside u) e.taken.own e.taken.distinct many in
-    let slot = free_slot u (omega arith) in
+    let slot = free_slot u (has_room g past) in
     record {
       few = omega (arith, ap (λ (q : Request). length_of q.transfer) one.1, room_few _ one.2.room);
       sent = ap (λ (q : Request). length q.sends) one.1 ∙ one.2.sends
@@ -141,9 +141,9 @@ pub loop-number-preserved : goal.loop-number-preserved
 loop-number-preserved g c =
     let i = c.loop-number.invariant in
     let u = i.under_way in
-    let one = sent_as g (goal.at.loop-number-preserved g c).After-outgoing-request in
+    let past = (goal.at.loop-number-preserved g c).After-outgoing-request in
+    let one = sent_as g past in
     let same = c.geometry-geometry.ensures ∙ geometry_is c.requires.1.1.1.0 in
-    let window = ap (λ (q : Geometry). q.window) (c.geometry.view_is ∙ same) in
     let sent = ap (λ (b : Batch). b.sent) i.batch in
     let collected = ap (λ (b : Batch). b.collected) i.batch in
     let told = ap (λ (b : Batch). b.told) i.batch in
@@ -169,17 +169,10 @@ loop-number-preserved g c =
           (g.M.PagedMemory.bytes c.submit-next.new.mem) (g.M.PagedMemory.page_len c.submit-next.new.mem)
           c.submit-next.result) e.set next;
     } in
+    let there = set-get_or (set c.loop-number.host.taken (n % 16) o) (n % 16) no_pages in
     record {
-      under_way = rw (set-get_or (set c.loop-number.host.taken (n % 16) o) (n % 16) no_pages)
-          (submits_at u sent (omega (
-            arith,
-            c.min.ensures,
-            c.from.ensures,
-            window,
-            sent,
-            collected,
-            c.loop-number-test.true,
-          )) (sym collected) (omega (arith, c.requires.1.1.1.1, sent, collected, told)) one.0
+      under_way = rw there (submits_at u sent (has_room g past) (sym collected)
+          (omega (arith, c.requires.1.1.1.1, sent, collected, told)) one.0
           (get_or_default g.begun.run.requests n no_command.request q one.0) sub);
       batch = ap (λ (b : Batch). record b { sent = b.sent + 1 }) i.batch;
       from = omega arith;

@@ -76,7 +76,7 @@ exchange_all-requires g c κs within =
 pub invariant_of-self : goal.invariant_of-self
 invariant_of-self g c =
     let pair = its_pair g (goal.at.invariant_of-self g c).After-deref_mut in
-    driver_after pair (left_at pair c.exchange_all.ensures.left) (ends_inside pair.is)
+    driver_after pair (left_at pair c.exchange_all.ensures.left) (ends_inside pair)
 
 pub returns-clause-answers : goal.returns-clause-answers
 returns-clause-answers g c =

@@ -28,7 +28,7 @@ reset-requires-clause-placed g c =
 pub invariant_of-self : goal.invariant_of-self
 invariant_of-self g c =
     let pair = its_pair g (goal.at.invariant_of-self g c).After-deref_mut in
-    driver_after pair (c.reset.ensures.left tt) (ends_inside pair.is)
+    driver_after pair (c.reset.ensures.left tt) (ends_inside pair)
 
 pub returns-clause-driver : goal.returns-clause-driver
 returns-clause-driver g c =

@@ -1,4 +1,5 @@
-use Rattle.std.proofs.Common.{◌≡◌, ◌∙◌, ◌+◌, ◌*◌, ◌-◌, ◌++◌, ap, arith, drop, length, length-append, length-drop, length-take, take}
+use Rattle.std.proofs.Common.{◌≡◌, ◌∙◌, ◌+◌, ◌*◌, ◌-◌, ◌++◌, ap, arith, drop, length, length-append, length-drop}
+use Rattle.std.proofs.Common.{length-take, take}
 use Rattle.nv_host.specs.Bytes.{with_bytes}
 use Rattle.nv_host.specs.FlatMemory.{only_page}
 use Rattle.nv_host.proofs.BytesLaws.{with_part}
