@@ -54,7 +54,8 @@ used-insert m k v none = ap total (entries-insert nat_cmp_total m k v)
 put_back : (m : Namespaces) (n : ℕ) (v : Namespace) → map_of.get m n ≡ Some v
     → map_of.insert (map_of.remove m n) n v ≡ m
 put_back m n v found =
-    same_numbers _ m (λ q. grind (arith, nat_tests, get_of_insert (map_of.remove m n) n v q, get_of_remove m n q, found))
+    same_numbers _ m
+    (λ q. grind (arith, nat_tests, get_of_insert (map_of.remove m n) n v q, get_of_remove m n q, found))
 
 -- a namespace that is removed frees its capacity
 pub used-remove : (m : Namespaces) (n : ℕ) (v : Namespace) → map_of.get m n ≡ Some v
