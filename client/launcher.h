@@ -198,10 +198,10 @@ void note_end(pid_t process);
 void end_with_launcher(void);
 
 /* helpers.c: memory that all these processes share; and in a helper, room for data, a request to the keeper of a
-   controller's device, which returns -1 if the device is gone, and one without an answer, which returns -ENXIO then. It
-   may be one for the keeper, of which the length tells more: a scan of so many controllers; to show a namespace anew; to
-   look at the data of one and of all that were written; to change what is there of a controller; and to put a setting,
-   whose path and text are in the helper's room. */
+   controller's device, which returns -1 if the device is gone, and one without an answer, which returns -ENXIO then.
+   It may be one for the keeper, of which the length tells more: a scan of so many controllers; to show a namespace
+   anew; to look at the data of one, and of all others that were written; to change whether a controller is there; and
+   to put a setting, whose path and text are in the helper's room. */
 enum { KIND_SCAN = 0xffff, KIND_SHOW = 0xfffe, KIND_PROBE = 0xfffd, KIND_PRESENCE = 0xfffc, KIND_SETTING = 0xfffb };
 void *share(size_t size);
 void *own_data(void);

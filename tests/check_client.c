@@ -130,8 +130,8 @@ static void try_order(void) {
     ask_test(SIGCONT);
     for (unsigned at = 0; at < 3; at++) {
         int how;
-        must(waitpid(children[at], &how, 0) == children[at] && WEXITSTATUS(how) == wanted[at], "request %u has its turn",
-             at);
+        must(waitpid(children[at], &how, 0) == children[at] && WEXITSTATUS(how) == wanted[at],
+             "request %u has its turn", at);
     }
 }
 
@@ -144,7 +144,8 @@ static void try_addresses(void) {
     for (unsigned at = 0; at < 2; at++)
         for (unsigned to = 0; to < 2; to++) {
             errno = 0;
-            must(ioctl(files[0], requests[at], to ? (void *)8 : NULL) == -1 && errno == EFAULT, "a bad address is told");
+            must(ioctl(files[0], requests[at], to ? (void *)8 : NULL) == -1 && errno == EFAULT,
+                 "a bad address is told");
         }
     struct command made = create(18, 18, 0, 0, 0), read = identify(1, 0);
     made.data = read.data = (void *)8;

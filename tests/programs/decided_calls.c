@@ -1,7 +1,7 @@
-/* Makes each call that the launcher's filter decides about, on nodes and on files of /sys: by the numbers of programs of
-   32 bits (int 80h) and, if it is a program of 64 bits, once more by their own. Prints the name of each call with what
-   it gives: an error's number as a negative one, or 0 for a file that was opened. It is linked without any library, and
-   its input is a node. */
+/* Makes each call that the launcher's filter decides about, on nodes and on files of /sys: by the numbers of programs
+   of 32 bits (int 80h) and, if it is a program of 64 bits, once more by their own. Prints the name of each call with
+   what it gives: an error's number as a negative one, or 0 for a file that was opened. It is linked without any
+   library, and its input is a node. */
 #include <stddef.h>
 
 enum { WRITING = 1, BOTH = 2, CUT = 01000, HERE = -100, TO_GROUP = 4, NEW_USERS = 0x10000000, NEW_GROUPS = 0x02000000 };

@@ -24,7 +24,8 @@ static int describe_as_before(const char *path, int file) {
     for (int is_64 = 0; is_64 < 2; is_64++) {
         struct stat one = {0}, other = {0};
         OLD(is_64 ? "__fxstat64" : "__fxstat", int, int, struct stat *)(1, file, &one);
-        OLD(is_64 ? "__fxstatat64" : "__fxstatat", int, int, const char *, struct stat *, int)(1, AT_FDCWD, path, &other, 0);
+        OLD(is_64 ? "__fxstatat64" : "__fxstatat", int, int, const char *, struct stat *, int)
+        (1, AT_FDCWD, path, &other, 0);
         found += S_ISBLK(one.st_mode) + S_ISBLK(other.st_mode);
     }
     return found;
