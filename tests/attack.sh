@@ -1,7 +1,8 @@
 # Read by a shell inside ./nvme-model, on a machine that has nodes of its own: looks for these nodes under each spelling
 # of their paths, and does to the files that it finds what must not reach the nodes. It prints a line for each node that
 # it reached, and how often it read the model's data. $place is a folder with the file `number`, the device number of
-# /dev/nvme0n1. $caller is a process outside, and descriptors 7 and 8 of it are / and /dev, and $powerless one without rights.
+# /dev/nvme0n1. $caller is a process outside, and descriptors 7 and 8 of it are / and /dev, and $powerless one without
+# rights.
 PATH=$PATH:/usr/sbin:/sbin
 
 paths() {

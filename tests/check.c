@@ -375,12 +375,13 @@ static void supplied(unsigned controller, struct command command, int status, co
     int value = send_command(files[controller], &command, &result);
     must(value == status && result == 0, "opcode %02xh, NSID %xh, dword 10 %xh: status %xh; it was %xh", command.opcode,
          command.nsid, command.cdw10, status, value);
-    must(memcmp(common, bytes, count) == 0 && all_are(common, count, command.length, 0), "and %zu bytes of data", count);
+    must(memcmp(common, bytes, count) == 0 && all_are(common, count, command.length, 0), "and %zu bytes of data",
+         count);
 }
 
 static void try_supplied(void) {
-    enum { DESCRIPTORS = 0x03, ATTACHED = 0x12, CONTROLLERS = 0x13, FROM_ONE = 1 << 16, FIRMWARE = 0x03, CHANGED = 0x04 };
-    enum { NO_FIELD = 0x4002, NO_NAMESPACE = 0x400b };
+    enum { DESCRIPTORS = 0x03, ATTACHED = 0x12, CONTROLLERS = 0x13, FROM_ONE = 1 << 16 };
+    enum { FIRMWARE = 0x03, CHANGED = 0x04, NO_FIELD = 0x4002, NO_NAMESPACE = 0x400b };
     done(0, create(18, 18, 0, 0, 1), 1);
     done(0, attachment(0, 1, 1, 1, 0), 0);
     supplied(0, identify(CONTROLLERS, 0), 0, "\2\0\0\0\1", 5);

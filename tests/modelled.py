@@ -191,7 +191,8 @@ class ModelCase(Case):
         return self.model('sh', '-c', script, 'sh', *words, options=options, **more)
 
     def stepped(self, script, *steps, words=(), user=(), options=()):
-        """Starts a shell script that waits at each `step` until one of these steps was taken, outside of the sandbox."""
+        """Starts a shell script that waits at each `step` until one of these steps was taken, outside of the
+        sandbox."""
         script = 'step() { echo step; read -r line; }; ' + script
         running = Running(*user, *self.command('sh', '-c', script, 'sh', *words, options=options))
         self.addCleanup(running.process.kill)

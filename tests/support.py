@@ -99,13 +99,13 @@ def copy_sources(folder):
 
 
 def large_file(cntlids, attached):
-    """Returns a subsystem file with controllers of these identifiers, whose serial numbers are S0, S1 and so on, and 1,024
-    namespaces of a block of 512 bytes, which are attached to some of the controllers."""
+    """Returns a subsystem file with controllers of these identifiers, whose serial numbers are S0, S1 and so on, and
+    1,024 namespaces of a block of 512 bytes, which are attached to some of the controllers."""
     controllers = ''.join(f'[[controller]]\ncntlid = {cntlid}\nsn = "S{place}"\nmn = "M"\nfr = "1"\n'
                           for place, cntlid in enumerate(cntlids))
     each = f'bytes = 512\nformat = 0\nshared = {str(len(attached) > 1).lower()}\ncontrollers = {[*attached]}\n'
-    return ('version = 1\nnn = 1024\ntnvmcap = 524288\nsubnqn = "nqn.2014-08.org.example:many"\n[[format]]\nlbads = 9\n' +
-            controllers + ''.join(f'[[namespace]]\nnsid = {nsid}\n{each}' for nsid in range(1, 1025)))
+    top = 'version = 1\nnn = 1024\ntnvmcap = 524288\nsubnqn = "nqn.2014-08.org.example:many"\n[[format]]\nlbads = 9\n'
+    return top + controllers + ''.join(f'[[namespace]]\nnsid = {nsid}\n{each}' for nsid in range(1, 1025))
 
 
 def until(condition, limit=LIMIT):

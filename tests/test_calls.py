@@ -18,10 +18,10 @@ LOOK = 'echo $(wc -c < /dev/nvme0n3) $(yes | head -c 4608 | cmp - /dev/nvme0n3 &
 # What the calls of programs/decided_calls.c give, in their order. Nodes aren't truncated, other calls on them and on
 # files of /sys give what Linux gives, and names that are kept can't be made or removed.
 DECIDED = ((0, 'open, openat, openat2, creat, open of an own file'), (-13, 'open of /sys, open of /sys to cut'),
-           (-22, 'truncate, truncate64'), (-13, 'truncate of /sys'), (-22, 'ftruncate, ftruncate64'), (-19, 'fallocate'),
-           (-22, 'sendfile, sendfile64, splice, copy_file_range'), (1, 'write to /sys'),
-           ('names', 'unlink, unlinkat, rmdir, rename, renameat, renameat2, mkdir, mkdirat, mknod, mknodat, link, linkat, '
-            'symlink, symlinkat'), (-22, 'pidfd_send_signal'), (-1, 'pidfd_getfd'),
+           (-22, 'truncate, truncate64'), (-13, 'truncate of /sys'), (-22, 'ftruncate, ftruncate64'),
+           (-19, 'fallocate'), (-22, 'sendfile, sendfile64, splice, copy_file_range'), (1, 'write to /sys'),
+           ('names', 'unlink, unlinkat, rmdir, rename, renameat, renameat2, mkdir, mkdirat, mknod, mknodat, link, '
+            'linkat, symlink, symlinkat'), (-22, 'pidfd_send_signal'), (-1, 'pidfd_getfd'),
            (-38, 'io_uring_setup, io_uring_enter, io_uring_register, clone3, add_key, request_key, keyctl'),
            (-1, 'ioctl of typing, ioctl of a console'), (3, 'ioctl of a controller'),
            (0, 'ioctl of a block device, ioctl of a geometry'), ('groups', 'unshare'))
@@ -116,8 +116,8 @@ class Paths(CallCase):
 
     def test_files_of_sys(self):
         # nobody makes folders there, in which numbers could be found that no controller has
-        script = ('cd /sys/devices; for n in 4294967295 256 -1 00 "" 0n1; do mkdir -p "a/b/nvme/nvme$n" 2> /dev/null && echo $n; '
-                  'for f in rescan_controller reset_controller; do '
+        script = ('cd /sys/devices; for n in 4294967295 256 -1 00 "" 0n1; do mkdir -p "a/b/nvme/nvme$n" 2> /dev/null '
+                  '&& echo $n; for f in rescan_controller reset_controller; do '
                   '(echo 1 > "pci0001:00/0001:00:00.0/nvme/nvme$n/$f") 2> /dev/null && echo $n; done; done; '
                   'test -e a; echo $?; test -c /dev/nvme0 && nvme list-ns /dev/nvme1; echo $?')
         for user in USERS:
@@ -197,7 +197,8 @@ class Identities(CallCase):
         ways = {'in': group[0].format(1000), 'out': group[0].format(1001), 'also': group[1].format(1000),
                 'other': group[1].format(1002), 'owner': '--reuid=2000 --regid=1001 --groups=1002', 'root': '--reuid=0'}
         order = 'in', 'out', 'also', 'out', 'also', 'other', 'owner', 'root'
-        script = ''.join(f'setpriv {ways[name]} sh -c "(: > /dev/nvme0n3) 2> /dev/null && echo {name}"; ' for name in order)
+        script = ''.join(f'setpriv {ways[name]} sh -c "(: > /dev/nvme0n3) 2> /dev/null && echo {name}"; '
+                         for name in order)
         weak = f'import ctypes\n{WITHOUT_RIGHTS}\nopen("/dev/nvme0n3", "w")'
         script = ('chown 2000:1000 /dev/nvme0n3; chmod 260 /dev/nvme0n3; '
                   f'for i in 1 2 3 4; do {script}python3 -c "$1" 2>&1 | tail -n 1 | cut -d " " -f 1; done')
@@ -246,7 +247,8 @@ class Rights(CallCase):
             # (a user is root in a namespace of its own alone)
             for namespace in [(), ('unshare', '-Ur')][:1 + works('unshare', '-Ur')]:
                 self.assertEqual(self.able('', inside=(*NOBODY, *namespace)), ['EACCES'] * 4 + ['EBADF', *same])
-            able = 'setpriv', '--reuid=1000', '--clear-groups', '--inh-caps=+dac_override', '--ambient-caps=+dac_override'
+            able = ('setpriv', '--reuid=1000', '--clear-groups', '--inh-caps=+dac_override',
+                    '--ambient-caps=+dac_override')
             self.assertEqual(self.able('', inside=able), [*refused, 'done', 'EACCES', 'EBADF', *same])
 
     @unittest.skipUnless(IS_ROOT, 'root alone can take groups')
@@ -262,12 +264,13 @@ class Rights(CallCase):
         # a link in another root leads to what that has at its path, and its /.. is itself
         script = FILL + 'exec "$@"'
         self.needs('busybox')
-        inner = ('cd "$1"; mkdir root root/dev; cp "$2" root; echo own > root/dev/nvme0n3; ln -s /dev/nvme0n3 root/link; '
-                 'ln -s /../../dev/nvme0n3 root/up; for path in link up ../dev/nvme0n3 /dev/nvme0n3; do '
-                 'chroot root /busybox sh -c "echo $path > $path"; cat root/dev/nvme0n3; done; rm -r root; ' + LOOK)
+        inner = ('cd "$1"; mkdir root root/dev; cp "$2" root; echo own > root/dev/nvme0n3; '
+                 'ln -s /dev/nvme0n3 root/link; ln -s /../../dev/nvme0n3 root/up; for path in link up ../dev/nvme0n3 '
+                 '/dev/nvme0n3; do chroot root /busybox sh -c "echo $path > $path"; cat root/dev/nvme0n3; done; '
+                 'rm -r root; ' + LOOK)
         user = USERS[-1]
-        ended = run(*user, *self.command('sh', '-c', script, 'sh', 'unshare', '-Urm', 'sh', '-c', inner, 'sh', self.folder,
-                                         shutil.which('busybox')))
+        ended = run(*user, *self.command('sh', '-c', script, 'sh', 'unshare', '-Urm', 'sh', '-c', inner, 'sh',
+                                         self.folder, shutil.which('busybox')))
         self.ends(ended, 0, b'link\nup\n../dev/nvme0n3\n/dev/nvme0n3\n4608 same\n', b'')
 
 
@@ -283,7 +286,8 @@ class Groups(CallCase):
             inside = (f'trap "echo inside" {trap}; sh -c \'{child}\' sh "$1" & until test -e "$1"; do sleep 0.1; done; '
                       f'{way}; {"kill -KILL $!; " * (way == "kill -0 0")}wait; wait; echo end')
             # (a shell can't trap a signal that nohup lets it ignore)
-            begin = 'env', '--default-signal=HUP', 'setsid', '-w', 'sh', '-c', 'trap "echo outside" USR1 HUP TERM; "$@"; :'
+            begin = ('env', '--default-signal=HUP', 'setsid', '-w', 'sh', '-c',
+                     'trap "echo outside" USR1 HUP TERM; "$@"; :')
             for user in USERS:
                 with self.subTest(way, user=user):
                     ready = self.folder / 'ready'

@@ -3,7 +3,8 @@ and each named file or folder. The words in the last column of a table of clause
 sources of the crates. A block of code that is said to be from a file occurs in it. No line is wider than 140 columns
 outside of tables and code, and none names a folder of a machine. Counts of definitions, and lists of crates, files in
 C, examples and messages are those of the sources, the pictures show names that are there, and scripts write what pages
-show. codespell finds no misspelled word. Must-fail edits are as CONTRIBUTING says. What the sentences claim isn't checked."""
+show. codespell finds no misspelled word. Must-fail edits are as CONTRIBUTING says. What the sentences claim isn't
+checked."""
 
 import re
 import runpy
@@ -190,7 +191,8 @@ class Copies(Case):
         for path in TOP.glob('docs/**/*.svg'):
             ElementTree.parse(path)
         pictures = runpy.run_path(str(TOP / 'tools/pictures'))
-        for name in 'nv_queued', 'client/launched.c', 'nv_queue:SubmitRing::pushed', 'nv_queue:SubmitRings::push', 'nv_bus:Buses':
+        for name in ('nv_queued', 'client/launched.c', 'nv_queue:SubmitRing::pushed', 'nv_queue:SubmitRings::push',
+                     'nv_bus:Buses'):
             self.assertFalse(pictures['is_there'](name), name)
         self.assertTrue(pictures['uses']('nv_driver nv_bus'))
         self.assertFalse(pictures['uses']('nv_bus nv_driver'))
@@ -250,8 +252,8 @@ class Copies(Case):
 
     def test_messages_of_support(self):
         """Each message that SUPPORT explains is in the sources, apart from what varies."""
-        sources = ''.join(path.read_text() for pattern in ('client/*.c', 'tools/unproved', 'nvme-model', 'crates/*/src/*.rt')
-                          for path in TOP.glob(pattern))
+        patterns = 'client/*.c', 'tools/unproved', 'nvme-model', 'crates/*/src/*.rt'
+        sources = ''.join(path.read_text() for pattern in patterns for path in TOP.glob(pattern))
         messages = re.findall(r'(?m)^\| `([^`]+)`(?: \(0x[0-9a-f]+\))? \|', text_of('docs/SUPPORT.md'))
         self.assertGreater(len(messages), 12)
         # (in the sources, a long text is cut into several)

@@ -83,11 +83,11 @@ class Device(Faulty):
 
 # The functions of which each of the first calls fails (tests/failing_calls.c), by the names of the launcher outside of
 # the sandbox and in it.
-CALLS = {'nvme-model': 'access asprintf close_range dup dup2 fmemopen fopen fork ftruncate glob mount open pipe2 readlink '
-                       'realloc socketpair statx strdup write',
-         'launcher': 'bind chdir close_range dup2 fchmod fdopen fmemopen fopen fork fstat ftruncate glob inotify_add_watch '
-                     'inotify_init1 mmap mount open pipe2 prctl pthread_create read realloc signalfd socketpair '
-                     'stat write'}
+CALLS = {'nvme-model': 'access asprintf close_range dup dup2 fmemopen fopen fork ftruncate glob mount open pipe2 '
+                       'readlink realloc socketpair statx strdup write',
+         'launcher': 'bind chdir close_range dup2 fchmod fdopen fmemopen fopen fork fstat ftruncate glob '
+                     'inotify_add_watch inotify_init1 mmap mount open pipe2 prctl pthread_create read realloc signalfd '
+                     'socketpair stat write'}
 MOST, AT_ONCE = 7, 4
 
 

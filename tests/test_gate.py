@@ -1,5 +1,5 @@
-"""Runs .ci/run on machines that lack programs, in a copy of its files: it names everything that is missing, and installs
-it only in CI. A stand-in for apt-get stores what it was told."""
+"""Runs .ci/run on machines that lack programs, in a copy of its files: it names everything that is missing, and
+installs it only in CI. A stand-in for apt-get stores what it was told."""
 
 import ast
 import glob

@@ -38,7 +38,6 @@ BY_ROOT = {'su': f'su nobody -s /bin/sh -c "place=$place caller=$caller; '
 ATTACH = 'nvme attach-ns /dev/nvme1 -n 1 -c 1 > /dev/null'
 DETACH = 'nvme detach-ns /dev/nvme1 -n 1 -c 1 > /dev/null'
 WRITTEN = '/dev/nvme1n1 /dev/ng1n1 /sys/block/nvme1n1 /sys/class/nvme-generic/ng1n1'
-
 KERNEL = 'files of the kernel'
 # What a command tries, and what it prints then. $place/plain is a file of the machine, with CLOBBER.
 TRIES = {
@@ -62,22 +61,22 @@ TRIES = {
         f'cat /dev/zero > /dev/fill 2> /dev/null; {ATTACH}; head -c 1 /dev/nvme1n1 | wc -c; rm /dev/fill', b'1\n'),
     'all kinds of nodes': (
         'busybox find /dev /sys -type b; ls -A /dev; busybox find /dev -maxdepth 1 -type c | wc -l',
-        b'block\nchar\ndisk\nfd\nfull\nmqueue\nng0n1\nng0n3\nnull\nnvme0\nnvme0n1\nnvme0n3\nnvme1\nptmx\npts\nrandom\nshm\n'
-        b'stderr\nstdin\nstdout\ntty\nurandom\nzero\n6\n'),
+        b'block\nchar\ndisk\nfd\nfull\nmqueue\nng0n1\nng0n3\nnull\nnvme0\nnvme0n1\nnvme0n3\nnvme1\nptmx\npts\nrandom\n'
+        b'shm\nstderr\nstdin\nstdout\ntty\nurandom\nzero\n6\n'),
     KERNEL: (
-        'for f in /proc/sys/kernel/core_pattern /proc/sys/vm/swappiness /proc/sysrq-trigger /proc/irq/default_smp_affinity '
-        '/sys/kernel/mm/ksm/run /sys/devices/system/cpu/cpu1/online /sys/fs/cgroup/cgroup.procs '
-        '/sys/fs/cgroup/cpu/tasks "$place/sysfs/kernel/mm/ksm/run" "$place/proc/sys/kernel/core_pattern"; '
-        'do (: >> "$f") 2> /dev/null && echo "$f"; done; ls -d /proc/$caller "$place/proc/$caller" 2> /dev/null; '
-        'echo end', b'end\n'),
+        'for f in /proc/sys/kernel/core_pattern /proc/sys/vm/swappiness /proc/sysrq-trigger '
+        '/proc/irq/default_smp_affinity /sys/kernel/mm/ksm/run /sys/devices/system/cpu/cpu1/online '
+        '/sys/fs/cgroup/cgroup.procs /sys/fs/cgroup/cpu/tasks "$place/sysfs/kernel/mm/ksm/run" '
+        '"$place/proc/sys/kernel/core_pattern"; do (: >> "$f") 2> /dev/null && echo "$f"; done; '
+        'ls -d /proc/$caller "$place/proc/$caller" 2> /dev/null; echo end', b'end\n'),
     'files of the model in /sys, and names in /dev': (
         '(echo 7 > /sys/block/nvme0n1/ro) 2> /dev/null && echo written; '
         'busybox truncate -s 0 /sys/block/nvme0n1/ro 2> /dev/null && echo cut; cat /sys/block/nvme0n1/ro; '
         'find /dev -type b | sort', b'0\n/dev/nvme0n1\n/dev/nvme0n3\n'),
-    'open files of other processes': (
-        '"$place/takes"', b'-1 1\n'),
+    'open files of other processes': ('"$place/takes"', b'-1 1\n'),
     'a user without rights': ('unshare -Ur true; cat /proc/self/status | grep NoNewPrivs', b'NoNewPrivs:\t1\n'),
-    'signals to the launcher': ('for n in KILL STOP SEGV ALRM; do kill -$n 1; done; test -c /dev/nvme0; echo $?', b'0\n')}
+    'signals to the launcher': (
+        'for n in KILL STOP SEGV ALRM; do kill -$n 1; done; test -c /dev/nvme0; echo $?', b'0\n')}
 
 
 class Machine:
@@ -92,8 +91,8 @@ class Machine:
         private = ['unshare', '-m'] if kind == 'devices' else [*(NOBODY if IS_ROOT else ()), 'unshare', '-Urm']
         if not works(*private) or (kind == 'devices' and run('losetup', '--find').status != 0):
             case.skipTest('no such machine can be made here: there are no namespaces, or no loop devices')
-        self.holder = Running(*private, 'sh', TOP / 'tests/machine.sh', case.folder / 'new', os.path.commonpath([process_folder(), installed()]), kind,
-                              self.disk)
+        self.holder = Running(*private, 'sh', TOP / 'tests/machine.sh', case.folder / 'new',
+                              os.path.commonpath([process_folder(), installed()]), kind, self.disk)
         case.addCleanup(self.close)
         self.holder.comes(b'ready\n')
         number = self.number = self.holder.process.pid
@@ -255,7 +254,8 @@ class Machines(MachineCase):
         for machine, user in self.users():
             self.ends(machine.model(script, user, where='/dev'), 0, b'MODELLEDMODELLED/dev\n', b'')
             # a folder that was taken away, with nodes in it or above it; and one that others can't search
-            ways = ['mkdir -m 777 "$place/gone/x"; cd "$place/gone/x"; rmdir "$place/gone/x"; exec "$@"', 'cd /proc/$caller/root/dev/folder && exec "$@"']
+            ways = ['mkdir -m 777 "$place/gone/x"; cd "$place/gone/x"; rmdir "$place/gone/x"; exec "$@"',
+                    'cd /proc/$caller/root/dev/folder && exec "$@"']
             if not user:
                 ways += ['mount --bind /dev "$place/gone"; cd "$place/gone"; umount -l "$place/gone"; exec "$@"',
                          'mount --bind /dev "$place/gone"; cd "$place/gone"; mount -t tmpfs x "$place/gone"; exec "$@"']
@@ -266,7 +266,8 @@ class Machines(MachineCase):
                 self.assertNotIn(b'MACHINE', ended.out, ended)
                 if 'gone' in way:
                     self.ends(ended, 72, b'')
-                    self.assertRegex(ended.err, b"nvme-model: the (current )?folder .*run (it|the command) from another")
+                    self.assertRegex(ended.err, b'nvme-model: the (current )?folder .*run (it|the command) from '
+                                     b'another')
 
     def test_the_rest_of_the_machine_is_there(self):
         script = ('for f in null zero full random urandom tty fd/0 pts ptmx shm; do test -e /dev/$f || echo $f; done; '
@@ -282,12 +283,13 @@ class Machines(MachineCase):
 
     def test_what_is_shown(self):
         # of /sys, what this machine has of these folders
-        script = 'for f in /sys/fs/cgroup /sys/kernel/mm /sys/class/dmi /sys/devices/virtual/dmi; do ls -A $f 2> /dev/null | sed 1q; done'
+        script = ('for f in /sys/fs/cgroup /sys/kernel/mm /sys/class/dmi /sys/devices/virtual/dmi; do '
+                  'ls -A $f 2> /dev/null | sed 1q; done')
         self.ends(self.shell(script), 0, run('sh', '-c', script).out, b'')
 
     def test_devices_that_are_added(self):
         for machine, user in self.users():
-            # (a device that may be added is elsewhere, another is one of blocks, and others have numbers beside the lists)
+            # (a device that may be added is elsewhere, one is of blocks, and others have numbers beside the lists)
             others = {'tmp/tun': (stat.S_IFCHR, 10, 200), 'dev/block/disk': (stat.S_IFBLK, 4, 64),
                       'dev/block/mem': (stat.S_IFCHR, 1, 1), 'dev/block/vfio': (stat.S_IFCHR, 10, 196),
                       'dev/block/disks': (stat.S_IFCHR, 10, 237), 'dev/block/high': (stat.S_IFCHR, 260, 64),
@@ -302,14 +304,14 @@ class Machines(MachineCase):
                 self.assertIn(b'is known to lead to no storage' if is_told else b'nvme-model: ', ended.err)
             for path in others:
                 (machine.root / path).unlink(missing_ok=True)
-        self.ends(self.shell('test -c /dev/net/tun && test ! -e /dev/fuse', options=['--device', '/dev/net/tun']), 0) if (
-            os.path.exists('/dev/net/tun')) else None
+        if os.path.exists('/dev/net/tun'):
+            script = 'test -c /dev/net/tun && test ! -e /dev/fuse'
+            self.ends(self.shell(script, options=['--device', '/dev/net/tun']), 0)
 
+    @unittest.skipUnless(IS_ROOT, 'root alone has rights to give up')
     def test_less_than_all_rights(self):
         # root that can't make a mount namespace gets one through a user namespace
         less = 'setpriv', '--bounding-set=-sys_admin', '--inh-caps=-sys_admin'
-        if not IS_ROOT:
-            self.skipTest('root alone has rights to give up')
         with contextlib.closing(Machine(self, 'devices')) as machine:
             ended = machine.model(BEGIN + 'attack', by=less)
             self.reached_nothing(machine, ended, 5)
@@ -330,7 +332,8 @@ class Machines(MachineCase):
     @unittest.skipUnless(IS_ROOT, 'root alone can mount without a user namespace')
     def test_other_mounts(self):
         # what is mounted later isn't seen, by root or by others
-        waits = 'echo > "$place/started"; until test -e "$place/go"; do sleep 0.1; done; head -c 7 "$place/gone/nvme0n1"; :'
+        waits = ('echo > "$place/started"; until test -e "$place/go"; do sleep 0.1; done; '
+                 'head -c 7 "$place/gone/nvme0n1"; :')
         later = ('mount --make-rshared / && { "$@" & until test -e "$place/started"; do sleep 0.1; done; '
                  'mount --bind /dev "$place/gone"; : > "$place/go"; wait; }')
         # a mount that its user can't reach before the folder above it is opened, also one whose path the kernel writes
@@ -376,8 +379,9 @@ class Machines(MachineCase):
         # another root that is a mount point; and one with nodes in a plain folder. (Other views of its /dev would be
         # devtmpfs on a true machine, but are tmpfs here.)
         ways = {'a mount point': 'mount --rbind / "$place/root" && chroot "$place/root" "$@"',
-                'a plain /dev': 'for m in alias bound; do mount -o remount,bind,ro "$place/$m"; done; mount -t tmpfs x "$place/root" && cd / && for d in *; do case $d in dev) ;; *) '
-                'test -d $d && test ! -L $d && mkdir "$place/root/$d" && mount --rbind $d "$place/root/$d" || '
+                'a plain /dev': 'for m in alias bound; do mount -o remount,bind,ro "$place/$m"; done; '
+                'mount -t tmpfs x "$place/root" && cd / && for d in *; do case $d in dev) ;; *) test -d $d && '
+                'test ! -L $d && mkdir "$place/root/$d" && mount --rbind $d "$place/root/$d" || '
                 'cp -a $d "$place/root/$d" ;; esac; done; mkdir "$place/root/dev"; cp -a /dev/null /dev/zero /dev/full '
                 '/dev/random /dev/urandom /dev/tty /dev/nvme0 /dev/nvme0n1 "$place/root/dev" && '
                 'chroot "$place/root" "$@"'}
@@ -398,7 +402,6 @@ class Machines(MachineCase):
 
 # Runs a command in a place where no mount namespace can be made, or where there is no bwrap.
 WITHOUT = ('unshare', '-Ur', 'sh', '-c', 'echo 0 > /proc/sys/user/max_mnt_namespaces; exec "$@"', 'sh')
-MISSING = b'nvme-model: the command runs without a sandbox ('
 UNREADABLE = '/usr/bin/python3', str(PROGRAMS / 'unreadable.py')
 
 
@@ -419,8 +422,8 @@ class NoSandbox(MachineCase):
                 with self.subTest(kind, way=way), contextlib.closing(Machine(self, kind)) as machine:
                     ended = machine.model('touch "$place/touched"', by=way, options=['--no-sandbox'])
                     self.ends(ended, 72, b'')
-                    self.assertRegex(ended.err, b'^nvme-model: /dev/n\\w+ is a device of this machine, and .*' + reason +
-                                     b'.*\n$')
+                    self.assertRegex(ended.err, b'^nvme-model: /dev/n\\w+ is a device of this machine, and .*' +
+                                     reason + b'.*\n$')
                     self.assertFalse((self.folder / 'touched').exists())
                     machine.is_unchanged()
 
@@ -432,9 +435,10 @@ class NoSandbox(MachineCase):
                           'test -b /dev/nvme0n2 && test -c /dev/nvme1 && test ! -e /dev/nvme1n1; '
                           'smartctl -i /dev/nvme0 | grep -c S0; '
                           'env -i PATH="$PATH" nvme id-ctrl //dev/nvme0 | grep -c S0; '
-                          'cd /dev; nvme id-ctrl nvme1 | grep -c S1; stat -c %F nvme1; /usr/bin/python3 -c "open(\'/dev/nvme0\')"; '
-                          'blockdev --getra --getmaxsect --setro --getro nvme0n1; nvme detach-ns nvme0 -n 3 -c 0; '
-                          'nvme format /dev/nvme0n1 -l 1 -f; blockdev --getss nvme0n1; test -e nvme0n3; echo $?')
+                          'cd /dev; nvme id-ctrl nvme1 | grep -c S1; stat -c %F nvme1; /usr/bin/python3 -c '
+                          '"open(\'/dev/nvme0\')"; blockdev --getra --getmaxsect --setro --getro nvme0n1; '
+                          'nvme detach-ns nvme0 -n 3 -c 0; nvme format /dev/nvme0n1 -l 1 -f; blockdev --getss nvme0n1; '
+                          'test -e nvme0n3; echo $?')
                 refused = machine.model('touch "$place/touched"', by=way)
                 self.ends(refused, 72, b'')
                 self.assertRegex(refused.err, b'^nvme-model: no sandbox can be made: .*' + reason +
@@ -444,7 +448,7 @@ class NoSandbox(MachineCase):
                 self.ends(ended, 0, b'[   0]:0x1\n[   1]:0x3\ncreate-ns: Success, created nsid:2\n'
                           b'attach-ns: Success, nsid:2\n1\n1\n1\ncharacter special file\n256\n256\n1\n'
                           b'detach-ns: Success, nsid:3\nSuccess formatting namespace:1\n4096\n1\n')
-                self.assertRegex(ended.err, b'^' + re.escape(MISSING) + b'.*' + reason + b'.*\n$')
+                self.assertRegex(ended.err, rb'^nvme-model: the command runs without a sandbox \(.*%s.*\n$' % reason)
                 machine.is_unchanged()
 
     def test_refused_where_no_call_is_answered(self):
@@ -458,8 +462,8 @@ class NoSandbox(MachineCase):
 
     def test_no_data(self):
         # an I/O command reaches nothing, not even a device that comes later
-        script = ('busybox sh -c "echo MACHINE > /dev/nvme0n1"; head -c 512 /dev/zero | nvme write /dev/nvme0n1 -s 0 -c 0 -z 512; '
-                  'busybox head -c 7 /dev/nvme0n1; busybox rm /dev/nvme0n1')
+        script = ('busybox sh -c "echo MACHINE > /dev/nvme0n1"; head -c 512 /dev/zero | nvme write /dev/nvme0n1 -s 0 '
+                  '-c 0 -z 512; busybox head -c 7 /dev/nvme0n1; busybox rm /dev/nvme0n1')
         self.needs('busybox')
         with contextlib.closing(Machine(self, 'none')) as machine:
             ended = machine.model(script, by=list(self.ways())[1], options=['--no-sandbox'])
@@ -479,8 +483,7 @@ class NoSandbox(MachineCase):
         with contextlib.closing(Machine(self, 'none')) as machine:
             for way in (), next(iter(self.ways())):
                 command = place / 'bin/nvme-model', '--no-sandbox', 'nvme', 'list-ns', '/dev/nvme0'
-                ended = run(*machine.enter, *way, *command)
-                self.ends(ended, 0, b'[   0]:0x1\n[   1]:0x3\n')
+                self.ends(run(*machine.enter, *way, *command), 0, b'[   0]:0x1\n[   1]:0x3\n')
             machine.is_unchanged()
 
     def test_killed_launcher(self):
@@ -493,7 +496,3 @@ class NoSandbox(MachineCase):
             self.assertTrue(until(lambda: (self.folder / 'late').exists() and
                                   b'end\n' in (self.folder / 'late').read_bytes()))
             self.assertIn(b'No such', (self.folder / 'late').read_bytes())
-
-
-if __name__ == '__main__':
-    unittest.main()

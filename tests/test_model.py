@@ -13,8 +13,8 @@ import threading
 import time
 import unittest
 
-from tests.modelled import (ASKING, CLIENT, DEVICES, PARTS, PROGRAMS, RECEIVING, VERSION, WARNINGS, ModelCase, compiled_c,
-                            do_helpers, installed, parts, signals, works)
+from tests.modelled import (ASKING, CLIENT, DEVICES, PARTS, PROGRAMS, RECEIVING, VERSION, WARNINGS, ModelCase,
+                            compiled_c, do_helpers, installed, parts, signals, works)
 from tests.support import IS_ROOT, LIMIT, TOP, USERS, Running, left_running, processes, program, run, until
 
 CHECK = 'check', 'check_client'
@@ -86,18 +86,20 @@ class Ioctls(ModelCase):
 class Arguments(ModelCase):
     def test_refused_arguments(self):
         none, size = 'there is no command to run', "this isn't a number of bytes, or one with K, M or G"
-        ranges = {'depth': '2 to 4096', 'page-size': '4096, 8192, 16384, 32768 or 65536', 'window': '1 to 16, below the depth',
-                  'offset': 'a multiple of 4 below the page size', 'list-offset': 'a multiple of 8 below the page size',
-                  'pace': '1 to 4096'}
+        ranges = {'depth': '2 to 4096', 'page-size': '4096, 8192, 16384, 32768 or 65536', 'pace': '1 to 4096',
+                  'window': '1 to 16, below the depth', 'offset': 'a multiple of 4 below the page size',
+                  'list-offset': 'a multiple of 8 below the page size'}
         for words, said in (
-                ('', none), ('--', none), ('--depth 2', none), ('--subsystem=x', none), ('--no-notice', none), ('--trace', none),
-                ('--depth', "option '--depth' requires an argument"), ('--device', "option '--device' requires an argument"),
+                ('', none), ('--', none), ('--depth 2', none), ('--subsystem=x', none), ('--no-notice', none),
+                ('--trace', none), ('--depth', "option '--depth' requires an argument"),
+                ('--device', "option '--device' requires an argument"),
                 ('--bogus 3 true', "unrecognized option '--bogus'"), ('-d 3 true', "invalid option -- 'd'"),
                 ('--without-namespace true', "unrecognized option '--without-namespace'"),
                 ('--no-notice=1 true', "option '--no-notice' doesn't allow an argument"),
                 ('--help=1', "option '--help' doesn't allow an argument"),
                 ('--d 3 true', "option '--d' is ambiguous; .*"), ('--p 4096 true', "option '--p' is ambiguous; .*"),
-                *((f'--data-limit {text} true', f'--data-limit {text}: {size}') for text in ('x', '5X', '5KB', '1T', '-1', '9999999999G')),
+                *((f'--data-limit {text} true', f'--data-limit {text}: {size}')
+                  for text in ('x', '5X', '5KB', '1T', '-1', '9999999999G')),
                 ('--data-limit= true', f'--data-limit : {size}'),
                 *((f'--{name} {text} true', f'--{name} {text}: {range}') for name, range in ranges.items()
                   for text in ('x', '-1', '2x', '4294967296')),
@@ -147,10 +149,11 @@ class Arguments(ModelCase):
         # (the letters are ways to be wrong: tests/programs/wrong_device.c)
         place, wrong = self.folder / 'place', 'nvme-model: the device does not answer as it should\n'
         shutil.copytree(installed().parents[1], place)
-        subprocess.run(['cc', *WARNINGS, '-I', CLIENT, '-o', place / 'lib/nvme-model/nvme_device', PROGRAMS / 'wrong_device.c'],
-                       check=True)
+        made = place / 'lib/nvme-model/nvme_device'
+        subprocess.run(['cc', *WARNINGS, '-I', CLIENT, '-o', made, PROGRAMS / 'wrong_device.c'], check=True)
         for way, status, said in (
-                ('0', 72, wrong), ('m', 72, wrong), ('f', 72, wrong), ('l', 72, 'nvme-model: the device ended before it answered\n'),
+                ('0', 72, wrong), ('m', 72, wrong), ('f', 72, wrong),
+                ('l', 72, 'nvme-model: the device ended before it answered\n'),
                 ('e', 72, f'nvme-model: the device ended, or answered what was not asked\n{wrong}'), ('n', 0, ''),
                 ('s', 0, '(nvmex{4995}\n)+'), ('o', 1, 'get-feature: No such device or address\n')):
             with self.subTest(way):
@@ -235,7 +238,8 @@ class Arguments(ModelCase):
         link.symlink_to(copy / 'nvme-model')
         self.says(run(copy / 'nvme-model', 'true'), 72,
                   'nvme-model: there is no proved device program of these sources')
-        self.ends(run(copy / 'nvme-model', '--compile', ''), 72, b'', b'nvme-model: --compile needs the name of a folder\n')
+        self.ends(run(copy / 'nvme-model', '--compile', ''), 72, b'',
+                  b'nvme-model: --compile needs the name of a folder\n')
         for folder in 'tools', '.ci':
             (copy / folder).mkdir()
             (copy / folder / 'stamp').symlink_to('/bin/true')
@@ -371,8 +375,9 @@ class Signals(ModelCase):
 
     def test_what_is_left_in_the_background(self):
         # (each would go on for longer than the test waits for it)
-        ended = self.shell('(echo > "$1"; sleep 1000) & (setsid sh -c \'trap "" TERM HUP; echo > "$1"; sleep 1000\' sh "$2" &); '
-                           'until test -e "$1" && test -e "$2"; do sleep 0.1; done; exit 3', self.folder / 'one', self.folder / 'two')
+        ended = self.shell('(echo > "$1"; sleep 1000) & (setsid sh -c \'trap "" TERM HUP; echo > "$1"; '
+                           'sleep 1000\' sh "$2" &); until test -e "$1" && test -e "$2"; do sleep 0.1; done; exit 3',
+                           self.folder / 'one', self.folder / 'two')
         self.ends(ended, 3, b'', b'')
         self.assertTrue(until(lambda: not left_running()))
 
@@ -389,8 +394,10 @@ class Signals(ModelCase):
                 self.assertNotIn(b'annot set', running.heard)
 
     def test_typed_at_a_terminal(self):
-        for script, key, status in (('echo ready; exec sleep 1000', b'\x03', 130), ('echo ready; exec sleep 1000', b'\x1c', 131),
-                                    ('trap "test -c /dev/nvme0 && exit 5" INT; echo ready; while :; do sleep 0.1; done', b'\x03', 5)):
+        for script, key, status in (('echo ready; exec sleep 1000', b'\x03', 130),
+                                    ('echo ready; exec sleep 1000', b'\x1c', 131),
+                                    ('trap "test -c /dev/nvme0 && exit 5" INT; echo ready; while :; do sleep 0.1; done',
+                                     b'\x03', 5)):
             with self.subTest(script, key=key):
                 running = Running(*self.command('sh', '-c', script), terminal=True)
                 running.comes(b'ready\n')
@@ -398,8 +405,9 @@ class Signals(ModelCase):
                 self.assertEqual(running.process.wait(LIMIT), status)
                 self.leaves_nothing()
         # it comes once
-        count = ('import signal\nsignal.pthread_sigmask(signal.SIG_BLOCK, {signal.SIGINT})\nprint("ready", flush=True)\n'
-                 'signal.sigwait({signal.SIGINT})\nprint("again" if signal.sigtimedwait({signal.SIGINT}, 1) else "once")')
+        count = ('import signal\nsignal.pthread_sigmask(signal.SIG_BLOCK, {signal.SIGINT})\n'
+                 'print("ready", flush=True)\nsignal.sigwait({signal.SIGINT})\n'
+                 'print("again" if signal.sigtimedwait({signal.SIGINT}, 1) else "once")')
         running = Running(*self.command(sys.executable, '-c', count), terminal=True)
         running.comes(b'ready\n')
         running.say(b'\x03')
@@ -421,7 +429,7 @@ class Signals(ModelCase):
             running.comes(heard)
         running.say(b'exit\n')
         self.assertRegex(running.end().out, b'(?s)got-line\n.*status-3\n')
-        running = Running(*self.command('tmux', '-S', self.folder / 'socket', 'new', f'tty > {self.folder}/tty'), terminal=True,
-                          env={'TERM': 'xterm'})
+        running = Running(*self.command('tmux', '-S', self.folder / 'socket', 'new', f'tty > {self.folder}/tty'),
+                          terminal=True, env={'TERM': 'xterm'})
         running.end()
         self.assertRegex((self.folder / 'tty').read_bytes(), b'^/dev/.*pts/[0-9]+\n$')

@@ -13,17 +13,18 @@ from tests.support import IS_ROOT, TOP, USERS, large_file, run
 # Waits until what was written past the end of a node is cut off.
 CUT = 'until test $(busybox wc -c < /dev/nvme0n3) = 4608; do sleep 0.1; done; '
 # What programs/io_commands.py prints.
-IO_ANSWERS = (b'0 ;0 abc;0 abc;0 abc;0 abc;0 ;4285 ;0 ;0 ;4080 ;4080 ;4080 ;4002 ;4002 ;0 ;0 ;0 ;0 ;0 ;4080 ;4002 ;4001 ;EINVAL ;'
-              b'EINVAL ;EINVAL ;4080 ;4080 ;0 ;0 ;0 ;0 ;EINVAL ;EFAULT ;EFAULT ;EFAULT ;EINVAL ;')
+IO_ANSWERS = (b'0 ;0 abc;0 abc;0 abc;0 abc;0 ;4285 ;0 ;0 ;4080 ;4080 ;4080 ;4002 ;4002 ;0 ;0 ;0 ;0 ;0 ;4080 ;4002 ;'
+              b'4001 ;EINVAL ;EINVAL ;EINVAL ;4080 ;4080 ;0 ;0 ;0 ;0 ;EINVAL ;EFAULT ;EFAULT ;EFAULT ;EINVAL ;')
 
 
 # What shell scripts print, by what they look at: each has a file of its own, $1.
 SHOWN = {
     'files of /sys': (
-        'readlink -f /sys/class/nvme/nvme0 | sed "s/pci[0-9a-f:]*/PCI/; s/[0-9a-f:]*[.]0/FUNCTION/"; cd /sys/class/nvme; '
-        'ls; cat nvme1/cntlid nvme0/nvme0n3/size nvme0/nvme0n3/nsid nvme0/nvme0n3/queue/logical_block_size '
-        '/sys/block/nvme0n1/size nvme0/queue_count nvme0/device/numa_node; test -e nvme0/device/driver; '
-        'find /sys/devices -name "*nvme0" | grep -c pci; nvme format /dev/nvme0n1 -l 1 --force; '
+        'readlink -f /sys/class/nvme/nvme0 | sed "s/pci[0-9a-f:]*/PCI/; s/[0-9a-f:]*[.]0/FUNCTION/"; '
+        'cd /sys/class/nvme; ls; cat nvme1/cntlid nvme0/nvme0n3/size nvme0/nvme0n3/nsid '
+        'nvme0/nvme0n3/queue/logical_block_size /sys/block/nvme0n1/size nvme0/queue_count nvme0/device/numa_node; '
+        'test -e nvme0/device/driver; find /sys/devices -name "*nvme0" | grep -c pci; '
+        'nvme format /dev/nvme0n1 -l 1 --force; '
         'cat /sys/block/nvme0n1/queue/logical_block_size /sys/block/nvme0n1/size',
         b'/sys/devices/PCI/FUNCTION/nvme/nvme0\nnvme0\nnvme1\n1\n9\n3\n512\n2048\n1\n-1\n1\n'
         b'Success formatting namespace:1\n4096\n2048\n'),
@@ -57,10 +58,10 @@ SHOWN = {
         '$(cat $c/serial $c/state $c/cntlid); done',
         b'nvme0 1.0 Demo Controller S0 live 0\nnvme1 1.0 Demo Controller S1 live 1\n'),
     'block devices, and files before and after namespaces came and went': (
-        'find /dev -type b | sort; busybox find /dev -type b; find /dev /sys -xdev | sort > "$1.a"; (for i in 1 2 3; do '
-        'nvme create-ns /dev/nvme0 -s 8 -c 8 -f 0 -m 1; nvme attach-ns /dev/nvme0 -n 2 -c 0,1; echo x > /dev/nvme1n2; '
-        'nvme detach-ns /dev/nvme0 -n 2 -c 0,1; nvme delete-ns /dev/nvme0 -n 2; done) > /dev/null; '
-        'find /dev /sys -xdev | sort > "$1.b"; diff "$1.a" "$1.b"; find /dev -type b | sort',
+        'find /dev -type b | sort; busybox find /dev -type b; find /dev /sys -xdev | sort > "$1.a"; '
+        '(for i in 1 2 3; do nvme create-ns /dev/nvme0 -s 8 -c 8 -f 0 -m 1; nvme attach-ns /dev/nvme0 -n 2 -c 0,1; '
+        'echo x > /dev/nvme1n2; nvme detach-ns /dev/nvme0 -n 2 -c 0,1; nvme delete-ns /dev/nvme0 -n 2; done) '
+        '> /dev/null; find /dev /sys -xdev | sort > "$1.b"; diff "$1.a" "$1.b"; find /dev -type b | sort',
         b'/dev/nvme0n1\n/dev/nvme0n3\n' * 2),
     'ends and lengths': (
         'for f in 1 2; do echo $f >> /dev/nvme0n3 2> /dev/null || echo full; done; head -n 1 /dev/nvme0n3; '
@@ -97,7 +98,8 @@ class Nodes(ModelCase):
     def test_listed(self):
         nodes = b'ng0n1\nng0n3\nnvme0\nnvme0n1\nnvme0n3\nnvme1\n'
         for script in ('ls /dev | grep -e ^nvme -e ^ng', 'cd /dev; printf "%s\\n" n[gv]*[0-9]*',
-                       'find /dev -maxdepth 1 -name "n[vg]*" | sed s,/dev/,, | sort', 'busybox ls -1 /dev | grep -e ^ng -e ^nvme',
+                       'find /dev -maxdepth 1 -name "n[vg]*" | sed s,/dev/,, | sort',
+                       'busybox ls -1 /dev | grep -e ^ng -e ^nvme',
                        sys.executable + ' -c \'import glob; print(*sorted(glob.glob("n[gv]*[0-9]*", '
                        'root_dir="/dev")), sep="\\n")\''):
             with self.subTest(script):
@@ -146,7 +148,8 @@ class Nodes(ModelCase):
         self.ends(self.shell('nvme create-ns /dev/nvme0 -s 16 -c 16 -f 0 && nvme attach-ns /dev/nvme0 -n 2 -c 0 && '
                              'nvme format /dev/nvme0 -n 2 -l 1 -f && nvme ns-rescan /dev/nvme0; '
                              'cat /sys/block/nvme0n2/queue/logical_block_size', options=['--no-notice']), 0,
-                  b'create-ns: Success, created nsid:2\nattach-ns: Success, nsid:2\nSuccess formatting namespace:2\n4096\n', b'')
+                  b'create-ns: Success, created nsid:2\nattach-ns: Success, nsid:2\nSuccess formatting namespace:2\n'
+                  b'4096\n', b'')
         # a namespace that was deleted and created meanwhile is another one
         self.ends(self.shell('echo old > /dev/nvme0n3; nvme delete-ns /dev/nvme0 -n 3; '
                              'nvme create-ns /dev/nvme0 -s 4 -c 4 -f 0 >&2; nvme ns-rescan /dev/nvme0; '
@@ -168,8 +171,8 @@ class Nodes(ModelCase):
         files = '/sys/block/nvme0n1/size /sys/class/nvme/nvme0/model /sys/block/nvme0n1/queue/max_segments'
         script = (f'cd /sys/block; for f in {files} nvme0n1/ro /proc/self/cwd/nvme0n1/nsid; do '
                   'for c in "echo x >" "busybox truncate -s 0" "dd if=/dev/zero count=1 conv=notrunc of="; do '
-                  'case $c in *=) c=$c$f ;; *) c="$c $f" ;; esac; (eval "$c") 2>&1 | grep -c "Permission denied"; done; done | '
-                  f'sort | uniq -c; cat {files} nvme0n1/ro nvme0n1/nsid')
+                  'case $c in *=) c=$c$f ;; *) c="$c $f" ;; esac; (eval "$c") 2>&1 | grep -c "Permission denied"; '
+                  f'done; done | sort | uniq -c; cat {files} nvme0n1/ro nvme0n1/nsid')
         self.ends(self.shell(script), 0, b'     15 1\n2048\nDemo Controller                         \n127\n0\n1\n',
                   b'')
         self.ends(self.python('for call in lambda: os.open("/sys/block/nvme0n1/size", os.O_RDWR), '
@@ -199,19 +202,22 @@ class Nodes(ModelCase):
         ended = self.shell('ls /dev | grep -c "^n[vg]"; ls /sys/class/block | wc -l; cat /sys/block/nvme15n1024/nsid; '
                            'find /sys/devices/pci0001:* -mindepth 5 -type f | wc -l; stat -c %h /sys/block/nvme9n9/ro')
         self.ends(ended, 0, err=b'')
-        # (58 files for each block device, 2 for each generic node, and 10 for each controller's power and temperature; what is the same
-        # for each is one file)
-        self.assertEqual(ended.out.splitlines(), [b'32784', b'16384', b'1024', b'%d' % (16384 * 60 + 16 * 10), b'16384'])
+        # (58 files for each block device, 2 for each generic node, and 10 for each controller's power and temperature;
+        # what is the same for each is one file)
+        self.assertEqual(ended.out.splitlines(),
+                         [b'32784', b'16384', b'1024', b'%d' % (16384 * 60 + 16 * 10), b'16384'])
 
     def test_sys_agrees_with_nodes(self):
-        self.ends(self.model(sys.executable, PROGRAMS / 'numbers.py'), 0, b'ng0n1 ng0n3 nvme0 nvme0n1 nvme0n3 nvme1\n', b'')
+        self.ends(self.model(sys.executable, PROGRAMS / 'numbers.py'), 0,
+                  b'ng0n1 ng0n3 nvme0 nvme0n1 nvme0n3 nvme1\n', b'')
 
     @unittest.skipUnless(IS_ROOT, 'root alone can become another user')
     def test_other_users_see_them(self):
         look = 'cat /sys/class/nvme/nvme1/cntlid; ls /sys/class/net/lo/mtu; test -c /dev/nvme0; echo $?'
         ended = self.shell(f'umask 077; exec su nobody -s /bin/sh -c "$1"', look)
         self.ends(ended, 0, b'1\n/sys/class/net/lo/mtu\n0\n', b'')
-        ended = run('sh', '-c', 'umask 077; exec "$@"', 'sh', *self.command('su', 'nobody', '-s', '/bin/sh', '-c', look))
+        command = self.command('su', 'nobody', '-s', '/bin/sh', '-c', look)
+        ended = run('sh', '-c', 'umask 077; exec "$@"', 'sh', *command)
         self.ends(ended, 0, b'1\n/sys/class/net/lo/mtu\n0\n', b'')
 
     @unittest.skipUnless(IS_ROOT, 'root alone can become another user')
@@ -331,7 +337,8 @@ class Library(ModelCase):
         inner = [installed(), '--subsystem', TOP / 'examples/two_controllers.toml']
         ended = self.model(*inner, 'sh', '-c', 'nvme id-ctrl /dev/nvme0 | grep "^sn "; ls /dev/nvme*n*')
         self.ends(ended, 72, b'')
-        self.assertRegex(ended.err, rb'^nvme-model: /dev/nvme0 is a device of this machine, and no sandbox can be made .*: .+\n$')
+        self.assertRegex(ended.err, rb'^nvme-model: /dev/nvme0 is a device of this machine, and no sandbox can be '
+                         rb'made .*: .+\n$')
 
 
 class Tools(ModelCase):
@@ -344,8 +351,8 @@ class Tools(ModelCase):
         self.assertEqual(sorted(re.findall(rb'(?m)^/dev/\S+', listed.out)),
                          [b'/dev/nvme0n1', b'/dev/nvme0n3', b'/dev/nvme1n1'])
         words = self.model('nvme', 'list', '-v').out.decode().split()
-        for word, count in (('nvme-subsys0', 3), ('nqn.2014-08.org.example:demo', 1), ('0001:00:00.0', 1), ('0001:01:00.0', 1),
-                            ('S0', 1), ('S1', 1), ('/dev/nvme0n1', 1), ('/dev/ng0n3', 1)):
+        for word, count in (('nvme-subsys0', 3), ('nqn.2014-08.org.example:demo', 1), ('0001:00:00.0', 1),
+                            ('0001:01:00.0', 1), ('S0', 1), ('S1', 1), ('/dev/nvme0n1', 1), ('/dev/ng0n3', 1)):
             self.assertEqual(words.count(word), count, word)
         ended = self.model('nvme', 'list-subsys')
         self.ends(ended, 0, err=b'')
@@ -392,10 +399,10 @@ class Tools(ModelCase):
 
     def test_commands_of_the_page(self):
         # each command that a table of NVME-MODEL says is refused, with its status
-        more = {'device-self-test': '-s 1', 'sanitize': '-a 2', 'fw-commit': '-s 1 -a 1', 'security-recv': '-p 0 -x 64 -t 64',
-                'dir-receive': '-D 0 -O 1', 'virt-mgmt': '-c 1 -a 1', 'get-lba-status': '-s 0 -m 1 -a 16',
-                'write-uncor': '-s 0 -c 0', 'telemetry-log': f'-o {self.folder}/log', 'persistent-event-log': '-a 0',
-                'fw-download': f'-f {self.file("firmware", bytes(4096))}'}
+        more = {'device-self-test': '-s 1', 'sanitize': '-a 2', 'fw-commit': '-s 1 -a 1', 'write-uncor': '-s 0 -c 0',
+                'security-recv': '-p 0 -x 64 -t 64', 'dir-receive': '-D 0 -O 1', 'virt-mgmt': '-c 1 -a 1',
+                'get-lba-status': '-s 0 -m 1 -a 16', 'telemetry-log': f'-o {self.folder}/log',
+                'persistent-event-log': '-a 0', 'fw-download': f'-f {self.file("firmware", bytes(4096))}'}
         table = (TOP / 'docs/NVME-MODEL.md').read_text().partition('## Commands of nvme-cli\n')[2].partition('\n## ')[0]
         rows = re.findall(r'(?m)^\| (`.*`) \| .*\((0x\w+)\)', table)
         self.assertEqual(len(rows), 4)
@@ -454,9 +461,10 @@ class ClosedNodes(ModelCase):
                  '        print("busy")\n')
         again = 'nvme detach-ns /dev/nvme0 -n 3 -c 0 > /dev/null; nvme attach-ns /dev/nvme0 -n 3 -c 0 > /dev/null; '
         script = ('python3 -c "$1" /dev/nvme0n3; echo text > /dev/nvme0n3; chmod 0 /dev/nvme0n3; '
-                  'nvme format -f /dev/nvme0 -n 3 > /dev/null; chmod 600 /dev/nvme0n3; head -c 4 /dev/nvme0n3 | od -An -c; '
-                  'echo kept > /dev/nvme0n3; chmod 0 /dev/nvme0n3; ' + again + 'head -c 4 /dev/nvme0n3; '
-                  'rm /dev/nvme0n3 2> /dev/null && echo removed; ' + again + 'head -c 4 /dev/nvme0n3')
+                  'nvme format -f /dev/nvme0 -n 3 > /dev/null; chmod 600 /dev/nvme0n3; '
+                  'head -c 4 /dev/nvme0n3 | od -An -c; echo kept > /dev/nvme0n3; chmod 0 /dev/nvme0n3; ' + again +
+                  'head -c 4 /dev/nvme0n3; rm /dev/nvme0n3 2> /dev/null && echo removed; ' + again +
+                  'head -c 4 /dev/nvme0n3')
         self.needs(script)
         for user in USERS:
             with self.subTest(user=user):

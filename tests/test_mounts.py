@@ -88,12 +88,14 @@ class Mounts(MachineCase):
     def test_other_mounts_of_what_has_dev(self):
         # where /dev is a folder of the root file system, another mount of that is read-only, unless /dev isn't in it
         way = ('mount -t tmpfs x "$place/root" && cd / && for d in *; do case $d in dev) ;; *) test -d $d && '
-               'test ! -L $d && mkdir "$place/root/$d" && mount --rbind $d "$place/root/$d" || cp -a $d "$place/root/$d" ;; '
-               'esac; done; cd "$place/root" && mkdir dev again other apart && chmod 777 . dev again other apart && '
+               'test ! -L $d && mkdir "$place/root/$d" && mount --rbind $d "$place/root/$d" || '
+               'cp -a $d "$place/root/$d" ;; esac; done; cd "$place/root" && mkdir dev again other apart && '
+               'chmod 777 . dev again other apart && '
                'cp -a /dev/null /dev/zero /dev/full /dev/random /dev/urandom /dev/tty /dev/nvme0n1 dev && '
                'mount --bind . again && mount --bind other apart && chroot . "$@"')
         script = ('for path in /again/dev/nvme0n1 /again/other; do rm -rf $path && echo removed $path; done; '
-                  '(: > /again/dev/own) && echo made; head -c 7 /again/dev/nvme0n1; echo own > /apart/file; cat /other/file')
+                  '(: > /again/dev/own) && echo made; head -c 7 /again/dev/nvme0n1; echo own > /apart/file; '
+                  'cat /other/file')
         # (in another root, root alone can make a namespace)
         with contextlib.closing(Machine(self, 'devices')) as machine:
             ended = machine.model(script, by=('unshare', '-m', 'sh', '-c', way + '; exit', 'sh'))
@@ -101,8 +103,10 @@ class Mounts(MachineCase):
 
     def test_parts_of_proc_that_are_hidden(self):
         # (docker hides parts of /proc in this way, and gives a container's root the right to mount if it is asked to)
-        way = 'mount --bind /dev/null /proc/keys && mount -t tmpfs -o ro x /proc/acpi && mount --bind /proc/sys /proc/sys && '
-        script = 'cat /proc/keys 2> /dev/null | wc -c; ls -A /proc/acpi; (: > /proc/sys/vm/swappiness) 2> /dev/null || echo end'
+        way = ('mount --bind /dev/null /proc/keys && mount -t tmpfs -o ro x /proc/acpi && '
+               'mount --bind /proc/sys /proc/sys && ')
+        script = ('cat /proc/keys 2> /dev/null | wc -c; ls -A /proc/acpi; '
+                  '(: > /proc/sys/vm/swappiness) 2> /dev/null || echo end')
         with contextlib.closing(Machine(self, 'files')) as machine:
             ended = run('unshare', '-m', 'sh', '-c', way + 'exec "$@"', 'sh', *self.command('sh', '-c', script))
             self.ends(ended, 0, b'0\nend\n', b'')

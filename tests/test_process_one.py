@@ -51,8 +51,8 @@ for number, flags in (56, 0x02000011), (272, 0x02000000), (56, 0x12000011), (272
 '''
 
 
-# Changes the priorities of a process group, and prints what each call gives and its error, and the priorities then. Does
-# the same to a group of its own.
+# Changes the priorities of a process group, and prints what each call gives and its error, and the priorities then.
+# Does the same to a group of its own.
 PRIORITIES = '''import ctypes, os
 call = ctypes.CDLL(None, use_errno=True).syscall
 for number, which, value in (141, 1, 19), (251, 2, 2 << 13 | 6):
@@ -111,8 +111,8 @@ class Confined(ModelCase):
 
     def test_names(self):
         # nobody finds it by the launcher's name
-        self.ends(self.shell('cat /proc/1/comm; tr -s "\\0" " " < /proc/1/cmdline; pgrep -f "[l]auncher|[i]nside"; echo'), 0,
-                  b'init\ninit \n', b'')
+        script = 'cat /proc/1/comm; tr -s "\\0" " " < /proc/1/cmdline; pgrep -f "[l]auncher|[i]nside"; echo'
+        self.ends(self.shell(script), 0, b'init\ninit \n', b'')
 
     @unittest.skipUnless(IS_ROOT, 'root alone can look at what process 1 has open')
     def test_process_one_has_nothing_open(self):
@@ -218,8 +218,8 @@ class Outside(ModelCase):
     def test_memory_of_the_machine(self):
         # (a segment of System V's shared memory, which is removed at once, and stays as long as it is attached)
         outside = ('import ctypes, subprocess, sys\nlibc = ctypes.CDLL(None)\nlibc.shmat.restype = ctypes.c_void_p\n'
-                   'number = libc.shmget(0, 4096, 0o600)\nassert libc.shmat(number, None, 0)\nlibc.shmctl(number, 0, None)\n'
-                   'sys.exit(subprocess.run(sys.argv[1:]).returncode)')
+                   'number = libc.shmget(0, 4096, 0o600)\nassert libc.shmat(number, None, 0)\n'
+                   'libc.shmctl(number, 0, None)\nsys.exit(subprocess.run(sys.argv[1:]).returncode)')
         look = 'wc -l < /proc/sysvipc/shm'
         ended = run('python3', '-c', outside, 'sh', '-c', f'{look}; "$@"', 'sh', *self.command('sh', '-c', look))
         lines = ended.out.split()

@@ -30,7 +30,8 @@ class Refuse(ModelCase):
         reported with how many commands."""
         ended = self.shell(script, options=[*(f'--refuse={rule}' for rule in rules), *options])
         self.assertEqual(ended.status, status, ended)
-        found = re.findall(r'(?m)^nvme-model: --(\w+ \S+) (?:refused|delayed) no command; (\d+) came$', ended.err.decode())
+        found = re.findall(r'(?m)^nvme-model: --(\w+ \S+) (?:refused|delayed) no command; (\d+) came$',
+                           ended.err.decode())
         self.assertEqual([(rule, int(count)) for rule, count in found], list(left), ended)
         return ended
 
@@ -120,8 +121,8 @@ class Refuse(ModelCase):
         self.ends(ended, 0, b'Success formatting namespace:1\n')
         self.assertGreaterEqual(time.monotonic() - started, 3)
         # (nothing else waits meanwhile, so this ends long before the delay)
-        running = self.stepped(f'{FORMAT} & step; nvme smart-log /dev/nvme0 > /dev/null; head -c 1 /dev/nvme0n1 | wc -c; '
-                               'nvme flush /dev/nvme0n1; echo now; kill -KILL $!',
+        running = self.stepped(f'{FORMAT} & step; nvme smart-log /dev/nvme0 > /dev/null; '
+                               'head -c 1 /dev/nvme0n1 | wc -c; nvme flush /dev/nvme0n1; echo now; kill -KILL $!',
                                lambda: self.assertTrue(do_helpers(DELAYING, 1)),
                                options=['--delay=format=9000', '--delay=io:0,1=9000'])
         self.ends(running.end(), 0, b'step\n1\nNVMe Flush: success\nnow\n'
@@ -138,24 +139,26 @@ class Refuse(ModelCase):
     def test_commands_that_take_too_long(self):
         """A command that takes longer than its time fails, and its controller is reset, as under Linux."""
         late = 'nvme admin-passthru /dev/nvme0 -o 6 -l 4096 -r --cdw10=1 -t 500'
-        ended = self.ended([], f'nvme set-feature /dev/nvme0 -f 6 -v 0 > /dev/null; {late} 2>&1; nvme get-feature /dev/nvme0 -f 6; '
-                           f'{late} | wc -c', options=['--delay=id-ctrl=30'])
+        ended = self.ended([], f'nvme set-feature /dev/nvme0 -f 6 -v 0 > /dev/null; {late} 2>&1; '
+                           f'nvme get-feature /dev/nvme0 -f 6; {late} | wc -c', options=['--delay=id-ctrl=30'])
         self.assertRegex(ended.out, rb'Interrupted system call\n.*Current value:0*x?0*1\n(?s:.*)\d{4}\n')
         # (an I/O command is aborted first, which takes as long again, and this program doesn't load the library)
-        ended = self.ended([], 'nvme io-passthru /dev/nvme0n1 -n 1 -o 0 -t 400 2>&1; nvme io-passthru /dev/nvme0n1 -n 1 -o 0 -t 600 2>&1',
+        ended = self.ended([], 'for time in 400 600; do nvme io-passthru /dev/nvme0n1 -n 1 -o 0 -t $time 2>&1; done',
                            options=['--delay=flush,0,2=1'])
         self.assertRegex(ended.out, rb'(?s)Interrupted system call\n.*[Ss]uccess')
 
     def test_wrong_rules(self):
         for rule, said in (
                 *((rule, 'there is no such command') for rule in (
-                    '', '=1', 'bogus=1', 'forma=1', 'formats=1', '256=1', '0x=1', '-6=1', 'io=1', 'io:=1', 'io:256=1', ' format=1')),
+                    '', '=1', 'bogus=1', 'forma=1', 'formats=1', '256=1', '0x=1', '-6=1', 'io=1', 'io:=1', 'io:256=1',
+                    ' format=1')),
                 *((rule, 'SKIP: 0 to 4294967295') for rule in (
-                    'format,=1', 'format,x=1', 'format,-1=1', 'format,4294967296=1', 'format,99999999999999999999=1', 'read,1 =1', 'format,1x=1')),
+                    'format,=1', 'format,x=1', 'format,-1=1', 'format,4294967296=1', 'format,99999999999999999999=1',
+                    'read,1 =1', 'format,1x=1')),
                 *((rule, 'TIMES: 1 to 4294967295') for rule in ('format,1,=1', 'format,1,0=1', 'format,1,x=1')),
                 *((rule, 'the form is COMMAND[,SKIP[,TIMES]]=') for rule in (
-                    'format', 'format=', 'format=0', 'format=0x15181', 'format=-1', 'format=1x', 'format=x', 'format,1,1,1=1',
-                    'format,1', 'format=1,1', 'format=1=1'))):
+                    'format', 'format=', 'format=0', 'format=0x15181', 'format=-1', 'format=1x', 'format=x',
+                    'format,1,1,1=1', 'format,1', 'format=1,1', 'format=1=1'))):
             for option in '--refuse', '--delay':
                 with self.subTest(rule, option=option):
                     ended = run(installed(), option, rule, 'true')
@@ -163,8 +166,8 @@ class Refuse(ModelCase):
                     self.assertTrue(ended.err.decode().startswith(f'nvme-model: {option} {rule}: {said}'), ended)
                     self.assertTrue(ended.err.endswith(b'\nsee nvme-model --help\n'), ended)
         self.ends(run(installed(), '--refuse', 'format=0x8000', 'true'), 72, b'',
-                  b'nvme-model: --refuse format=0x8000: the form is COMMAND[,SKIP[,TIMES]]=STATUS, with a STATUS of 1 to 0x7fff\n'
-                  b'see nvme-model --help\n')
+                  b'nvme-model: --refuse format=0x8000: the form is COMMAND[,SKIP[,TIMES]]=STATUS, with a STATUS of 1 '
+                  b'to 0x7fff\nsee nvme-model --help\n')
         most = [word for _ in range(64) for word in ('--refuse', 'format=1')]
         self.ends(run(installed(), *most, 'true'), 0, b'')
         self.ends(run(installed(), *most, '--delay', 'format=1', 'true'), 72, b'',

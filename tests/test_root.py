@@ -15,19 +15,23 @@ class Root(ModelCase):
 
     def test_sudo(self):
         for words, printed in (
-                ('id -u', '0'), ('-n id -u', '0'), ('-nE -u root id -u', '0'), ('-Hu root -g root -- id -u', '0'), ('-u#0 id -u', '0'),
-                ('--user=root --preserve-env --non-interactive id -u', '0'), ('--user root id -u', '0'), ('-p : -S id -u < /dev/null', '0'),
+                ('id -u', '0'), ('-n id -u', '0'), ('-nE -u root id -u', '0'), ('-Hu root -g root -- id -u', '0'),
+                ('-u#0 id -u', '0'), ('--user=root --preserve-env --non-interactive id -u', '0'),
+                ('--user root id -u', '0'), ('-p : -S id -u < /dev/null', '0'),
                 ('X=5 Y="a b" sh -c \'echo "$X $Y $1"\' sh "c  d"', '5 a b c  d'), ('-- echo -u nobody', '-u nobody'),
                 ('-s echo \'$((1 + 1))\'', '2'), ('-i id -u', '0'), ('-v && echo valid', 'valid'), ('-k; echo $?', '0'),
-                ('-kn id -u', '0'), ('sudo sudo id -u', '0'), ('sh -c "exit 7"; echo $?', '7'), ('cat /etc/none 2> /dev/null; echo $?', '1'),
-                ('-u nobody id; echo $?', '1'), ('-g adm id; echo $?', '1'), ('--user=nobody id; echo $?', '1'), ('-unobody id; echo $?', '1'),
-                ('-nu nobody id; echo $?', '1'), ('-e /etc/passwd; echo $?', '1'), ('--bogus id; echo $?', '1'), ('; echo $?', '1')):
+                ('-kn id -u', '0'), ('sudo sudo id -u', '0'), ('sh -c "exit 7"; echo $?', '7'),
+                ('cat /etc/none 2> /dev/null; echo $?', '1'), ('-u nobody id; echo $?', '1'),
+                ('-g adm id; echo $?', '1'), ('--user=nobody id; echo $?', '1'), ('-unobody id; echo $?', '1'),
+                ('-nu nobody id; echo $?', '1'), ('-e /etc/passwd; echo $?', '1'), ('--bogus id; echo $?', '1'),
+                ('; echo $?', '1')):
             with self.subTest(words):
                 self.ends(self.ended(f'sudo {words}'), 0, f'{printed}\n'.encode())
         ended = self.ended('sudo -u nobody id')
         self.ends(ended, 1, b'', b'sudo: nobody: there is no user or group but root here\n')
         if os.path.exists('/usr/bin/sudo'):
-            self.ends(self.ended('PATH=/usr/bin:/bin; /usr/bin/sudo -n id -u; env -i /usr/bin/sudo nvme 2>&1 | head -c 0; sudo id -u'), 0,
+            self.ends(self.ended('PATH=/usr/bin:/bin; /usr/bin/sudo -n id -u; '
+                                 'env -i /usr/bin/sudo nvme 2>&1 | head -c 0; sudo id -u'), 0,
                       b'0\n0\n', b'')
 
     def test_rights(self):
@@ -39,11 +43,13 @@ class Root(ModelCase):
 
     def test_provisioning(self):
         # what most scripts begin with, and what the nodes do then
-        script = ('set -e; [ "$(id -u)" = 0 ]; D=/dev/nvme0n1; sudo nvme format $D -l 0 -f; sudo nvme set-feature /dev/nvme0 -f 6 -v 0; '
-                  'sudo blockdev --setra 64 --getra $D; mkfs.ext4 -qFO ^has_journal $D; sudo blkid -o value -s TYPE $D; '
-                  'chown root:root $D; chmod 600 $D; nvme reset /dev/nvme0; sh "$1" > /dev/null; ls -l $D | cut -d " " -f 3')
+        script = ('set -e; [ "$(id -u)" = 0 ]; D=/dev/nvme0n1; sudo nvme format $D -l 0 -f; '
+                  'sudo nvme set-feature /dev/nvme0 -f 6 -v 0; sudo blockdev --setra 64 --getra $D; '
+                  'mkfs.ext4 -qFO ^has_journal $D; sudo blkid -o value -s TYPE $D; chown root:root $D; chmod 600 $D; '
+                  'nvme reset /dev/nvme0; sh "$1" > /dev/null; ls -l $D | cut -d " " -f 3')
         ended = self.ended(script, TOP / 'examples/provision.sh')
-        self.ends(ended, 0, b'Success formatting namespace:1\nset-feature:0x06 (Volatile Write Cache), value:00000000, cdw12:00000000, save:0\n'
+        self.ends(ended, 0, b'Success formatting namespace:1\n'
+                  b'set-feature:0x06 (Volatile Write Cache), value:00000000, cdw12:00000000, save:0\n'
                   b'64\next4\nroot\n', b'')
 
     def test_ioctls(self):
@@ -54,9 +60,9 @@ class Root(ModelCase):
     def test_no_rights_are_gained(self):
         secret = self.file('secret', b'secret\n')
         secret.chmod(0o600)
-        script = ('cat "$1"; echo changed > "$1"; chmod 666 "$1"; chown 0:0 "$1"; mount -t tmpfs none /mnt; unshare -r true; '
-                  'setpriv --reuid=1 true; mknod /dev/x b 259 0; echo 1 > /proc/sys/vm/swappiness; : > "$2"; chmod 4755 "$2"; '
-                  'echo end; stat -c %u "$2"')
+        script = ('cat "$1"; echo changed > "$1"; chmod 666 "$1"; chown 0:0 "$1"; mount -t tmpfs none /mnt; '
+                  'unshare -r true; setpriv --reuid=1 true; mknod /dev/x b 259 0; echo 1 > /proc/sys/vm/swappiness; '
+                  ': > "$2"; chmod 4755 "$2"; echo end; stat -c %u "$2"')
         ended = self.ended(script, secret, self.folder / 'own')
         self.ends(ended, 0, b'end\n0\n' if IS_ROOT else b'secret\nend\n0\n')
         self.assertEqual(len(ended.err.splitlines()), 10 if IS_ROOT else 6, ended)
@@ -68,6 +74,7 @@ class Root(ModelCase):
         """For root, the option changes nothing."""
         if not IS_ROOT:
             self.skipTest('root alone')
-        for script in 'id; grep Cap /proc/self/status; cat /proc/self/uid_map; echo $PATH', 'stat -c %u:%a /etc/shadow /dev/nvme0n1':
+        for script in ('id; grep Cap /proc/self/status; cat /proc/self/uid_map; echo $PATH',
+                       'stat -c %u:%a /etc/shadow /dev/nvme0n1'):
             with self.subTest(script):
                 self.ends(self.shell(script, options=['--root']), 0, self.shell(script).out, b'')

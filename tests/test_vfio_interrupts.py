@@ -10,7 +10,8 @@ import time
 from tests.as_client import (
     BAR, BIND, BIND_UNMASK, MASK, MESSAGES, MESSAGE_CONTROL, PIN, REGION_WRITE, SET_IRQS, STATUS, UNBIND, UNMASK,
     WANTS_NONE)
-from tests.driver import COMMAND, CSTS, HEAD, IDENTIFY, MASTER, NO_INTERRUPT, PAGE, TAIL, counter, is_raised, memory_file
+from tests.driver import (
+    COMMAND, CSTS, HEAD, IDENTIFY, MASTER, NO_INTERRUPT, PAGE, TAIL, counter, is_raised, memory_file)
 from tests.modelled import is_there
 from tests.served import EINVAL, Served
 from tests.support import DEMO, LIMIT, left_running, until

@@ -229,8 +229,8 @@ class Waiting(Served):
         self.assertIn(0, outcomes)
 
     def mapped(self):
-        """Returns how many pieces of memory a client could map, or 0 if the server says that it takes nobody. All of them
-        are there."""
+        """Returns how many pieces of memory a client could map, or 0 if the server says that it takes nobody. All of
+        them are there."""
         guest = self.client()
         guest.say(VERSION, bytes(4))
         ready = select.select([guest.socket, self.server.hears], [], [], LIMIT)[0]

@@ -108,7 +108,8 @@ class Hung(WaitingCase):
         """Waits until all shells were started and only so many of them still open a file, and makes one."""
         def are_hung():
             shells = {*left_running()} & {*processes('comm', lambda text: text == b'sh\n')}
-            opening, waiting = ({*processes('syscall', lambda text: text.startswith(call))} for call in (b'257 ', b'130 '))
+            opening, waiting = ({*processes('syscall', lambda text: text.startswith(call))}
+                                for call in (b'257 ', b'130 '))
             return len(shells & opening) == count and shells & waiting
         self.assertTrue(until(are_hung))
         (self.folder / begun).touch()
@@ -273,7 +274,8 @@ class Processes(WaitingCase):
                 reader, writer = os.pipe()
                 command = self.command('sh', '-c', 'while nvme id-ctrl /dev/nvme0 > /dev/null; do :; done',
                                        options=['--trace', '--refuse', 'format=0x2002'])
-                process = subprocess.Popen([*user, *command], stderr=writer, stdout=subprocess.DEVNULL, env=environment())
+                process = subprocess.Popen([*user, *command], stderr=writer, stdout=subprocess.DEVNULL,
+                                           env=environment())
                 self.addCleanup(process.kill)
                 self.assertTrue(until(lambda: not select.select([], [writer], [], 0)[1]), 'the pipe is never full')
                 process.terminate()
@@ -310,7 +312,8 @@ class Processes(WaitingCase):
         user = 'setpriv', '--reuid=54400', '--regid=54400', '--clear-groups'
         taker = subprocess.Popen([*user, 'python3', '-c', 'import ctypes, signal\n'
                                   'while ctypes.CDLL(None).inotify_init1(0) >= 0: pass\n'
-                                  'print("full", flush=True)\nsignal.pause()'], stdout=subprocess.PIPE, env=environment())
+                                  'print("full", flush=True)\nsignal.pause()'], stdout=subprocess.PIPE,
+                                 env=environment())
         self.addCleanup(taker.kill)
         self.assertEqual(taker.stdout.readline(), b'full\n')
         ended = run(*user, *self.command('true'))

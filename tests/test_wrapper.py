@@ -167,7 +167,8 @@ class Builds(Copy):
         # a line on the terminal changes, and an interrupted build says what is kept
         build = Running(self.command, '--build', terminal=True, env=self.env)
         total = len(run('tools/crates').out.splitlines())
-        line = rb'\x1b\[Knvme-script: (?!0 min 0 s)\d+ min \d+ s: 0 of %d crates are built; under way: nv_bits \(3 of 7 ' % total
+        line = (rb'\x1b\[Knvme-script: (?!0 min 0 s)\d+ min \d+ s: 0 of %d crates are built; under way: nv_bits '
+                rb'\(3 of 7 ') % total
         self.assertTrue(until(lambda: (build.hear(1), re.search(line, build.heard))[1]), build.heard)
         self.assertNotIn(b'building', build.heard)
         self.assertLess(max(map(len, build.heard.split(b'\x1b[K'))), 80)
