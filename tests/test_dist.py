@@ -39,6 +39,8 @@ WANTED = {
                                'usr/share/doc/libnvme-controller-dev/examples/bench.c',
                                'usr/share/doc/libnvme-controller-dev/examples/bench.sv'],
     'python3-nvme-controller': ['usr/lib/python3/dist-packages/nvme_controller.py']}
+# What is in DEBIAN besides control and md5sums.
+MEMBERS = {'libnvme-controller-dev': ['shlibs', 'triggers'], 'python3-nvme-controller': ['postinst', 'prerm']}
 
 
 @functools.lru_cache(maxsize=None)
@@ -52,8 +54,8 @@ def made(number):
 
 def dist(number=0):
     """Returns the folder of the packages, if all that is packed was built."""
-    if shutil.which('dpkg-deb') is None:
-        raise unittest.SkipTest('there is no dpkg-deb')
+    if shutil.which('dh_builddeb') is None:
+        raise unittest.SkipTest('there is no debhelper')
     into, ended = made(number)
     if b'there is no proved' in ended.err:
         raise unittest.SkipTest(ended.err.decode().splitlines()[0])
@@ -255,6 +257,9 @@ class Debian(Packages):
                 for path in *WANTED[name], *(f'{documents}/{file}' for file in ('PROVED', 'copyright', 'changelog.gz')):
                     self.assertTrue((root / path).is_file(), f'{name} has no {path}')
                 self.assertIn('No licence has been given', (root / documents / 'copyright').read_text())
+                self.assertEqual({path.name for path in (root / 'DEBIAN').iterdir()},
+                                 {'control', 'md5sums', *MEMBERS.get(name, ())})
+                self.ends(run('md5sum', '--check', '--quiet', 'DEBIAN/md5sums', cwd=root), 0, b'', b'')
         self.assertEqual(set(roots()), set(WANTED))
         self.assertIn('No licence has been given', (unpacked() / 'share/doc/nvme-script/copyright').read_text())
 
@@ -314,8 +319,10 @@ class Debian(Packages):
             with self.subTest(path.name):
                 is_page = path.name != 'changelog.gz'
                 self.assertIn(f'\n.Os nvme-script {VERSION}\n' if is_page else f'nvme-script ({VERSION}) ', text)
-        development = roots()['libnvme-controller-dev'] / LIBRARIES
-        self.assertIn(f'\nVersion: {VERSION}\n', (development / 'pkgconfig/nvme_controller.pc').read_text())
+        development = roots()['libnvme-controller-dev']
+        self.assertIn(f'\nVersion: {VERSION}\n', (development / LIBRARIES / 'pkgconfig/nvme_controller.pc').read_text())
+        self.assertEqual((development / 'DEBIAN/shlibs').read_text(),
+                         f'libnvme_controller {VERSION.split(".")[0]} libnvme-controller-dev (>= {VERSION})\n')
         self.assertIn(f'\nThis is version {VERSION}.\n'.encode(), run(installed(), '--help').out)
 
     def test_pkg_config_of_debian(self):
