@@ -281,12 +281,6 @@ class Machines(MachineCase):
             self.assertEqual((self.folder / 'kept').read_bytes(), b'kept\n')
             (self.folder / 'kept').unlink()
 
-    def test_what_is_shown(self):
-        # of /sys, what this machine has of these folders
-        script = ('for f in /sys/fs/cgroup /sys/kernel/mm /sys/class/dmi /sys/devices/virtual/dmi; do '
-                  'ls -A $f 2> /dev/null | sed 1q; done')
-        self.ends(self.shell(script), 0, run('sh', '-c', script).out, b'')
-
     def test_devices_that_are_added(self):
         for machine, user in self.users():
             # (a device that may be added is elsewhere, one is of blocks, and others have numbers beside the lists)

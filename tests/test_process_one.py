@@ -4,6 +4,7 @@ which a command could change something outside that isn't a file: keys, control 
 import os
 import pathlib
 import re
+import shlex
 import subprocess
 import unittest
 
@@ -244,6 +245,17 @@ class Outside(ModelCase):
                   'echo made && rmdir /mnt/made; done; echo end\'')
         if IS_ROOT:
             self.assertEqual(run(*NOBODY, *self.command('sh', '-c', change)).out, b'end\n')
+
+    def test_what_is_shown(self):
+        # of /sys, what this machine has of these folders, and what one with a DMI has
+        script = ('for f in /sys/fs/cgroup /sys/kernel/mm /sys/class/dmi /sys/devices/virtual/dmi; do '
+                  'ls -A $f 2> /dev/null | sed 1q; done')
+        with_dmi = shlex.split('bwrap --dev-bind / / --tmpfs /sys/class --dir /sys/class/dmi/id '
+                               '--tmpfs /sys/devices/virtual --dir /sys/devices/virtual/dmi/own')
+        for machine in [], with_dmi + ['--cap-add', 'ALL'] * IS_ROOT:
+            there = run(*machine, 'sh', '-c', script)
+            self.ends(there, 0, err=b'')
+            self.ends(run(*machine, *self.command('sh', '-c', script)), 0, there.out, b'')
 
     def test_namespaces_of_users(self):
         # a user can still make each kind of namespace at once, as bwrap does
