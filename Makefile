@@ -46,7 +46,9 @@ install: stage
 uninstall:
 	@tools/install --remove "$(DESTDIR)$(PREFIX)"
 
-packages: build
+packages:
+	@command -v dh_builddeb > /dev/null || { echo 'packages need debhelper: apt install debhelper' >&2; exit 72; }
+	@$(MAKE) -s build
 	@tools/build nvme_explain
 	@tools/build nvme_trace
 	@tools/build nvme_bench
