@@ -145,8 +145,9 @@ def main(arguments):
     os.environ['UNPROVED'] = '1' if arguments else '0'
     if arguments == ['--quick']:
         from tests import unproved
-        of_sources = ['test_program', 'test_unready', 'test_documents', 'test_gate']
-        print('not run: proofs, wrong bodies,', ', '.join(path.stem for path in paths if path.stem not in of_sources))
+        of_sources = ['test_program.Scripts', 'test_program.Program', 'test_unready', 'test_documents', 'test_gate']
+        modules = {name.partition('.')[0] for name in of_sources}
+        print('not run: proofs, wrong bodies,', ', '.join(path.stem for path in paths if path.stem not in modules))
         names = [*unproved.names(), *of_sources]
     elif arguments:
         sys.exit('usage: python3 -m tests.run [--quick]')

@@ -5,7 +5,9 @@ With UNPROVED=1 in the environment, `rt try` runs the sources on these rows, and
 """
 
 import json
+import pathlib
 import re
+import tempfile
 import typing
 
 from tests.support import DEMO, IS_UNPROVED, TOP, Case, Ended, large_file, process_folder, program, run, run_unproved, shell_line
@@ -186,18 +188,18 @@ def unended_lines():
 
 def scripts():
     """The scripts of tests/scripts, over the file beside the scripts or the built-in file, and over that file in
-    version 2."""
+    version 2. An unproved run has the even ones over the one and the odd ones over the other."""
     for path in sorted(TOP.glob('tests/scripts/*.txt')):
         subsystem = path.with_suffix('.toml') if path.with_suffix('.toml').exists() else DEMO
         version_2 = re.sub(r'(?m)^version = 1$', 'version = 2', subsystem.read_text())
         found = list(scripts_of(path))
         assert found, f'{path} has no script'
-        for script, output, messages, status in found:
-            for options in geometries():
-                yield Row(('--subsystem', str(subsystem), *options), status, messages, output, script, source=path.name)
+        for number, (script, output, messages, status) in enumerate(found):
+            options = [('--subsystem', str(subsystem), *more) for more in geometries()]
             if version_2 != subsystem.read_text():
-                yield Row(('--subsystem', file(subsystem.name, version_2)), status, messages, output, script,
-                          source=path.name)
+                options.append(('--subsystem', file(subsystem.name, version_2)))
+            for words in options[number % len(options):][:1] if IS_UNPROVED else options:
+                yield Row(words, status, messages, output, script, source=path.name)
 
 
 def failing_streams():
@@ -214,8 +216,7 @@ def want_of_memory():
 
 def given_to_rt_try(rows):
     """Runs the unproved sources on rows, and stores how each run ended."""
-    folder = process_folder() / 'cases'
-    folder.mkdir()
+    folder = pathlib.Path(tempfile.mkdtemp(dir=process_folder()))
     for number, row in enumerate(rows):
         (folder / str(number)).write_bytes(row.script)
         if row.arguments:
@@ -255,16 +256,16 @@ def outcome(row):
                err='/dev/full' if row.special == 'failing messages' else None)
 
 
-TABLES = (statuses, refused_arguments, refused_options, geometry_shows_in_no_byte, largest_list, unreadable_files,
-          faults_of_files, examples, unended_lines, scripts, failing_streams, want_of_memory)
+class Rows(Case):
+    """The rows of tables, of which each has a test."""
 
+    tables = ()
 
-def setUpModule():
-    if IS_UNPROVED:
-        given_to_rt_try([row for table in TABLES for row in table() if not row.special])
+    @classmethod
+    def setUpClass(cls):
+        if IS_UNPROVED:
+            given_to_rt_try([row for table in cls.tables for row in table() if not row.special])
 
-
-class Program(Case):
     def check(self, table):
         rows = list(table())
         first = outcome(rows[0]).out if rows[0].output == 'as the first' else None
@@ -275,5 +276,15 @@ class Program(Case):
                 self.ends(outcome(row), row.status, first or row.output, row.messages)
 
 
-for each in TABLES:
-    setattr(Program, f'test_{each.__name__}', lambda self, table=each: self.check(table))
+class Program(Rows):
+    tables = (statuses, refused_arguments, refused_options, geometry_shows_in_no_byte, largest_list, unreadable_files,
+              faults_of_files, examples, unended_lines, failing_streams, want_of_memory)
+
+
+class Scripts(Rows):
+    tables = (scripts,)
+
+
+for rows in Program, Scripts:
+    for each in rows.tables:
+        setattr(rows, f'test_{each.__name__}', lambda self, table=each: self.check(table))

@@ -1,27 +1,25 @@
 """Runs drivers, and scripts and requests that reset a controller, over buses whose RDY comes late or never. Such a bus
-breaks its contract, so no proved program can have one. The program unready.rt.txt, which has such buses, is added to a
-copy of the sources and run by `rt try`."""
+breaks its contract, so no proved program can have one. The module unready.rt.txt, which has such buses, is added to the
+tests of a copy of nv_tests, which `rt try` runs. Without proofs, these run the scripts of nv_failing_tests too."""
 
 import shutil
 
-from tests.support import TOP, Case, copy_sources, run_unproved
+from tests.support import IS_UNPROVED, TOP, copy_sources
+from tests.unproved import Tested
 
 
-class Unready(Case):
-    def test_at_most_16_reads(self):
+class Unready(Tested):
+    def test_with_those_of_nv_tests(self):
         copy_sources(self.folder)
-        with open(self.folder / 'crates.txt', 'a') as crates:
-            crates.write('unready: nv_host nv_bus nv_subsystem nv_controller nv_driver nv_script nv_serve\n')
-        crate = self.folder / 'crates/unready'
-        (crate / 'src').mkdir(parents=True)
-        shutil.copy(TOP / 'tests/unready.rt.txt', crate / 'src/main.rt')
-        ended = run_unproved(crate)
-        # which RDY is late, the read at which it is right, and the result: a run and a server end if a controller isn't
-        # ready, and a list, like a reset, is answered with 12 bytes
-        in_time, too_late = ((1, 1), (16, 16)), ((17, 16), (4294967295, 16))
-        wanted = [f'{call} {rdy} {at}: {reads} reads{end}' for rdy in (0, 1) for call, ends in (
-            ('bring_up', ('', ', no ready')), ('reset', ('', ', no ready')),
-            ('run', (', 2 lines, status 0', ', 1 lines, no ready')),
-            ('serve', (', 24 bytes, done', ', 12 bytes, no ready')))
-            for rows, end in zip((in_time, too_late), ends) for at, reads in rows]
-        self.assertEqual(sorted(ended.out.decode().splitlines()), sorted(wanted), ended)
+        crates, crate = self.folder / 'crates.txt', self.folder / 'crates/nv_tests'
+        crates.write_text(crates.read_text().replace('\nnv_tests: ', '\nnv_tests: nv_serve '))
+        added = [TOP / 'tests/unready.rt.txt']
+        if IS_UNPROVED:
+            added += [TOP / 'tests/cut_short.rt.txt', *(TOP / 'crates/nv_failing_tests/src').glob('[!m]*.rt'),
+                      TOP / 'crates/nv_failing_tests/src/memory.rt']
+        with open(crate / 'src/lib.rt', 'a') as library:
+            for path in added:
+                name = path.name.partition('.')[0]
+                shutil.copy(path, crate / f'src/{name}.rt')
+                library.write(f'#[cfg(test)]\nmod {name};\n')
+        self.check_crate(crate)

@@ -1,5 +1,5 @@
-"""Checks the unproved sources: runs the tests of each crate and the program nv_failing_tests by `rt try`, and checks the
-layout of the files. `python3 -m tests.run --quick` runs this."""
+"""Checks the unproved sources: runs the tests of each crate by `rt try`, and checks the layout of the files.
+`python3 -m tests.run --quick` runs this."""
 
 import re
 
@@ -15,13 +15,13 @@ CRATES = [crate for crate in sorted((TOP / 'crates').iterdir()) if tests_written
 
 
 def names():
-    """Returns the names of all tests, which run side by side."""
-    return ['unproved.Programs.test_output', 'unproved.Programs.test_reads_and_messages',
-            *(f'unproved.Tests.test_{crate.name}' for crate in CRATES), 'unproved.Layout']
+    """Returns the names of all tests, which run side by side. (test_unready runs those of nv_tests.)"""
+    return [*(f'unproved.Tests.test_{crate.name}' for crate in CRATES if crate.name != 'nv_tests'), 'unproved.Layout']
 
 
-class Tests(Case):
-    def check(self, crate):
+class Tested(Case):
+    def check_crate(self, crate):
+        """Runs the tests of a crate, each of which is a row."""
         ended = run_unproved(crate, '--test')
         text = ended.out.decode()
         said = ended.line + '\n' + re.sub(r'(?m)^test \S+ \.\.\. ok\n', '', text) + ended.err.decode(errors='replace')
@@ -34,26 +34,12 @@ class Tests(Case):
         self.assertEqual(len(told), max(tests_written(crate), int(found.group(1)) if found else 0), said)
 
 
+class Tests(Tested):
+    """The tests of each crate."""
+
+
 for tested in CRATES:
-    setattr(Tests, f'test_{tested.name}', lambda self, crate=tested: self.check(crate))
-
-
-class Programs(Case):
-    """The program nv_failing_tests, whose kinds of failures are tried side by side: each letter of its input is one."""
-
-    def check(self, letters):
-        crate = TOP / 'crates/nv_failing_tests'
-        kinds = {'reads': b'r', 'output': b'o', 'messages': b'm'}
-        wanted = [line for line in (crate / 'stdout').read_text().splitlines(True)
-                  if ' cut by ' not in line or kinds[line.split()[4].rstrip(':')] in letters]
-        ended = run_unproved(crate, source=letters)
-        self.ends(ended, 0, ''.join(wanted).encode())
-
-    def test_output(self):
-        self.check(b'o')
-
-    def test_reads_and_messages(self):
-        self.check(b'rm')
+    setattr(Tests, f'test_{tested.name}', lambda self, crate=tested: self.check_crate(crate))
 
 
 class Layout(Case):

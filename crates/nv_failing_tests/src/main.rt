@@ -39,14 +39,14 @@ fn cut_each(rt: &HostRuntime, cases: &[Case], letter: u8) -> io::Result<bool> {
     let mut is_right = letter != b'r' || reads::last_read_is_a_fault(rt.alloc())?;
     for case in cases {
         let (what, is_left) = match letter {
-            b'r' => ("reads", reads::cut_each(rt.alloc(), case)?),
+            b'r' => ("reads", reads::cut_each(rt.alloc(), case, 1)?),
             b'o' => (
                 "output",
-                writes::cut_each(rt.alloc(), case, Stream::Output)?,
+                writes::cut_each(rt.alloc(), case, Stream::Output, 1)?,
             ),
             _ => (
                 "messages",
-                writes::cut_each(rt.alloc(), case, Stream::Messages)?,
+                writes::cut_each(rt.alloc(), case, Stream::Messages, 1)?,
             ),
         };
         is_right = is_right && is_left;

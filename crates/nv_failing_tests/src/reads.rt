@@ -38,11 +38,13 @@ fn cut_at(alloc: Global, case: &Case, most: usize, call: u64) -> Result<Left, Al
 /// An upper bound of the reads of a run.
 const MOST_CALLS: u64 = 1000;
 
-/// Runs a case's script once for each of its reads, which fails, and once without a failure. Returns
-/// whether each run left what it should.
-pub(crate) fn cut_each(alloc: Global, case: &Case) -> Result<bool, AllocError> {
+/// Runs a case's script once for each of its reads of this step, which fails, and once without a
+/// failure. Returns whether each run left what it should.
+pub(crate) fn cut_each(alloc: Global, case: &Case, step: usize) -> Result<bool, AllocError>
+    requires { 0 < step }
+{
     let most = if case.script.len() > 1000 { 97 } else { 1 };
-    for call in 0..MOST_CALLS {
+    for call in (0..MOST_CALLS).step_by(step) {
         let left = cut_at(alloc, case, most, call)?;
         if left != Left::Beginning {
             return Ok(left == Left::Whole && call > 10);

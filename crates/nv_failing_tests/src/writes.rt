@@ -1,7 +1,7 @@
 //! A write that fails at each call: the texts of all earlier lines are complete, a part of the
 //! current line's text is written from its start on, and the line has been executed.
 
-ghost use Rattle.std.specs.Prelude.{◌≡◌, false};
+ghost use Rattle.std.specs.Prelude.{◌≡◌, ◌<◌, false};
 
 use crate::case::{Case, Stream};
 use crate::cut_sink::CutSink;
@@ -83,12 +83,19 @@ fn cut_after(
 /// An upper bound of the writes of a run.
 const MOST_CALLS: u64 = 1000;
 
-/// Runs a case's script once for each write to a stream, which fails, and once without a failure.
-/// Returns whether each run left what it should.
-pub(crate) fn cut_each(alloc: Global, case: &Case, stream: Stream) -> Result<bool, AllocError> {
+/// Runs a case's script once for each write of this step to a stream, which fails, and once without
+/// a failure. Returns whether each run left what it should.
+pub(crate) fn cut_each(
+    alloc: Global,
+    case: &Case,
+    stream: Stream,
+    step: usize,
+) -> Result<bool, AllocError>
+    requires { 0 < step }
+{
     let whole = case.text(alloc, stream, case.lines.len())?;
     let most = if whole.len() > 1000 { 501 } else { 7 };
-    for calls in 0..MOST_CALLS {
+    for calls in (0..MOST_CALLS).step_by(step) {
         let left = cut_after(alloc, case, stream, most, calls)?;
         if left != Left::Beginning {
             return Ok(left == Left::Whole);
