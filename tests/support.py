@@ -274,6 +274,16 @@ class Running:
         """Waits until what was read has this text in it."""
         self.waits(lambda: text in self.heard, text, limit)
 
+    def waits_for_more(self):
+        """Waits until the command has read what was said, and sleeps in a read of its input."""
+        call = pathlib.Path(f'/proc/{self.process.pid}/syscall')
+
+        def is_waiting():
+            has_read = not any(fcntl.ioctl(self.speaks, termios.FIONREAD, bytes(4)))
+            return has_read and call.read_bytes().startswith(b'0 0x0 ')
+        if not until(is_waiting):
+            raise AssertionError(f'{self.line}\nthe command reads no more')
+
     def waits(self, condition, text, limit):
         end = time.monotonic() + limit
         while not condition():

@@ -347,7 +347,7 @@ class Random(CallCase):
 
 class Times(CallCase):
     def test_times(self):
-        # (a few microseconds; this finds what takes a hundred times as long)
+        # (a few microseconds; this finds what takes a hundred times as long, however busy the machine is)
         for ended in self.as_users('"$1" "$2/$$-$(id -u)"', static_program('times'), self.folder):
             self.ends(ended, 0, err=b'')
             self.assertLess(max(map(float, ended.out.split()[1::2])), 1000, ended)

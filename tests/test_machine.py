@@ -387,9 +387,10 @@ class Machines(MachineCase):
 
     def test_eight_at_once(self):
         with contextlib.closing(Machine(self, 'files')) as machine:
-            script = ('for i in 1 2 3 4 5 6 7 8; do "$model" sh -c "echo $i > /dev/nvme0n1; sleep 0.5; '
+            script = ('for i in 1 2 3 4 5 6 7 8; do "$model" sh -c "echo $i > /dev/nvme0n1; : > $place/wrote-$i; '
+                      'until test \\$(ls $place | grep -c wrote-) = 8; do sleep 0.1; done; '
                       'echo \\$(head -c 1 /dev/nvme0n1)" & done; wait')
-            ended = run(*machine.enter, 'sh', '-c', script, env={'model': installed()})
+            ended = run(*machine.enter, 'sh', '-c', script, env={'model': installed(), 'place': self.folder})
             self.assertEqual(sorted(ended.out.split()), [b'%d' % number for number in range(1, 9)], ended)
             machine.is_unchanged()
 

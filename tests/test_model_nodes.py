@@ -7,11 +7,9 @@ import subprocess
 import sys
 import unittest
 
-from tests.modelled import PROGRAMS, WARNINGS, ModelCase, installed, static_program
+from tests.modelled import CUT, PROGRAMS, WARNINGS, ModelCase, installed, static_program
 from tests.support import IS_ROOT, TOP, USERS, large_file, run
 
-# Waits until what was written past the end of a node is cut off.
-CUT = 'until test $(busybox wc -c < /dev/nvme0n3) = 4608; do sleep 0.1; done; '
 # What programs/io_commands.py prints.
 IO_ANSWERS = (b'0 ;0 abc;0 abc;0 abc;0 abc;0 ;4285 ;0 ;0 ;4080 ;4080 ;4080 ;4002 ;4002 ;0 ;0 ;0 ;0 ;0 ;4080 ;4002 ;'
               b'4001 ;EINVAL ;EINVAL ;EINVAL ;4080 ;4080 ;0 ;0 ;0 ;0 ;EINVAL ;EFAULT ;EFAULT ;EFAULT ;EINVAL ;')

@@ -1,8 +1,6 @@
 """Talks to nvme-script line by line, through pipes and on a terminal. The output of a line comes before the next line
 is written, and outputs and messages come in the order of the lines."""
 
-import time
-
 from tests.support import Case, Running, program, run
 
 SCRIPT = program('nvme_script')
@@ -26,7 +24,7 @@ class Order(Case):
         talk.comes(b'line 2: no such device\n')
         # a part of a line isn't a line
         talk.say(b'delete-ns /dev/nvme0')
-        self.assertFalse(talk.hear(0.3), talk.heard)
+        talk.waits_for_more()
         talk.say(b' -n 3\n')
         talk.comes(b'delete-ns: Success, deleted nsid:3\n')
         self.ends(talk.end(), 0, b'[   0]:0x3\nline 2: no such device\ndelete-ns: Success, deleted nsid:3\n')
@@ -46,6 +44,6 @@ class FullDevice(Case):
         # the fault ends the run before the script ends
         talk = Running('sh', '-c', 'exec "$0" > /dev/full', SCRIPT)
         talk.say(b'list-ns /dev/nvme0\n')
-        time.sleep(0.5)
+        talk.waits_for_more()
         talk.say(b'list-ns /dev/nvme0\nlist-ns /dev/nvme9\n')
         self.ends(talk.end(), 5, b'nvme-script: write fault\n')

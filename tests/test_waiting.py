@@ -10,8 +10,8 @@ import time
 import unittest
 from signal import SIGCONT, SIGKILL, SIGSTOP
 
-from tests.modelled import (ASKING, DEVICES, HELPERS, KEEPERS, LAUNCHER, PROGRAMS, WARNINGS, ModelCase, do_helpers,
-                            parts, process_folder, signals, works)
+from tests.modelled import (ASKING, CUT, DEVICES, HELPERS, KEEPERS, LAUNCHER, PROGRAMS, WARNINGS, ModelCase,
+                            do_helpers, parts, process_folder, signals, works)
 from tests.support import (IS_ROOT, LIMIT, NOBODY, USERS, Running, environment, left_running, processes, run,
                            until)
 
@@ -127,12 +127,17 @@ class Hung(WaitingCase):
         # changes of /dev wait then, and so does their device, but opening and the end don't
         script = 'python3 "$4" "$1/memory" 2 "$2/started" list'
         rest = ('until test -e "$2/started"; do sleep 0.1; done; rm -f "$2/started"; '
-                'nvme attach-ns /dev/nvme1 -n 1 -c 1 > /dev/null 2>&1 & sleep 2.5; ' +
+                'nvme attach-ns /dev/nvme1 -n 1 -c 1 > /dev/null 2>&1 & '
+                'until test -e "$2/changing"; do sleep 0.1; done; rm -f "$2/changing"; ' +
                 OTHERS.partition('nvme')[0] + 'echo go; sleep 1000')
+
+        def change():
+            self.assertTrue(until(lambda: stat_of(parts()[KEEPERS][0])[0] == 'D'), 'no change of /dev waits')
+            (self.folder / 'changing').touch()
         for way in ways():
             with self.subTest(way=way):
                 copy = self.file('hung_memory.py', (PROGRAMS / 'hung_memory.py').read_bytes())
-                out = self.ends_by_signal(self.mounted(script, rest, way, [copy]))
+                out = self.ends_by_signal(self.mounted(script, rest, way, [copy], meanwhile=change))
                 self.assertEqual(out, b'ready\n10\ngo\n')
 
 
@@ -228,11 +233,10 @@ class Processes(WaitingCase):
         program = ('import ctypes, os\n'
                    'node = os.open("/dev/nvme0n3", os.O_RDWR)\n'
                    'ctypes.CDLL(None).syscall(18, node, b"x", 1, 9999)\n')
-        script = 'python3 -c "$1"; sleep 0.5; step; wc -c < /dev/nvme0n3'
         for user in USERS:
             with self.subTest(user=user):
-                running = self.stepped(script, self.is_idle, user=user, words=[program])
-                self.ends(running.end(), 0, b'step\n4608\n')
+                running = self.stepped(f'python3 -c "$1"; {CUT}step', self.is_idle, user=user, words=[program])
+                self.ends(running.end(), 0, b'step\n')
 
     @unittest.skipUnless(IS_ROOT, 'root alone can take groups')
     def test_many_groups(self):
@@ -332,15 +336,17 @@ class Processes(WaitingCase):
 
     @unittest.skipUnless(IS_ROOT, 'root alone can take the number of a user without processes')
     def test_too_few_processes(self):
-        # a launcher that can't start what it needs says so
+        # a launcher that can't start what it needs says so, and otherwise the command runs
         few = rb'nvme-model: .*: Resource temporarily unavailable(; --no-sandbox runs the command without one)?\n'
-        for count in range(4, 10):
+        enough = []
+        for count in range(2, 16):
             user = ('setpriv', f'--reuid={54321 + count}', '--regid=54321', '--clear-groups', 'bash', '-c',
                     'ulimit -u $1; shift; exec "$@"', 'bash')
             ended = run(*user, str(count), *self.command('nvme', 'list-ns', '/dev/nvme0'))
-            is_enough = ended.status == 0
-            self.ends(ended, 0 if is_enough else 72, b'[   0]:0x1\n[   1]:0x3\n' if is_enough else b'')
-            self.assertRegex(ended.err, b'^$' if is_enough else few + b'$', ended)
+            enough.append(ended.status == 0)
+            self.ends(ended, 0 if enough[-1] else 72, b'[   0]:0x1\n[   1]:0x3\n' if enough[-1] else b'')
+            self.assertRegex(ended.err, b'^$' if enough[-1] else few + b'$', ended)
+        self.assertEqual((enough[0], enough[-1]), (False, True))
 
     def test_many_changes(self):
         # more files are written than the kernel tells while a keeper waits; a node that became longer gets its length

@@ -1,5 +1,5 @@
-/* Prints how long it takes to open a file for reading and for writing, and an ioctl of a node: the median of many
-   calls, in microseconds: times FILE */
+/* Prints how long it takes to open a file for reading and for writing, and an ioctl of a node: the most that the
+   quickest tenth of many calls take, in microseconds: times FILE */
 #include <fcntl.h>
 #include <stdio.h>
 #include <stdlib.h>
@@ -35,7 +35,7 @@ int main(int count, char **words) {
                 return 1;
         }
         qsort(took, COUNT, sizeof *took, order);
-        printf("%s %.1f\n", names[what], took[COUNT / 2]);
+        printf("%s %.1f\n", names[what], took[COUNT / 10]);
     }
     return 0;
 }
