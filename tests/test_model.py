@@ -366,9 +366,11 @@ class Signals(ModelCase):
 
     def end_waiting_bwrap(self):
         """Ends a process of bubblewrap whose parent was killed before it told the process to go on."""
+        def is_idle():
+            left = {*left_running()}
+            return len(left) < 2 and left <= {*processes('stat', lambda text: b' (bwrap) S ' in text)}
         if not until(lambda: not left_running(), 30):
-            others = processes('comm', lambda name: name != b'bwrap\n')
-            self.assertTrue(until(lambda: not {*left_running()} & {*others}), 'not only bubblewrap is left')
+            self.assertTrue(until(is_idle), 'more is left than one idle bubblewrap')
             for number in left_running():
                 with contextlib.suppress(ProcessLookupError):
                     os.kill(number, signal.SIGKILL)
