@@ -170,6 +170,14 @@ class Examples(Case):
         if shutil.which('jq'):
             self.ends(run('sh', '-c', query, cwd=self.folder), 0, b'"0"\n', b'')
 
+    def test_numbers_of_speed(self):
+        """SPEED's command for time measures a line, here a comment."""
+        command, = re.findall(r'(?m)^    (tools/speed --time) ', text_of('docs/SPEED.md'))
+        ended = run('sh', '-c', f'{command} --rounds 1 comment')
+        self.ends(ended, 0, err=b'')
+        self.assertRegex(ended.out, rb'\A\| Line \| Microseconds \|\n\| --- \| --- \|\n'
+                         rb'\| a comment of 48 bytes \| \d+\.\d\d \|\n\Z')
+
     def test_faults_of_subsystem_files(self):
         """Each row of the table shows the fault of the built-in file with one text in place of another."""
         rows = re.findall(r'^\| `(.+?)` \| `(.+?)` \| (?:`(.+?)`)? ?\| .*\|$', text_of('docs/SUBSYSTEM-FILE.md'), re.M)
@@ -266,6 +274,16 @@ class Copies(Case):
         table = subprocess.run([TOP / 'tools/believed', '--page'], capture_output=True, check=True, text=True).stdout
         is_there = f'\n{table}\n' in text_of('docs/dev/PROOFS.md')
         self.assertTrue(is_there, f'docs/dev/PROOFS.md: tools/believed --page prints\n{table}')
+
+    def test_definitions_of_a_call(self):
+        """PROOFS's command prints as many definitions of a call as its table counts."""
+        page = text_of('docs/dev/PROOFS.md')
+        command, crate, call = re.search(r'(?m)^    (tools/believed (\w+) (\w+))$', page).groups()
+        count = re.search(rf'(?m)^\| `{call}` \| `{crate}` \| (\d+) \|', page)[1]
+        ended = run('sh', '-c', command)
+        self.ends(ended, 0, err=b'')
+        said = rf'\A==== [\s\S]*\n==== {count} definitions, over \d+ names of the libraries\n\Z'
+        self.assertRegex(ended.out.decode(), said)
 
     def test_no_public_contract_reaches_inner_definitions(self):
         said = subprocess.run([TOP / 'tools/believed', '--inner'], capture_output=True, check=True, text=True).stdout

@@ -115,6 +115,19 @@ class Installed(Case):
                 wanted = b'2\n' if 'python3' in text else b'2 controllers\n'
                 self.ends(run('sh', '-euc', text, cwd=place, env=env), 0, wanted, b'')
 
+    @unittest.skipUnless(shutil.which('verilator') and shutil.which('pkg-config'), 'there is no verilator')
+    def test_simulation(self):
+        """The commands of EMBEDDING, in a folder with the files of the example."""
+        library()
+        page = (TOP / 'docs/EMBEDDING.md').read_text()
+        commands, = re.findall(r'(?m)(?:^    .*\n)+', page.split('## In a simulation\n')[1].split('\n## ')[0])
+        (self.folder / 'nvme').symlink_to(self.prefix)
+        place = shutil.copytree(self.prefix / 'share/doc/nvme-script/examples/c', self.folder / 'c')
+        ended = run('sh', '-euc', commands, cwd=place, env={'HOME': self.folder})
+        self.assertEqual(ended.status, 0, ended)
+        self.assertIn(b'controllers: 2\nstatus: 00000001\ntaken: 1\ncommand identifier: 5\nphase tag: 1\n'
+                      b'status field: 0000\nserial number: S0\n', ended.out)
+
     def test_manual_pages_have_no_warnings(self):
         pages = [*self.prefix.glob('share/man/man1/*'), TOP / 'docs/nvme_controller.3']
         self.assertGreater(len(pages), 3)

@@ -1,7 +1,6 @@
-"""Tests the library nvme_controller from programs in C, C++, Python and SystemVerilog: the mistakes that its callers
-can make, what it does to their memory, its symbols, the structures of its headers, and the programs of examples/c,
-which print what nvme-script prints. These tests need the library, which the gate or `make library` makes from the
-current sources."""
+"""Tests the library nvme_controller from programs in C, C++ and Python: the mistakes that its callers can make, what it
+does to their memory, its symbols, the structures of its headers, and the programs of examples/c, which print what
+nvme-script prints. These tests need the library, which the gate or `make library` makes from the current sources."""
 
 import json
 import pathlib
@@ -151,8 +150,6 @@ int main(void) {
                                (b'tnvmcap = ', b'tnvmcap = 1 # ', b'capacity')):
             with self.subTest(text):
                 fault = self.file('fault.toml', DEMO.read_bytes().replace(old, new, 1))
-                self.ends(run(program('nvme_script'), '--subsystem', fault), 3, b'',
-                          b'nvme-script: subsystem: ' + text + b'\n')
                 self.ends(run(made, fault), 3, b'', b'bench: ' + text + b'\n')
 
     @unittest.skipUnless(shutil.which('c++'), 'there is no C++ compiler')
@@ -170,15 +167,15 @@ int main() {
 """)
         self.ends(run(self.compile(source, compiler='c++', standard='c++11')), 0, b'', b'')
 
-    @unittest.skipUnless(shutil.which('verilator'), 'there is no verilator')
-    def test_simulation(self):
-        self.ends(run('verilator', '--binary', '--Mdir', self.folder / 'obj', '--top-module', 'bench',
-                      TOP / 'examples/c/bench.sv', TOP / 'examples/c/memory.c', '-CFLAGS', f'-I{self.library}',
-                      '-LDFLAGS', self.library / 'libnvme_controller.a'), 0)
-        ended = run(self.folder / 'obj/Vbench')
-        self.assertEqual(ended.status, 0, ended)
-        self.assertIn(b'controllers: 2\nstatus: 00000001\ntaken: 1\ncommand identifier: 5\nphase tag: 1\n'
-                      b'status field: 0000\nserial number: S0\n', ended.out)
+    def test_speed_of_a_turn(self):
+        """The command of EMBEDDING, in a folder like the repository's, prints how long each call took."""
+        command, = re.findall(r'(?m)^    (cc .* && out/speed)$', (TOP / 'docs/EMBEDDING.md').read_text())
+        (self.folder / 'out').mkdir()
+        (self.folder / 'out/library').symlink_to(self.library)
+        (self.folder / 'examples').symlink_to(TOP / 'examples')
+        ended = run('sh', '-c', command, cwd=self.folder)
+        self.ends(ended, 0, err=b'')
+        self.assertRegex(ended.out, rb'\A(a (command with (a page|none)|register read|copy of a page) +\d+ ns\n){4}\Z')
 
     def test_python_module(self):
         source = self.file('use.py', b"""

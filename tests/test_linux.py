@@ -169,12 +169,12 @@ class Written(UserCase):
                          b"ls: cannot access 'devices/0001:00:00.0/driver': No such file or directory\n"
                          b'sh: 1: echo: echo: I/O error\n', ended)
 
+    @unittest.skipUnless(IS_ROOT, 'root alone can become another user')
     def test_by_other_users(self):
         script = ('for f in /sys/block/nvme0n1/queue/scheduler /sys/block/nvme0n1/uevent /sys/bus/pci/rescan '
                   '/sys/class/nvme/nvme0/reset_controller /sys/class/nvme/nvme0/device/remove; '
                   'do t tee $f < /dev/null; done')
-        if IS_ROOT:
-            self.ends(self.as_users(script)[3], 0, b'Permission denied 1\n' * 5, b'')
+        self.ends(self.as_users(script)[3], 0, b'Permission denied 1\n' * 5, b'')
 
     def test_other_ways_to_write(self):
         # (these are calls that the launcher doesn't see: they fail, and nothing happens)

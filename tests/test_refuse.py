@@ -98,6 +98,7 @@ class Refuse(ModelCase):
         before = self.shell('true', options=[f'--trace={trace}'])
         self.ends(before, 0, b'', b'')
         own = trace.read_text()
+        self.assertIn('nvme0 taken Identify ', own)
         ended = self.shell(script, options=options)
         self.ends(ended, 1, b'/dev/nvme0\n/dev/nvme0n1\n/dev/nvme0n3\n/dev/nvme1\n', b'')
         self.assertEqual(trace.read_text(), own)

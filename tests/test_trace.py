@@ -5,7 +5,7 @@ script's first line traces."""
 
 import re
 
-from tests.support import DEMO, TOP, Case, program, run
+from tests.support import DEMO, TOP, Case, large_file, program, run
 from tests.test_many_lines import REFUSAL, error_text
 
 TRACE, SCRIPT, DEVICE = program('nvme_trace'), program('nvme_script'), program('nvme_device')
@@ -44,12 +44,10 @@ class Scripts(Case):
                 wanted = b''.join(line for line in lines if not line.startswith((b'options ', b'> ')))
                 self.ends(run(TRACE, *options, source=script), 0, wanted, b'')
 
-
     def test_each_of_sixteen_controllers(self):
         # the most that a file can have; `list` sends two Identify commands to each
-        file = 'version = 1\nnn = 1\ntnvmcap = 512\nsubnqn = "n"\n[[format]]\nlbads = 9\n'
-        file += ''.join(f'[[controller]]\ncntlid = {ctrl}\nsn = "S"\nmn = "M"\nfr = "1"\n' for ctrl in range(16))
-        ended = run(TRACE, '--subsystem', self.file('sixteen.toml', file.encode()), source=b'list\n')
+        file = self.file('sixteen.toml', large_file(range(16), []).encode())
+        ended = run(TRACE, '--subsystem', file, source=b'list\n')
         self.ends(ended, 0, err=b'')
         for event in 'taken Identify', 'posted':
             found = re.findall(rf'(?m)^nvme([0-9]+) {event} ', ended.out.decode())

@@ -91,8 +91,8 @@ class Order(Served):
                     machine.write32(0, offset + at, int.from_bytes(data[at:at + 4], 'little'))
             for at in range(0, 0x40, 4):
                 self.assertEqual(client.register(at), machine.read32(0, at), (hex(offset), data, hex(at)))
-        self.assertEqual(client.read(BAR, 0x1000, 16), bytes(16))
-        self.assertEqual(len(client.read(BAR, 0, 0x4000)), 0x4000)
+        wanted = b''.join(machine.read32(0, at).to_bytes(4, 'little') for at in range(0, 0x1000, 4))
+        self.assertEqual(client.read(BAR, 0, 0x4000), wanted.ljust(0x4000, b'\0'))
 
     def test_posted_writes(self):
         # no write gets an answer that doesn't want one, even if it is refused
