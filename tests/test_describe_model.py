@@ -8,7 +8,7 @@ import shutil
 
 from tests.described import MASKS, meaning, random_file, tables_of
 from tests.modelled import ModelCase, installed
-from tests.support import TOP, program, run
+from tests.support import DEMO, TOP, program, run
 from tests.test_subsystem_files import largest
 
 DESCRIBE = TOP / 'nvme-describe'
@@ -195,8 +195,9 @@ class Left(ModelCase):
         # (the page's command keeps what a script prints out of the file)
         keeping = re.search(r"(?m)^    \./nvme-model --subsystem my\.toml sh -c '(.*)' > after\.toml$", page)[1]
         self.file('layout.sh', b"echo said\nnvme set-feature /dev/nvme0 --feature-id 6 --value 0\n")
-        if not (self.folder / 'nvme-describe').exists():
-            (self.folder / 'nvme-describe').symlink_to(DESCRIBE)
+        (self.folder / 'nvme-describe').symlink_to(DESCRIBE)
+        describing = re.search(r'(?m)^    sudo (\./nvme-describe .*) > drive\.toml$', page)[1]
+        self.assertEqual(meaning(self.shell(describing, cwd=self.folder).out.decode()), meaning(DEMO.read_text()))
         kept = self.shell(keeping, cwd=self.folder)
         self.assertEqual(kept.status, 0, kept)
         self.assertTrue(kept.err.startswith(b'said\n'), kept)

@@ -82,6 +82,13 @@ SHOWN = {
         'lsblk -bnro NAME,SIZE,TYPE,LOG-SEC $D; lsblk -n /dev/nvme0n3 | wc -l',
         b'name\n12345678-1234-1234-1234-123456789012\n1024\next4\next4 0x438\n1048576\n512\n0\n4096\nsame\n'
         b'Allocated inode: 12\ninside\nnone\nrefused\nnvme0n1 1048576 disk 512\n1\n'),
+    'a file system that is filled without being mounted': (
+        'mkdir "$1.d"; echo inside > "$1.d/x"; mke2fs -qF -t ext4 -O ^has_journal -d "$1.d" /dev/nvme0n1; '
+        'debugfs -R "cat x" /dev/nvme0n1 2> /dev/null', b'inside\n'),
+    'no uevents': (
+        'udevadm monitor > "$1.m" & until grep -q KERNEL "$1.m"; do sleep 0.1; done; '
+        'nvme detach-ns /dev/nvme0 -n 3 -c 0 > /dev/null; echo change > /sys/block/nvme0n1/uevent; udevadm settle; '
+        'kill $!; grep nvme "$1.m" || echo none', b'none\n'),
 }
 
 
@@ -410,6 +417,15 @@ class Tools(ModelCase):
                     node = '/dev/nvme0n1' if status == '0x4001' or command == 'get-lba-status' else '/dev/nvme0'
                     ended = self.model('nvme', command, node, *more.get(command, '').split())
                     self.assertIn(f'({status})'.encode(), ended.err + ended.out, ended)
+
+    def test_commands_that_nvme_cli_refuses(self):
+        for words, said in (('subsystem-reset /dev/nvme0', b'NVM Subsystem Reset not supported.'),
+                            ('rpmb /dev/nvme0 --cmd=info', b'No RPMB targets are supported by the drive'),
+                            ('discover -t tcp -a 127.0.0.1', b'/dev/nvme-fabrics: No such file or directory'),
+                            ('connect -t tcp -a 127.0.0.1 -n x', b'/dev/nvme-fabrics: No such file or directory')):
+            with self.subTest(words):
+                ended = self.model('nvme', *words.split())
+                self.assertIn(said, ended.out + ended.err, ended)
 
     def test_smartctl(self):
         whole = self.model('smartctl', '-x', '/dev/nvme0')

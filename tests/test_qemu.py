@@ -10,6 +10,7 @@ import lzma
 import os
 import pathlib
 import re
+import shlex
 import shutil
 import signal
 import socket
@@ -17,7 +18,7 @@ import subprocess
 
 from tests.as_qemu import BROKEN
 from tests.modelled import CLIENT, PARTS, ModelCase, installed, is_there
-from tests.support import DEMO, LIMIT, TOP, Case, Running, difference, library, process_folder, run, until
+from tests.support import DEMO, LIMIT, TOP, Case, Running, difference, library, process_folder, run
 
 SCENARIOS = 'configuration', 'registers', 'commands', 'interrupts', 'sections', 'gone'
 SEEDS = range(8)
@@ -337,6 +338,12 @@ def documents(text):
     return found
 
 
+def command_of_page(path):
+    """Returns the words with which QEMU starts over a controller's socket."""
+    text = re.search(r'(?m)^    (qemu-system-x86_64 (?:.*\\\n)+.*) \.\.$', (TOP / 'docs/QEMU.md').read_text())[1]
+    return shlex.split(text.replace('\\\n', '').replace('PATH0', path))
+
+
 def told(error):
     """Returns the fields of an error log entry that are compared, as the program reports them at its end."""
     # (nvme-cli prints an NSID as a signed number)
@@ -393,13 +400,11 @@ class Drivers(ModelCase):
         server = Running(program(), '--vfio-user', '--socket', self.folder / 's', '--subsystem', self.subsystem)
         self.addCleanup(server.process.kill)
         server.comes(b's1\n')
-        device = {'driver': 'vfio-user-pci', 'bus': 'first', 'id': 'own',
-                  'socket': {'type': 'unix', 'path': f'{self.folder}/s0'}}
+        words = command_of_page(f'{self.folder}/s0')
+        device = json.loads(words[-1])
         for nsid in 2, 4:
             machine = Running(
-                'qemu-system-x86_64', '-nodefaults', '-display', 'none', '-no-reboot', '-m', '256M',
-                '-object', 'memory-backend-memfd,id=ram,share=on,size=256M', '-machine', 'q35,memory-backend=ram',
-                '-device', 'pcie-root-port,id=first,chassis=1', '-device', json.dumps(device),
+                *words, '-nodefaults', '-display', 'none', '-no-reboot',
                 '-qmp', f'unix:{self.folder}/monitor,server=on,wait=off', '-serial', f'file:{self.console}',
                 '-serial', 'stdio', '-kernel', kernel()[0], '-initrd', initial_files(),
                 '-append', 'console=ttyS0 panic=-1 no_timer_check plugged')
@@ -435,7 +440,7 @@ class Drivers(ModelCase):
         (self.folder / 'here').mkdir()
         (self.folder / 'here/nvme-model').symlink_to(program())
         running = Running('sh', '-c', commands, cwd=self.folder / 'here', env={'HOME': self.folder})
-        self.assertTrue(until(lambda: (running.hear(1), b'job control turned off' in running.heard)[1]))
+        running.has(b'job control turned off')
         running.say(b'until nvme id-ctrl /dev/nvme0 && nvme id-ctrl /dev/nvme1; do sleep 1; done 2> /dev/null |'
                     b' grep ^sn\necho serials: $(cat /sys/class/nvme/nvme?/serial)\n'
                     b'nvme list-ns /dev/nvme0; dmesg | grep nvme; echo b > /proc/sysrq-trigger\n')
