@@ -5,7 +5,6 @@ agree with the server's in each byte."""
 import importlib.util
 import mmap
 import os
-import select
 import socket
 import struct
 
@@ -131,10 +130,6 @@ class Client:
         except socket.timeout:
             return False
         return True
-
-    def is_silent(self, seconds=0.2):
-        """Returns whether nothing comes for some time."""
-        return not select.select([self.socket], [], [], seconds)[0]
 
 
 def machine_of(place, file=None):

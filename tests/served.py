@@ -4,10 +4,11 @@
 import os
 import pathlib
 import re
+import select
 import signal
 
 from tests.as_client import Client, Guest, machine_of
-from tests.driver import kept
+from tests.driver import is_raised, kept
 from tests.support import Case, Running, left_running, library, until
 from tests.test_qemu import SANITIZERS, program
 
@@ -75,12 +76,20 @@ class Served(Case):
         stat = pathlib.Path(f'/proc/{self.server.process.pid}/stat').read_text()
         return sum(map(int, stat.rpartition(')')[2].split()[11:13])) / os.sysconf('SC_CLK_TCK')
 
-    def slept(self):
-        """Waits until the server sleeps in poll, and returns how often it has slept."""
-        number = self.server.process.pid
-        self.assertTrue(until(lambda: pathlib.Path(f'/proc/{number}/syscall').read_text().startswith('7 ')))
-        return int(re.search(r'(?m)^voluntary_ctxt_switches:\s*(\d+)',
-                             pathlib.Path(f'/proc/{number}/status').read_text())[1])
+    def sleeps(self):
+        """Waits until the server sleeps in poll without a limit, so that it does no more unless something comes."""
+        call = pathlib.Path(f'/proc/{self.server.process.pid}/syscall')
+        self.assertTrue(until(lambda: re.match(r'7 \w+ \w+ 0xffffffff ', call.read_text())))
+
+    def is_silent(self, client):
+        """Returns whether the server answers a client nothing."""
+        self.sleeps()
+        return not select.select([client.socket], [], [], 0)[0]
+
+    def stays_low(self, counter):
+        """Returns whether a counter isn't raised, and the server won't raise it."""
+        self.sleeps()
+        return not is_raised(counter)
 
     def keeps(self, count):
         """Checks how many descriptors the server has. (It closes those of a message after its answer.)"""

@@ -154,7 +154,7 @@ class Hostile(Served):
         listed = bytes(first.at(3 * PAGE, PAGE))
         second = self.client()
         second.say(VERSION, bytes(4))
-        self.assertTrue(second.is_silent())
+        self.assertTrue(self.is_silent(second))
         kept = self.kept()
         first.close()
         self.assertEqual(second.heard()[1], VERSION)

@@ -139,10 +139,10 @@ class Interrupts(Served):
         self.assertTrue(is_raised(pin, LIMIT))
         self.assertEqual(self.driver.set_irqs(MASK, PIN), 0)
         self.put()
-        self.assertFalse(is_raised(pin, 0.1))
+        self.assertTrue(self.stays_low(pin))
         self.driver.set_config(MESSAGE_CONTROL, 1, 2)
         self.assertEqual(self.driver.set_irqs(UNMASK, PIN), 0)
-        self.assertFalse(is_raised(pin, 0.1))
+        self.assertTrue(self.stays_low(pin))
 
     def test_pin_that_was_lowered(self):
         # an access lowers the pin before the processor has seen it: it is raised again, but only every 10 milliseconds
@@ -188,7 +188,7 @@ class Interrupts(Served):
         self.driver.take()
         self.put()
         self.assertTrue(is_raised(pin))
-        self.assertFalse(is_raised(pin, 0.1))
+        self.assertTrue(self.stays_low(pin))
 
     def test_idle_pin(self):
         # completions that nobody takes raise the pin once, and nothing wakes the server while it is masked or disabled
@@ -197,10 +197,7 @@ class Interrupts(Served):
         self.put()
         self.assertTrue(is_raised(pin))
         for _ in range(2):
-            self.assertFalse(is_raised(pin, 0.3))
-            before = self.slept()
-            self.assertFalse(is_raised(pin, 0.3))
-            self.assertEqual(self.slept(), before)
+            self.assertTrue(self.stays_low(pin))
             self.driver.set_config(COMMAND, MASTER | NO_INTERRUPT, 2)
             self.assertEqual(self.driver.set_irqs(UNMASK, PIN), 0)
 
@@ -213,7 +210,7 @@ class Interrupts(Served):
         self.assertEqual(machine.ended, 2000)
         # (there is one for what the handler takes at a time, and others come only every 10 milliseconds)
         self.assertLess(machine.interrupts, machine.handled + milliseconds / 9)
-        self.assertFalse(is_raised(pin, 0.3))
+        self.assertTrue(self.stays_low(pin))
 
     def test_calls_of_the_kernel(self):
         # two doorbells that come together cost the server three: it waits, sees them, and takes them as it interrupts
@@ -252,7 +249,7 @@ class Interrupts(Served):
         self.assertTrue(is_raised(pin, LIMIT))
         self.driver.take()
         os.write(seen, struct.pack('=Q', 1))
-        self.assertFalse(is_raised(pin, 0.3))
+        self.assertTrue(self.stays_low(pin))
 
     def test_invalid_requests(self):
         kept = self.kept()

@@ -122,7 +122,7 @@ class Waiting(Served):
             self.goes_on()
             client = self.client()
             client.say(VERSION, bytes(4))
-            self.assertTrue(client.is_silent())
+            self.assertTrue(self.is_silent(client))
             page.close()
             self.assertEqual(client.heard()[1], VERSION)
             client.close()
@@ -162,7 +162,7 @@ class Waiting(Served):
         for number in self.receivers():
             os.kill(number, signal.SIGSTOP)
         client.say(DMA_MAP, struct.pack('<IIQQQ', 32, 3, 0, 0, PAGE), [memory_file(PAGE)])
-        self.assertTrue(client.is_silent())
+        self.assertTrue(self.is_silent(client))
         for number in self.receivers():
             os.kill(number, signal.SIGKILL)
         self.assertTrue(client.is_closed())
