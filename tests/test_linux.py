@@ -283,6 +283,11 @@ class Lists(UserCase):
                           b' 259   524288       1024 nvme0n1\n 259   525312       1024 nvme1n1\n'
                           b'259 524288 nvme0n1\n259 525312 nvme1n1\nBlock devices:\n259 blkext\n2\n1\n', b'')
 
+    def test_of_modules(self):
+        # the machine's
+        names = 'cat /proc/modules 2> /dev/null | cut -d " " -f 1'
+        self.ends(self.shell(names), 0, run('sh', '-c', names).out, b'')
+
     @unittest.skipUnless(IS_ROOT, 'root alone can mount without a user namespace')
     def test_of_another_proc(self):
         place = self.folder / 'proc'

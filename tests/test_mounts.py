@@ -17,6 +17,10 @@ mv /dev/open/node /dev/open/kept && mv /dev/open/other /dev/open/node
 PATH=${PATH#*:} exec bwrap "$@"
 '''
 
+# What --device adds, besides /dev/net/tun.
+ADDED = {'a terminal': (4, 1), 'a serial port': (188, 0), 'video': (81, 0), 'sound': (116, 1), 'graphics': (226, 0),
+         'fuse': (10, 229), 'kvm': (10, 232), 'vhost-net': (10, 238), 'vhost-vsock': (10, 241)}
+
 # Mounts a file system whose server never answers, and runs a command there for five minutes at most.
 HANGS = '''import ctypes, os, subprocess, sys
 libc = ctypes.CDLL(None, use_errno=True)
@@ -68,9 +72,11 @@ class Mounts(MachineCase):
                         self.ends(ended, 72, b'')
                         self.assertRegex(ended.err, rb"nvme-model: /dev/open/node\S* isn't the device that it was")
                 # a device that may be added can take its place
-                with self.subTest('fuse', user=user):
-                    ended = self.exchange(machine, user, lambda path: os.mknod(path, stat.S_IFCHR, os.makedev(10, 229)))
-                    self.ends(ended, 0, b'a:e5\n/dev/open/node\nend\n')
+                for name, number in ADDED.items():
+                    with self.subTest(name, user=user):
+                        device = os.makedev(*number)
+                        ended = self.exchange(machine, user, lambda path: os.mknod(path, stat.S_IFCHR, device))
+                        self.ends(ended, 0, b'%x:%x\n/dev/open/node\nend\n' % number)
 
     def test_mounts_that_are_hidden(self):
         ways = {'a folder': 'mount --bind "$place/gone" "$place/gone" && mount --bind "$place/gone" "$place/gone"',
