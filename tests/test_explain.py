@@ -54,4 +54,8 @@ class Explain(Case):
     def test_scripts(self):
         # a script without a fault has no explanation, and nothing of it is carried out
         self.ends(self.explain(script=b'# nothing\n\nnvme list -o json\nid-ns /dev/nvme0n9\n'), 0, b'', b'')
-        self.ends(self.explain('--subsystem', DEMO, script=b'list-ns /dev/nvme2'), 1)
+        # (this file has one controller)
+        one = TOP / 'examples/features.toml'
+        ended = self.explain('--subsystem', one, script=b'list-ns /dev/nvme0\nlist-ns /dev/nvme1')
+        self.ends(ended, 1, err=b'')
+        self.assertRegex(ended.out, rb"\Aline 2: no such device: '/dev/nvme1' is .*\n\Z")
