@@ -72,11 +72,10 @@ class Names(UserCase):
                   't mkdir "$HOME/folder"; t rm -r "$HOME/other" "$HOME/folder"; '
                   'ls -A /sys /sys/class/nvme/nvme0 | grep new; ls /dev/nvme0 /dev/nvme0n1 /dev/ng0n1')
         self.needs('busybox')
-        os.environ['HOME'] = str(self.folder)
         denied, permitted = 'Permission denied 1\n', 'Operation not permitted 1\n'
         rest = ('No such file or directory 1\nFile exists 1\nFile exists 1\n 0\n 0\n 0\n'
                 '/dev/ng0n1\n/dev/nvme0\n/dev/nvme0n1\n')
-        for place, ended in enumerate(self.as_users(script)):
+        for place, ended in enumerate(self.as_users(f'HOME={self.folder}; {script}')):
             is_root = place == 0 or (IS_ROOT and place == 1)
             wanted = denied + 14 * (permitted if is_root else denied) + 2 * denied + rest
             self.ends(ended, 0, wanted.encode(), b'')
