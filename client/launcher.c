@@ -235,8 +235,6 @@ static void begin_inside(void) {
         fail("the folder %s isn't there for the command: run it from another one", here);
     must(close_range(STDERR_FILENO + 1, WORDS, 0), "close_range");
     must(close_range(FILES + options.subsystem_count, ~0U, 0), "close_range");
-    if (!options.trace_file)
-        close(TRACE_TO);
 }
 
 /* Passes the signals that come to this process on to the launcher, which ends when the command does, and returns

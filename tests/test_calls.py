@@ -283,15 +283,20 @@ class Groups(CallCase):
             ways.append(('USR1', f'({old} 37 0 10) > /dev/null 2>&1'))  # (which gets the signal too)
         for trap, way in ways:
             child = f'trap "echo child; exit" {trap}; : > "$1"; while :; do sleep 0.1; done'
-            inside = (f'trap "echo inside" {trap}; sh -c \'{child}\' sh "$1" & until test -e "$1"; do sleep 0.1; done; '
-                      f'{way}; {"kill -KILL $!; " * (way == "kill -0 0")}wait; wait; echo end')
+            # (a process of another group)
+            other = f'trap "echo other" {trap}; trap exit TERM; : > "$1.other"; while :; do sleep 0.1; done'
+            inside = (f'trap "echo inside" {trap}; sh -c \'{child}\' sh "$1" & child=$!; '
+                      f'setsid sh -c \'{other}\' sh "$1" & until test -e "$1" -a -e "$1.other"; do sleep 0.1; done; '
+                      f'{way}; {"kill -KILL $child; " * (way == "kill -0 0")}wait $child; wait $child; '
+                      'kill $!; wait $!; echo end')
             # (a shell can't trap a signal that nohup lets it ignore)
             begin = ('env', '--default-signal=HUP', 'setsid', '-w', 'sh', '-c',
                      'trap "echo outside" USR1 HUP TERM; "$@"; :')
             for user in USERS:
                 with self.subTest(way, user=user):
                     ready = self.folder / 'ready'
-                    ready.unlink(missing_ok=True)
+                    for path in ready, self.folder / 'ready.other':
+                        path.unlink(missing_ok=True)
                     ended = run(*begin, 'sh', *user, *self.command('sh', '-c', inside, 'sh', ready))
                     wanted = b'end\n' if way == 'kill -0 0' else b'child\nend\ninside\n'
                     self.assertEqual((ended.status, sorted(ended.out.split())), (0, sorted(wanted.split())), ended)

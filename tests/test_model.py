@@ -398,8 +398,8 @@ class Signals(ModelCase):
     def test_typed_at_a_terminal(self):
         for script, key, status in (('echo ready; exec sleep 1000', b'\x03', 130),
                                     ('echo ready; exec sleep 1000', b'\x1c', 131),
-                                    ('trap "test -c /dev/nvme0 && exit 5" INT; echo ready; while :; do sleep 0.1; done',
-                                     b'\x03', 5)):
+                                    ('trap "nvme list-ns /dev/nvme0 > /dev/null && exit 5" INT; echo ready; '
+                                     'while :; do sleep 0.1; done', b'\x03', 5)):
             with self.subTest(script, key=key):
                 running = Running(*self.command('sh', '-c', script), terminal=True)
                 running.comes(b'ready\n')

@@ -120,7 +120,13 @@ class Confined(ModelCase):
         def look():
             found = {*left_running()} & {*processes('comm', lambda name: name == b'init\n')}
             self.assertEqual([os.listdir(f'/proc/{number}/fd') for number in found], [[]])
-        self.ends(self.stepped('step', look).end(), 0, b'step\n')
+            # what its caller has open, only the process that the caller started keeps open
+            keeping = {pathlib.Path(f'/proc/{number}/comm').read_text() for number in left_running()
+                       for file in pathlib.Path(f'/proc/{number}/fd').iterdir() if os.readlink(file) == str(kept)}
+            self.assertEqual(keeping, {'nvme-model\n'})
+        kept = self.file('kept', b'')
+        opens = 'bash', '-c', 'for n in {3..220}; do eval "exec $n< $0"; done; exec "$@"', kept
+        self.ends(self.stepped('step', look, user=opens).end(), 0, b'step\n')
 
     def look(self):
         """Looks at what is confined, and at what the device has open."""
