@@ -14,6 +14,13 @@ from tests.support import IS_ROOT, TOP, USERS, large_file, run
 IO_ANSWERS = (b'0 ;0 abc;0 abc;0 abc;0 abc;0 ;4285 ;0 ;0 ;4080 ;4080 ;4080 ;4002 ;4002 ;0 ;0 ;0 ;0 ;0 ;4080 ;4002 ;'
               b'4001 ;EINVAL ;EINVAL ;EINVAL ;4080 ;4080 ;0 ;0 ;0 ;0 ;EINVAL ;EFAULT ;EFAULT ;EFAULT ;EINVAL ;')
 
+# Runs a command in a namespace of users, with one of its groups and one that isn't there.
+IN_NAMESPACE = '''
+setpriv --groups=disk,4242424 unshare -U \
+    sh -c 'until grep . /proc/self/gid_map; do :; done > /dev/null; exec "$@"' sh "$@" &
+for map in uid gid; do until (echo 0 0 60000 > /proc/$!/${map}_map) 2> /dev/null; do sleep 0.1; done; done
+wait $!
+'''
 
 # What shell scripts print, by what they look at: each has a file of its own, $1.
 SHOWN = {
@@ -232,6 +239,10 @@ class Nodes(ModelCase):
             command = self.command('setpriv', '--reuid=65534', '--regid=65534', groups, 'dd', 'if=/dev/nvme0n1',
                                    'of=/dev/null', 'iflag=direct', 'count=1', 'status=none')
             self.ends(run('setpriv', own, *command), status, b'')
+        # a group that the model's namespace has no number for takes no other one away, whoever opened something before
+        script = ('for way in clear keep clear keep clear keep; do setpriv --reuid=1000 --regid=1000 --$way-groups dd '
+                  'if=/dev/nvme0n1 iflag=direct count=1 status=none 2> /dev/null | wc -c; done')
+        self.ends(run('sh', '-c', IN_NAMESPACE, 'sh', *self.command('sh', '-c', script)), 0, b'0\n512\n' * 3, b'')
 
     @unittest.skipUnless(IS_ROOT, 'root alone can take /sys away')
     def test_a_machine_without_sys(self):
