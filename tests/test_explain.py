@@ -57,5 +57,5 @@ class Explain(Case):
         # (this file has one controller)
         one = TOP / 'examples/features.toml'
         ended = self.explain('--subsystem', one, script=b'list-ns /dev/nvme0\nlist-ns /dev/nvme1')
-        self.ends(ended, 1, err=b'')
-        self.assertRegex(ended.out, rb"\Aline 2: no such device: '/dev/nvme1' is .*\n\Z")
+        self.ends(ended, 1, b"line 2: no such device: '/dev/nvme1' is neither the controller, /dev/nvme0, nor a "
+                  b'namespace of it, such as /dev/nvme0n1\n', b'')

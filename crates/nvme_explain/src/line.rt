@@ -148,6 +148,12 @@ fn unknown_device(
     matches: &ArgMatches<'_>,
 ) -> Result<String, AllocError> {
     let device = matches.get_str("device").unwrap_or("");
+    if controllers == 1 {
+        return format!(in alloc;
+            "'{device}' is neither the controller, /dev/nvme0, nor a namespace of it, such as \
+            /dev/nvme0n1"
+        );
+    }
     let last = controllers.saturating_sub(1);
     format!(in alloc;
         "'{device}' is neither a controller, /dev/nvme0 to /dev/nvme{last}, nor a namespace of \
