@@ -471,6 +471,13 @@ class First(Case):
         self.assertEqual(lines[-1], 'dist: make packages builds and packs everything')
         self.assertFalse((self.folder / 'out').exists())
 
+    def test_needs_debhelper(self):
+        # this is said before anything is built
+        shutil.copy(TOP / 'Makefile', self.folder)
+        ended = run(shutil.which('make'), 'packages', cwd=self.folder, env={'PATH': '/nowhere'})
+        self.assertIn(b'packages need debhelper: apt install debhelper\n', ended.err, ended)
+        self.assertFalse((self.folder / 'out').exists())
+
     def test_refuses_what_is_not_committed(self):
         (self.folder / 'tools/stamp').unlink()
         (self.folder / 'tools/stamp').symlink_to('/bin/true')
