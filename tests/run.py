@@ -106,8 +106,8 @@ def names_of(path):
 
 
 def run_all(names, times, most):
-    """Runs modules, at most so many at once, and returns the sums of their counts. A file has the seconds that each took
-    in the last run, and then has those of this run."""
+    """Runs modules, at most so many at once, and returns the sums of their counts. A file has the seconds that each
+    took in the last run, and then has those of this run."""
     seconds = json.loads(times.read_text()) if times.exists() else {}
     waiting = sorted(names, key=lambda name: (-seconds.get(name, math.inf), name.partition('.')[0] not in LONGEST))
     running, sums = [], [0, 0, 0]

@@ -224,8 +224,8 @@ def run(*command, source=b'', out=None, err=None, env=(), cwd=TOP, limit=LIMIT):
 
 def run_unproved(crate, *options, source=b''):
     """Runs the unproved sources of a crate by `rt try`. The limits are long, because the machine may be busy."""
-    # (beside each run, rt has a shell look for reserved names, which takes half as long and, for crates of this size, ends
-    # in silence for want of memory)
+    # (beside each run, rt has a shell look for reserved names, which takes half as long and, for crates of this size,
+    # ends in silence for want of memory)
     with tempfile.TemporaryDirectory(dir=process_folder()) as folder:
         os.symlink(shutil.which('true'), f'{folder}/sh')
         return run('rt', 'try', '--steps', '1', '--seconds', '3600', *options, source=source, cwd=crate, limit=7200,

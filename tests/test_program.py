@@ -10,7 +10,8 @@ import re
 import tempfile
 import typing
 
-from tests.support import DEMO, IS_UNPROVED, TOP, Case, Ended, large_file, process_folder, program, run, run_unproved, shell_line
+from tests.support import (
+    DEMO, IS_UNPROVED, TOP, Case, Ended, large_file, process_folder, program, run, run_unproved, shell_line)
 
 SCRIPT = 'nvme_script' if IS_UNPROVED else program('nvme_script')
 TEXT = DEMO.read_text()
