@@ -93,7 +93,7 @@ SHOWN = {
         'mkdir "$1.d"; echo inside > "$1.d/x"; mke2fs -qF -t ext4 -O ^has_journal -d "$1.d" /dev/nvme0n1; '
         'debugfs -R "cat x" /dev/nvme0n1 2> /dev/null', b'inside\n'),
     'no uevents': (
-        'udevadm monitor > "$1.m" & until grep -q KERNEL "$1.m"; do sleep 0.1; done; '
+        ': > "$1.m"; udevadm monitor > "$1.m" & until grep -q KERNEL "$1.m"; do sleep 0.1; done; '
         'nvme detach-ns /dev/nvme0 -n 3 -c 0 > /dev/null; echo change > /sys/block/nvme0n1/uevent; udevadm settle; '
         'kill $!; grep nvme "$1.m" || echo none', b'none\n'),
 }
