@@ -158,8 +158,8 @@ def main(arguments):
         # (the launcher is compiled once for all)
         os.environ['NVME_MODEL_INSTALLED'] = str(modelled.installed().parents[1])
     processors = len(os.sched_getaffinity(0))
-    # (without proofs, no test waits, but one process more than processors leaves none idle while the last one runs)
-    sums = (run_all(names, TOP / 'out/seconds.quick', processors + 1) if arguments else
+    # (without proofs, no test waits, and the three that take longest run side by side even on two processors)
+    sums = (run_all(names, TOP / 'out/seconds.quick', max(3, processors)) if arguments else
             run_all(names, TOP / 'out/seconds', 3 * processors // 2))
     print('unproved: ' * len(arguments) + SUMS.format(*sums))
     sys.exit(1 if sums[1] or not sums[0] else 0)
