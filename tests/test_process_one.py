@@ -5,7 +5,6 @@ import contextlib
 import os
 import pathlib
 import re
-import shlex
 import subprocess
 import unittest
 
@@ -261,9 +260,9 @@ class Outside(ModelCase):
         # of /sys, what this machine has of these folders, and what one with a DMI has
         script = ('for f in /sys/fs/cgroup /sys/kernel/mm /sys/class/dmi /sys/devices/virtual/dmi; do '
                   'ls -A $f 2> /dev/null | sed 1q; done')
-        with_dmi = shlex.split('bwrap --dev-bind / / --tmpfs /sys/class --dir /sys/class/dmi/id '
-                               '--tmpfs /sys/devices/virtual --dir /sys/devices/virtual/dmi/own')
-        for machine in [], with_dmi + ['--cap-add', 'ALL'] * IS_ROOT:
+        with_dmi = ('bwrap --dev-bind / / --tmpfs /sys/class --dir /sys/class/dmi/id '
+                    '--tmpfs /sys/devices/virtual --dir /sys/devices/virtual/dmi/own' + ' --cap-add ALL' * IS_ROOT)
+        for machine in [], with_dmi.split():
             there = run(*machine, 'sh', '-c', script)
             self.ends(there, 0, err=b'')
             self.ends(run(*machine, *self.command('sh', '-c', script)), 0, there.out, b'')

@@ -199,7 +199,7 @@ def scripts():
             options = [('--subsystem', str(subsystem), *more) for more in geometries()]
             if version_2 != subsystem.read_text():
                 options.append(('--subsystem', file(subsystem.name, version_2)))
-            for words in options[number % len(options):][:1] if IS_UNPROVED else options:
+            for words in [options[number % len(options)]] if IS_UNPROVED else options:
                 yield Row(words, status, messages, output, script, source=path.name)
 
 
