@@ -1,9 +1,6 @@
 -- A set of numbers from a range, and the bits that represent it.
 use Rattle.std.specs.Prelude.{◌≡◌, ℕ, ◌+◌, ◌/◌, ◌^◌, ◌<◌, ◌≤◌, false, List, length, slice_index}
-use Rattle.std.specs.Prelude.{refl}
-use Rattle.std.specs.Coded.{Coded, code_by, coded×, coded_ℕ}
 use Rattle.std.specs.FinMap as map
-use Rattle.std.specs.FinSet as set
 use Rattle.nv_bits.specs.Numbers.{NumberSet, as_member, by_place}
 use Rattle.nv_bits.specs.Words.{bit_of}
 
@@ -12,13 +9,6 @@ pub record RangeSet : Type 0 where
   pub first : ℕ
   pub count : ℕ
   pub members : NumberSet
-
--- such a set is stored as its fields
-abbrev pub range_set_code : Coded RangeSet
-range_set_code =
-    code_by (ℕ × (ℕ × NumberSet)) (coded× coded_ℕ (coded× coded_ℕ (set.code coded_ℕ)))
-    (λ s. (s.first, (s.count, s.members)))
-    (λ p. record { first = p.0; count = p.1.0; members = p.1.1 }) (λ _. refl)
 
 -- the numbers whose bits are set
 abbrev pub members_of : ℕ → ℕ → List ℕ → NumberSet

@@ -1,7 +1,6 @@
 -- A map from the numbers of a range to values, and the slots that represent it.
-use Rattle.std.specs.Prelude.{◌≡◌, ℕ, ◌<◌, false, true, not, List, Option, None, refl}
+use Rattle.std.specs.Prelude.{◌≡◌, ℕ, ◌<◌, false, true, not, List, Option, None}
 use Rattle.std.specs.Prelude.{slice_index_or}
-use Rattle.std.specs.Coded.{Coded, code_by, coded×, coded_ℕ}
 use Rattle.std.specs.FinMap as map
 use Rattle.nv_bits.specs.BitSet.{RangeSet}
 use Rattle.nv_bits.specs.Numbers.{IsOf, NumberMap, by_place}
@@ -11,13 +10,6 @@ pub record RangeMap (A : Type 0) : Type 0 where
   pub first : ℕ
   pub count : ℕ
   pub values : NumberMap A
-
--- such a map is stored as its fields
-abbrev pub range_map_code : {A : Type 0} → Coded A → Coded (RangeMap A)
-range_map_code {A} a =
-    code_by (ℕ × (ℕ × NumberMap A)) (coded× coded_ℕ (coded× coded_ℕ (map.code coded_ℕ a)))
-    (λ m. (m.first, (m.count, m.values)))
-    (λ p. record { first = p.0; count = p.1.0; values = p.1.1 }) (λ _. refl)
 
 -- slot k holds the value of number first + k
 abbrev pub values_of : {A : Type 0} → ℕ → ℕ → List (Option A) → NumberMap A

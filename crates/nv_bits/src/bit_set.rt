@@ -25,11 +25,13 @@ pub struct BitSet {
 }
 
 impl Model for BitSet {
-    ghost use Rattle.nv_bits.specs.BitSet.{AreBits, RangeSet, members_of, range_set_code};
+    ghost use Rattle.std.specs.Coded.{codes};
+    ghost use Rattle.std.specs.FinMap as map;
+    ghost use Rattle.nv_bits.specs.BitSet.{AreBits, RangeSet, members_of};
 
     ghost Value = { RangeSet };
 
-    ghost coded = { range_set_code };
+    ghost coded = { Prim.hlevel (codes, map.code) };
 
     ghost view = { λ s. record {
       first = s.first;

@@ -23,11 +23,13 @@ pub struct Slots<T> {
 
 impl<T> Model for Slots<T> {
     ghost use Rattle.std.specs.Prelude.{◌≡◌, vec_len};
-    ghost use Rattle.nv_bits.specs.Slots.{AreSlots, RangeMap, range_map_code, values_of};
+    ghost use Rattle.std.specs.Coded.{codes};
+    ghost use Rattle.std.specs.FinMap as map;
+    ghost use Rattle.nv_bits.specs.Slots.{AreSlots, RangeMap, values_of};
 
     ghost Value = { RangeMap T };
 
-    ghost coded = { range_map_code T.code };
+    ghost coded = { Prim.hlevel (codes, map.code, T.code) };
 
     ghost view = { λ s. record {
       first = s.occupied.first;

@@ -1,4 +1,3 @@
 pub mod Exchanges
 pub mod Machine
-pub mod MachineCode
 pub mod Tags

@@ -31,13 +31,13 @@ pub struct Machine {
 }
 
 impl Model for Machine {
+    ghost use Rattle.std.specs.Coded.{codes};
+    ghost use Rattle.std.specs.FinMap as map_of;
     ghost use Rattle.nv_controller.specs.Machine.{MachineValue};
 
     ghost Value = { MachineValue };
 
-    ghost use Rattle.nv_controller.specs.MachineCode.{machine_code};
-
-    ghost coded = { machine_code };
+    ghost coded = { Prim.hlevel (codes, map_of.code) };
 
     ghost view = { λ m. record { state = m.subsystem; banks = m.banks.items } };
 

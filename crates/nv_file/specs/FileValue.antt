@@ -10,7 +10,7 @@ use Rattle.nv_file.specs.declared.controller.ControllerEntry.{ControllerEntry}
 use Rattle.nv_file.specs.declared.namespace.NamespaceEntry.{NamespaceEntry}
 use Rattle.nv_file.specs.declared.file.File.{File}
 use Rattle.nv_model.specs.State.{Identity}
-use Rattle.nv_model.specs.Codes.{identity_view}
+use Rattle.nv_model.specs.IdentityView.{identity_view}
 
 -- a controller: its identity, the rules of its features, and its health log
 pub record ControllerValue : Type 0 where

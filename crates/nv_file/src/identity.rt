@@ -2,7 +2,7 @@
 ghost use Rattle.std.specs.Prelude.{◌≡◌, ◌==◌, map, IfOk, false};
 ghost use Rattle.nv_file.specs.KeyChecks.{is_among};
 ghost use Rattle.toml.specs.View.{table_view};
-ghost use Rattle.nv_model.specs.Codes.{identity_view};
+ghost use Rattle.nv_model.specs.IdentityView.{identity_view};
 ghost use Rattle.nv_file.specs.TableChecks.{first_identity_checks, identity_checks, identity_value};
 ghost use Rattle.nv_file.specs.TableChecks.{numbers_checks, numbers_value};
 ghost use Rattle.nv_file.specs.inner.Reading.{IsChecked, IsCheckedUnlessMemory, IsToldFirst};

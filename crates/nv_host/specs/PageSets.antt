@@ -1,6 +1,5 @@
 -- Sets of page numbers from a range of consecutive ones.
-use Rattle.std.specs.Prelude.{ℕ, zero, suc, ◌+◌, List, [], ◌∷◌, ◌++◌, refl}
-use Rattle.std.specs.Coded.{Coded, code_by, coded×, coded_ℕ}
+use Rattle.std.specs.Prelude.{ℕ, zero, suc, ◌+◌, List, [], ◌∷◌, ◌++◌}
 use Rattle.std.specs.Ordering.{nat_cmp}
 use Rattle.std.specs.FinMap as map
 use Rattle.std.specs.FinSet as set
@@ -13,13 +12,6 @@ pub record Pages : Type 0 where
   pub first : ℕ
   pub count : ℕ
   pub members : set.FinSet nat_cmp
-
--- such a set is stored as its fields
-abbrev pub pages_code : Coded Pages
-pages_code =
-    code_by (ℕ × (ℕ × set.FinSet nat_cmp)) (coded× coded_ℕ (coded× coded_ℕ (set.code coded_ℕ)))
-    (λ s. (s.first, (s.count, s.members)))
-    (λ p. record { first = p.0; count = p.1.0; members = p.1.1 }) (λ _. refl)
 
 -- the same numbers, as a set of std's
 abbrev pub as_set : NumberSet → set.FinSet nat_cmp

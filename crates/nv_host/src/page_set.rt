@@ -20,11 +20,13 @@ pub struct PageSet {
 }
 
 impl Model for PageSet {
-    ghost use Rattle.nv_host.specs.PageSets.{Pages, pages_code, pages_of};
+    ghost use Rattle.std.specs.Coded.{codes};
+    ghost use Rattle.std.specs.FinMap as map;
+    ghost use Rattle.nv_host.specs.PageSets.{Pages, pages_of};
 
     ghost Value = { Pages };
 
-    ghost coded = { pages_code };
+    ghost coded = { Prim.hlevel (codes, map.code) };
 
     ghost view = { λ s. pages_of s.free };
 }

@@ -15,7 +15,7 @@ pub mod WellFormed
 pub mod Fits
 pub mod LogEntry
 pub mod Answer
-pub mod Codes
+pub mod IdentityView
 pub mod Conditions
 pub mod Values
 pub mod inner

@@ -2,7 +2,6 @@ pub use Rattle.nv_layout.specs.UnlessMemory
 pub use Rattle.nv_model.specs.State
 pub use Rattle.nv_model.specs.Ranges
 pub mod ValueTable
-pub mod StateCode
 pub mod Sound
 pub mod FromFile
 pub mod Answer

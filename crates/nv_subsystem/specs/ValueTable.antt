@@ -1,24 +1,17 @@
 -- The tables that hold the values of features.
-use Rattle.std.specs.Prelude.{◌≡◌, ℕ, ◌*◌, ◌/◌, ◌%◌, List, map, ◌++◌, refl, true, None}
-use Rattle.std.specs.Coded.{Coded, code_by, coded×, coded_ℕ}
+use Rattle.std.specs.Prelude.{◌≡◌, ℕ, ◌*◌, ◌/◌, ◌%◌, List, map, ◌++◌, true, None}
 use Rattle.std.specs.FinMap as map_of
 use Rattle.nv_bits.specs.Numbers.{IsOf, NumberMap}
 use Rattle.nv_bits.specs.Slots.{RangeMap}
 use Rattle.nv_layout.specs.Feature.{row_of}
 use Rattle.nv_layout.specs.declared.feature.Feature.TheVariants.{ErrorRecovery}
 use Rattle.nv_model.specs.Values.{FeatureValues, ValueKey, recovery_key}
-use Rattle.nv_model.specs.Codes.{feature_values_code}
 use Rattle.nv_model.specs.declared.feature_value.FeatureValue.{FeatureValue}
 
 -- the values of features, and the greatest NSID
 pub record ValueTable : Type 0 where
   pub nn : ℕ
   pub values : FeatureValues
-
--- such a table is stored as its fields
-abbrev pub value_table_code : Coded ValueTable
-value_table_code = code_by (ℕ × FeatureValues) (coded× coded_ℕ feature_values_code)
-    (λ t. (t.nn, t.values)) (λ p. record { nn = p.0; values = p.1 }) (λ _. refl)
 
 -- the table by feature and selector has a row for each feature identifier below 12, of the
 -- selectors below 32

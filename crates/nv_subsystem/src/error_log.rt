@@ -22,11 +22,9 @@ pub struct ErrorLog {
 
 impl Model for ErrorLog {
     ghost use Rattle.std.specs.Prelude.{◌≤◌, length};
-    ghost use Rattle.nv_model.specs.ErrorLog.{Log, log_code};
+    ghost use Rattle.nv_model.specs.ErrorLog.{Log};
 
     ghost Value = { Log };
-
-    ghost coded = { log_code };
 
     ghost view = { λ l. record {
       most = l.entries.capacity;

@@ -37,11 +37,13 @@ pub struct FeatureValues {
 }
 
 impl Model for FeatureValues {
-    ghost use Rattle.nv_subsystem.specs.ValueTable.{AreTables, ValueTable, value_table_code, values_of};
+    ghost use Rattle.std.specs.Coded.{codes};
+    ghost use Rattle.std.specs.FinMap as map_of;
+    ghost use Rattle.nv_subsystem.specs.ValueTable.{AreTables, ValueTable, values_of};
 
     ghost Value = { ValueTable };
 
-    ghost coded = { value_table_code };
+    ghost coded = { Prim.hlevel (codes, map_of.code) };
 
     ghost view = { λ t. record {
       nn = t.by_nsid.count;

@@ -48,12 +48,13 @@ pub struct Subsystem {
 
 impl Model for Subsystem {
     ghost use Rattle.std.specs.Prelude.{◌≡◌, ◌+◌, map, string_bytes};
+    ghost use Rattle.std.specs.Coded.{codes};
+    ghost use Rattle.std.specs.FinMap as map_of;
     ghost use Rattle.nv_model.specs.State.{State};
-    ghost use Rattle.nv_subsystem.specs.StateCode.{state_code};
 
     ghost Value = { State };
 
-    ghost coded = { state_code };
+    ghost coded = { Prim.hlevel (codes, map_of.code) };
 
     ghost use Rattle.nv_model.specs.WellFormed.{used};
     ghost use Rattle.nv_subsystem.specs.inner.ControllerView.{controller_view};

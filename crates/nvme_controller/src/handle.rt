@@ -1,7 +1,9 @@
 //! The handle by which a program in C holds a machine.
 ghost use Rattle.std.specs.Prelude.{◌≡◌, None, Option, Some};
+ghost use Rattle.std.specs.Coded.{coded_option};
 ghost use Rattle.nv_controller.specs.Machine.{MachineValue};
-ghost use Rattle.nvme_controller.specs.Held.{held_code, holds};
+ghost use Rattle.nv_controller.specs.contracts.machine.Machine.{the_row};
+ghost use Rattle.nvme_controller.specs.Held.{holds};
 ghost use Rattle.nvme_controller.specs.Open.{IsOpen};
 
 use crate::parts::Parts;
@@ -16,7 +18,7 @@ use std::{mem, ptr};
 pub struct Handle {
     at: *mut u8,
     alloc: Global,
-    pub ghost machine: { Option MachineValue } by { held_code },
+    pub ghost machine: { Option MachineValue } by { coded_option the_row.coded },
 }
 
 impl Model for Handle {

@@ -1,5 +1,5 @@
 -- The controllers of the code as values.
-use Rattle.nv_model.specs.Codes.{identity_view}
+use Rattle.nv_model.specs.IdentityView.{identity_view}
 use Rattle.nv_model.specs.State.{Controller}
 use Rattle.nv_subsystem.specs.declared.controller.Controller as controllers
 

@@ -1,7 +1,7 @@
 use Rattle.std.proofs.Common.{◌≡◌, ◌∙◌, inl, inr, Err, List, ap, map, refl, rules}
 use Rattle.toml.specs.Data.{Members}
 use Rattle.toml.specs.View.{table_view}
-use Rattle.nv_model.specs.Codes.{identity_view}
+use Rattle.nv_model.specs.IdentityView.{identity_view}
 use Rattle.nv_model.specs.State.{Identity}
 use Rattle.nv_model.specs.declared.feature_rule.FeatureRule.{FeatureRule}
 use Rattle.nv_model.specs.declared.identity.Identity.{Identity as CodeIdentity}
