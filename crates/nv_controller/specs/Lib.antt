@@ -1,3 +1,5 @@
+pub mod Caller
 pub mod Exchanges
 pub mod Machine
+pub mod Pairs
 pub mod Tags
