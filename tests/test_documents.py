@@ -285,6 +285,14 @@ class Copies(Case):
         said = rf'\A==== [\s\S]*\n==== {count} definitions, over \d+ names of the libraries\n\Z'
         self.assertRegex(ended.out.decode(), said)
 
+    def test_definitions_of_generic_types(self):
+        for crate, name, definition in (('nv_trace', 'Traced', 'SaysAll'), ('nv_trace', 'Traced', 'TaggedTurn'),
+                                        ('nv_trace', 'Marked', 'IsMarked'), ('nv_stream', 'OverRead', 'Gives')):
+            with self.subTest(name, definition=definition):
+                ended = run(TOP / 'tools/believed', crate, name)
+                self.ends(ended, 0, err=b'')
+                self.assertIn(f'\nabbrev pub {definition} : '.encode(), ended.out)
+
     def test_no_public_contract_reaches_inner_definitions(self):
         said = subprocess.run([TOP / 'tools/believed', '--inner'], capture_output=True, check=True, text=True).stdout
         self.assertEqual(said, '')
