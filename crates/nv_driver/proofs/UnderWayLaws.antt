@@ -188,7 +188,7 @@ module _ {B : Type 0} {wrote : Write B} {rang : TailWrite B} {turned : BusTurn B
     pages = all_pages o;
     sent = cc (is, cid_is u);
     many = all_long ∙ sub.many;
-    points = record { list = λ m. sub.one.list; none = sub.one.pointer };
+    points = record { list = λ m. sub.one.list; one = λ m. sub.one.one; none = sub.one.pointer };
   }
 
   -- its pages are of the queue pair's set

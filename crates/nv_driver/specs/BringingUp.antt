@@ -77,6 +77,11 @@ EnablesFirst wrote read zeroed g (suc n) old before new after =
     (mid : _) × (between : List ℕ) × EnablesFirst wrote read zeroed g n old before mid between
     × Enables wrote read zeroed g n mid between new after
 
+-- so are all n controllers, over some memory
+abbrev pub BringsUp : {B : Type 0} → Write B → Read B → Zeroes B → Geometry → ℕ → B → B → Type 0
+BringsUp wrote read zeroed g n old new =
+    (before : List ℕ) × (after : List ℕ) × EnablesFirst wrote read zeroed g n old before new after
+
 -- a reset: EN is cleared, the completion ring is zeroed, and EN is set again; the queues stay set
 abbrev pub Restarts : {B : Type 0} → Write B → Read B → Zeroes B → Geometry → ℕ
     → B → List ℕ → B → List ℕ → Type 0

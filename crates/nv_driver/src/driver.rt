@@ -10,7 +10,7 @@ ghost use Rattle.nv_bus.specs.Entry.{told_by};
 ghost use Rattle.nv_layout.specs.Sqe.{SqeFits};
 ghost use Rattle.nv_driver.specs.Alone.{IsReceived, asked_in, entry_step};
 ghost use Rattle.nv_driver.specs.Batch.{answers_of, state_after};
-ghost use Rattle.nv_driver.specs.BringingUp.{EnablesFirst, Restarts, Still};
+ghost use Rattle.nv_driver.specs.BringingUp.{BringsUp, Restarts, Still};
 ghost use Rattle.nv_driver.specs.Driver.{after_command, after_commands, after_reset, pair_at};
 ghost use Rattle.nv_driver.specs.Driver.{HasEntryPages, driver_with, new_driver};
 ghost use Rattle.nv_driver.specs.Layout.{pages_of_entry};
@@ -79,9 +79,8 @@ impl Driver {
             (new_driver geometry (length (B.meaning bus.old).banks))
             (B.meaning bus.old) (B.meaning bus.new) result }
         ensures steps { MatchResult result
-            (λ _. (before : List ℕ) × (after : List ℕ) × EnablesFirst B.was_written
-            (Still B.was_read) B.was_zeroed geometry (length (B.meaning bus.old).banks)
-            bus.old before bus.new after)
+            (λ _. BringsUp B.was_written (Still B.was_read) B.was_zeroed geometry
+            (length (B.meaning bus.old).banks) bus.old bus.new)
             (λ _. bus.new ≡ bus.old) }
     {
         Driver::lay_out(alloc, bus, geometry, false)
@@ -100,9 +99,8 @@ impl Driver {
             (driver_with geometry (length (B.meaning bus.old).banks)
             (pages_of_entry geometry.page_size)) (B.meaning bus.old) (B.meaning bus.new) result }
         ensures steps { MatchResult result
-            (λ _. (before : List ℕ) × (after : List ℕ) × EnablesFirst B.was_written
-            (Still B.was_read) B.was_zeroed geometry (length (B.meaning bus.old).banks)
-            bus.old before bus.new after)
+            (λ _. BringsUp B.was_written (Still B.was_read) B.was_zeroed geometry
+            (length (B.meaning bus.old).banks) bus.old bus.new)
             (λ _. bus.new ≡ bus.old) }
         ensures entries { IfOk result HasEntryPages }
     {
@@ -122,9 +120,8 @@ impl Driver {
             (if with_entries then pages_of_entry geometry.page_size else 0))
             (B.meaning bus.old) (B.meaning bus.new) result }
         ensures steps { MatchResult result
-            (λ _. (before : List ℕ) × (after : List ℕ) × EnablesFirst B.was_written
-            (Still B.was_read) B.was_zeroed geometry (length (B.meaning bus.old).banks)
-            bus.old before bus.new after)
+            (λ _. BringsUp B.was_written (Still B.was_read) B.was_zeroed geometry
+            (length (B.meaning bus.old).banks) bus.old bus.new)
             (λ _. bus.new ≡ bus.old) }
     {
         let geometry = CheckedGeometry::new(geometry).map_err(DriverError::Geometry)?;

@@ -146,6 +146,8 @@ pub(crate) fn point_to<M: HostMemory>(mem: &mut M, place: &DataPlace, len: u32) 
         (M.bytes mem.new) result.0 result.1 len) (request_place place.now).pages
         (request_place place.now).offset (request_place place.now).first (request_place place.now).second }
     ensures none { len ≡ 0 → (result.0 ≡ 0) × (result.1 ≡ 0) }
+    ensures one { 0 < len → data_pages (transfer (M.page_len mem.new)
+        (M.bytes mem.new) result.0 result.1 len) ≡ 1 → result.1 ≡ 0 }
     ensures list { 0 < len → 2 < data_pages (transfer (M.page_len mem.new)
         (M.bytes mem.new) result.0 result.1 len) → result.1
         ≡ (request_place place.now).first * M.page_len mem.new + (request_place place.now).list_offset }

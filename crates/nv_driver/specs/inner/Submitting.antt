@@ -10,7 +10,7 @@ use Rattle.nv_bus.specs.Call.{length_of}
 use Rattle.nv_model.specs.Ranges.{cid_count}
 use Rattle.nv_model.specs.Step.{cid_after}
 use Rattle.nv_driver.specs.Request.{Asked, Request}
-use Rattle.nv_driver.specs.Pointer.{IsListedAtPlace}
+use Rattle.nv_driver.specs.Pointer.{IsListedAtPlace, IsZeroForOne}
 use Rattle.nv_driver.specs.Schedule.{IsPrepared, entry}
 use Rattle.nv_driver.specs.declared.submitting.DataPlace.{DataPlace}
 use Rattle.nv_driver.specs.declared.submitting.Outgoing.{Outgoing}
@@ -59,6 +59,7 @@ pub record IsSubmittedAt (page_size : ℕ) (at : RequestPlace) (q : Request)
   pub ready : List ℕ
   pub prepared : IsPrepared page_size (sent_at at q old.next_cid prp1 prp2) before ready
   pub list : IsListedAtPlace page_size (sent_at at q old.next_cid prp1 prp2) ready
+  pub one : IsZeroForOne page_size (sent_at at q old.next_cid prp1 prp2) ready
   pub pointer : length_of q.transfer ≡ 0 → (prp1 ≡ 0) × (prp2 ≡ 0)
   pub mem : after
       ≡ with_submission ready old.submission (entry (sent_at at q old.next_cid prp1 prp2))

@@ -35,6 +35,7 @@ returns g c asked =
           (changes_list size x before built some (rw (b.page, len) at b.no_list) (rw (b.page, len) at b.list)
           (rw (b.page, len) at b.only_list)) b.len put;
       list = rw (b.page, len) at b.list;
+      one = rw (b.page, len) at b.one;
       pointer = λ none. b.none (len ∙ none);
       mem = on_ok c.push.result c.unwrap-tail.result ok c.push.ensures.bytes;
       pair = pairs_same (on_ok c.push.result c.unwrap-tail.result ok c.push.ensures.submitted) refl refl;
