@@ -128,6 +128,19 @@ class WhichProgram(Copy):
         self.env['PATH'] = '/usr/bin:/bin'
         self.is_proved()
 
+    def test_minutes_that_are_left(self):
+        """Those of nvme_script count for another program only if it isn't built."""
+        table = (TOP / 'README.md').read_text()
+        of_script, of_trace = (int(re.search(rf'(?m)^\| `{row}`.*\| (\d+) \|$', table)[1])
+                               for row in (r'\./nvme-script --build', 'tools/build nvme_trace'))
+        shutil.copy(TOP / 'README.md', self.copy)
+        for minutes in of_trace, of_script + of_trace:
+            build = Running(self.copy / 'tools/build', 'nvme_trace', terminal=True, env=self.env)
+            build.has(b', about %d min left: 0 of ' % (minutes - 1))
+            build.say(b'\x03')
+            self.assertEqual(build.process.wait(LIMIT), -signal.SIGINT, build.line)
+            self.made.unlink(missing_ok=True)
+
     def test_advice(self):
         # a second line says what to do about the usual mistakes
         see, read = b'nvme-script --help shows the options', b'a script is read from standard input: nvme-script < FILE'
