@@ -1,6 +1,6 @@
-"""Runs nvme-script and nvme-device over standard streams in which a call fails: a read in the middle of a script, even
-if the output can no longer be written, and writes that are interrupted. The device also gets requests that are cut
-short or too long. Calls of the launcher fail while it starts."""
+"""Runs nvme-script and nvme-device over standard streams in which a call fails: each read and each write of a script in
+turn, a read even if the output can no longer be written, and writes that are interrupted. The device also gets requests
+that are cut short or too long. Calls of the launcher fail while it starts."""
 
 import concurrent.futures
 import itertools
@@ -19,6 +19,52 @@ class Faulty(Case):
         """Runs the program over this input while these calls fail."""
         faults['LD_PRELOAD'] = compiled('faults.c', '-ldl')
         return run(program(self.crate), '--subsystem', self.subsystem, source=source, out=out, env=faults)
+
+
+def tried_lines():
+    """Returns the lines of the first script in tests/scripts/management.txt, each with its output and its message."""
+    script, _, _ = (TOP / 'tests/scripts/management.txt').read_bytes().partition(b'\nstatus')
+    for part in script.split(b'\n> ')[1:]:
+        line, _, text = part.partition(b'\n')
+        is_message = text.startswith(b'line ')
+        yield line + b'\n', b'' if is_message else text + b'\n', text + b'\n' if is_message else b''
+
+
+def pieces(texts):
+    """Returns what was written before each write of at most seven bytes of one of these texts, after its index."""
+    return [(line, b''.join(texts[:line]) + text[:at])
+            for line, text in enumerate(texts) for at in range(0, len(text), 7)]
+
+
+class EachCall(Faulty):
+    crate = 'nvme_script'
+
+    def setUp(self):
+        super().setUp()
+        lines, self.outputs, self.messages = zip(*tried_lines())
+        self.script = b''.join(lines)
+
+    def test_reads(self):
+        # each read returns a byte, and a line is executed when its newline was read
+        for number in range(1, len(self.script) + 2):
+            with self.subTest(read=number):
+                lines = self.script[:number - 1].count(b'\n')
+                self.ends(self.faulty(self.script, MOST_READ=1, FAIL_READ=number), 4, b''.join(self.outputs[:lines]),
+                          b''.join(self.messages[:lines]) + b'nvme-script: read fault\n')
+
+    def test_writes_of_output(self):
+        # each write takes at most seven bytes of a line's text, and if it fails, the next line with output isn't done
+        for number, (line, written) in enumerate(pieces(self.outputs), 1):
+            with self.subTest(write=number):
+                ended = self.faulty(self.script, MOST_READ=1, MOST_WRITE=7, FAIL_1=number)
+                later = next((at for at in range(line + 1, len(self.outputs)) if self.outputs[at]), None)
+                self.ends(ended, 5, written, b''.join(self.messages[:later]) + b'nvme-script: write fault\n')
+
+    def test_writes_of_messages(self):
+        for number, (line, written) in enumerate(pieces(self.messages), 1):
+            with self.subTest(write=number):
+                ended = self.faulty(self.script, MOST_READ=1, MOST_WRITE=7, FAIL_2=number)
+                self.ends(ended, 5, b''.join(self.outputs[:line]), written + b'nvme-script: write fault\n')
 
 
 class Script(Faulty):
