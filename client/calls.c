@@ -38,16 +38,13 @@ int find_file(struct call *call, const char *before, char name[PATH_MAX], struct
     return 1;
 }
 
-/* (without a sandbox, a node's only mark is its name) */
 int find_node(struct call *call) {
-    const char *before = has_sandbox ? "/dev/" : "/memfd:";
     char name[PATH_MAX];
     struct stat about;
-    if (!find_file(call, before, name, &about) || !S_ISREG(about.st_mode) ||
-        (has_sandbox && about.st_dev != number_of(OF_DEV)))
+    if (!find_file(call, "/dev/", name, &about) || !S_ISREG(about.st_mode) || about.st_dev != number_of(OF_DEV))
         return 0;
-    call->is_gone = has_sandbox && about.st_nlink == 0 && !(about.st_mode & 0777);
-    return read_name(name + strlen(before), &call->node);
+    call->is_gone = about.st_nlink == 0 && !(about.st_mode & 0777);
+    return read_name(name + strlen("/dev/"), &call->node);
 }
 
 /* ---- ioctls of nodes */
@@ -264,18 +261,13 @@ static int settle(void) {
     return 0;
 }
 
-/* (the library asks by name where nodes aren't files) */
 int answer_ioctl(struct call *call, const __u64 *words) {
-    struct node asked;
     call->file = (int)words[0];
     call->request = (uint32_t)words[1];
     call->argument = words[2];
     if (call->request == SETTLE_REQUEST && call->file == -1)
         return settle();
-    int is_name = call->request == NODE_REQUEST && call->file == -1 && !has_sandbox;
-    if (is_name && (copy_in(call, call->argument, &asked, sizeof asked) < 0 || !read_name(asked.name, &call->node)))
-        return -ENOENT;
-    return is_name || find_node(call) ? carry_out_ioctl(call) : NOT_OURS;
+    return find_node(call) ? carry_out_ioctl(call) : NOT_OURS;
 }
 
 /* ---- what a helper and the launcher do with a call */

@@ -31,15 +31,14 @@ static void drop_rights(uint32_t others) {
     must((int)syscall(SYS_capset, &version, rights), "rights can't be dropped");
 }
 
-/* Is process 1 while the command runs. (It is in a session of its own, because the terminal's keys would end it if
-   there is no namespace.) */
+/* Is process 1 while the command runs. */
 __attribute__((noreturn)) static void be_first(pid_t command) {
     int how;
     setsid();
     close_range(0, ~0U, 0);
     prctl(PR_SET_NAME, "init");
-    if (has_sandbox) /* (no search for a name finds this process) */
-        strcpy(memset(program_invocation_name, '\0', strlen(MODEL_FOLDER "/launcher") + sizeof INSIDE), "init");
+    /* (no search for a name finds this process) */
+    strcpy(memset(program_invocation_name, '\0', strlen(MODEL_FOLDER "/launcher") + sizeof INSIDE), "init");
     while (wait(&how) != command)
         continue;
     _exit(WIFEXITED(how) ? WEXITSTATUS(how) : 128 + WTERMSIG(how));
@@ -76,10 +75,8 @@ __attribute__((noreturn)) static void become(char **arguments) {
 /* Begins as process 1. (Somebody who traced this process could keep it from ending.) */
 __attribute__((noreturn)) static void begin(char **arguments) {
     prctl(PR_SET_DUMPABLE, 0);
-    if (has_sandbox) {
-        show_own_processes();
-        drop_rights(1U << CAP_SYS_PTRACE);
-    }
+    show_own_processes();
+    drop_rights(1U << CAP_SYS_PTRACE);
     pid_t command = must(fork(), "fork");
     if (command > 0)
         be_first(command);
@@ -90,12 +87,11 @@ __attribute__((noreturn)) static void begin(char **arguments) {
     become(arguments);
 }
 
-/* Starts process 1, which is the first one of a namespace unless there is no sandbox. (The filter holds for this thread
-   and for the processes that it starts, and not for the launcher.) */
+/* Starts process 1 of the namespace. (The filter holds for this thread and for the processes that it starts, and not
+   for the launcher.) */
 static void *start_first(void *arguments) {
-    const unsigned long namespaces = has_sandbox ? CLONE_NEWPID | CLONE_NEWNS : 0;
     filter_calls();
-    first = must((pid_t)syscall(SYS_clone, namespaces | SIGCHLD, NULL, NULL, NULL, 0L),
+    first = must((pid_t)syscall(SYS_clone, CLONE_NEWPID | CLONE_NEWNS | SIGCHLD, NULL, NULL, NULL, 0L),
                  "the command can't have a namespace of processes");
     if (first == 0)
         begin(arguments);
@@ -111,8 +107,7 @@ pid_t start_command(char **arguments, int ends) {
     errno = pthread_create(&starter, NULL, start_first, arguments);
     if (errno != 0 || pthread_join(starter, NULL) != 0)
         fail_by_errno("the command can't be started");
-    if (has_sandbox)
-        drop_rights(0);
+    drop_rights(0);
     if (await_files((const int[]){calls, ends}, 2, -1) != 1 || !receive_call(&begun))
         exit(NO_SANDBOX); /* (the other process said why) */
     return (pid_t)begun.got.pid;

@@ -72,7 +72,7 @@ static void add_calls(const struct decided_call *row) {
     load(offsetof(struct seccomp_data, nr));
     decide_when(BPF_JGE, X32_BIT, MISSING);
     for (; row->action; row++) {
-        if ((row->where >= IN_SANDBOX && !has_sandbox) || (row->where == BY_ROOT && geteuid() != 0))
+        if (row->whose == BY_ROOT && geteuid() != 0)
             continue;
         unsigned short begun = when(BPF_JEQ, (uint32_t)row->number);
         if (row->test.kind == ALWAYS)

@@ -231,7 +231,7 @@ void begin_helpers(void) {
     while (shared->count < FIRST_HELPERS)
         if (!add_helper(FIRST_HELPERS))
             fail_by_errno("fork");
-    if (has_sandbox && must(fork(), "fork") == 0) {
+    if (must(fork(), "fork") == 0) {
         begin_process();
         greet_udevadm();
     }

@@ -2,9 +2,8 @@
    starts bubblewrap, which makes a sandbox and starts the launcher again inside (sandbox.c), as process 1, while this
    process passes signals on. There it starts the devices behind sockets (relay.c), makes the nodes and the files of
    /sys (nodes.c, sysfs.c), runs the command with the library preloaded, and has its calls answered (helpers.c,
-   calls.c). It ends when the command ends, with its status, and everything in the sandbox ends with it. With
-   --no-sandbox, where none can be made and the machine has no NVMe device, all this happens outside, and nodes are only
-   names. None of this is proved. */
+   calls.c). It ends when the command ends, with its status, and everything in the sandbox ends with it. None of this is
+   proved. */
 #include "launcher.h"
 #include "usage.h"
 #include <stdarg.h>
@@ -15,7 +14,6 @@
 
 struct device *devices;
 unsigned device_count;
-int has_sandbox;
 
 static pid_t command;
 static int status;                     /* of the command, or of the launcher inside, once it has ended */
@@ -157,14 +155,13 @@ static void open_files(void) {
         fail_by_errno(options.trace_file);
 }
 
-/* Runs the command, with the devices, in the sandbox or without one. */
+/* Runs the command in the sandbox, with the devices. */
 static int run(char **arguments) {
     struct rlimit files;
     block_signals(); /* (bwrap lets some through) */
     const int ends = must(signalfd(-1, &watched, SFD_CLOEXEC | SFD_NONBLOCK), "signalfd");
     trace = options.trace_file ? TRACE_TO : STDERR_FILENO;
-    if (has_sandbox)
-        list_devices();
+    list_devices();
     list_blocks();
     status_of_failure = NO_SANDBOX;
     pid_t started = start_command(arguments, ends);
@@ -187,10 +184,8 @@ static int run(char **arguments) {
         start_device(options.subsystem_count > 0 ? FILES + (int)at : -1, options.subsystems[at]);
     make_nodes();
     command = started; /* (from now on, what can't be made doesn't end it) */
-    if (has_sandbox) {
-        start_prober();
-        confine_launcher();
-    }
+    start_prober();
+    confine_launcher();
     begin_helpers();
     run_command(ends);
     lose_devices();
@@ -224,7 +219,6 @@ static void begin_inside(void) {
     struct stat about, outside = {.st_dev = 0};
     if (read(OUTSIDE, &blocked, sizeof blocked) != sizeof blocked || read(OUTSIDE, here, sizeof here) <= 0)
         fail_by_errno("the process outside");
-    has_sandbox = 1;
     strcpy(library, MODEL_FOLDER "/library.so");
     strcpy(program, MODEL_FOLDER "/device");
     check_mounts();
@@ -255,13 +249,13 @@ static int await_launcher(pid_t launcher, int channel) {
     }
 }
 
-/* Runs the launcher in another process, in a sandbox or without one. If the command wasn't started, returns the last
-   line that tells why, or else NULL. */
-static const char *run_launcher(int is_inside, char **arguments) {
+/* Runs the launcher in another process, in a sandbox. If the command wasn't started, returns the last line that tells
+   why, or else NULL. */
+static const char *run_launcher(void) {
     int ends[2], reasons[2];
     must(socketpair(AF_UNIX, SOCK_SEQPACKET | SOCK_CLOEXEC, 0, ends), "socketpair");
     must(pipe2(reasons, O_CLOEXEC | O_NONBLOCK), "pipe");
-    if (is_inside && (write(ends[0], &blocked, sizeof blocked) < 0 || write(ends[0], here, sizeof here) < 0))
+    if (write(ends[0], &blocked, sizeof blocked) < 0 || write(ends[0], here, sizeof here) < 0)
         fail_by_errno("socket");
     pid_t process = must(fork(), "fork");
     if (process == 0) {
@@ -269,8 +263,6 @@ static const char *run_launcher(int is_inside, char **arguments) {
         keep_as(OUTSIDE, ends[1], "socket");
         keep_as(ERRORS, dup(STDERR_FILENO), "standard error");
         keep_as(STDERR_FILENO, reasons[1], "pipe");
-        if (!is_inside)
-            exit(run(arguments));
         status_of_failure = NO_SANDBOX;
         enter_sandbox();
     }
@@ -288,10 +280,8 @@ static const char *why_no_sandbox(const char *line) {
     return *line ? line : "bwrap ended without a reason";
 }
 
-/* Makes the sandbox and runs the command there, or else, with --no-sandbox, without one if the machine has no NVMe
-   device. */
-static int begin_outside(char **arguments) {
-    const char *node = a_real_node();
+/* Makes the sandbox and runs the command there. */
+static int begin_outside(void) {
     must(access(library, R_OK), library);
     must(access(program, X_OK), program);
     for (unsigned at = 0; at < options.added_count; at++)
@@ -299,31 +289,15 @@ static int begin_outside(char **arguments) {
     if (!getcwd(here, sizeof here))
         fail("the current folder can't be told: run the command from another one");
     block_signals();
-    const char *line = run_launcher(1, NULL);
+    const char *line = run_launcher();
     if (!line)
         return status;
     if (status == FAILED && !*line) /* (it has said why) */
         return status;
     if (status == FAILED)
         fail("%s", line);
-    line = why_no_sandbox(line);
-    if (node)
-        fail("%s is a device of this machine, and no sandbox can be made to keep the command from it: %s", node, line);
-    if (access("/sys/class/block", F_OK) < 0)
-        fail("without /sys, nothing tells whether this machine has NVMe devices, and no sandbox can be made: %s", line);
-    if (!options.may_lack_sandbox || options.is_root)
-        fail("no sandbox can be made: %s; --no-sandbox runs the command without one", line);
-    fprintf(stderr,
-            "nvme-model: the command runs without a sandbox (%s): nodes can be opened by their names in /dev but hold "
-            "no data, listings of /dev and /sys don't show them, and only programs that load the preloaded library "
-            "find them\n",
-            line);
-    /* (a blank or colon would cut the library's path) */
-    if (strpbrk(library, " :"))
-        snprintf(library, sizeof library, "/proc/%d/fd/%d", getpid(), open(library, O_RDONLY | O_CLOEXEC));
-    if ((line = run_launcher(0, arguments)))
-        fail("%s", line);
-    return status;
+    fail("no sandbox can be made: %s; --vm runs the command on a kernel of its own, in a virtual machine",
+         why_no_sandbox(line));
 }
 
 int main(int count, char **arguments) {
@@ -356,5 +330,5 @@ int main(int count, char **arguments) {
     check_limit(RLIMIT_FSIZE, 1 << 20, "the bytes of a file (ulimit -f)");
     open_files();
     find_parts("nvme_device");
-    return begin_outside(arguments + at);
+    return begin_outside();
 }

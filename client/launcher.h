@@ -30,7 +30,6 @@ struct device {
 
 extern struct device *devices; /* (in shared memory, as all that helpers read) */
 extern unsigned device_count;
-extern int has_sandbox;     /* whether /dev and /sys are the command's own */
 extern unsigned waits;      /* whether nodes wait for a scan or a reset, because of --no-notice */
 extern unsigned geometry[NUMBERS];
 extern sigset_t blocked;    /* the signals that were blocked at the start, and are for the command and the devices */
@@ -64,7 +63,7 @@ enum { MOST_ADDED = 64 };
 struct options {
     const char *subsystems[MOST_DEVICES], *added[MOST_ADDED], *trace_file;
     char *device_words[NUMBERS + 4]; /* a device's program and options */
-    unsigned subsystem_count, added_count, device_word_count, may_lack_sandbox, is_root;
+    unsigned subsystem_count, added_count, device_word_count, is_root;
     int has_trace;
     unsigned long long limit; /* of the memory for data */
 };
@@ -227,7 +226,7 @@ struct call {
 /* What the command's filter decides about a call, by its number, if a test of one of its arguments holds: an action of
    seccomp, and who answers it if it is handed over. */
 struct decided_call {
-    enum { EVERYWHERE, IN_SANDBOX, BY_ROOT } where;
+    enum { BY_ALL, BY_ROOT } whose;
     int number;
     struct {
         enum { ALWAYS, EQUALS, EXCEEDS, HAS_BITS, HAS_TYPE } kind; /* (the type of an ioctl) */
@@ -316,11 +315,9 @@ int supply(struct device *device, const struct request_header *request, void *da
 #define SETTINGS MODEL_FOLDER "/settings" /* what the command's /proc has besides its processes */
 #define INSIDE "--inside"
 
-/* sandbox.c: returns an NVMe device of the machine, or NULL if it has none; starts the launcher in it, with the word
-   INSIDE, in place of this process; and, in it, fails if a mount isn't kept from the command, or isn't what it was
+/* sandbox.c: starts the launcher in it, with the word INSIDE, in place of this process; and, in it, fails if a mount isn't kept from the command, or isn't what it was
    outside, has each /proc show the processes of this process's namespace alone, and /sys read-only, and returns whether
    a path is one that bwrap makes anew, such as /dev, or below one. */
-const char *a_real_node(void);
 __attribute__((noreturn)) void enter_sandbox(void);
 void check_mounts(void);
 void show_own_processes(void);

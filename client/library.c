@@ -12,7 +12,6 @@
 #include <linux/fs.h>
 #include <spawn.h>
 #include <stdarg.h>
-#include <sys/mman.h>
 #include <sys/stat.h>
 #include <sys/sysmacros.h>
 #include <sys/uio.h>
@@ -36,7 +35,7 @@
 
 /* Each of these calls has a second name that ends with 64. */
 static_assert(sizeof(struct stat) == sizeof(struct stat64) && O_LARGEFILE == 0, "files have 64-bit sizes");
-__asm__(".irp name, open, openat, stat, lstat, fstat, fstatat, __xstat, __lxstat, __fxstat, __fxstatat, readdir,"
+__asm__(".irp name, stat, lstat, fstat, fstatat, __xstat, __lxstat, __fxstat, __fxstatat, readdir,"
         "pread, pwrite, pwritev, lseek, fallocate\n"
         ".globl \\name\\()64\n.type \\name\\()64, @function\n.set \\name\\()64, \\name\n.endr");
 
@@ -73,21 +72,6 @@ static int is_node(int file, const struct stat *about, struct node *node) {
     return may_be ? ask(file, node) : 0;
 }
 
-/* Without a sandbox, nodes are only names in /dev. */
-static int is_name(int directory, const char *path, struct node *node) {
-    struct stat about;
-    char parent[PATH_MAX];
-    const char *name = !path ? "" : strrchr(path, '/') ? strrchr(path, '/') + 1 : path;
-    if ((strncmp(name, "nvme", 4) != 0 && strncmp(name, "ng", 2) != 0) || strlen(path) > PATH_MAX - 2)
-        return 0;
-    snprintf(parent, sizeof parent, "%.*s.", (int)(name - path), path);
-    snprintf(node->name, sizeof node->name, "%s", name);
-    int before = errno, is_in_dev = NEXT(fstatat)(directory, parent, &about, 0) == 0 && about.st_dev == dev.st_dev &&
-                                    about.st_ino == dev.st_ino;
-    errno = before;
-    return is_in_dev ? ask(-1, node) : 0;
-}
-
 /* A shell gives its terminal back to the group that had it, even to one outside of the sandbox, which has no number. */
 PUBLIC int tcsetpgrp(int file, pid_t group) {
     int result = NEXT(tcsetpgrp)(file, group);
@@ -104,26 +88,6 @@ PUBLIC int access(const char *path, int mode) {
     }
     return result;
 }
-
-/* ---- calls that open: the names of nodes without a sandbox stand for empty files with these names (a mode that isn't
-   given is any number, which the kernel doesn't look at) */
-
-NAMED int open_below(int directory, const char *path, int flags, mode_t mode) {
-    struct node node;
-    int found = is_name(directory, path, &node);
-    if (found == 0)
-        return NEXT(openat)(directory, path, flags, mode);
-    return found < 0 ? -1 : memfd_create(node.name, flags & O_CLOEXEC ? MFD_CLOEXEC : 0);
-}
-
-NAMED int open_path(const char *path, int flags, mode_t mode) { return open_below(AT_FDCWD, path, flags, mode); }
-
-SAME(open, open_path);
-SAME(__open_2, open_path);
-SAME(__open64_2, open_path);
-SAME(openat, open_below);
-SAME(__openat_2, open_below);
-SAME(__openat64_2, open_below);
 
 /* ---- calls that describe a file */
 
@@ -148,11 +112,6 @@ NAMED int describe_place(int directory, const char *path, struct stat *about, in
     struct node node;
     if (flags & AT_EMPTY_PATH && (!path || !*path) && directory != AT_FDCWD)
         return fstat(directory, about);
-    int found = is_name(directory, path, &node);
-    if (found > 0)
-        *about = (struct stat){.st_mode = 0600};
-    if (found != 0)
-        return describe(found, &node, about);
     int result = NEXT(fstatat)(directory, path, about, flags), follows = flags & AT_SYMLINK_NOFOLLOW ? O_NOFOLLOW : 0;
     if (result == 0 && about->st_dev == dev.st_dev && about->st_mode == LOST_NODE)
         return fails_by(ENXIO);
@@ -172,12 +131,10 @@ PUBLIC int lstat(const char *path, struct stat *about) { return fstatat(AT_FDCWD
 PUBLIC int statx(int directory, const char *path, int flags, unsigned mask, struct statx *about) {
     struct stat basic;
     int result = NEXT(statx)(directory, path, flags, mask | STATX_TYPE, about);
-    if (result < 0 ? errno != ENOENT : !S_ISREG(about->stx_mode) && !S_ISSOCK(about->stx_mode))
+    if (result < 0 || (!S_ISREG(about->stx_mode) && !S_ISSOCK(about->stx_mode)))
         return result;
     if (fstatat(directory, path, &basic, flags & (AT_EMPTY_PATH | AT_SYMLINK_NOFOLLOW)) < 0)
         return -1;
-    if (result < 0)
-        *about = (struct statx){.stx_mask = STATX_BASIC_STATS};
     if (!S_ISBLK(basic.st_mode) && !S_ISCHR(basic.st_mode))
         return 0;
     about->stx_mode = (uint16_t)basic.st_mode;

@@ -134,9 +134,9 @@ static void leave_file(struct volume *volume) {
 
 static void put(unsigned controller, uint32_t nsid) {
     struct volume *volume = volume_at(device_of(controller), nsid);
-    if (has_sandbox && volume->file <= 0)
+    if (volume->file <= 0)
         make_data(volume);
-    is_written[nsid] |= has_sandbox && lseek(volume->file, 0, SEEK_DATA) >= 0;
+    is_written[nsid] |= lseek(volume->file, 0, SEEK_DATA) >= 0;
     shown[controller][nsid] = CURRENT;
     show(BLOCK, controller, nsid);
     put_record(controller, nsid, "");
@@ -149,7 +149,7 @@ enum presence presence_of(unsigned controller) { return presences[controller]; }
 static void mark_gone(char kind, unsigned controller, uint32_t nsid) {
     char path[MOST_NAME];
     print_path(path, kind, controller, nsid);
-    int file = has_sandbox ? open(path, O_RDONLY | O_NOFOLLOW | O_NONBLOCK | O_CLOEXEC) : -1;
+    int file = open(path, O_RDONLY | O_NOFOLLOW | O_NONBLOCK | O_CLOEXEC);
     if (file >= 0 && fchmod(file, 0) == 0)
         close(file);
 }
@@ -165,7 +165,7 @@ static void hide_namespace(unsigned controller, uint32_t nsid) {
 
 void lose_nodes(const struct device *device) {
     char path[MOST_NAME];
-    for (unsigned controller = device->first; has_sandbox && controller < device->first + device->count; controller++)
+    for (unsigned controller = device->first; controller < device->first + device->count; controller++)
         for (uint32_t nsid = 0; nsid <= MOST_NSID; nsid++)
             for (const char *kind = nsid == 0 ? "c" : is_shown(controller, nsid) ? "gb" : ""; *kind; kind++) {
                 print_path(path, *kind, controller, nsid);
@@ -373,8 +373,8 @@ static void repair(const struct device *device, uint32_t nsid) {
 static int watcher; /* tells this keeper which nodes were written */
 
 int watch_nodes(void) {
-    watcher = has_sandbox ? inotify_init1(IN_CLOEXEC | IN_NONBLOCK) : -1;
-    if (has_sandbox && (watcher < 0 || inotify_add_watch(watcher, "/dev", IN_CLOSE_WRITE) < 0))
+    watcher = inotify_init1(IN_CLOEXEC | IN_NONBLOCK);
+    if (watcher < 0 || inotify_add_watch(watcher, "/dev", IN_CLOSE_WRITE) < 0)
         fail_by_errno("changes of nodes can't be watched (inotify)");
     return watcher;
 }

@@ -90,8 +90,6 @@ static const struct row rows[] = {
      .set = set_device},
     {"root", NULL, "let COMMAND be root in the sandbox, with a sudo, though with no more rights to files",
      .number = &options.is_root},
-    {"no-sandbox", NULL, "without bubblewrap, if this machine has no NVMe device: make nodes that are only names",
-     .number = &options.may_lack_sandbox},
     {"depth", "N", "give each queue N entries; this option and those up to --pace are nvme-script's",
      .number = &geometry[DEPTH], .range = "2 to 4096"},
     {"page-size", "N", "make pages of N bytes", .number = &geometry[PAGE_SIZE],

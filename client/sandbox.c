@@ -31,10 +31,6 @@ static char **find(const char *pattern) {
     return result == 0 ? found.gl_pathv : none;
 }
 
-const char *a_real_node(void) {
-    return *find("/{dev/{nvme*,ng[0-9]*},sys/class/{nvme,nvme-generic,nvme-subsystem}/*,sys/class/block/nvme*}");
-}
-
 /* ---- the arguments of bwrap, which this process becomes, so that nothing here needs to be closed or freed */
 
 static char **words;

@@ -270,8 +270,6 @@ static void remove_link(char *name, const char *text) {
 void show(enum part part, unsigned number, uint32_t nsid) {
     char path[PATH_MAX], name[PATH_MAX], text[MOST_TEXT];
     struct folder *folder = folders + part;
-    if (!has_sandbox)
-        return;
     set_values(part, number, nsid);
     struct line *line = expand_path(path, folder);
     put(AT_FDCWD, strcat(path, "/"), '\0', "");
@@ -302,8 +300,6 @@ void begin_sys(void) {
 /* Removes what a folder has elsewhere, and then the folder. */
 void hide(enum part part, unsigned number, uint32_t nsid) {
     char path[PATH_MAX], name[PATH_MAX], text[PATH_MAX];
-    if (!has_sandbox)
-        return;
     set_values(part, number, nsid);
     for (const struct line *line = expand_path(path, &folders[part]); *line->name; line++) {
         expand(name, sizeof name, line->name);
@@ -350,7 +346,7 @@ const struct line *find_written(const char *path) {
 void reset_settings(unsigned number, uint32_t nsid) {
     static const char *const names[] = {"read_ahead_kb", "max_sectors_kb", "write_cache", NULL};
     char path[PATH_MAX];
-    for (const char *const *name = names; has_sandbox && *name; name++) {
+    for (const char *const *name = names; *name; name++) {
         snprintf(path, sizeof path, "/sys/block/nvme%un%u/queue/%s", number, nsid, *name);
         unlink(path);
     }
@@ -394,8 +390,6 @@ static void set_probed(const char *name, const char *lines, const char *key) {
 void put_record(unsigned number, uint32_t nsid, const char *said) {
     char name[PATH_MAX], text[MOST_TEXT];
     const struct line *line = folders[RECORD].lines + 1;
-    if (!has_sandbox)
-        return;
     set_values(RECORD, number, nsid);
     expand(name, sizeof name, line->name);
     follow_record(name, 0);
