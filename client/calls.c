@@ -4,6 +4,7 @@
    one. None of this is proved. */
 #include "launcher.h"
 #include <linux/audit.h>
+#include <linux/blkpg.h>
 #include <linux/blkzoned.h>
 #include <linux/fs.h>
 #include <linux/hdreg.h>
@@ -26,23 +27,16 @@ void read_link(const char *link, char name[PATH_MAX]) {
 }
 
 /* (the mode of a link to an open file says how it was opened) */
-int find_file(struct call *call, const char *before, char name[PATH_MAX], struct stat *about) {
-    char link[64];
-    struct stat how;
+int find_node(struct call *call) {
+    char link[64], name[PATH_MAX];
+    struct stat about, how;
     snprintf(link, sizeof link, "/proc/%d/fd/%d", call->process, call->file);
     read_link(link, name);
-    if (strncmp(name, before, strlen(before)) != 0 || stat(link, about) < 0 || lstat(link, &how) < 0)
+    if (strncmp(name, "/dev/", 5) != 0 || stat(link, &about) < 0 || lstat(link, &how) < 0 ||
+        !S_ISREG(about.st_mode) || about.st_dev != number_of(OF_DEV))
         return 0;
     call->is_writable = (how.st_mode & S_IWUSR) != 0;
     call->is_path = (how.st_mode & (S_IRUSR | S_IWUSR)) == 0;
-    return 1;
-}
-
-int find_node(struct call *call) {
-    char name[PATH_MAX];
-    struct stat about;
-    if (!find_file(call, "/dev/", name, &about) || !S_ISREG(about.st_mode) || about.st_dev != number_of(OF_DEV))
-        return 0;
     call->is_gone = about.st_nlink == 0 && !(about.st_mode & 0777);
     return read_name(name + strlen("/dev/"), &call->node);
 }
@@ -116,24 +110,13 @@ int claim(const struct call *call, int file) {
     return is_alone ? 0 : -EBUSY;
 }
 
-/* Whether another file than that of a call has claimed its block device. (The kernel lists the locks of a file.) */
-static int is_claimed(const struct call *call) {
-    char name[32], text[1024];
-    int own = open_own_data(call);
-    int is_free = own < 0 || lock(own, F_OFD_GETLK, F_WRLCK, call->node.controller) == F_UNLCK;
-    close(own);
-    snprintf(name, sizeof name, "fdinfo/%d", call->file);
-    return !is_free && !strstr(read_about(call->process, name, text, sizeof text), "OFDLCK");
-}
-
 /* Discards blocks, which are then zeros. */
 static int discard(const struct call *call, uint64_t size, uint64_t block) {
     const int punched = FALLOC_FL_PUNCH_HOLE | FALLOC_FL_KEEP_SIZE;
     uint64_t range[2];
     if (!call->is_writable)
         return -EBADF;
-    if (call->request == BLKSECDISCARD ||
-        (call->request == BLKDISCARD && queue_setting(&call->node, "discard_max_bytes", 1) == 0))
+    if (call->request == BLKSECDISCARD)
         return -EOPNOTSUPP;
     if (copy_in(call, call->argument, range, sizeof range) < 0)
         return -EFAULT;
@@ -147,75 +130,78 @@ static int discard(const struct call *call, uint64_t size, uint64_t block) {
     return result;
 }
 
-/* Changes a block device, which the administrator alone may. (A buffer has the size that is set only for its process,
-   because nothing tells when a device is closed.) */
-static int change(const struct call *call, uint32_t request, uint64_t block) {
-    struct volume *volume = volume_of(&call->node);
+/* Sets whether a block device can be written. */
+static int set_read_only(const struct call *call) {
     uint32_t number = 0;
-    if (!is_administrator())
-        return -EACCES;
-    if ((request == BLKROSET || request == BLKBSZSET) && copy_in(call, call->argument, &number, sizeof number) < 0)
+    if (copy_in(call, call->argument, &number, sizeof number) < 0)
         return -EFAULT;
-    if (request == BLKBSZSET && (number < block || number > (block > 4096 ? block : 4096) || number & (number - 1)))
-        return -EINVAL;
-    if ((request == BLKBSZSET || request == BLKRRPART) && is_claimed(call))
-        return -EBUSY;
-    if (request == BLKBSZSET) {
-        volume->buffer = number;
-        volume->buffer_of = call->process;
-    }
-    if (request == BLKRASET || request == BLKFRASET)
-        return set_read_ahead(&call->node, call->argument);
-    if (request != BLKROSET)
-        return 0;
-    volume->is_read_only = number != 0;
+    volume_of(&call->node)->is_read_only = number != 0;
     return ask_controller(call->node.controller, KIND_SHOW, call->node.nsid);
 }
 
-/* Reports numbers about a block device, in their sizes, as Linux does for a device with one queue, or changes it. */
+/* The numbers of a block device that ioctls report, as Linux does for a device with one queue. */
+enum number { BYTES, SECTORS, OF_BLOCK, OF_BUFFER, READ_AHEAD, IS_READ_ONLY, MOST_SECTORS, ZERO, REPORTED };
+
+static const struct report {
+    uint32_t request, bytes; /* (0: those of a word) */
+    enum number number;
+} reports[] = {{BLKGETSIZE64, 8, BYTES},       {BLKGETSIZE, 0, SECTORS},     {BLKSSZGET, 4, OF_BLOCK},
+               {BLKPBSZGET, 4, OF_BLOCK},   {BLKIOMIN, 4, OF_BLOCK},    {BLKIOOPT, 4, OF_BLOCK},
+               {BLKBSZGET, 4, OF_BUFFER},   {BLKRAGET, 0, READ_AHEAD},    {BLKFRAGET, 0, READ_AHEAD},
+               {BLKROGET, 4, IS_READ_ONLY},   {BLKSECTGET, 2, MOST_SECTORS}, {BLKALIGNOFF, 4, ZERO},
+               {BLKROTATIONAL, 2, ZERO},      {BLKDISCARDZEROES, 4, ZERO},  {BLKGETZONESZ, 4, ZERO},
+               {BLKGETNRZONES, 4, ZERO}};
+
+/* (a few requests of 32-bit programs have the size of their words) */
+static uint32_t request_of(const struct call *call) {
+    uint32_t nr = _IOC_NR(call->request), is_sized = call->is_old && _IOC_SIZE(call->request) == 4;
+    return call->request + (is_sized && nr >= 112 && nr <= 114 ? 4u << _IOC_SIZESHIFT : 0);
+}
+
+/* What the administrator alone may do to a block device. (It has no partitions, and a buffer of one size.) */
+static int change(const struct call *call, uint32_t request) {
+    if (!is_administrator())
+        return -EACCES;
+    return request == BLKROSET ? set_read_only(call) : request == BLKFLSBUF ? 0 : -EINVAL;
+}
+
 static int of_block_device(const struct call *call) {
     struct volume volume;
     if (!read_volume(&call->node, &volume))
         return -ENXIO;
     const uint64_t block = 1ULL << volume.power, size = volume.blocks << volume.power;
-    const uint32_t word = call->is_old ? 4 : 8;
     uint64_t buffer = block;
     while (buffer < 4096 && !(size & buffer))
         buffer *= 2;
-    if (volume.buffer_of == call->process)
-        buffer = volume.buffer;
-    /* (a few requests of 32-bit programs have the size of their words) */
-    uint32_t nr = _IOC_NR(call->request), is_sized = call->is_old && _IOC_SIZE(call->request) == 4;
-    uint32_t request = call->request + (is_sized && nr >= 112 && nr <= 114 ? 4u << _IOC_SIZESHIFT : 0);
-    const uint64_t geometry[2] = {64 | 32 << 8 | (size >> 20 & 0xffff) << 16};
-    const char *setting = request == BLKRAGET || request == BLKFRAGET ? "read_ahead_kb"
-                          : request == BLKSECTGET                     ? "max_sectors_kb"
-                          : request == BLKROTATIONAL                  ? "rotational"
-                                                                      : NULL;
-    const struct {
-        uint32_t request, bytes;
-        uint64_t value; /* (of a setting, the usual one) */
-    } numbers[] = {{BLKGETSIZE64, 8, size},         {BLKGETSIZE, word, size / 512},
-                   {BLKSSZGET, 4, block},           {BLKPBSZGET, 4, block},
-                   {BLKIOMIN, 4, block},            {BLKIOOPT, 4, block},
-                   {BLKALIGNOFF, 4, 0},             {BLKBSZGET, 4, buffer},
-                   {BLKRAGET, word, 256},           {BLKFRAGET, word, 256},
-                   {BLKROGET, 4, volume.is_read_only}, {BLKSECTGET, 2, most_sectors(call->node.controller)},
-                   {BLKROTATIONAL, 2, 0},           {BLKDISCARDZEROES, 4, 0},
-                   {BLKGETZONESZ, 4, 0},            {BLKGETNRZONES, 4, 0}};
-    static const uint32_t changes[] = {BLKROSET, BLKRASET, BLKFRASET, BLKFLSBUF, BLKBSZSET, BLKRRPART};
-    for (unsigned at = 0; at < sizeof numbers / sizeof *numbers; at++)
-        if (numbers[at].request == request) {
-            uint64_t usual = numbers[at].value, value = setting ? queue_setting(&call->node, setting, usual) : usual;
-            return copy_out(call, call->argument, &value, numbers[at].bytes);
-        }
-    for (unsigned at = 0; at < sizeof changes / sizeof *changes; at++)
-        if (changes[at] == request)
-            return change(call, request, block);
-    if (request == HDIO_GETGEO)
-        return copy_out(call, call->argument, geometry, 2 * word);
-    int discards = request == BLKDISCARD || request == BLKZEROOUT || request == BLKSECDISCARD;
-    return discards ? discard(call, size, block) : -ENOTTY;
+    const uint64_t numbers[REPORTED] = {[BYTES] = size,
+                                                 [SECTORS] = size / 512,
+                                                 [OF_BLOCK] = block,
+                                                 [OF_BUFFER] = buffer,
+                                                 [READ_AHEAD] = 256,
+                                                 [IS_READ_ONLY] = (uint64_t)volume.is_read_only,
+                                                 [MOST_SECTORS] = most_sectors(call->node.controller)};
+    const uint64_t cylinders[2] = {64 | 32 << 8 | (size >> 20 & 0xffff) << 16};
+    const uint32_t word = call->is_old ? 4 : 8, request = request_of(call);
+    for (const struct report *row = reports; row < reports + sizeof reports / sizeof *reports; row++)
+        if (row->request == request)
+            return copy_out(call, call->argument, &numbers[row->number], row->bytes ?: word);
+    switch (request) {
+    case HDIO_GETGEO:
+        return copy_out(call, call->argument, cylinders, 2 * word);
+    case BLKROSET:
+    case BLKFLSBUF:
+    case BLKBSZSET:
+    case BLKRRPART:
+    case BLKPG:
+    case BLKTRACESTOP:
+        return change(call, request);
+    case BLKDISCARD:
+    case BLKZEROOUT:
+    case BLKSECDISCARD:
+        return discard(call, size, block);
+    default:
+        return -ENOTTY;
+    }
 }
 
 static int carry_out_ioctl(struct call *call) {
@@ -225,7 +211,7 @@ static int carry_out_ioctl(struct call *call) {
         return -EBADF;
     if (device->state == LOST)
         return -ENXIO;
-    if ((call->is_gone || presence_of(call->node.controller) != BOUND) && call->request != NODE_REQUEST)
+    if (call->is_gone && call->request != NODE_REQUEST)
         return -ENODEV;
     switch (call->request) {
     case NODE_REQUEST:

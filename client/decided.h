@@ -16,10 +16,7 @@
     {BY_ALL, __NR_splice, {ALWAYS, 0, 0}, ANSWER, answer_splice},
     {BY_ALL, __NR_fallocate, {ALWAYS, 0, 0}, ANSWER, answer_fallocate},
     {BY_ALL, __NR_copy_file_range, {ALWAYS, 0, 0}, ANSWER, answer_splice},
-    /* what writes few bytes, as to a file of /sys (but not messages), and what makes or removes names */
-    {BY_ALL, __NR_write, {EQUALS, 0, STDERR_FILENO}, SECCOMP_RET_ALLOW, NULL},
-    {BY_ALL, __NR_write, {EXCEEDS, 2, MOST_WRITTEN}, SECCOMP_RET_ALLOW, NULL},
-    {BY_ALL, __NR_write, {ALWAYS, 0, 0}, ANSWER, answer_write},
+    /* what makes or removes names */
     {BY_ALL, __NR_unlink, {ALWAYS, 0, 0}, ANSWER, answer_unlink},
     {BY_ALL, __NR_rmdir, {ALWAYS, 0, 0}, ANSWER, answer_unlink},
     {BY_ALL, __NR_unlinkat, {ALWAYS, 0, 0}, ANSWER, answer_unlinkat},

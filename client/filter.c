@@ -68,7 +68,7 @@ static void allow_each(const int *numbers, size_t count) {
 /* Adds the calls of a table. (Of an argument the kernel looks at 32 bits.) */
 static void add_calls(const struct decided_call *row) {
     static const unsigned tests[] = {
-        [EQUALS] = BPF_JEQ, [EXCEEDS] = BPF_JGT, [HAS_BITS] = BPF_JSET, [HAS_TYPE] = BPF_JEQ};
+        [EQUALS] = BPF_JEQ, [HAS_BITS] = BPF_JSET, [HAS_TYPE] = BPF_JEQ};
     load(offsetof(struct seccomp_data, nr));
     decide_when(BPF_JGE, X32_BIT, MISSING);
     for (; row->action; row++) {

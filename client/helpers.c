@@ -65,7 +65,7 @@ static struct helper *end(void) { return helpers + shared->count; }
 /* Carries out the request of a helper. */
 static void serve(struct device *device, struct helper *helper) {
     struct request_header request = helper->request;
-    helper->result = serve_keeper(device, &request, (char *)helper->data);
+    helper->result = serve_keeper(device, &request);
     if (helper->result == NOT_OURS)
         helper->result = carry_out(&request, helper->data, &helper->answer);
     helper->state = WORKING;

@@ -99,16 +99,8 @@ struct volume {
     uint64_t blocks;
     int file;    /* the data, as its device's keeper has it open, or 0 */
     ino_t inode; /* of this file */
-
-    /* What ioctls of its block devices have set: whether they can't be written, and the bytes of a buffer, which hold
-       for one process. */
-    int is_read_only;
-    unsigned buffer;
-    pid_t buffer_of;
+    int is_read_only; /* whether an ioctl has set that its block devices can't be written */
 };
-
-/* What is there of a controller: nothing, its PCI function alone, or all, because it has its driver. */
-enum presence { REMOVED, UNBOUND, BOUND };
 
 /* nodes.c: makes the nodes of all controllers; looks for changes after a command; makes the nodes of a lost device
    unusable; returns a descriptor that tells which nodes of a device were written, restores their lengths, tells whether
@@ -116,8 +108,7 @@ enum presence { REMOVED, UNBOUND, BOUND };
    stores the node; returns whether a controller shows a namespace; asks a controller, as Identify does or for its
    active namespaces, and returns the length of what came, or -1; opens the data of a namespace that is active on a
    node's controller, or returns -1; stores how long a namespace is, or returns 0 if this isn't known or just changes;
-   tells what is there of a controller; and does what is asked of a keeper, and returns 0, or an error's number as a
-   negative one (NOT_OURS, if a device is asked). */
+   and does what is asked of a keeper, and returns 0, or NOT_OURS if a device is asked. */
 void make_nodes(void);
 void look_for_changes(struct device *device, const struct request_header *request, const struct answer_header *answer);
 void lose_nodes(const struct device *device);
@@ -133,15 +124,12 @@ int list_active(unsigned controller, unsigned char is_active[MOST_NSID + 1]);
 int open_data(const struct node *node);
 struct volume *volume_of(const struct node *node);
 int read_volume(const struct node *node, struct volume *volume);
-int serve_keeper(struct device *device, const struct request_header *request, const char *data);
-enum presence presence_of(unsigned controller);
+int serve_keeper(struct device *device, const struct request_header *request);
 
 /* sysfs.c: what Identify says of each controller; puts the files of /sys that are there at first; shows a part of a
    controller or of one of its namespaces, or hides it; shows the temperature of a controller by its health log; puts
-   the record that udev has of a block device, with what blkid says of its data, or removes it (NULL); returns the
-   greatest number of sectors in a transfer of a controller; finds the line of a file of /sys that can be written; gives
-   a namespace that is shown anew the settings that a format sets; and puts the text of a setting, in a keeper, and
-   returns 0 or an error's number as a negative one. */
+   the record that udev has of a block device, with what blkid says of its data, or removes it (NULL); and returns the
+   greatest number of sectors in a transfer of a controller. */
 enum part { TOP, SUBSYSTEM, FUNCTION, CONTROLLER, HEALTH, BLOCK, RECORD, GENERIC, PARTS };
 extern unsigned char identities[MOST_CONTROLLERS][IDENTIFY_BYTES];
 void begin_sys(void);
@@ -150,17 +138,6 @@ void hide(enum part part, unsigned controller, uint32_t nsid);
 void show_health(unsigned controller, const unsigned char *log);
 void put_record(unsigned controller, uint32_t nsid, const char *said);
 unsigned most_sectors(unsigned controller);
-const struct line *find_written(const char *path);
-void reset_settings(unsigned controller, uint32_t nsid);
-int put_setting(const char *path, const char *text);
-
-/* A line of sys.txt: an entry, or a folder with its path as the text. */
-struct line {
-    const char *name, *text;
-    const char *taken; /* what a file takes that can be written */
-    char mark;         /* what is before the text, or none (0) */
-    char *last;        /* the text in the folder of this kind that was made last, or NULL */
-};
 
 /* filter.c: has the calls of this thread, and of the processes that it starts, handed over to who reads `calls`; and
    lets this process, the launcher or one that becomes a device, make only the calls that it needs. (Helpers and keepers
@@ -199,9 +176,8 @@ void end_with_launcher(void);
 /* helpers.c: memory that all these processes share; and in a helper, room for data, a request to the keeper of a
    controller's device, which returns -1 if the device is gone, and one without an answer, which returns -ENXIO then.
    It may be one for the keeper, of which the length tells more: a scan of so many controllers; to show a namespace
-   anew; to look at the data of one, and of all others that were written; to change whether a controller is there; and
-   to put a setting, whose path and text are in the helper's room. */
-enum { KIND_SCAN = 0xffff, KIND_SHOW = 0xfffe, KIND_PROBE = 0xfffd, KIND_PRESENCE = 0xfffc, KIND_SETTING = 0xfffb };
+   anew; and to look at the data of one, and of all others that were written. */
+enum { KIND_SCAN = 0xffff, KIND_SHOW = 0xfffe, KIND_PROBE = 0xfffd };
 void *share(size_t size);
 void *own_data(void);
 int ask_keeper(const struct request_header *header, struct answer_header *answer);
@@ -229,7 +205,7 @@ struct decided_call {
     enum { BY_ALL, BY_ROOT } whose;
     int number;
     struct {
-        enum { ALWAYS, EQUALS, EXCEEDS, HAS_BITS, HAS_TYPE } kind; /* (the type of an ioctl) */
+        enum { ALWAYS, EQUALS, HAS_BITS, HAS_TYPE } kind; /* (the type of an ioctl) */
         unsigned argument;
         uint32_t value;
     } test;
@@ -239,12 +215,10 @@ struct decided_call {
 /* opens.c: the calls of programs of 64 and of 32 bits; the last one has no action. */
 extern const struct decided_call decided_calls[], old_decided_calls[];
 
-/* calls.c: whether the file of a call has a name that begins with this, which is stored, and how it was opened; whether
-   it is a node, which is stored; answers an ioctl; claims a block device for a file that is opened with O_EXCL; the
+/* calls.c: whether the file of a call is a node, which is stored with how it was opened; answers an ioctl; claims a block device for a file that is opened with O_EXCL; the
    number of the file system in which nodes, or the model's files of /sys, are; and reads by which name a file was
    opened, with links followed. */
 enum { OF_DEV, OF_SYS };
-int find_file(struct call *call, const char *before, char name[PATH_MAX], struct stat *about);
 int find_node(struct call *call);
 int answer_ioctl(struct call *call, const __u64 *arguments);
 int claim(const struct call *call, int file);
@@ -267,14 +241,6 @@ int copy_text(const struct call *call, uint64_t from, char into[PATH_MAX]);
 struct open_how;
 int look_up(const struct call *call, int directory, const char *path, const struct open_how *how);
 const char *read_about(pid_t process, const char *name, char *text, size_t room);
-
-/* attributes.c: does what a file of /sys is there for to which a text is written, or sets what a block device reads
-   ahead, and returns 0, or an error's number as a negative one; and returns the number that is a setting of a
-   device's queue, of KiB in sectors, or a usual one without a sandbox. */
-enum { MOST_WRITTEN = 64 };
-int write_attribute(char *path, char *text);
-int set_read_ahead(const struct node *node, uint64_t sectors);
-uint64_t queue_setting(const struct node *node, const char *name, uint64_t usual);
 
 /* names.c: returns whether a file may be made at a path; and answers calls that make, remove or change names. */
 typedef int answering(struct call *call, const __u64 *arguments);

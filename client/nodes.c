@@ -11,7 +11,6 @@ enum { MOST_NAME = 40 };
 /* What each controller shows of an NSID: no nodes, those of its namespace, or those of one that has gone since. */
 static enum shown { HIDDEN, CURRENT, OUTDATED } (*shown)[MOST_NSID + 1];
 static struct volume (*volumes)[MOST_NSID + 1];
-static enum presence *presences;
 
 static struct volume *volume_at(const struct device *device, uint32_t nsid) { return &volumes[device - devices][nsid]; }
 
@@ -143,8 +142,6 @@ static void put(unsigned controller, uint32_t nsid) {
     show(GENERIC, controller, nsid);
 }
 
-enum presence presence_of(unsigned controller) { return presences[controller]; }
-
 /* Marks a node that goes, for processes that have it open: as on Linux, it has no permissions. */
 static void mark_gone(char kind, unsigned controller, uint32_t nsid) {
     char path[MOST_NAME];
@@ -216,8 +213,6 @@ static int measure(unsigned controller, uint32_t nsid) {
 int list_active(unsigned controller, unsigned char is_active[MOST_NSID + 1]) {
     unsigned char list[IDENTIFY_BYTES];
     memset(is_active, 0, MOST_NSID + 1);
-    if (presences[controller] != BOUND)
-        return 0;
     int length = ask(controller, KIND * KIND_LIST, 0, 0, list);
     for (int at = 0; at < length; at += 4)
         is_active[number_at(list + at, 4) % (MOST_NSID + 1)] = 1;
@@ -268,10 +263,8 @@ static void show_anew(const struct device *device, uint32_t nsid, int is_formatt
     for (unsigned at = device->first; at < device->first + device->count; at++) {
         if (shown[at][nsid] != CURRENT)
             continue;
-        if (is_formatted) {
-            reset_settings(at, nsid);
+        if (is_formatted)
             put_record(at, nsid, "");
-        }
         show(BLOCK, at, nsid);
     }
 }
@@ -317,33 +310,10 @@ static int show_controller(unsigned controller) {
     if (identify(controller, 0, CNS_CONTROLLER, identities[controller]) < 0)
         return -1;
     show(FUNCTION, controller, 0);
-    if (presences[controller] != BOUND)
-        return 0;
     show(SUBSYSTEM, controller, 0);
     show(CONTROLLER, controller, 0);
     if (ask(controller, OPCODE_GET_LOG, EVERY_NSID, HEALTH_LOG, log) >= 0)
         show_health(controller, log);
-    return 0;
-}
-
-/* (as when it is pulled out, or comes back, which resets it) */
-static int set_presence(const struct device *device, unsigned controller, enum presence wanted) {
-    int is_alone = 1;
-    if (wanted == BOUND && ask(controller, KIND * KIND_RESET, 0, 0, NULL) < 0)
-        return -ENODEV;
-    presences[controller] = wanted;
-    for (unsigned at = device->first; at < device->first + device->count; at++)
-        is_alone &= presences[at] != BOUND;
-    mark_gone('c', controller, 0);
-    hide(HEALTH, controller, 0);
-    hide(CONTROLLER, controller, 0);
-    if (is_alone)
-        hide(SUBSYSTEM, controller, 0);
-    if (wanted == REMOVED)
-        hide(FUNCTION, controller, 0);
-    else if (show_controller(controller) < 0)
-        return -ENODEV;
-    scan(controller, 1);
     return 0;
 }
 
@@ -353,13 +323,10 @@ void make_nodes(void) {
     disk = geteuid() == 0 ? getgrnam("disk") : NULL;
     shown = share(MOST_CONTROLLERS * sizeof *shown);
     volumes = share(MOST_DEVICES * sizeof *volumes);
-    presences = share(MOST_CONTROLLERS * sizeof *presences);
     begin_sys();
-    for (unsigned at = 0; at < last->first + last->count; at++) {
-        presences[at] = BOUND;
+    for (unsigned at = 0; at < last->first + last->count; at++)
         if (show_controller(at) < 0)
             fail("the device does not answer as it should");
-    }
     scan(0, last->first + last->count);
 }
 
@@ -411,11 +378,7 @@ void probe_written(const struct device *device) {
     }
 }
 
-int serve_keeper(struct device *device, const struct request_header *request, const char *data) {
-    if (request->kind == KIND_SETTING)
-        return put_setting(data, data + strlen(data) + 1);
-    if (request->kind == KIND_PRESENCE)
-        return set_presence(device, request->controller, request->length);
+int serve_keeper(struct device *device, const struct request_header *request) {
     if (request->kind == KIND_SCAN)
         scan(request->controller, request->length);
     else if (request->kind == KIND_SHOW)

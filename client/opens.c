@@ -12,7 +12,6 @@
 #include <sys/statfs.h>
 #include <sys/syscall.h>
 
-
 /* ---- calls that open a file */
 
 /* Whether a file sets the priority of the caller's session, which has processes outside. (Its name is read by this
@@ -28,44 +27,67 @@ static int is_of_session(int file, const char *link) {
     return length >= sizeof wanted && strcmp(name + length - strlen(wanted), wanted) == 0;
 }
 
-/* Answers a call that opens a file that was found, or that changes its length: a file of /sys that isn't there for
-   writing can't be opened for it, even by root, and a node isn't truncated or appended to. Others are opened as the
-   caller could.
-   (Linux 6.6 and later open files in memory for direct access. The library tells by this flag which writes fail. From
-   the greatest offset, where a character device is opened, reads and writes fail with EINVAL, as they should. There a
-   file of /sys is too, which is read-only for the caller, so that a write fails that isn't handed over.) */
-static int open_found(struct call *call, int file, uint64_t flags, int is_length) {
+/* Resets a controller, or looks for its namespaces, because such a file of it is opened for writing. What is then
+   written goes nowhere. */
+static int open_attribute(const char *name, const char *place, uint64_t flags) {
+    unsigned controller;
+    char what[16] = "";
+    if (sscanf(name, "/sys/devices/pci%*x:%*x/%*[^/]/nvme/nvme%u/%15[a-z]_controller", &controller, what) != 2 ||
+        (flags & O_ACCMODE) != O_WRONLY || faccessat(AT_FDCWD, place, W_OK, AT_EACCESS) < 0)
+        return -EACCES;
+    int file = open("/dev/null", O_WRONLY | O_CLOEXEC);
+    if (file < 0)
+        return -errno;
+    int result = ask_controller(controller, strcmp(what, "reset") == 0 ? KIND_RESET : KIND_SCAN, 1);
+    if (result == 0)
+        return file;
+    close(file);
+    return result;
+}
+
+/* Opens a node as the caller could, but doesn't truncate it. (Linux 6.6 and later open files in memory for direct
+   access. The library tells by this flag which writes fail. From the greatest offset, where a character device is
+   opened, reads and writes fail with EINVAL, as they should.) */
+static int open_node(const struct call *call, const char *place, uint64_t flags) {
     const int left_out = O_CREAT | O_EXCL | O_TRUNC | O_NOFOLLOW | O_APPEND;
     const int changed = O_TRUNC | O_DIRECT | O_EXCL | O_APPEND;
+    int is_block = call->node.kind == 'b';
+    if (is_block && !(flags & changed))
+        return NOT_OURS;
+    int file = open(place, ((int)flags & ~left_out) | O_CLOEXEC);
+    if (file < 0 && errno == EINVAL && flags & O_DIRECT)
+        file = open(place, ((int)flags & ~(left_out | O_DIRECT)) | O_CLOEXEC);
+    if (file < 0)
+        return -errno;
+    if (!is_block)
+        lseek(file, INT64_MAX, SEEK_SET);
+    int result = is_block && flags & O_EXCL ? claim(call, file) : 0;
+    if (result == 0)
+        return file;
+    close(file);
+    return result;
+}
+
+/* Answers a call that opens a file that was found, or that changes its length. The model's files of /sys can't be
+   opened for writing, even by root, and a node isn't truncated. */
+static int open_found(struct call *call, int file, uint64_t flags, int is_length) {
     char place[64], name[PATH_MAX];
     struct stat about;
-    if (fstat(file, &about) < 0 || !S_ISREG(about.st_mode))
-        return NOT_OURS;
     snprintf(place, sizeof place, "/proc/self/fd/%d", file);
-    if (about.st_dev != number_of(OF_DEV) && about.st_dev != number_of(OF_SYS))
-        return is_of_session(file, place) ? -EACCES : NOT_OURS;
-    if (about.st_dev == number_of(OF_SYS) && !(about.st_mode & 0222))
-        return -EACCES;
-    read_link(place, name);
-    int is_node = strncmp(name, "/dev/", 5) == 0 && read_name(name + 5, &call->node);
-    if (is_node && is_length)
-        return -EINVAL;
-    int is_block = is_node && call->node.kind == 'b', is_plain = is_block && !(flags & changed);
-    if (is_length || is_plain || (!is_node && strncmp(name, "/sys/", 5) != 0))
+    if (fstat(file, &about) < 0 || S_ISDIR(about.st_mode))
         return NOT_OURS;
-    int again = is_node ? open(place, ((int)flags & ~left_out) | O_CLOEXEC)
-                        : open(name, ((int)flags & ~left_out) | O_NOFOLLOW | O_CLOEXEC);
-    if (again < 0 && errno == EINVAL && flags & O_DIRECT)
-        again = open(place, ((int)flags & ~(left_out | O_DIRECT)) | O_CLOEXEC);
-    if (again < 0)
-        return -errno;
-    int result = is_block && flags & O_EXCL ? claim(call, again) : 0;
-    if (is_node ? !is_block : (flags & O_ACCMODE) == O_WRONLY)
-        lseek(again, INT64_MAX, SEEK_SET);
-    if (result == 0)
-        return again;
-    close(again);
-    return result;
+    read_link(place, name);
+    if (about.st_dev == number_of(OF_SYS)) {
+        int is_read = !is_length && (flags & (O_ACCMODE | O_TRUNC)) == O_RDONLY;
+        return is_read ? NOT_OURS : is_length ? -EACCES : open_attribute(name, place, flags);
+    }
+    if (!S_ISREG(about.st_mode))
+        return NOT_OURS;
+    if (about.st_dev != number_of(OF_DEV))
+        return is_of_session(file, place) ? -EACCES : NOT_OURS;
+    if (strncmp(name, "/dev/", 5) != 0 || !read_name(name + 5, &call->node))
+        return NOT_OURS;
+    return is_length ? -EINVAL : open_node(call, place, flags);
 }
 
 /* Looks for the file at a path, from a folder. */
@@ -110,29 +132,11 @@ static int answer_truncate(struct call *call, const __u64 *words) {
     return find_and_open(call, AT_FDCWD, words[0], &(struct open_how){.flags = O_WRONLY}, 1);
 }
 
-/* ---- calls that Linux refuses for a node, by its descriptor, and that write to a file of /sys */
-
-/* Whether the file of a call is one of /sys that is open for writing, which the launcher alone opens so. */
-static int is_attribute(struct call *call, char name[PATH_MAX]) {
-    struct stat about;
-    return find_file(call, "/sys/", name, &about) && about.st_dev == number_of(OF_SYS) && call->is_writable;
-}
-
-static int answer_write(struct call *call, const __u64 *words) {
-    char name[PATH_MAX], text[MOST_WRITTEN + 1] = "";
-    call->file = (int)words[0];
-    if (words[2] == 0 || words[2] > MOST_WRITTEN || !is_attribute(call, name))
-        return NOT_OURS;
-    if (copy_in(call, words[1], text, words[2]) < 0)
-        return -EFAULT;
-    int result = write_attribute(name, text);
-    return result < 0 ? result : (int)words[2];
-}
+/* ---- calls that Linux refuses for a node, by its descriptor */
 
 static int refuse_node(struct call *call, __u64 file, int error) {
-    char name[PATH_MAX];
     call->file = (int)file;
-    return (find_node(call) && !call->is_path) || is_attribute(call, name) ? error : NOT_OURS;
+    return find_node(call) && !call->is_path ? error : NOT_OURS;
 }
 
 static int answer_ftruncate(struct call *call, const __u64 *words) { return refuse_node(call, words[0], -EINVAL); }

@@ -12,13 +12,15 @@
 extern char sys_text[];
 __asm__(".data\nsys_text: .incbin \"sys.txt\"\n.byte 0\n.previous");
 enum { MOST_LINES = 512, MOST_TEXT = 4096 };
-static struct line lines[MOST_LINES];
+static struct line {
+    const char *name, *text;
+    char mark;  /* what is before the text, or none (0) */
+    char *last; /* the text in the folder of this kind that was made last, or NULL */
+} lines[MOST_LINES];
 static struct folder {
     struct line *lines;
     int last;
 } folders[PARTS];
-
-static int *is_changed; /* whether a keeper has changed a setting */
 
 /* Reads the lines, among which the folders have the order of the parts. */
 static void read_lines(void) {
@@ -30,13 +32,8 @@ static void read_lines(void) {
         if (*at == '[')
             (folder++)->lines = line;
         line->name = strsep(&at, " ");
-        line->mark = at && *at && strchr(">!+=&?~@", *at) ? *at++ : '\0';
-        line->taken = at;
-        if (line->mark == '~') {
-            at = strstr(at, " : ") + strlen(" : ");
-            at[-3] = '\0';
-        }
-        line->text = at && line->mark != '!' ? at : "";
+        line->mark = at && *at && strchr(">!+=?@", *at) ? *at++ : '\0';
+        line->text = at ?: "";
         line++;
     }
 }
@@ -108,8 +105,6 @@ static void set_controller(unsigned number) {
     const unsigned char *identity = identities[number];
     const char *text = (const char *)identity;
     set("k", "%u", (unsigned)(device_of(number) - devices));
-    set("is_bound", "%d", presence_of(number) == BOUND);
-    set("driver", "%s", presence_of(number) == BOUND ? "DRIVER=nvme\n" : "");
     set("x", "%u", number);
     set("slot", "%02x", number);
     set("first", "%016x", address_of(number));
@@ -226,7 +221,10 @@ static int make(int folder, const char *name, char mark, const char *text) {
     }
     if (name[strlen(name) - 1] == '/')
         return mkdirat(folder, name, 0755);
-    const mode_t mode = mark == '!' ? 0200 : mark == '+' ? 0600 : mark == '&' || mark == '~' ? 0644 : 0444;
+    /* (nobody can read such a device, which needs no right to be made) */
+    if (mark == '!')
+        return mknodat(folder, name, S_IFCHR | 0200, 0);
+    const mode_t mode = mark == '+' ? 0600 : 0444;
     int file = openat(folder, name, O_WRONLY | O_CREAT | O_EXCL | O_CLOEXEC, mode);
     if (file < 0)
         return -1;
@@ -235,12 +233,11 @@ static int make(int folder, const char *name, char mark, const char *text) {
     return result;
 }
 
-/* Makes an entry, in place of what is there. (Of several links with one name in /dev/disk, the first stays, and what a
-   setting was changed to.) */
+/* Makes an entry, in place of what is there. (Of several links with one name in /dev/disk, the first stays.) */
 static void put(int folder, char *name, char mark, const char *text) {
     for (int tries = 0; make(folder, name, mark, text) < 0; tries++) {
         int error = errno;
-        if (error == EEXIST && (mark == '~' || name[strlen(name) - 1] == '/' || strncmp(name, "/dev/disk/", 10) == 0))
+        if (error == EEXIST && (name[strlen(name) - 1] == '/' || strncmp(name, "/dev/disk/", 10) == 0))
             return;
         if (tries > 2)
             return cannot(name);
@@ -265,8 +262,7 @@ static void remove_link(char *name, const char *text) {
         rmdir(name);
 }
 
-/* (an entry that is the same as in the last folder of this kind becomes another name of that one, but a setting only as
-   long as none was changed) */
+/* (an entry that is the same as in the last folder of this kind becomes another name of that one) */
 void show(enum part part, unsigned number, uint32_t nsid) {
     char path[PATH_MAX], name[PATH_MAX], text[MOST_TEXT];
     struct folder *folder = folders + part;
@@ -277,8 +273,7 @@ void show(enum part part, unsigned number, uint32_t nsid) {
     for (; *line->name && at >= 0; line++) {
         expand(name, sizeof name, line->name);
         expand(text, sizeof text, line->text);
-        int may_differ = *name == '/' || (line->mark == '~' && *is_changed);
-        int is_same = !may_differ && line->last && strcmp(text, line->last) == 0;
+        int is_same = *name != '/' && line->last && strcmp(text, line->last) == 0;
         if (!is_same || linkat(folder->last, name, at, name, 0) < 0)
             put(at, name, line->mark, text);
         if (!is_same) {
@@ -292,7 +287,6 @@ void show(enum part part, unsigned number, uint32_t nsid) {
 }
 
 void begin_sys(void) {
-    is_changed = share(sizeof *is_changed);
     read_lines();
     show(TOP, 0, 0);
 }
@@ -329,34 +323,6 @@ void show_health(unsigned number, const unsigned char *log) {
 unsigned most_sectors(unsigned number) {
     const unsigned usual = 2560, mdts = identities[number][77];
     return mdts != 0 && mdts < 9 ? 8u << mdts : usual;
-}
-
-/* ---- settings */
-
-/* (of entries that are elsewhere, the name is the whole path, and those that can be written are the first ones) */
-const struct line *find_written(const char *path) {
-    const struct line *line = lines;
-    for (size_t whole = strlen(path), length; line->name; line++)
-        if (line->mark && strchr("!&~", line->mark) && (length = strlen(line->name)) <= whole &&
-            strcmp(path + whole - length, line->name) == 0)
-            return line;
-    return NULL;
-}
-
-void reset_settings(unsigned number, uint32_t nsid) {
-    static const char *const names[] = {"read_ahead_kb", "max_sectors_kb", "write_cache", NULL};
-    char path[PATH_MAX];
-    for (const char *const *name = names; *name; name++) {
-        snprintf(path, sizeof path, "/sys/block/nvme%un%u/queue/%s", number, nsid, *name);
-        unlink(path);
-    }
-}
-
-int put_setting(const char *path, const char *text) {
-    __atomic_store_n(is_changed, 1, __ATOMIC_SEQ_CST);
-    if (unlink(path) < 0)
-        return -ENODEV;
-    return make(AT_FDCWD, path, '~', text) < 0 ? -ENOSPC : 0;
 }
 
 /* ---- records */

@@ -16,7 +16,7 @@ CLIENT = TOP / 'client'
 PROGRAMS = TOP / 'tests/programs'
 PARTS = {'bin/nvme-model': ('launcher', 'relay', 'nodes', 'sysfs', 'sandbox', 'calls', 'caller', 'filter', 'helpers',
                             'io', 'refuse', 'device', 'inherited', 'command', 'options',
-                            'opens', 'attributes', 'names', 'lists', 'udev'),
+                            'opens', 'names', 'lists', 'udev'),
          'lib/nvme-model/library.so': ('library',),
          'lib/nvme-model/qemu': ('qemu', 'messages', 'function', 'memory', 'proxy', 'vfio_user')}
 WARNINGS = '-Wall', '-Wextra', '-Werror'
