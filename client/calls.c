@@ -240,19 +240,10 @@ static int carry_out_ioctl(struct call *call) {
     }
 }
 
-/* Waits until all keepers have looked at what was written before. */
-static int settle(void) {
-    for (const struct device *device = devices; device < devices + device_count; device++)
-        ask_controller(device->first, KIND_PROBE, 0);
-    return 0;
-}
-
 int answer_ioctl(struct call *call, const __u64 *words) {
     call->file = (int)words[0];
     call->request = (uint32_t)words[1];
     call->argument = words[2];
-    if (call->request == SETTLE_REQUEST && call->file == -1)
-        return settle();
     return find_node(call) ? carry_out_ioctl(call) : NOT_OURS;
 }
 

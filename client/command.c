@@ -81,7 +81,7 @@ __attribute__((noreturn)) static void begin(char **arguments) {
     if (command > 0)
         be_first(command);
     restore_errors();
-    if (close_range(STDERR_FILENO + 1, ~0U, 0) < 0 || ioctl(-1, SETTLE_REQUEST) < 0)
+    if (close_range(STDERR_FILENO + 1, ~0U, 0) < 0 || ioctl(-1, NODE_REQUEST) < 0)
         _exit(FAILED);
     sigprocmask(SIG_SETMASK, &blocked, NULL);
     become(arguments);

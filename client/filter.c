@@ -133,7 +133,7 @@ static const int launcher_calls[] = {
     SYS_statfs, SYS_fstatfs, SYS_inotify_init1, SYS_inotify_add_watch,
     SYS_process_vm_readv, SYS_process_vm_writev, SYS_fork, SYS_wait4, SYS_waitid, SYS_kill, SYS_setpriority,
     SYS_ioprio_set, SYS_getppid, SYS_setsid, SYS_setgroups, SYS_setresuid, SYS_setresgid, SYS_capget, SYS_capset,
-    SYS_poll, SYS_ppoll, SYS_signalfd4, SYS_eventfd2, SYS_accept4, SYS_recvfrom};
+    SYS_poll, SYS_ppoll, SYS_signalfd4, SYS_eventfd2, SYS_recvfrom};
 
 /* The requests of the launcher's ioctls: for calls that were handed over, and by which stdio looks for a terminal (the
    last one in glibc 2.42); its options of prctl; and the flags of clone by which a process gets other namespaces. */
@@ -171,12 +171,9 @@ void confine_launcher(void) {
 
 /* (A device opens files to read them, when it starts, and changes limits of its own alone. It becomes its program under
    this filter, which can't see whether it becomes another one.) */
-int confine_device(int forks) {
+int confine_device(void) {
     const uint32_t changes = O_WRONLY | O_RDWR | O_CREAT | O_TRUNC, own = 0;
-    static const int more_calls[] = {SYS_execve, SYS_fadvise64, SYS_dup, SYS_dup2, SYS_alarm, SYS_wait4};
-    begin_list(more_calls, forks ? COUNT(more_calls) : 1);
-    if (forks)
-        decide_by(SYS_clone, 0, BPF_JSET, &namespaces, 1, MISSING);
+    begin_list((const int[]){SYS_execve}, 1);
     decide_by(SYS_open, 1, BPF_JSET, &changes, 1, MISSING);
     decide_by(SYS_openat, 2, BPF_JSET, &changes, 1, MISSING);
     decide_by(SYS_prlimit64, 0, BPF_JGT, &own, 1, MISSING);

@@ -93,12 +93,9 @@ static void start_keeper(struct device *device) {
         return;
     }
     begin_process();
-    enum { QUIET = 20 };
     for (;;) {
         const int files[] = {device->asks[0], device->state == LOST ? -1 : device->to_and_from, watcher};
-        unsigned ready = await_files(files, 3, is_any_written() ? QUIET : -1), place;
-        if (ready == 0)
-            probe_written(device);
+        unsigned ready = await_files(files, 3, -1), place;
         if (ready & 1 && read(files[0], &place, sizeof place) == sizeof place)
             serve(device, helpers + place);
         if (ready & 2)
@@ -231,8 +228,4 @@ void begin_helpers(void) {
     while (shared->count < FIRST_HELPERS)
         if (!add_helper(FIRST_HELPERS))
             fail_by_errno("fork");
-    if (must(fork(), "fork") == 0) {
-        begin_process();
-        greet_udevadm();
-    }
 }

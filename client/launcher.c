@@ -184,7 +184,6 @@ static int run(char **arguments) {
         start_device(options.subsystem_count > 0 ? FILES + (int)at : -1, options.subsystems[at]);
     make_nodes();
     command = started; /* (from now on, what can't be made doesn't end it) */
-    start_prober();
     confine_launcher();
     begin_helpers();
     run_command(ends);

@@ -103,8 +103,7 @@ struct volume {
 };
 
 /* nodes.c: makes the nodes of all controllers; looks for changes after a command; makes the nodes of a lost device
-   unusable; returns a descriptor that tells which nodes of a device were written, restores their lengths, tells whether
-   there are any, and looks at their data; returns whether a name is that of a node, which may have been removed, and
+   unusable; returns a descriptor that tells which nodes of a device were written, and restores their lengths; returns whether a name is that of a node, which may have been removed, and
    stores the node; returns whether a controller shows a namespace; asks a controller, as Identify does or for its
    active namespaces, and returns the length of what came, or -1; opens the data of a namespace that is active on a
    node's controller, or returns -1; stores how long a namespace is, or returns 0 if this isn't known or just changes;
@@ -114,8 +113,6 @@ void look_for_changes(struct device *device, const struct request_header *reques
 void lose_nodes(const struct device *device);
 int watch_nodes(void);
 void repair_files(const struct device *device);
-int is_any_written(void);
-void probe_written(const struct device *device);
 int read_name(const char *name, struct node *node);
 struct device *device_of(unsigned controller);
 int is_shown(unsigned controller, uint32_t nsid);
@@ -127,16 +124,14 @@ int read_volume(const struct node *node, struct volume *volume);
 int serve_keeper(struct device *device, const struct request_header *request);
 
 /* sysfs.c: what Identify says of each controller; puts the files of /sys that are there at first; shows a part of a
-   controller or of one of its namespaces, or hides it; shows the temperature of a controller by its health log; puts
-   the record that udev has of a block device, with what blkid says of its data, or removes it (NULL); and returns the
-   greatest number of sectors in a transfer of a controller. */
-enum part { TOP, SUBSYSTEM, FUNCTION, CONTROLLER, HEALTH, BLOCK, RECORD, GENERIC, PARTS };
+   controller or of one of its namespaces, or hides it; shows the temperature of a controller by its health log; and
+   returns the greatest number of sectors in a transfer of a controller. */
+enum part { TOP, SUBSYSTEM, FUNCTION, CONTROLLER, HEALTH, BLOCK, GENERIC, PARTS };
 extern unsigned char identities[MOST_CONTROLLERS][IDENTIFY_BYTES];
 void begin_sys(void);
 void show(enum part part, unsigned controller, uint32_t nsid);
 void hide(enum part part, unsigned controller, uint32_t nsid);
 void show_health(unsigned controller, const unsigned char *log);
-void put_record(unsigned controller, uint32_t nsid, const char *said);
 unsigned most_sectors(unsigned controller);
 
 /* filter.c: has the calls of this thread, and of the processes that it starts, handed over to who reads `calls`; and
@@ -145,7 +140,7 @@ unsigned most_sectors(unsigned controller);
 extern int calls;
 void filter_calls(void);
 void confine_launcher(void);
-int confine_device(int forks);
+int confine_device(void);
 
 /* A message of the kernel about a call, which is longer in later versions, and the result of a call that the kernel
    carries out. */
@@ -175,9 +170,9 @@ void end_with_launcher(void);
 
 /* helpers.c: memory that all these processes share; and in a helper, room for data, a request to the keeper of a
    controller's device, which returns -1 if the device is gone, and one without an answer, which returns -ENXIO then.
-   It may be one for the keeper, of which the length tells more: a scan of so many controllers; to show a namespace
-   anew; and to look at the data of one, and of all others that were written. */
-enum { KIND_SCAN = 0xffff, KIND_SHOW = 0xfffe, KIND_PROBE = 0xfffd };
+   It may be one for the keeper, of which the length tells more: a scan of so many controllers, and to show a namespace
+   anew. */
+enum { KIND_SCAN = 0xffff, KIND_SHOW = 0xfffe };
 void *share(size_t size);
 void *own_data(void);
 int ask_keeper(const struct request_header *header, struct answer_header *answer);
@@ -248,17 +243,9 @@ int may_create(const struct call *call, int directory, char *path);
 answering answer_unlink, answer_unlinkat, answer_rename, answer_renameat, answer_mkdir, answer_mkdirat, answer_link,
     answer_symlinkat, answer_linkat;
 
-/* udev.c: starts a process that looks at the data of block devices; has it look at that of one, whose record and links
-   change accordingly; and answers udevadm, which asks whether udev is there, for ever. */
-void start_prober(void);
-void probe(unsigned controller, uint32_t nsid);
-__attribute__((noreturn)) void greet_udevadm(void);
-
-/* lists.c: writes the lists of /proc for the command: of kinds of devices, and of block devices; and waits until no
-   other keeper has its turn, or ends it, by a type of lock. */
+/* lists.c: writes the lists of /proc for the command: of kinds of devices, and of block devices. */
 void list_devices(void);
 void list_blocks(void);
-void take_turn(short type);
 
 /* refuse.c: adds a rule of --refuse or --delay, or returns why it isn't one; does with a command what the rules say,
    and returns the status with which it is refused, an error's number as a negative one, or 0; and reports which rules

@@ -78,17 +78,6 @@ PUBLIC int tcsetpgrp(int file, pid_t group) {
     return result < 0 && errno == ESRCH && group == 0 ? 0 : result;
 }
 
-/* (udevadm and libudev look whether this file is there, as it is while udev has something to do) */
-PUBLIC int access(const char *path, int mode) {
-    static const char queue[] = "/run/udev/queue";
-    int result = NEXT(access)(path, mode);
-    if (result < 0 && errno == ENOENT && strcmp(path, queue) == 0) {
-        ioctl(-1, SETTLE_REQUEST);
-        errno = ENOENT;
-    }
-    return result;
-}
-
 /* ---- calls that describe a file */
 
 /* Describes a node, and returns what the call returns: `found` is 1 if there is one, and else its result. */

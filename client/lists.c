@@ -35,8 +35,8 @@ void list_devices(void) {
     end_list(list);
 }
 
-/* (nobody else can have this lock) */
-void take_turn(short type) {
+/* Waits until no other keeper has its turn, or ends it, by a type of lock. (Nobody else can have this lock.) */
+static void take_turn(short type) {
     static int turn;
     turn = turn ?: open(MODEL_FOLDER, O_TMPFILE | O_RDWR | O_CLOEXEC, 0600);
     fcntl(turn, F_SETLKW, &(struct flock){.l_type = type});

@@ -80,8 +80,6 @@ int open_data(const struct node *node) {
     return open(path, O_RDWR | O_NOFOLLOW | O_NONBLOCK | O_CLOEXEC);
 }
 
-static unsigned char is_written[MOST_NSID + 1]; /* whether the data may be other than when it was looked at */
-
 static const struct group *disk; /* to which root's block devices belong, as on Linux */
 
 static void set_length(const struct volume *volume, off_t length) {
@@ -135,10 +133,8 @@ static void put(unsigned controller, uint32_t nsid) {
     struct volume *volume = volume_at(device_of(controller), nsid);
     if (volume->file <= 0)
         make_data(volume);
-    is_written[nsid] |= lseek(volume->file, 0, SEEK_DATA) >= 0;
     shown[controller][nsid] = CURRENT;
     show(BLOCK, controller, nsid);
-    put_record(controller, nsid, "");
     show(GENERIC, controller, nsid);
 }
 
@@ -154,7 +150,6 @@ static void mark_gone(char kind, unsigned controller, uint32_t nsid) {
 static void hide_namespace(unsigned controller, uint32_t nsid) {
     mark_gone('g', controller, nsid);
     hide(GENERIC, controller, nsid);
-    put_record(controller, nsid, NULL);
     hide(BLOCK, controller, nsid);
     shown[controller][nsid] = HIDDEN;
     leave_file(volume_at(device_of(controller), nsid));
@@ -253,20 +248,16 @@ static void forget_namespace(const struct device *device, uint32_t nsid) {
 
 /* Shows a namespace as it is since it was formatted or made read-only. (The library sees by the mode of the file
    whether it may write.) */
-static void show_anew(const struct device *device, uint32_t nsid, int is_formatted) {
+static void show_anew(const struct device *device, uint32_t nsid) {
     struct volume *volume = volume_at(device, nsid);
     struct stat about;
     if (volume->file > 0 &&
         (fstat(volume->file, &about) < 0 ||
          fchmod(volume->file, (about.st_mode & 0777) | (volume->is_read_only ? READ_ONLY : 0)) < 0))
         cannot("/dev");
-    for (unsigned at = device->first; at < device->first + device->count; at++) {
-        if (shown[at][nsid] != CURRENT)
-            continue;
-        if (is_formatted)
-            put_record(at, nsid, "");
-        show(BLOCK, at, nsid);
-    }
+    for (unsigned at = device->first; at < device->first + device->count; at++)
+        if (shown[at][nsid] == CURRENT)
+            show(BLOCK, at, nsid);
 }
 
 /* Clears the data of a formatted namespace, and makes it as long as the new format requires. */
@@ -279,7 +270,7 @@ static void clear_namespace(const struct device *device, unsigned controller, ui
     if (measure(controller, nsid) < 0)
         return;
     set_length(volume, length_of(volume));
-    show_anew(device, nsid, 1);
+    show_anew(device, nsid);
     list_blocks();
 }
 
@@ -346,17 +337,13 @@ int watch_nodes(void) {
     return watcher;
 }
 
-int is_any_written(void) { return memchr(is_written, 1, sizeof is_written) != NULL; }
-
 /* (some events are missing if there were too many) */
 static void repair_file(const struct device *device, const struct inotify_event *event) {
     struct node node;
     for (uint32_t nsid = 1; event->mask & IN_Q_OVERFLOW && nsid <= MOST_NSID; nsid++)
         repair(device, nsid);
-    if (event->len > 0 && read_name(event->name, &node) && node.kind == 'b' && device_of(node.controller) == device) {
+    if (event->len > 0 && read_name(event->name, &node) && node.kind == 'b' && device_of(node.controller) == device)
         repair(device, node.nsid);
-        is_written[node.nsid] = 1;
-    }
 }
 
 void repair_files(const struct device *device) {
@@ -369,25 +356,12 @@ void repair_files(const struct device *device) {
         }
 }
 
-void probe_written(const struct device *device) {
-    for (uint32_t nsid = 1; nsid <= MOST_NSID; nsid++) {
-        for (unsigned at = device->first; at < device->first + device->count && is_written[nsid]; at++)
-            if (is_shown(at, nsid))
-                probe(at, nsid);
-        is_written[nsid] = 0;
-    }
-}
-
 int serve_keeper(struct device *device, const struct request_header *request) {
     if (request->kind == KIND_SCAN)
         scan(request->controller, request->length);
     else if (request->kind == KIND_SHOW)
-        show_anew(device, request->length, 0);
-    else if (request->kind == KIND_PROBE) {
-        repair_files(device);
-        is_written[request->length] = request->length > 0;
-        probe_written(device);
-    } else
+        show_anew(device, request->length);
+    else
         return NOT_OURS;
     return 0;
 }

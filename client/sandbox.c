@@ -139,25 +139,11 @@ static int is_in(const char *folder, const char *path) {
 
 int is_replaced(const char *path) { return is_in("/dev", path) || is_in("/proc", path) || is_in("/sys", path); }
 
-/* Adds folders of /run of the sandbox's own: of udev, and of blkid, which remembers there what it has seen of nodes. If
-   the machine lacks one, no folder is made in its /run, of which the command has a copy then. */
+/* Adds folders of /run of the sandbox's own, if the machine has them: of udev, and of blkid, which remembers there what
+   it has seen of nodes. (bwrap would make a folder that isn't there in the machine.) */
 static void add_run(void) {
-    static const char *const own[] = {"/run/udev", "/run/blkid"};
-    /* (bwrap would make a folder that isn't there in the machine) */
-    must(access("/run", F_OK), "/run");
-    int is_copied = access(own[0], F_OK) < 0 || access(own[1], F_OK) < 0;
-    char target[PATH_MAX];
-    if (is_copied)
-        add_words("--perms 0755 --tmpfs /run");
-    for (char **path = find("/run/{*,.[!.]*,..?*}"); is_copied && *path; path++) {
-        read_link(*path, target);
-        if (*target)
-            bind_to("--symlink", target, *path);
-        else
-            bind_to("--bind-try", *path, *path);
-    }
-    for (unsigned at = 0; at < sizeof own / sizeof *own; at++)
-        add_words("--perms 0755 --tmpfs %s", own[at]);
+    for (char **own = find("/run/{udev,blkid}"); *own; own++)
+        add_words("--perms 0755 --tmpfs %s", *own);
 }
 
 /* Looks at a path without asking a server, which might not answer. */

@@ -262,6 +262,15 @@ static void remove_link(char *name, const char *text) {
         rmdir(name);
 }
 
+/* (nothing is put into the machine's /run) */
+static int is_left_out(const char *name) {
+    static int has_records = -1;
+    struct stat run, own;
+    if (has_records < 0)
+        has_records = stat("/run", &run) == 0 && stat("/run/udev", &own) == 0 && run.st_dev != own.st_dev;
+    return strncmp(name, "/run/", 5) == 0 && !has_records;
+}
+
 /* (an entry that is the same as in the last folder of this kind becomes another name of that one) */
 void show(enum part part, unsigned number, uint32_t nsid) {
     char path[PATH_MAX], name[PATH_MAX], text[MOST_TEXT];
@@ -273,6 +282,8 @@ void show(enum part part, unsigned number, uint32_t nsid) {
     for (; *line->name && at >= 0; line++) {
         expand(name, sizeof name, line->name);
         expand(text, sizeof text, line->text);
+        if (is_left_out(name))
+            continue;
         int is_same = *name != '/' && line->last && strcmp(text, line->last) == 0;
         if (!is_same || linkat(folder->last, name, at, name, 0) < 0)
             put(at, name, line->mark, text);
@@ -300,7 +311,7 @@ void hide(enum part part, unsigned number, uint32_t nsid) {
         expand(text, sizeof text, line->text);
         if (*name == '/' && line->mark == '>')
             remove_link(name, text);
-        else if (*name == '/')
+        else if (*name == '/' && !is_left_out(name))
             unlink(name);
     }
     remove_all(path);
@@ -323,49 +334,4 @@ void show_health(unsigned number, const unsigned char *log) {
 unsigned most_sectors(unsigned number) {
     const unsigned usual = 2560, mdts = identities[number][77];
     return mdts != 0 && mdts < 9 ? 8u << mdts : usual;
-}
-
-/* ---- records */
-
-/* Makes the links that a block device's record names, or removes them. */
-static void follow_record(const char *path, int is_there) {
-    char line[PATH_MAX], name[PATH_MAX], target[64];
-    FILE *record = fopen(path, "re");
-    expand(target, sizeof target, "../../nvme{x}n{n}");
-    while (record && fgets(line, sizeof line, record)) {
-        line[strcspn(line, "\n")] = '\0';
-        if (strncmp(line, "S:disk/", 7) != 0 || snprintf(name, sizeof name, "/dev/%s", line + 2) >= PATH_MAX)
-            continue;
-        if (is_there)
-            put(AT_FDCWD, name, '>', target);
-        else
-            remove_link(name, target);
-    }
-    if (record)
-        fclose(record);
-}
-
-/* Sets a record's line for a link by what blkid's lines have, if that can be the name of one. */
-static void set_probed(const char *name, const char *lines, const char *key) {
-    const char *at = strstr(lines, key), *text = at ? at + strlen(key) : "";
-    int length = (int)strcspn(text, "\n");
-    int is_name = length > 0 && length < NAME_MAX && !memchr(text, '/', (size_t)length);
-    set(name, is_name && !strstr(lines, "ID_FS_USAGE=raid") ? "S:disk/by-%s/%.*s\n" : "", name, length, text);
-}
-
-void put_record(unsigned number, uint32_t nsid, const char *said) {
-    char name[PATH_MAX], text[MOST_TEXT];
-    const struct line *line = folders[RECORD].lines + 1;
-    set_values(RECORD, number, nsid);
-    expand(name, sizeof name, line->name);
-    follow_record(name, 0);
-    unlink(name);
-    if (!said)
-        return;
-    set("probed", "%s", said);
-    set_probed("label", said, "E:ID_FS_LABEL_ENC=");
-    set_probed("uuid", said, "E:ID_FS_UUID_ENC=");
-    expand(text, sizeof text, line->text);
-    put(AT_FDCWD, name, '\0', text);
-    follow_record(name, 1);
 }

@@ -48,12 +48,8 @@ struct node {
     unsigned controller, nsid;
 };
 
-/* The ioctl by which the library asks which node a file is or, of the file -1, which one has a name. It fails with
-   ENXIO if the node's device is gone. */
+/* The ioctl by which the library asks which node a file is. It fails with ENXIO if the node's device is gone. */
 #define NODE_REQUEST _IOWR('N', 0xf0, struct node)
-
-/* The ioctl of the file -1 by which the library waits until keepers have looked at all that was written. */
-#define SETTLE_REQUEST _IO('N', 0xf1)
 
 /* The device numbers of nodes, by their kind. None reaches a device: Linux gives no character device such a major, and
    of block devices with 259 (blkext), those of the machine have the lowest minors. */

@@ -16,7 +16,7 @@ CLIENT = TOP / 'client'
 PROGRAMS = TOP / 'tests/programs'
 PARTS = {'bin/nvme-model': ('launcher', 'relay', 'nodes', 'sysfs', 'sandbox', 'calls', 'caller', 'filter', 'helpers',
                             'io', 'refuse', 'device', 'inherited', 'command', 'options',
-                            'opens', 'names', 'lists', 'udev'),
+                            'opens', 'names', 'lists'),
          'lib/nvme-model/library.so': ('library',),
          'lib/nvme-model/qemu': ('qemu', 'messages', 'function', 'memory', 'proxy', 'vfio_user')}
 WARNINGS = '-Wall', '-Wextra', '-Werror'
@@ -112,7 +112,7 @@ DEVICES, KEEPERS, HELPERS, LAUNCHER = range(4)
 def named():
     """Returns the processes that serve the command of the model that runs, by their names, each in the order in which
     they began."""
-    found = {b'launcher': [], b'device': [], b'prober': [], b'greeter': []}
+    found = {b'launcher': [], b'device': []}
     for number in left_running():
         # (a process may end meanwhile)
         with contextlib.suppress(FileNotFoundError, ProcessLookupError):
@@ -126,9 +126,8 @@ def named():
 def parts(devices=1):
     """Returns the processes that serve the command of the model that runs: lists of its devices, of their keepers, of
     the helpers, and the launcher. The command can't name them."""
-    # (two others have the launcher's name before they take their own)
     found = {}
-    assert until(lambda: found.update(named()) or found[b'prober'] and found[b'greeter']), 'no model serves a command'
+    assert until(lambda: found.update(named()) or len(found[b'launcher']) > 1 + devices), 'no model serves a command'
     launcher, *others = found[b'launcher']
     return found[b'device'], others[:devices], others[devices:], [launcher]
 
