@@ -263,7 +263,7 @@ int look_up(const struct call *call, int directory, const char *path, const stru
     const char *rest = is_below ? path : path + strspn(path, "/");
     const struct statx root = is_absolute ? look_at(from, "") : root_of(call->process);
     if (of_command.stx_ino == 0)
-        of_command = root_of(first);
+        of_command = root_of(process_one);
     if (from < 0 || !*path || root.stx_ino == 0 || of_command.stx_ino == 0) {
         close(from);
         return -1;

@@ -251,10 +251,10 @@ int answer_ioctl(struct call *call, const __u64 *words) {
 
 int receive_call(union notice *notice) {
     memset(notice, 0, sizeof *notice);
-    return ioctl(calls, SECCOMP_IOCTL_NOTIF_RECV, &notice->got) == 0;
+    return ioctl(call_listener, SECCOMP_IOCTL_NOTIF_RECV, &notice->got) == 0;
 }
 
-int is_alive(uint64_t id) { return ioctl(calls, SECCOMP_IOCTL_NOTIF_ID_VALID, &id) == 0; }
+int is_alive(uint64_t id) { return ioctl(call_listener, SECCOMP_IOCTL_NOTIF_ID_VALID, &id) == 0; }
 
 void finish_call(const union notice *notice, int result) {
     int is_ours = result != NOT_OURS;
@@ -262,7 +262,7 @@ void finish_call(const union notice *notice, int result) {
                                         .flags = is_ours ? 0 : SECCOMP_USER_NOTIF_FLAG_CONTINUE,
                                         .error = is_ours && result < 0 ? result : 0,
                                         .val = result > 0 ? result : 0};
-    ioctl(calls, SECCOMP_IOCTL_NOTIF_SEND, &answer);
+    ioctl(call_listener, SECCOMP_IOCTL_NOTIF_SEND, &answer);
 }
 
 /* Gives the process of a call a descriptor of a file, and returns that, or an error's number. (The file is closed here
@@ -270,7 +270,7 @@ void finish_call(const union notice *notice, int result) {
 static int give_file(const union notice *notice, int file, int flags) {
     struct seccomp_notif_addfd added = {
         .id = notice->got.id, .srcfd = (uint32_t)file, .newfd_flags = (uint32_t)flags & O_CLOEXEC};
-    int result = ioctl(calls, SECCOMP_IOCTL_NOTIF_ADDFD, &added);
+    int result = ioctl(call_listener, SECCOMP_IOCTL_NOTIF_ADDFD, &added);
     result = result < 0 ? -errno : result;
     close(file);
     return result;

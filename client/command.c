@@ -11,7 +11,7 @@
 #include <sys/uio.h>
 #include <sys/wait.h>
 
-pid_t first;
+pid_t process_one;
 
 /* The call that the process that becomes the command makes first, and that is answered when it may begin. */
 static union notice begun;
@@ -56,7 +56,7 @@ static void prepend(const char *name, const char *value) {
 
 /* (a stream that is closed for the command is one that can't be used) */
 __attribute__((noreturn)) static void become(char **arguments) {
-    prepend("LD_PRELOAD", library);
+    prepend("LD_PRELOAD", library_path);
     /* (the address sanitizer wants to be the first library, and udev that /sys is a file system of the kernel) */
     prepend("ASAN_OPTIONS", "verify_asan_link_order=0");
     setenv("SYSTEMD_DEVICE_VERIFY_SYSFS", "0", 1);
@@ -91,9 +91,9 @@ __attribute__((noreturn)) static void begin(char **arguments) {
    for the launcher.) */
 static void *start_first(void *arguments) {
     filter_calls();
-    first = must((pid_t)syscall(SYS_clone, CLONE_NEWPID | CLONE_NEWNS | SIGCHLD, NULL, NULL, NULL, 0L),
+    process_one = must((pid_t)syscall(SYS_clone, CLONE_NEWPID | CLONE_NEWNS | SIGCHLD, NULL, NULL, NULL, 0L),
                  "the command can't have a namespace of processes");
-    if (first == 0)
+    if (process_one == 0)
         begin(arguments);
     return NULL;
 }
@@ -108,7 +108,7 @@ pid_t start_command(char **arguments, int ends) {
     if (errno != 0 || pthread_join(starter, NULL) != 0)
         fail_by_errno("the command can't be started");
     drop_rights(0);
-    if (await_files((const int[]){calls, ends}, 2, -1) != 1 || !receive_call(&begun))
+    if (await_files((const int[]){call_listener, ends}, 2, -1) != 1 || !receive_call(&begun))
         exit(NO_SANDBOX); /* (the other process said why) */
     return (pid_t)begun.got.pid;
 }

@@ -12,8 +12,8 @@ static void run_device(int file, int in_and_out, int said) {
     for (int number = 0; number <= last; number++)
         is_ready &= dup2(files[number], number) >= 0;
     if (is_ready && close_range((unsigned)last + 1, ~0U, CLOSE_RANGE_CLOEXEC) == 0 && confine_device() == 0)
-        execv(program, options.device_words);
-    dprintf(STDERR_FILENO, "%s: %s\n", program, strerror(errno));
+        execv(program_path, options.device_words);
+    dprintf(STDERR_FILENO, "%s: %s\n", program_path, strerror(errno));
     _exit(FAILED);
 }
 

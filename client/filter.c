@@ -17,7 +17,7 @@ enum { MISSING = SECCOMP_RET_ERRNO | ENOSYS, X32_BIT = 0x40000000 };
 
 #define COUNT(array) (sizeof(array) / sizeof *(array))
 
-int calls = -1;
+int call_listener = -1;
 
 static struct sock_filter filter[BPF_MAXINSNS]; /* (ten times as many as the tables need) */
 static unsigned short filter_length;
@@ -92,10 +92,10 @@ static void add_calls(const struct decided_call *row) {
 
 /* Has the filter hold for this process, and returns its listener, if the flags ask for one, or -1. */
 static int install(unsigned long flags) {
-    const struct sock_fprog program = {filter_length, filter};
+    const struct sock_fprog code = {filter_length, filter};
     if (prctl(PR_SET_NO_NEW_PRIVS, 1, 0, 0, 0) < 0)
         return -1;
-    return (int)syscall(SYS_seccomp, SECCOMP_SET_MODE_FILTER, flags, &program);
+    return (int)syscall(SYS_seccomp, SECCOMP_SET_MODE_FILTER, flags, &code);
 }
 
 void filter_calls(void) {
@@ -105,8 +105,8 @@ void filter_calls(void) {
     add_calls(decided_calls);
     otherwise(begun);
     add_calls(old_decided_calls);
-    calls = install(flags);
-    if (calls < 0)
+    call_listener = install(flags);
+    if (call_listener < 0)
         fail("calls can't be answered here (Linux 5.19 or later is needed): %s", strerror(errno));
 }
 

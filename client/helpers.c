@@ -37,13 +37,13 @@ static struct {
 } *shared;
 
 unsigned await_files(const int *files, unsigned count, int milliseconds) {
-    struct pollfd waits[3];
+    struct pollfd events[3];
     unsigned ready = 0;
     for (unsigned at = 0; at < count; at++)
-        waits[at] = (struct pollfd){.fd = files[at], .events = POLLIN};
-    if (poll(waits, count, milliseconds) > 0)
+        events[at] = (struct pollfd){.fd = files[at], .events = POLLIN};
+    if (poll(events, count, milliseconds) > 0)
         for (unsigned at = 0; at < count; at++)
-            ready |= (unsigned)(waits[at].revents != 0) << at;
+            ready |= (unsigned)(events[at].revents != 0) << at;
     return ready;
 }
 
@@ -52,10 +52,10 @@ static void *map(size_t size) {
 }
 
 void *share(size_t size) {
-    void *shared = map(size);
-    if (shared == MAP_FAILED)
+    void *memory = map(size);
+    if (memory == MAP_FAILED)
         fail_by_errno("memory can't be shared");
-    return shared;
+    return memory;
 }
 
 static struct helper *end(void) { return helpers + shared->count; }
@@ -190,7 +190,7 @@ static void drop_helpers(void) {
 unsigned await_signals(int signals, int others) {
     enum { PATIENCE = 5 };
     int is_short = !is_any_idle() && !add_helper(USUAL_HELPERS);
-    const int files[] = {signals, others, is_short ? calls : needed};
+    const int files[] = {signals, others, is_short ? call_listener : needed};
     unsigned before = shared->answered, ready = await_files(files, 3, -1);
     if (ready & 4 && !is_short)
         eventfd_read(needed, &(eventfd_t){0});

@@ -132,7 +132,7 @@ int submit_io(const struct call *call) {
 enum { CNS_ALLOCATED = 0x11, CNS_ATTACHED = 0x12 };
 
 /* A command's answer is a page of data, and its status is returned. */
-typedef int answer(unsigned controller, const unsigned char *entry, unsigned char *page);
+typedef int supplying(unsigned controller, const unsigned char *entry, unsigned char *page);
 
 /* Looks whether a namespace is active or allocated. */
 static int look_for(unsigned controller, const unsigned char *entry, uint32_t cns) {
@@ -194,7 +194,7 @@ static int list_changes(unsigned controller, const unsigned char *entry, unsigne
 static const struct supplied {
     unsigned char opcode, selector;
     uint32_t size;
-    answer *answer;
+    supplying *answer;
 } supplied[] = {{OPCODE_IDENTIFY, 0x03, IDENTIFY_BYTES, list_identifiers},
                 {OPCODE_IDENTIFY, CNS_ATTACHED, IDENTIFY_BYTES, list_controllers},
                 {OPCODE_IDENTIFY, 0x13, IDENTIFY_BYTES, list_controllers},

@@ -21,7 +21,7 @@ static int status_of_failure = FAILED; /* its status then */
 static sigset_t watched;               /* the signals that are passed on, and that of an ended process */
 static char here[PATH_MAX];            /* the current folder */
 sigset_t blocked;
-char library[PATH_MAX + 32], program[PATH_MAX + 32];
+char library_path[PATH_MAX + 32], program_path[PATH_MAX + 32];
 
 /* Has no keeper report that a device has ended, when all end. */
 static void lose_devices(void) {
@@ -57,7 +57,7 @@ void cannot(const char *path) {
     fprintf(stderr, "nvme-model: %s: %s\n", path, strerror(errno));
 }
 
-const char *last_line(int file, const char *program) {
+const char *last_line(int file, const char *writer) {
     static char line[2 * PATH_MAX + 20];
     FILE *said = fdopen(file, "r");
     while (said && fgets(line, sizeof line, said))
@@ -65,7 +65,7 @@ const char *last_line(int file, const char *program) {
     if (said)
         fclose(said);
     line[strcspn(line, "\n")] = '\0';
-    return line + (strncmp(line, program, strlen(program)) == 0 ? strlen(program) : 0);
+    return line + (strncmp(line, writer, strlen(writer)) == 0 ? strlen(writer) : 0);
 }
 
 /* Finds out which processes of the launcher have ended. */
@@ -74,7 +74,7 @@ static void reap(void) {
     pid_t ended;
     while ((ended = waitpid(-1, &how, WNOHANG)) > 0) {
         note_end(ended);
-        if (ended == first)
+        if (ended == process_one)
             status = WIFEXITED(how) ? WEXITSTATUS(how) : 128 + WTERMSIG(how);
     }
 }
@@ -116,8 +116,8 @@ static void find_parts(const char *name) {
     read_link("/proc/self/exe", folder);
     for (int level = 0; level < 2; level++)
         *(strrchr(folder, '/') ?: folder) = '\0';
-    snprintf(library, sizeof library, "%s/lib/nvme-model/library.so", folder);
-    snprintf(program, sizeof program, "%s/lib/nvme-model/%s", folder, name);
+    snprintf(library_path, sizeof library_path, "%s/lib/nvme-model/library.so", folder);
+    snprintf(program_path, sizeof program_path, "%s/lib/nvme-model/%s", folder, name);
 }
 
 /* Fails by a limit with which the launcher can't begin. */
@@ -160,7 +160,7 @@ static int run(char **arguments) {
     struct rlimit files;
     block_signals(); /* (bwrap lets some through) */
     const int ends = must(signalfd(-1, &watched, SFD_CLOEXEC | SFD_NONBLOCK), "signalfd");
-    trace = options.trace_file ? TRACE_TO : STDERR_FILENO;
+    trace_output = options.trace_file ? TRACE_TO : STDERR_FILENO;
     list_devices();
     list_blocks();
     status_of_failure = NO_SANDBOX;
@@ -175,7 +175,7 @@ static int run(char **arguments) {
     files.rlim_cur = files.rlim_max;
     setrlimit(RLIMIT_NOFILE, &files);
     signal(SIGTTOU, SIG_IGN); /* (messages come from the background as well) */
-    options.device_words[0] = program;
+    options.device_words[0] = program_path;
     if (options.subsystem_count > 0)
         options.device_words[options.device_word_count++] = "--subsystem=/proc/self/fd/3";
     if (options.has_trace)
@@ -218,8 +218,8 @@ static void begin_inside(void) {
     struct stat about, outside = {.st_dev = 0};
     if (read(OUTSIDE, &blocked, sizeof blocked) != sizeof blocked || read(OUTSIDE, here, sizeof here) <= 0)
         fail_by_errno("the process outside");
-    strcpy(library, MODEL_FOLDER "/library.so");
-    strcpy(program, MODEL_FOLDER "/device");
+    strcpy(library_path, MODEL_FOLDER "/library.so");
+    strcpy(program_path, MODEL_FOLDER "/device");
     check_mounts();
     /* (the folder is another one if a mount covers it, and /dev, /sys and /proc always are) */
     fstat(HERE, &outside);
@@ -281,8 +281,8 @@ static const char *why_no_sandbox(const char *line) {
 
 /* Makes the sandbox and runs the command there. */
 static int begin_outside(void) {
-    must(access(library, R_OK), library);
-    must(access(program, X_OK), program);
+    must(access(library_path, R_OK), library_path);
+    must(access(program_path, X_OK), program_path);
     for (unsigned at = 0; at < options.added_count; at++)
         find_device(options.added[at]);
     if (!getcwd(here, sizeof here))
@@ -312,7 +312,7 @@ int main(int count, char **arguments) {
             exit(fputs(qemu_usage, stdout) >= 0 && fflush(stdout) == 0 ? 0 : FAILED);
         if (is_qemu) {
             find_parts("qemu");
-            must(execv(program, arguments), program);
+            must(execv(program_path, arguments), program_path);
         }
         must(close_range(STDERR_FILENO + 1, ~0U, CLOSE_RANGE_CLOEXEC), "close_range");
     }

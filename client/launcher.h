@@ -30,15 +30,15 @@ struct device {
 
 extern struct device *devices; /* (in shared memory, as all that helpers read) */
 extern unsigned device_count;
-extern unsigned waits;      /* whether nodes wait for a scan or a reset, because of --no-notice */
+extern unsigned nodes_wait; /* whether nodes wait for a scan or a reset, because of --no-notice */
 extern unsigned geometry[NUMBERS];
 extern sigset_t blocked;    /* the signals that were blocked at the start, and are for the command and the devices */
-extern char library[], program[]; /* the paths of the library and of the device's program */
+extern char library_path[], program_path[]; /* the paths of the library and of the device's program */
 
 /* launcher.c: `fail` reports why the launcher can't continue, and ends everything that was started; `fail_by_errno`
    adds why the last call failed; `must` does so if a call's result is negative, and returns it; `cannot` reports by
    errno that a path can't be made, which ends the launcher only before the command runs; `keep_as` gives an open file
-   another number; `last_line` reads all that a program writes to a pipe, closes it, and returns the last line, without
+   another number; `last_line` reads all that a writer has put into a pipe, closes it, and returns the last line, without
    the program's name at its beginning; and `restore_errors` has standard error be the caller's again. */
 enum { NO_SANDBOX = 71, FAILED = 72, NOT_EXECUTABLE = 126, NOT_FOUND = 127 };
 __attribute__((noreturn, format(printf, 1, 2))) void fail(const char *format, ...);
@@ -46,7 +46,7 @@ __attribute__((noreturn)) void fail_by_errno(const char *what);
 int must(int result, const char *what);
 void cannot(const char *path);
 void keep_as(int number, int file, const char *name);
-const char *last_line(int file, const char *program);
+const char *last_line(int file, const char *writer);
 void restore_errors(void);
 
 /* The descriptors that the launcher outside hands on: of the current folder, until it was found inside; of the words
@@ -71,9 +71,9 @@ extern struct options options;
 int read_options(int count, char **arguments);
 __attribute__((noreturn)) void fail_by_number(const char *name);
 
-/* command.c: starts process 1 of the command's own namespace (`first`), whose end can be read from the file `ends`, and
+/* command.c: starts process 1 of the command's own namespace (`process_one`), whose end can be read from the file `ends`, and
    gives up the rights that make it; returns the process that becomes the command as soon as it is released. */
-extern pid_t first;
+extern pid_t process_one;
 pid_t start_command(char **arguments, int ends);
 void release_command(void);
 
@@ -85,7 +85,7 @@ void start_device(int file, const char *name);
 /* relay.c: starts the exchange with a device; takes note that it is gone; sends it a request, and returns -1 if it is
    gone, or one for a controller by its number among all; and returns whether a file takes a line within seconds, which
    it may not because nobody reads it. */
-extern int trace; /* where the lines of a trace go */
+extern int trace_output; /* where the lines of a trace go */
 int takes_line(int file);
 void greet_device(struct device *device, const char *name);
 void lose_device(struct device *device);
@@ -134,10 +134,10 @@ void hide(enum part part, unsigned controller, uint32_t nsid);
 void show_health(unsigned controller, const unsigned char *log);
 unsigned most_sectors(unsigned controller);
 
-/* filter.c: has the calls of this thread, and of the processes that it starts, handed over to who reads `calls`; and
+/* filter.c: has the calls of this thread, and of the processes that it starts, handed over to who reads `call_listener`; and
    lets this process, the launcher or one that becomes a device, make only the calls that it needs. (Helpers and keepers
    inherit this from the launcher.) */
-extern int calls;
+extern int call_listener;
 void filter_calls(void);
 void confine_launcher(void);
 int confine_device(void);

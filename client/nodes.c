@@ -290,7 +290,7 @@ void look_for_changes(struct device *device, const struct request_header *reques
             forget_namespace(device, at);
         else if (opcode == OPCODE_FORMAT && (at == nsid || is_active[at]))
             clear_namespace(device, controller, at);
-    if (request->kind == KIND_RESET || (!waits && (opcode == OPCODE_MANAGEMENT || opcode == OPCODE_ATTACHMENT)))
+    if (request->kind == KIND_RESET || (!nodes_wait && (opcode == OPCODE_MANAGEMENT || opcode == OPCODE_ATTACHMENT)))
         scan(device->first, device->count);
 }
 

@@ -3,7 +3,7 @@
 #include <getopt.h>
 
 struct options options = {.device_word_count = 1 + NUMBERS};
-unsigned geometry[NUMBERS] = {[DEPTH] = 32, [PAGE_SIZE] = 4096, [WINDOW] = 1, [PACE] = 1}, waits;
+unsigned geometry[NUMBERS] = {[DEPTH] = 32, [PAGE_SIZE] = 4096, [WINDOW] = 1, [PACE] = 1}, nodes_wait;
 
 #define SEE_HELP "\nsee nvme-model --help"
 
@@ -85,7 +85,7 @@ static const struct row rows[] = {
     {"refuse", "COMMAND[,SKIP[,TIMES]]=STATUS",
      "refuse a command, such as format=0x2002, after SKIP of them (0), TIMES times (1)", .set = set_rule},
     {"delay", "COMMAND[,SKIP[,TIMES]]=SECONDS", "delay a command, such as format=30, likewise", .set = set_rule},
-    {"no-notice", NULL, "let nodes come and go only at `nvme ns-rescan` or a reset", .number = &waits},
+    {"no-notice", NULL, "let nodes come and go only at `nvme ns-rescan` or a reset", .number = &nodes_wait},
     {"device", "PATH", "add a character device of this machine, such as /dev/fuse, to the /dev of COMMAND",
      .set = set_device},
     {"root", NULL, "let COMMAND be root in the sandbox, with a sudo, though with no more rights to files",

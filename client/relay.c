@@ -3,7 +3,7 @@
 #include <poll.h>
 #include <sys/socket.h>
 
-int trace = -1;
+int trace_output = -1;
 
 int takes_line(int file) {
     enum { PATIENCE = 2000 };
@@ -30,7 +30,7 @@ static void copy_line(const struct device *device, const char *line, size_t leng
     int behind = 0;
     int is_traced = sscanf(line, "nvme%u %n", &number, &behind) == 1 && behind > 0;
     if (is_traced)
-        dprintf(trace, "nvme%u %.*s", number + device->first, (int)length - behind, line + behind);
+        dprintf(trace_output, "nvme%u %.*s", number + device->first, (int)length - behind, line + behind);
     else
         dprintf(STDERR_FILENO, "%.*s", (int)length, line);
 }

@@ -259,8 +259,8 @@ static void compose(void) {
     add_dev();
     add_sys();
     add_file("/proc/self/exe", MODEL_FOLDER "/launcher");
-    add_file(library, MODEL_FOLDER "/library.so");
-    add_file(program, MODEL_FOLDER "/device");
+    add_file(library_path, MODEL_FOLDER "/library.so");
+    add_file(program_path, MODEL_FOLDER "/device");
     if (options.is_root && geteuid() != 0)
         add_root();
     add_words("--unshare-pid --as-pid-1 --unshare-ipc --die-with-parent --chdir / %s %s -- " MODEL_FOLDER

@@ -19,7 +19,7 @@ PARTS = {'bin/nvme-model': ('launcher', 'relay', 'nodes', 'sysfs', 'sandbox', 'c
                             'opens', 'names', 'lists'),
          'lib/nvme-model/library.so': ('library',),
          'lib/nvme-model/qemu': ('qemu', 'messages', 'function', 'memory', 'proxy', 'vfio_user')}
-WARNINGS = '-Wall', '-Wextra', '-Werror'
+WARNINGS = '-Wall', '-Wextra', '-Wshadow', '-Werror'
 # Waits in a shell until what was written past the end of a node is cut off.
 CUT = 'until test $(busybox wc -c < /dev/nvme0n3) = 4608; do sleep 0.1; done; '
 VERSION = (TOP / 'VERSION').read_text().strip()
