@@ -97,8 +97,8 @@ static void run_command(int ends) {
     }
 }
 
-/* Blocks the signals that are received one by one, and those that a socket of a lost device and a limit of the sizes of
-   files cause. */
+/* Blocks the signals that are received one by one, and those that a socket of a lost device, a limit of the sizes of
+   files and a lease cause. */
 static void block_signals(void) {
     static const int numbers[] = {SIGCHLD, SIGINT, SIGTERM, SIGHUP, SIGQUIT, SIGUSR1, SIGUSR2};
     sigemptyset(&watched);
@@ -107,6 +107,7 @@ static void block_signals(void) {
     sigset_t all = watched;
     sigaddset(&all, SIGPIPE);
     sigaddset(&all, SIGXFSZ);
+    sigaddset(&all, SIGIO);
     sigprocmask(SIG_BLOCK, &all, NULL);
 }
 

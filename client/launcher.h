@@ -97,6 +97,7 @@ struct volume {
     enum { UNKNOWN, KNOWN } state; /* whether it is known how long it is */
     unsigned power;                /* a block has two to this power bytes */
     uint64_t blocks;
+    unsigned number; /* by which its nodes are named, or 0 */
     int file;    /* the data, as its device's keeper has it open, or 0 */
     ino_t inode; /* of this file */
     int is_read_only; /* whether an ioctl has set that its block devices can't be written */
@@ -114,6 +115,7 @@ void lose_nodes(const struct device *device);
 int watch_nodes(void);
 void repair_files(const struct device *device);
 int read_name(const char *name, struct node *node);
+int find_namespace(struct node *node);
 struct device *device_of(unsigned controller);
 int is_shown(unsigned controller, uint32_t nsid);
 int identify(unsigned controller, uint32_t nsid, uint32_t cns, void *data);

@@ -85,7 +85,7 @@ static int describe(int found, const struct node *node, struct stat *about) {
     if (found <= 0)
         return found;
     about->st_mode = (about->st_mode & 07777 & ~READ_ONLY) | (node->kind == 'b' ? S_IFBLK : S_IFCHR);
-    about->st_rdev = makedev(major_of(node->kind), minor_of(node->kind, node->controller, node->nsid));
+    about->st_rdev = makedev(major_of(node->kind), minor_of(node->kind, node->controller, node->number));
     about->st_size = about->st_blocks = 0;
     about->st_nlink = 1;
     return 0;

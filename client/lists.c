@@ -45,13 +45,13 @@ static void take_turn(short type) {
 static void list_namespaces(FILE *partitions, FILE *counts, unsigned controller) {
     struct node node = {.controller = controller};
     struct volume volume;
-    for (node.nsid = 1; node.nsid <= MOST_NSID; node.nsid++) {
-        unsigned minor = minor_of('b', controller, node.nsid);
-        if (!is_shown(controller, node.nsid) || !read_volume(&node, &volume))
+    for (node.number = 1; node.number <= MOST_NSID; node.number++) {
+        unsigned minor = minor_of('b', controller, node.number);
+        if (!find_namespace(&node) || !read_volume(&node, &volume))
             continue;
         fprintf(partitions, " %d %8u %10ju nvme%un%u\n", BLOCK_MAJOR, minor, volume.blocks << volume.power >> 10,
-                controller, node.nsid);
-        fprintf(counts, " %d %7u nvme%un%u " NO_COUNTS "\n", BLOCK_MAJOR, minor, controller, node.nsid);
+                controller, node.number);
+        fprintf(counts, " %d %7u nvme%un%u " NO_COUNTS "\n", BLOCK_MAJOR, minor, controller, node.number);
     }
 }
 

@@ -11,6 +11,9 @@ enum { MOST_NAME = 40 };
 /* What each controller shows of an NSID: no nodes, those of its namespace, or those of one that has gone since. */
 static enum shown { HIDDEN, CURRENT, OUTDATED } (*shown)[MOST_NSID + 1];
 static struct volume (*volumes)[MOST_NSID + 1];
+static uint16_t (*named)[MOST_NSID + 1]; /* the NSID that each number of a subsystem names, or 0 */
+
+static const struct group *disk; /* to which root's block devices belong, as on Linux */
 
 static struct volume *volume_at(const struct device *device, uint32_t nsid) { return &volumes[device - devices][nsid]; }
 
@@ -35,28 +38,84 @@ int read_volume(const struct node *node, struct volume *volume) {
 
 /* ---- names */
 
-static void print_path(char path[MOST_NAME], char kind, unsigned controller, uint32_t nsid) {
+static void print_path(char path[MOST_NAME], char kind, unsigned controller, unsigned number) {
     int length = snprintf(path, MOST_NAME, "/dev/%s%u", kind == 'g' ? "ng" : "nvme", controller);
-    if (nsid != 0)
-        snprintf(path + length, MOST_NAME - (size_t)length, "n%u", nsid);
+    if (number != 0)
+        snprintf(path + length, MOST_NAME - (size_t)length, "n%u", number);
+}
+
+int find_namespace(struct node *node) {
+    node->nsid = named[device_of(node->controller) - devices][node->number];
+    return node->nsid != 0 && is_shown(node->controller, node->nsid);
 }
 
 /* (the kernel adds a word to the name of a file that was removed) */
 int read_name(const char *name, struct node *node) {
     char again[MOST_NAME];
-    *node = (struct node){.kind = name[0] == 'n' && name[1] == 'g' ? 'g' : 'c'};
-    int count = sscanf(name, node->kind == 'g' ? "ng%un%u" : "nvme%un%u", &node->controller, &node->nsid);
-    if (count < 1 || (count < 2 && node->kind == 'g') || node->controller >= MOST_CONTROLLERS || node->nsid > MOST_NSID)
-        return 0;
     const struct device *last = devices + device_count - 1;
+    *node = (struct node){.kind = name[0] == 'n' && name[1] == 'g' ? 'g' : 'c'};
+    int count = sscanf(name, node->kind == 'g' ? "ng%un%u" : "nvme%un%u", &node->controller, &node->number);
+    if (count < 1 || (count < 2 && node->kind == 'g') || node->controller >= last->first + last->count ||
+        node->number > MOST_NSID)
+        return 0;
     node->kind = count == 2 && node->kind == 'c' ? 'b' : node->kind;
-    print_path(again, node->kind, node->controller, node->nsid);
+    print_path(again, node->kind, node->controller, node->number);
     strcpy(node->name, again + strlen("/dev/"));
     size_t length = strlen(node->name);
-    int is_removed = strcmp(name + length, " (deleted)") == 0;
+    int is_there = find_namespace(node), is_removed = strcmp(name + length, " (deleted)") == 0;
     return strncmp(name, node->name, length) == 0 && (is_removed || !name[length]) &&
-           node->controller < last->first + last->count &&
-           (node->nsid == 0 || is_removed || is_shown(node->controller, node->nsid));
+           (node->number == 0 || is_removed || is_there);
+}
+
+/* ---- files that have gone, whose number isn't free as long as a process has them open */
+
+static struct gone {
+    int file;
+    unsigned number;
+} *gone; /* (of the device of this keeper) */
+static unsigned gone_count;
+
+/* Keeps such a file, which has no permissions then, as on Linux. (The kernel tells its owner alone who has it open.) */
+static void keep(int file, unsigned number) {
+    struct gone *more = reallocarray(gone, gone_count + 1, sizeof *gone);
+    if (fchmod(file, 0) < 0 || (geteuid() == 0 && fchown(file, 0, (gid_t)-1) < 0) || !more)
+        cannot("/dev");
+    gone = more ?: gone;
+    if (more)
+        gone[gone_count++] = (struct gone){file, number};
+}
+
+/* Closes the files that no process has open. (The kernel gives a lease of such a one alone.) */
+static void close_gone(void) {
+    for (unsigned at = gone_count; at-- > 0;)
+        if (fcntl(gone[at].file, F_SETLEASE, F_WRLCK) == 0) {
+            close(gone[at].file);
+            gone[at] = gone[--gone_count];
+        }
+}
+
+static int is_free(const uint16_t *nsids, unsigned number) {
+    for (unsigned at = 0; at < gone_count; at++)
+        if (gone[at].number == number)
+            return 0;
+    return nsids[number] == 0;
+}
+
+/* Gives a namespace that comes the lowest number of its subsystem that is free (or, if there is none, one whose files
+   are open). */
+static void take_number(const struct device *device, uint32_t nsid) {
+    struct volume *volume = volume_at(device, nsid);
+    uint16_t *nsids = named[device - devices];
+    unsigned number = 1;
+    if (volume->number != 0)
+        return;
+    close_gone();
+    while (number <= MOST_NSID && !is_free(nsids, number))
+        number++;
+    for (number = number > MOST_NSID ? 1 : number; nsids[number] != 0;)
+        number++;
+    nsids[number] = (uint16_t)nsid;
+    volume->number = number;
 }
 
 /* ---- data */
@@ -76,11 +135,13 @@ int open_data(const struct node *node) {
         return -1;
     if (fstat(volume->file, &about) == 0 && about.st_dev == number_of(OF_DEV) && about.st_ino == volume->inode)
         return fcntl(volume->file, F_DUPFD_CLOEXEC, 0);
-    print_path(path, 'b', node->controller, node->nsid);
-    return open(path, O_RDWR | O_NOFOLLOW | O_NONBLOCK | O_CLOEXEC);
+    print_path(path, 'b', node->controller, volume->number);
+    int file = open(path, O_RDWR | O_NOFOLLOW | O_NONBLOCK | O_CLOEXEC);
+    if (file < 0 || (fstat(file, &about) == 0 && about.st_ino == volume->inode))
+        return file;
+    close(file);
+    return -1;
 }
-
-static const struct group *disk; /* to which root's block devices belong, as on Linux */
 
 static void set_length(const struct volume *volume, off_t length) {
     struct stat about;
@@ -120,50 +181,91 @@ static void leave_file(struct volume *volume) {
     int old = volume->file;
     if (old <= 0 || fstat(old, &about) < 0 || about.st_nlink > 0)
         return;
-    make_data(volume);
-    move_data(old, volume->file);
-    if (ftruncate(old, 0) < 0 || fchmod(old, 0) < 0)
+    volume->file = 0;
+    if (volume->state == KNOWN) {
+        make_data(volume);
+        move_data(old, volume->file);
+    }
+    if (ftruncate(old, 0) < 0)
         cannot("/dev");
-    close(old);
+    keep(old, volume->number);
 }
 
-/* ---- namespaces */
+/* ---- nodes */
+
+/* The files of controllers (0) and of generic nodes, which are told by their numbers from files of the command. */
+static ino_t characters[MOST_CONTROLLERS][MOST_NSID + 1];
+
+/* Makes a node, or leaves what has its name. (The node of a block device is another name of its data.) */
+static void make_node(char kind, unsigned controller, uint32_t nsid) {
+    const struct volume *volume = volume_at(device_of(controller), nsid);
+    struct stat about = {.st_ino = 0};
+    char path[MOST_NAME], data[32];
+    print_path(path, kind, controller, volume->number);
+    snprintf(data, sizeof data, "/proc/self/fd/%d", volume->file);
+    if (kind == 'b' && linkat(AT_FDCWD, data, AT_FDCWD, path, AT_SYMLINK_FOLLOW) < 0)
+        cannot(path);
+    if (kind == 'b')
+        return;
+    int file = open(path, O_RDONLY | O_CREAT | O_EXCL | O_CLOEXEC, 0600);
+    if (file < 0 || fstat(file, &about) < 0)
+        cannot(path);
+    close(file);
+    characters[controller][nsid] = about.st_ino;
+}
+
+/* Prints the path of a node, and returns whether it is there. */
+static int find_node_at(char path[MOST_NAME], char kind, unsigned controller, uint32_t nsid) {
+    const struct volume *volume = volume_at(device_of(controller), nsid);
+    struct stat about;
+    print_path(path, kind, controller, volume->number);
+    return lstat(path, &about) == 0 && about.st_ino == (kind == 'b' ? volume->inode : characters[controller][nsid]);
+}
 
 static void put(unsigned controller, uint32_t nsid) {
     struct volume *volume = volume_at(device_of(controller), nsid);
     if (volume->file <= 0)
         make_data(volume);
+    set_length(volume, length_of(volume));
     shown[controller][nsid] = CURRENT;
     show(BLOCK, controller, nsid);
     show(GENERIC, controller, nsid);
-}
-
-/* Marks a node that goes, for processes that have it open: as on Linux, it has no permissions. */
-static void mark_gone(char kind, unsigned controller, uint32_t nsid) {
-    char path[MOST_NAME];
-    print_path(path, kind, controller, nsid);
-    int file = open(path, O_RDONLY | O_NOFOLLOW | O_NONBLOCK | O_CLOEXEC);
-    if (file >= 0 && fchmod(file, 0) == 0)
-        close(file);
+    make_node('g', controller, nsid);
+    make_node('b', controller, nsid);
 }
 
 static void hide_namespace(unsigned controller, uint32_t nsid) {
-    mark_gone('g', controller, nsid);
+    const struct device *device = device_of(controller);
+    struct volume *volume = volume_at(device, nsid);
+    unsigned others = 0;
+    char path[MOST_NAME];
+    if (find_node_at(path, 'g', controller, nsid)) {
+        int file = open(path, O_RDONLY | O_NOFOLLOW | O_CLOEXEC);
+        unlink(path);
+        if (file >= 0)
+            keep(file, volume->number);
+    }
+    if (find_node_at(path, 'b', controller, nsid))
+        unlink(path);
     hide(GENERIC, controller, nsid);
     hide(BLOCK, controller, nsid);
     shown[controller][nsid] = HIDDEN;
-    leave_file(volume_at(device_of(controller), nsid));
+    for (unsigned at = device->first; at < device->first + device->count; at++)
+        others += is_shown(at, nsid);
+    if (others > 0)
+        return;
+    leave_file(volume);
+    named[device - devices][volume->number] = 0;
+    volume->number = 0;
 }
 
 void lose_nodes(const struct device *device) {
     char path[MOST_NAME];
     for (unsigned controller = device->first; controller < device->first + device->count; controller++)
         for (uint32_t nsid = 0; nsid <= MOST_NSID; nsid++)
-            for (const char *kind = nsid == 0 ? "c" : is_shown(controller, nsid) ? "gb" : ""; *kind; kind++) {
-                print_path(path, *kind, controller, nsid);
-                if (unlink(path) == 0 && mknod(path, LOST_NODE, 0) < 0)
+            for (const char *kind = nsid == 0 ? "c" : is_shown(controller, nsid) ? "gb" : ""; *kind; kind++)
+                if (find_node_at(path, *kind, controller, nsid) && unlink(path) == 0 && mknod(path, LOST_NODE, 0) < 0)
                     cannot(path);
-            }
 }
 
 /* ---- what the devices tell */
@@ -196,10 +298,13 @@ static int measure(unsigned controller, uint32_t nsid) {
         return 0;
     if (identify(controller, nsid, CNS_NAMESPACE, data) < 0)
         return -1;
-    unsigned power = data[128 + 4 * (data[26] & 15) + 2];
+    const unsigned char *format = data + 128 + 4 * (data[26] & 15);
+    unsigned power = format[2];
     if (power < 9 || power >= 32)
         return -1;
-    volume->blocks = number_at(data, 8);
+    /* (as on Linux, a block device has no data between which there is metadata) */
+    int is_mixed = data[26] & 16 && number_at(format, 2) != 0;
+    volume->blocks = is_mixed ? 0 : number_at(data, 8);
     volume->power = power;
     __atomic_store_n(&volume->state, KNOWN, __ATOMIC_SEQ_CST);
     return 0;
@@ -214,34 +319,50 @@ int list_active(unsigned controller, unsigned char is_active[MOST_NSID + 1]) {
     return length;
 }
 
-/* Shows a namespace at a controller to which it is attached, and hides any other one that had its NSID. */
-static void update(unsigned controller, uint32_t nsid, int is_active) {
-    enum shown wanted = is_active ? CURRENT : HIDDEN;
-    if (is_shown(controller, nsid) && shown[controller][nsid] != wanted)
-        hide_namespace(controller, nsid);
-    if (shown[controller][nsid] != wanted && measure(controller, nsid) == 0)
-        put(controller, nsid);
+/* Gives numbers to the namespaces that come to a controller, and hides those that go. (As on Linux, each of the first
+   has its number before one of the others with a lower NSID goes.) */
+static void number(unsigned controller, const unsigned char is_active[MOST_NSID + 1]) {
+    for (uint32_t nsid = 1, looked = 0; nsid <= MOST_NSID + 1; nsid++) {
+        int is_end = nsid > MOST_NSID;
+        if (!is_end && !is_active[nsid])
+            continue;
+        if (!is_end && shown[controller][nsid] == OUTDATED)
+            hide_namespace(controller, nsid);
+        if (!is_end && measure(controller, nsid) == 0)
+            take_number(device_of(controller), nsid);
+        while (++looked < nsid)
+            if (is_shown(controller, looked))
+                hide_namespace(controller, looked);
+    }
 }
 
-/* (namespaces with one NSID come together, because their files of /sys have texts in common) */
+/* (namespaces with one NSID are shown together, because their files of /sys have texts in common) */
 static void scan(unsigned first, unsigned count) {
     static unsigned char is_active[MOST_CONTROLLERS][MOST_NSID + 1];
     for (unsigned controller = first; controller < first + count; controller++)
         if (list_active(controller, is_active[controller]) < 0)
             return;
+    for (unsigned controller = first; controller < first + count; controller++)
+        number(controller, is_active[controller]);
     for (uint32_t nsid = 1; nsid <= MOST_NSID; nsid++)
         for (unsigned controller = first; controller < first + count; controller++)
-            update(controller, nsid, is_active[controller][nsid]);
+            if (is_active[controller][nsid] && shown[controller][nsid] == HIDDEN &&
+                volume_at(device_of(controller), nsid)->number != 0)
+                put(controller, nsid);
     list_blocks();
 }
 
-/* Removes the data of a namespace that no longer exists, even for processes that have it open. */
+/* Removes the data of a namespace that no longer exists, even for processes that have it open. (Its nodes stay until
+   it is found that it has gone.) */
 static void forget_namespace(const struct device *device, uint32_t nsid) {
     struct volume *volume = volume_at(device, nsid);
     set_length(volume, 0);
-    if (volume->file > 0)
+    volume->state = UNKNOWN;
+    volume->is_read_only = 0;
+    if (volume->number == 0 && volume->file > 0)
         close(volume->file);
-    *volume = (struct volume){.state = UNKNOWN};
+    if (volume->number == 0)
+        volume->file = 0;
     for (unsigned at = device->first; at < device->first + device->count; at++)
         shown[at][nsid] = is_shown(at, nsid) ? OUTDATED : HIDDEN;
 }
@@ -303,6 +424,7 @@ static int show_controller(unsigned controller) {
     show(FUNCTION, controller, 0);
     show(SUBSYSTEM, controller, 0);
     show(CONTROLLER, controller, 0);
+    make_node('c', controller, 0);
     if (ask(controller, OPCODE_GET_LOG, EVERY_NSID, HEALTH_LOG, log) >= 0)
         show_health(controller, log);
     return 0;
@@ -314,6 +436,7 @@ void make_nodes(void) {
     disk = geteuid() == 0 ? getgrnam("disk") : NULL;
     shown = share(MOST_CONTROLLERS * sizeof *shown);
     volumes = share(MOST_DEVICES * sizeof *volumes);
+    named = share(MOST_DEVICES * sizeof *named);
     begin_sys();
     for (unsigned at = 0; at < last->first + last->count; at++)
         if (show_controller(at) < 0)
@@ -321,11 +444,16 @@ void make_nodes(void) {
     scan(0, last->first + last->count);
 }
 
-/* (a process that doesn't load the library can make a file shorter or longer until it closes it) */
-static void repair(const struct device *device, uint32_t nsid) {
-    const struct volume *volume = volume_at(device, nsid);
-    if (volume->state == KNOWN)
-        set_length(volume, length_of(volume));
+/* (a program's writes that the library doesn't see can make a file longer until it closes it) */
+static void repair(const struct node *node) {
+    const struct volume *volume = volume_of(node);
+    struct stat about;
+    if (volume->state != KNOWN || volume->file <= 0 || fstat(volume->file, &about) < 0)
+        return;
+    if (about.st_size > length_of(volume) && takes_line(STDERR_FILENO))
+        fprintf(stderr, "nvme-model: /dev/%s: what was written past the end is cut off; Linux would have refused it\n",
+                node->name);
+    set_length(volume, length_of(volume));
 }
 
 static int watcher; /* tells this keeper which nodes were written */
@@ -340,10 +468,15 @@ int watch_nodes(void) {
 /* (some events are missing if there were too many) */
 static void repair_file(const struct device *device, const struct inotify_event *event) {
     struct node node;
-    for (uint32_t nsid = 1; event->mask & IN_Q_OVERFLOW && nsid <= MOST_NSID; nsid++)
-        repair(device, nsid);
+    char path[MOST_NAME];
+    for (unsigned number = 1; event->mask & IN_Q_OVERFLOW && number <= MOST_NSID; number++)
+        for (unsigned at = device->first; at < device->first + device->count; at++) {
+            print_path(path, 'b', at, number);
+            if (read_name(path + strlen("/dev/"), &node))
+                repair(&node);
+        }
     if (event->len > 0 && read_name(event->name, &node) && node.kind == 'b' && device_of(node.controller) == device)
-        repair(device, node.nsid);
+        repair(&node);
 }
 
 void repair_files(const struct device *device) {

@@ -32,7 +32,7 @@ static void read_lines(void) {
         if (*at == '[')
             (folder++)->lines = line;
         line->name = strsep(&at, " ");
-        line->mark = at && *at && strchr(">!+=?@", *at) ? *at++ : '\0';
+        line->mark = at && *at && strchr(">!?@", *at) ? *at++ : '\0';
         line->text = at ?: "";
         line++;
     }
@@ -141,11 +141,11 @@ static void set_values(enum part part, unsigned number, uint32_t nsid) {
     if (part < BLOCK || number != known)
         set_controller(number);
     known = number;
-    set("n", "%u", nsid);
+    set("n", "%u", volume->number);
+    set("nsid", "%u", nsid);
     set("nsid_hex", "%08x", nsid);
     set("major", "%u", major_of(kind));
-    set("minor", "%u", minor_of(kind, number, nsid));
-    set("file", "%d", volume->file);
+    set("minor", "%u", minor_of(kind, number, volume->number));
     if (volume->state == KNOWN) {
         set("size", "%ju", volume->blocks << (volume->power - 9));
         set("block", "%u", 1U << volume->power);
@@ -210,22 +210,16 @@ static int put_bytes(int file, const char *text) {
 
 /* Makes an entry of a folder, if it isn't there. */
 static int make(int folder, const char *name, char mark, const char *text) {
-    char link[32];
     if (mark == '>')
         return symlinkat(text, folder, name);
     if (mark == '?' && !*text)
         return 0;
-    if (mark == '=') {
-        snprintf(link, sizeof link, "/proc/self/fd/%.10s", text);
-        return linkat(AT_FDCWD, link, folder, name, AT_SYMLINK_FOLLOW);
-    }
     if (name[strlen(name) - 1] == '/')
         return mkdirat(folder, name, 0755);
     /* (nobody can read such a device, which needs no right to be made) */
     if (mark == '!')
         return mknodat(folder, name, S_IFCHR | 0200, 0);
-    const mode_t mode = mark == '+' ? 0600 : 0444;
-    int file = openat(folder, name, O_WRONLY | O_CREAT | O_EXCL | O_CLOEXEC, mode);
+    int file = openat(folder, name, O_WRONLY | O_CREAT | O_EXCL | O_CLOEXEC, 0444);
     if (file < 0)
         return -1;
     int result = mark == '@' ? put_bytes(file, text) : !*text || dprintf(file, "%s\n", text) > 0 ? 0 : -1;

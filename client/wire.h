@@ -42,10 +42,11 @@ struct answer_header {
 static_assert(sizeof(struct request_header) == 72, "a request's header has 72 bytes");
 static_assert(sizeof(struct answer_header) == 12, "an answer's header has 12 bytes");
 
-/* A node: a controller ('c'), a generic node of a namespace ('g') or its block device ('b'). */
+/* A node: a controller ('c'), a generic node of a namespace ('g') or its block device ('b'), which have the number of
+   their name. */
 struct node {
     char kind, name[23];
-    unsigned controller, nsid;
+    unsigned controller, number, nsid;
 };
 
 /* The ioctl by which the library asks which node a file is. It fails with ENXIO if the node's device is gone. */
@@ -59,8 +60,8 @@ static inline unsigned major_of(char kind) {
     return kind == 'b' ? BLOCK_MAJOR : kind == 'g' ? GENERIC_MAJOR : CONTROLLER_MAJOR;
 }
 
-static inline unsigned minor_of(char kind, unsigned controller, uint32_t nsid) {
-    return (kind == 'b' ? FIRST_BLOCK : 0) + controller * MOST_NSID + (nsid != 0 ? nsid - 1 : 0);
+static inline unsigned minor_of(char kind, unsigned controller, unsigned number) {
+    return (kind == 'b' ? FIRST_BLOCK : 0) + controller * MOST_NSID + (number != 0 ? number - 1 : 0);
 }
 
 /* A node whose device is gone becomes a socket, because Linux answers ENXIO when a socket is opened. */
