@@ -96,7 +96,8 @@ static int carry_out_io(const struct call *call, const struct volume *data, cons
 
 int io(const struct call *call, const struct nvme_passthru_cmd *given) {
     struct volume data;
-    if (given->flags || given->nsid != call->node.nsid)
+    const uint32_t most = 512 * most_sectors(call->node.controller);
+    if (given->flags || given->nsid != call->node.nsid || (given->addr && given->data_len > most))
         return -EINVAL;
     int status = follow_rules(call, 1, given);
     if (status != 0)
@@ -112,14 +113,16 @@ int io(const struct call *call, const struct nvme_passthru_cmd *given) {
 /* (the older form, for one kind of command, becomes the newer one) */
 int submit_io(const struct call *call) {
     struct nvme_user_io old;
+    struct volume data;
     if (copy_in(call, call->argument, &old, sizeof old) < 0)
         return -EFAULT;
     if (old.flags || (old.opcode != READ && old.opcode != WRITE && old.opcode != COMPARE))
         return -EINVAL;
+    const unsigned power = read_volume(&call->node, &data) ? data.power : 0;
     const struct nvme_passthru_cmd given = {.opcode = old.opcode,
                                             .nsid = call->node.nsid,
                                             .addr = old.addr,
-                                            .data_len = MOST_DATA,
+                                            .data_len = (old.nblocks + 1u) << power,
                                             .cdw10 = (uint32_t)old.slba,
                                             .cdw11 = (uint32_t)(old.slba >> 32),
                                             .cdw12 = old.nblocks};

@@ -256,6 +256,7 @@ enum rule_action { REFUSE, DELAY };
 struct nvme_passthru_cmd;
 const char *add_rule(enum rule_action action, const char *text);
 int follow_rules(const struct call *call, int is_io, const struct nvme_passthru_cmd *given);
+void note_reset(unsigned controller);
 void report_rules(void);
 
 /* io.c: carries out an I/O command, also that of an ioctl of the older form, and returns its status, or an error's

@@ -195,7 +195,9 @@ static ssize_t write_node(int kind, int file, const struct stat *about, const st
     int how = fcntl(file, F_GETFL);
     if (kind < 0)
         return -1;
-    if ((how & O_ACCMODE) == O_RDONLY)
+    /* (that of a character device is open for reading, and at the greatest offset if it was opened for writing) */
+    int is_writable = kind == 'b' ? (how & O_ACCMODE) != O_RDONLY : NEXT(lseek)(file, 0, SEEK_CUR) == INT64_MAX;
+    if (!is_writable)
         return fails_by(EBADF);
     if (kind != 'b' || about->st_mode & READ_ONLY)
         return fails_by(kind == 'b' ? EPERM : EINVAL);

@@ -4,10 +4,10 @@
 #include <linux/openat2.h>
 #include <sys/syscall.h>
 
-/* Where a name is: the number of the file system, and whether it is kept, and is there. */
+/* Where a name is: the number of the file system, and whether it is kept, is that of the kernel's log, and is there. */
 struct place {
     dev_t system;
-    int is_kept, is_there;
+    int is_kept, is_log, is_there;
 };
 
 /* Finds the folder of a name as the caller would, and returns whether there is one. */
@@ -26,15 +26,18 @@ static int find_place(const struct call *call, int directory, char *path, struct
     place->is_there = fstatat(file, name, &about, AT_SYMLINK_NOFOLLOW) == 0;
     snprintf(link, sizeof link, "/proc/self/fd/%d", file);
     read_link(link, where);
-    int is_node = strcmp(where, "/dev") == 0 && read_name(name, &node) && strcmp(name, node.name) == 0;
-    place->is_kept = place->system == number_of(OF_SYS) || (place->system == number_of(OF_DEV) && is_node);
+    int is_in_dev = place->system == number_of(OF_DEV) && strcmp(where, "/dev") == 0;
+    int is_node = is_in_dev && read_name(name, &node) && strcmp(name, node.name) == 0;
+    place->is_log = is_in_dev && strcmp(name, "kmsg") == 0;
+    place->is_kept = place->system == number_of(OF_SYS) || is_node;
     close(file);
     return 1;
 }
 
 int may_create(const struct call *call, int directory, char *path) {
     struct place place;
-    return !find_place(call, directory, path, &place) || place.system != number_of(OF_SYS) || place.is_there;
+    return !find_place(call, directory, path, &place) || place.is_there ||
+           (place.system != number_of(OF_SYS) && !place.is_log);
 }
 
 /* Refuses what would make or remove a name that is kept, with the error for one that is there, or isn't. */

@@ -406,6 +406,8 @@ void look_for_changes(struct device *device, const struct request_header *reques
         return;
     if (opcode == OPCODE_FORMAT && nsid == EVERY_NSID)
         list_active(controller, is_active);
+    if (request->kind == KIND_RESET)
+        note_reset(controller);
     for (uint32_t at = 1; at <= MOST_NSID; at++)
         if (deletes && (at == nsid || nsid == EVERY_NSID))
             forget_namespace(device, at);

@@ -45,23 +45,32 @@ static int open_attribute(const char *name, const char *place, uint64_t flags) {
     return result;
 }
 
+/* Opens a character device, if the caller may open it so, but for reading, so that nobody writes to its file. (From the
+   greatest offset, reads fail with EINVAL, as they should.) */
+static int open_character(const char *place, uint64_t flags) {
+    int as_asked = flags & O_DIRECT ? (errno = EINVAL, -1) : open(place, (int)flags | O_CLOEXEC);
+    int file = as_asked < 0 ? -1 : open(place, O_RDONLY | ((int)flags & O_NONBLOCK) | O_CLOEXEC);
+    int error = errno;
+    close(as_asked);
+    lseek(file, INT64_MAX, SEEK_SET);
+    return file < 0 ? -error : file;
+}
+
 /* Opens a node as the caller could, but doesn't truncate it. (Linux 6.6 and later open files in memory for direct
-   access. The library tells by this flag which writes fail. From the greatest offset, where a character device is
-   opened, reads and writes fail with EINVAL, as they should.) */
+   access. The library tells by this flag which writes fail.) */
 static int open_node(const struct call *call, const char *place, uint64_t flags) {
     const int left_out = O_CREAT | O_EXCL | O_TRUNC | O_NOFOLLOW | O_APPEND;
     const int changed = O_TRUNC | O_DIRECT | O_EXCL | O_APPEND;
-    int is_block = call->node.kind == 'b';
-    if (is_block && !(flags & changed))
+    if (call->node.kind != 'b')
+        return open_character(place, flags & ~left_out);
+    if (!(flags & changed))
         return NOT_OURS;
     int file = open(place, ((int)flags & ~left_out) | O_CLOEXEC);
     if (file < 0 && errno == EINVAL && flags & O_DIRECT)
         file = open(place, ((int)flags & ~(left_out | O_DIRECT)) | O_CLOEXEC);
     if (file < 0)
         return -errno;
-    if (!is_block)
-        lseek(file, INT64_MAX, SEEK_SET);
-    int result = is_block && flags & O_EXCL ? claim(call, file) : 0;
+    int result = flags & O_EXCL ? claim(call, file) : 0;
     if (result == 0)
         return file;
     close(file);

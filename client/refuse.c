@@ -2,6 +2,8 @@
    the I/O commands. No log entry is made, and no proof speaks about any of this. */
 #include "launcher.h"
 #include <linux/nvme_ioctl.h>
+#include <linux/futex.h>
+#include <sys/syscall.h>
 #include <time.h>
 
 enum { MOST_RULES = 64, GREATEST_STATUS = 0x7fff, MOST_SECONDS = 86400 };
@@ -46,6 +48,7 @@ static struct rule {
     uint64_t skip, times, value, came, has_acted;
 } *rules;
 static unsigned rule_count;
+static _Atomic unsigned *resets; /* how often each controller was reset, if there is a rule */
 
 /* Reads a number of a range, which one of a rule's signs or its end follows, and returns what follows it, or NULL. */
 static const char *read_number(const char *text, uint64_t least, uint64_t most, uint64_t *number) {
@@ -75,6 +78,7 @@ const char *add_rule(enum rule_action action, const char *text) {
     if (rule_count == MOST_RULES)
         return "64 rules are the most";
     rules = rules ?: share(MOST_RULES * sizeof *rules);
+    resets = resets ?: share(MOST_CONTROLLERS * sizeof *resets);
     struct rule *rule = rules + rule_count;
     *rule = (struct rule){.text = text, .action = action, .times = 1};
     const char *at = read_command(text, &rule->command);
@@ -91,14 +95,31 @@ const char *add_rule(enum rule_action action, const char *text) {
     return NULL;
 }
 
-/* Waits as long as a command is delayed. Linux gives a command the time that its process says, or else a minute. (An
-   admin command has that by default, and an I/O command has half of it twice, because it is aborted first.) Then it
-   resets the controller, and the call fails. */
+void note_reset(unsigned controller) {
+    if (!resets)
+        return;
+    resets[controller]++;
+    syscall(SYS_futex, &resets[controller], FUTEX_WAKE, INT_MAX, NULL, NULL, 0);
+}
+
+/* Waits as long as a command is delayed. It isn't done if its controller is reset meanwhile. Linux gives a command the
+   time that its process says, or else a minute. (An admin command has that by default, and an I/O command has half of
+   it twice, because it is aborted first.) Then it resets the controller, and the call fails. */
 static int wait_for(const struct call *call, int is_io, uint64_t seconds, uint32_t limit) {
     const uint64_t most = limit ? (uint64_t)limit << is_io : 60000;
     const uint64_t least = seconds * 1000 < most ? seconds * 1000 : most;
-    const struct timespec time = {.tv_sec = (time_t)(least / 1000), .tv_nsec = (long)(least % 1000 * 1000000)};
-    nanosleep(&time, NULL);
+    _Atomic unsigned *reset = resets + call->node.controller;
+    const unsigned before = *reset;
+    struct timespec end;
+    clock_gettime(CLOCK_MONOTONIC, &end);
+    const uint64_t nanoseconds = (uint64_t)end.tv_nsec + least % 1000 * 1000000;
+    end.tv_sec += (time_t)(least / 1000 + nanoseconds / 1000000000);
+    end.tv_nsec = (long)(nanoseconds % 1000000000);
+    while (*reset == before && (syscall(SYS_futex, reset, FUTEX_WAIT_BITSET, before, &end, NULL,
+                                        FUTEX_BITSET_MATCH_ANY) == 0 || errno != ETIMEDOUT))
+        continue;
+    if (*reset != before)
+        return -OVERDUE;
     if (seconds * 1000 <= most)
         return 0;
     return ask_controller(call->node.controller, KIND_RESET, 0) ?: -OVERDUE;
