@@ -100,10 +100,7 @@ static int be_root(void) { return use_rights(UINT64_MAX) < 0 || setresuid(NO_USE
 
 /* (the kernel takes the rights of whoever is no longer root) */
 static int be(const struct identity *identity, uid_t real) {
-    if (setresuid(real, identity->user, NO_USER) < 0 || use_rights(identity->rights) < 0)
-        return -1;
-    end_with_launcher();
-    return 0;
+    return setresuid(real, identity->user, NO_USER) < 0 || use_rights(identity->rights) < 0 ? -1 : 0;
 }
 
 int act_as_caller(const struct call *call) {

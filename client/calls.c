@@ -158,11 +158,14 @@ static uint32_t request_of(const struct call *call) {
     return call->request + (is_sized && nr >= 112 && nr <= 114 ? 4u << _IOC_SIZESHIFT : 0);
 }
 
-/* What the administrator alone may do to a block device. (It has no partitions, and a buffer of one size.) */
+/* What the administrator alone may do to a block device. (It has no partitions, a buffer of one size, and nothing that
+   reads ahead.) */
 static int change(const struct call *call, uint32_t request) {
     if (!is_administrator())
         return -EACCES;
-    return request == BLKROSET ? set_read_only(call) : request == BLKFLSBUF ? 0 : -EINVAL;
+    if (request == BLKROSET)
+        return set_read_only(call);
+    return request == BLKFLSBUF ? 0 : request == BLKRASET || request == BLKFRASET ? -ENOTTY : -EINVAL;
 }
 
 static int of_block_device(const struct call *call) {
@@ -190,6 +193,8 @@ static int of_block_device(const struct call *call) {
         return copy_out(call, call->argument, cylinders, 2 * word);
     case BLKROSET:
     case BLKFLSBUF:
+    case BLKRASET:
+    case BLKFRASET:
     case BLKBSZSET:
     case BLKRRPART:
     case BLKPG:

@@ -132,7 +132,7 @@ static const int launcher_calls[] = {
     SYS_symlinkat, SYS_unlink, SYS_unlinkat, SYS_rmdir, SYS_ftruncate, SYS_fallocate, SYS_fchmod, SYS_fchown,
     SYS_statfs, SYS_fstatfs, SYS_inotify_init1, SYS_inotify_add_watch,
     SYS_process_vm_readv, SYS_process_vm_writev, SYS_fork, SYS_wait4, SYS_waitid, SYS_kill, SYS_setpriority,
-    SYS_ioprio_set, SYS_getppid, SYS_setsid, SYS_setgroups, SYS_setresuid, SYS_setresgid, SYS_capget, SYS_capset,
+    SYS_ioprio_set, SYS_setsid, SYS_setgroups, SYS_setresuid, SYS_setresgid, SYS_capget, SYS_capset,
     SYS_poll, SYS_ppoll, SYS_signalfd4, SYS_eventfd2, SYS_recvfrom};
 
 /* The requests of the launcher's ioctls: for calls that were handed over, and by which stdio looks for a terminal (the
@@ -140,7 +140,7 @@ static const int launcher_calls[] = {
 static const uint32_t launcher_requests[] = {
     SECCOMP_IOCTL_NOTIF_RECV,  SECCOMP_IOCTL_NOTIF_SEND, SECCOMP_IOCTL_NOTIF_ID_VALID,
     SECCOMP_IOCTL_NOTIF_ADDFD, TCGETS,                   0x802c542a};
-static const uint32_t launcher_options[] = {PR_SET_PDEATHSIG, PR_SET_NAME, 0x53564d41 /* PR_SET_VMA */};
+static const uint32_t launcher_options[] = {0x53564d41 /* PR_SET_VMA */};
 static const uint32_t namespaces = CLONE_NEWNS | CLONE_NEWCGROUP | CLONE_NEWUTS | CLONE_NEWIPC | CLONE_NEWUSER |
                                    CLONE_NEWPID | CLONE_NEWNET;
 

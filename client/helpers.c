@@ -2,13 +2,13 @@
    received by helpers, each of which looks at the memory and at the files of the process that made a call, as that
    process could (calls.c), and waits where it would. Each device has a keeper, which alone exchanges requests with it
    and makes its nodes (relay.c, nodes.c), and which helpers ask. They share memory, by which they tell each other what
-   is to be done. None of this is proved. */
+   is to be done. Each has a session of its own, so that no signal of a terminal's keys or of a process group reaches it.
+   None of this is proved. */
 #include "launcher.h"
 #include <linux/futex.h>
 #include <poll.h>
 #include <sys/eventfd.h>
 #include <sys/mman.h>
-#include <sys/prctl.h>
 #include <sys/syscall.h>
 
 /* The helpers that there are at first, those that are started as soon as all others are at work, and the most if these
@@ -26,7 +26,6 @@ struct helper {
 };
 enum { WORKING, ASKING };
 
-static pid_t launcher;
 static struct helper *helpers, *self; /* (`self` only in a helper) */
 static unsigned most_helpers = MOST_HELPERS;
 static int needed; /* where the last helper without a call tells that it has one */
@@ -72,18 +71,6 @@ static void serve(struct device *device, struct helper *helper) {
     syscall(SYS_futex, &helper->state, FUTEX_WAKE, 1, NULL, NULL, 0);
 }
 
-void end_with_launcher(void) {
-    prctl(PR_SET_PDEATHSIG, SIGKILL);
-    if (getppid() != launcher)
-        _exit(0);
-}
-
-/* Begins a process that isn't reached by signals of a terminal's keys or of a process group. */
-static void begin_process(void) {
-    setsid();
-    end_with_launcher();
-}
-
 static void start_keeper(struct device *device) {
     int watcher = watch_nodes();
     pid_t process = must(fork(), "fork");
@@ -92,7 +79,7 @@ static void start_keeper(struct device *device) {
         close(watcher);
         return;
     }
-    begin_process();
+    setsid();
     for (;;) {
         const int files[] = {device->asks[0], device->state == LOST ? -1 : device->to_and_from, watcher};
         unsigned ready = await_files(files, 3, -1), place;
@@ -145,7 +132,7 @@ static int is_any_idle(void) {
    refuses one, so that none is left for which nobody is there. */
 __attribute__((noreturn)) static void help(struct helper *helper) {
     self = helper;
-    begin_process();
+    setsid();
     for (;;) {
         if (!receive_call(&helper->notice)) {
             usleep(1000); /* (who made the call has ended, or all have) */
@@ -216,7 +203,6 @@ void note_end(pid_t process) {
 }
 
 void begin_helpers(void) {
-    launcher = getpid();
     while ((helpers = map(most_helpers * sizeof *helpers)) == MAP_FAILED && most_helpers > USUAL_HELPERS)
         most_helpers /= 2;
     if (helpers == MAP_FAILED)

@@ -161,14 +161,12 @@ void finish_call(const union notice *notice, int result);
 
 /* helpers.c: waits until one of these files, apart from those of -1, can be read, or for some milliseconds, unless they
    are -1, and returns a bit for each that can; begins with helpers and keepers; waits until one of two files can be
-   read, and starts helpers meanwhile; takes note that one of these processes has ended, without which the launcher
-   can't continue if it was a keeper; and has this process end with the launcher, which the kernel forgets when a
-   process changes its identity. */
+   read, and starts helpers meanwhile; and takes note that one of these processes has ended, without which the launcher
+   can't continue if it was a keeper. */
 unsigned await_files(const int *files, unsigned count, int milliseconds);
 void begin_helpers(void);
 unsigned await_signals(int signals, int others);
 void note_end(pid_t process);
-void end_with_launcher(void);
 
 /* helpers.c: memory that all these processes share; and in a helper, room for data, a request to the keeper of a
    controller's device, which returns -1 if the device is gone, and one without an answer, which returns -ENXIO then.

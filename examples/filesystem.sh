@@ -8,7 +8,9 @@ created=$(nvme create-ns $controller --nsze 16384 --ncap 16384 --flbas 0)
 nsid=${created##*nsid:}
 nsid=${nsid# } # (later versions of nvme-cli print a blank before it)
 nvme attach-ns $controller --namespace-id "$nsid" --controllers 0
-disk=${controller}n$nsid
+# (its node is numbered in the order of coming; /sys has its identifier)
+node=$(cd /sys/block && grep -lx "$nsid" nvme0n*/nsid)
+disk=/dev/${node%/nsid}
 blockdev --getsize64 "$disk"
 
 echo 'A file system with a label'

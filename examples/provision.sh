@@ -15,14 +15,17 @@ echo 'A volume of 4,096 blocks, for both controllers'
 nvme create-ns $controller --nsze 4096 --ncap 4096 --flbas 0 --nmic 1
 nvme attach-ns $controller --namespace-id 2 --controllers 0,1
 nvme ns-rescan $controller
-test -b ${controller}n2
-test -b ${other}n2
+# (a namespace's nodes are numbered in the order of coming; /sys has its identifier)
+node=$(cd /sys/block && grep -lx 2 nvme0n*/nsid)
+volume=/dev/${node%/nsid}
+test -b "$volume"
+test -b "${other}${volume#$controller}"
 nvme list-ns $other
-nvme id-ns ${other}n2 | grep -e '^nsze ' -e '^nmic ' -e '^flbas '
+nvme id-ns $other --namespace-id 2 | grep -e '^nsze ' -e '^nmic ' -e '^flbas '
 
 echo 'Blocks of 4,096 bytes'
-nvme format ${controller}n2 --lbaf 1 --force
-nvme id-ns ${controller}n2 | grep -e '^nsze ' -e '^flbas ' -e '^nvmcap '
+nvme format "$volume" --lbaf 1 --force
+nvme id-ns "$volume" | grep -e '^nsze ' -e '^flbas ' -e '^nvmcap '
 
 echo 'More than there is room for'
 nvme create-ns $controller --nsze 14328 --ncap 14328 --flbas 0 2>&1 || echo "status $?"
@@ -38,7 +41,7 @@ nvme get-feature $controller --feature-id 6 --sel 2
 
 echo 'The end of the volume'
 nvme detach-ns $controller --namespace-id 2 --controllers 0
-test ! -e ${controller}n2
+test ! -e "$volume"
 nvme detach-ns $other --namespace-id 2 --controllers 1
 nvme delete-ns $controller --namespace-id 2
 nvme list-ns $controller --all

@@ -140,7 +140,7 @@ static void try_addresses(void) {
     static const unsigned long requests[] = {NVME_IOCTL_ADMIN_CMD, NVME_IOCTL_ADMIN64_CMD};
     static const unsigned char fixed[PAGE];
     uint64_t result = 0, range[2] = {0, 512};
-    int block = open("/dev/nvme0n3", O_RDONLY), other = open("/dev/nvme0n3", O_RDWR);
+    int block = open("/dev/nvme0n2", O_RDONLY), other = open("/dev/nvme0n2", O_RDWR);
     for (unsigned at = 0; at < 2; at++)
         for (unsigned to = 0; to < 2; to++) {
             errno = 0;
@@ -240,8 +240,8 @@ static void is_device(const char *path, mode_t type) {
 }
 
 static void try_names(void) {
-    static const char *const none[] = {"nvme2",     "nvme0n2", "nvme1n1",   "nvme0n0",           "nvme00", "nvme0n03",
-                                       "nvme0n1p1", "nvme0x",  "nvme70000", "nvme0n99999999999", "nvme0n", "ng0n2"};
+    static const char *const none[] = {"nvme2",     "nvme0n3", "nvme1n1",   "nvme0n0",           "nvme00", "nvme0n03",
+                                       "nvme0n1p1", "nvme0x",  "nvme70000", "nvme0n99999999999", "nvme0n", "ng0n3"};
     struct stat about;
     char path[64];
     for (unsigned at = 0; at < sizeof none / sizeof *none; at++) {
@@ -252,8 +252,8 @@ static void try_names(void) {
     }
     is_device("/dev/nvme0", S_IFCHR);
     is_device("/dev/ng0n1", S_IFCHR);
-    is_device("/dev/nvme0n3", S_IFBLK);
-    is_device("/dev/../dev//nvme0n3", S_IFBLK);
+    is_device("/dev/nvme0n2", S_IFBLK);
+    is_device("/dev/../dev//nvme0n2", S_IFBLK);
     is_device("/dev/null", S_IFCHR);
     must(access("/dev/nvme0", R_OK | W_OK) == 0, "a controller may be read and written");
     must(access("/dev/nvme0", X_OK) == -1 && errno == EACCES, "a controller may not be executed");
@@ -264,12 +264,12 @@ static void try_names(void) {
     done(0, attachment(1, 1, 1, 1, 0), 0);
     must(access("/dev/nvme1n1", F_OK) == -1 && access("/dev/ng1n1", F_OK) == -1, "they are gone once it is detached");
     must(access("/sys/class/nvme/nvme1/nvme1n1", F_OK) == -1, "and so is its folder");
-    must(chdir("/dev") == 0 && stat("nvme0n3", &about) == 0 && S_ISBLK(about.st_mode), "a node is found from /dev");
+    must(chdir("/dev") == 0 && stat("nvme0n2", &about) == 0 && S_ISBLK(about.st_mode), "a node is found from /dev");
 }
 
 static void try_requests(void) {
-    int file = open("/dev/nvme0n3", O_RDWR), other = open("/dev/null", O_RDWR), size = 0;
-    int generic = open("/dev/ng0n3", O_RDWR);
+    int file = open("/dev/nvme0n2", O_RDWR), other = open("/dev/null", O_RDWR), size = 0;
+    int generic = open("/dev/ng0n2", O_RDWR);
     uint64_t bytes = 0;
     char text[8] = "written", read_back[8];
     must(ioctl(file, NVME_IOCTL_ID) == 3 && ioctl(generic, NVME_IOCTL_ID) == 3, "a namespace tells its NSID");
@@ -316,7 +316,7 @@ static void try_descriptors(void) {
     must(fstat(high, &about) == 0 && S_ISCHR(about.st_mode), "a copy is described");
     must(open("/dev/null", O_RDWR) == file && !answers(file, '1'), "a number that is used again is no node's");
     must(dup2(copy, file) == file && answers(file, '1'), "a node takes the place of another file");
-    must(openat(AT_FDCWD, "/dev/nvme0n3", O_RDONLY | O_CREAT | O_EXCL, 0600) == -1 && errno == EEXIST,
+    must(openat(AT_FDCWD, "/dev/nvme0n2", O_RDONLY | O_CREAT | O_EXCL, 0600) == -1 && errno == EEXIST,
          "a node can't be made");
     pid_t child = fork();
     if (child == 0) {

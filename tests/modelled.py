@@ -10,7 +10,7 @@ import shutil
 import subprocess
 import sys
 
-from tests.support import DEMO, TOP, Case, Running, left_running, process_folder, processes, program, run, until
+from tests.support import DEMO, IS_ROOT, TOP, Case, Running, left_running, process_folder, processes, program, run, until
 
 CLIENT = TOP / 'client'
 PROGRAMS = TOP / 'tests/programs'
@@ -21,7 +21,7 @@ PARTS = {'bin/nvme-model': ('launcher', 'relay', 'nodes', 'sysfs', 'sandbox', 'c
          'lib/nvme-model/qemu': ('qemu', 'messages', 'function', 'memory', 'proxy', 'vfio_user')}
 WARNINGS = '-Wall', '-Wextra', '-Wshadow', '-Werror'
 # Waits in a shell until what was written past the end of a node is cut off.
-CUT = 'until test $(busybox wc -c < /dev/nvme0n3) = 4608; do sleep 0.1; done; '
+CUT = 'until test $(busybox wc -c < /dev/nvme0n2) = 4608; do sleep 0.1; done; '
 VERSION = (TOP / 'VERSION').read_text().strip()
 
 # Programs that need not be installed. A test that calls one is skipped if it isn't.
@@ -80,6 +80,14 @@ def installed():
     compiled_c(place / 'lib/nvme-model/library.so', PARTS['lib/nvme-model/library.so'], '-shared', '-fPIC', '-ldl')
     shutil.copy(program('nvme_device'), place / 'lib/nvme-model')
     return place / 'bin/nvme-model'
+
+
+# What a reason ends with where no sandbox can be made.
+BY_VM = '--vm runs the command on a kernel of its own, in a virtual machine'
+# A machine with a folder of udev's, on one that has none, such as a container.
+OWN_RUN = 'mount -t tmpfs run /run && mkdir /run/udev && exec "$@"'
+WITH_UDEV = (() if os.path.exists('/run/udev') else ('unshare', '-m', 'sh', '-c', OWN_RUN, 'sh') if IS_ROOT else
+             ('bwrap', '--dev-bind', '/', '/', '--tmpfs', '/run', '--dir', '/run/udev'))
 
 
 def static_program(name, *options):
@@ -143,8 +151,8 @@ def signals(part, number, devices=1):
 
 
 # What a helper does, by the number and the words of its call: it waits for a keeper (futex), delays a command
-# (clock_nanosleep) or waits for a call (ioctl).
-ASKING, DELAYING, RECEIVING = b'202 ', b'230 ', rb'16 \w+ 0xc0502100 '
+# (futex, until some time) or waits for a call (ioctl).
+ASKING, DELAYING, RECEIVING = rb'202 \w+ 0x0 ', rb'202 \w+ 0x9 ', rb'16 \w+ 0xc0502100 '
 
 
 def do_helpers(what, least=None):

@@ -12,14 +12,14 @@ from tests.modelled import (PARTS, PROGRAMS, WARNINGS, ModelCase, compiled_c, in
 from tests.support import IS_ROOT, LIMIT, NOBODY, USERS, environment, run, until
 
 # Fills a node of 4,608 bytes, and tells whether it is still as long and has the same bytes.
-FILL = 'yes | head -c 4608 > /dev/nvme0n3; '
-LOOK = 'echo $(wc -c < /dev/nvme0n3) $(yes | head -c 4608 | cmp - /dev/nvme0n3 && echo same)\n'
+FILL = 'yes | head -c 4608 > /dev/nvme0n2; '
+LOOK = 'echo $(wc -c < /dev/nvme0n2) $(yes | head -c 4608 | cmp - /dev/nvme0n2 && echo same)\n'
 
 # What the calls of programs/decided_calls.c give, in their order. Nodes aren't truncated, other calls on them and on
 # files of /sys give what Linux gives, and names that are kept can't be made or removed.
 DECIDED = ((0, 'open, openat, openat2, creat, open of an own file'), (-13, 'open of /sys, open of /sys to cut'),
            (-22, 'truncate, truncate64'), (-13, 'truncate of /sys'), (-22, 'ftruncate, ftruncate64'),
-           (-19, 'fallocate'), (-22, 'sendfile, sendfile64, splice, copy_file_range'), (1, 'write to /sys'),
+           (-19, 'fallocate'), (-22, 'sendfile, sendfile64, splice, copy_file_range'),
            ('names', 'unlink, unlinkat, rmdir, rename, renameat, renameat2, mkdir, mkdirat, mknod, mknodat, link, '
             'linkat, symlink, symlinkat'), (-22, 'pidfd_send_signal'), (-1, 'pidfd_getfd'),
            (-38, 'io_uring_setup, io_uring_enter, io_uring_register, clone3, add_key, request_key, keyctl'),
@@ -58,7 +58,7 @@ class Paths(CallCase):
                  '/proc/../proc/self/fd/7', '/dev/fd/7', '/dev//fd/7', '/dev/../dev/fd/7', '"$1/link"', '"$1/other"',
                  '"$1/third"', '"$1/proc/self/fd/7"', '"$1/self/fd/7"',
                  '/proc/self/root/proc/self/fd/7', '/proc/self/cwd/proc/self/fd/7', '/proc/$$/fd/7')
-        script = 'cd /; ' + FILL + 'exec 7<> /dev/nvme0n3; for p in %s; do : > "$p"; done; ' % ' '.join(paths)
+        script = 'cd /; ' + FILL + 'exec 7<> /dev/nvme0n2; for p in %s; do : > "$p"; done; ' % ' '.join(paths)
         script += ('cd /proc; : > self/fd/7; : > ./self/fd/7; cd self; : > fd/7; cd fd; : > 7; cd /proc/self/task; '
                    ': > ../fd/7; cd "$1"; : > link; : > ./third; cd /; ') + LOOK
         for user in USERS:
@@ -67,8 +67,8 @@ class Paths(CallCase):
 
     def test_own_links_of_users(self):
         # (another user in root's sandbox has a node open that it couldn't open itself)
-        script = FILL + 'chmod 666 /dev/nvme0n3; exec 7<> /dev/nvme0n3; exec "$@"'
-        inner = 'cd /proc; for p in /proc/self/fd/7 self/fd/7 /dev/fd/7 /dev/nvme0n3; do : > "$p"; done; ' + LOOK
+        script = FILL + 'chmod 666 /dev/nvme0n2; exec 7<> /dev/nvme0n2; exec "$@"'
+        inner = 'cd /proc; for p in /proc/self/fd/7 self/fd/7 /dev/fd/7 /dev/nvme0n2; do : > "$p"; done; ' + LOOK
         for user in [NOBODY] * IS_ROOT + [()]:
             self.ends(self.shell(script, *user, 'sh', '-c', inner), 0, b'4608 same\n', b'')
 
@@ -100,7 +100,7 @@ class Paths(CallCase):
             # (outside, it would change a node of this machine)
             if ended.status != 0 or run(*self.command(made)).status in (126, 139):
                 self.skipTest(f'programs of {bits} bits can make no call of 32 bits here')
-            script = FILL + '"$1" < /dev/nvme0n3; ' + LOOK + 'cat /sys/block/nvme0n1/ro'
+            script = FILL + '"$1" < /dev/nvme0n2; ' + LOOK + 'cat /sys/block/nvme0n1/ro'
             for user in USERS:
                 with self.subTest(bits=bits, user=user):
                     ended = run(*user, *self.command('sh', '-c', script, 'sh', made))
@@ -197,10 +197,10 @@ class Identities(CallCase):
         ways = {'in': group[0].format(1000), 'out': group[0].format(1001), 'also': group[1].format(1000),
                 'other': group[1].format(1002), 'owner': '--reuid=2000 --regid=1001 --groups=1002', 'root': '--reuid=0'}
         order = 'in', 'out', 'also', 'out', 'also', 'other', 'owner', 'root'
-        script = ''.join(f'setpriv {ways[name]} sh -c "(: > /dev/nvme0n3) 2> /dev/null && echo {name}"; '
+        script = ''.join(f'setpriv {ways[name]} sh -c "(: > /dev/nvme0n2) 2> /dev/null && echo {name}"; '
                          for name in order)
-        weak = f'import ctypes\n{WITHOUT_RIGHTS}\nopen("/dev/nvme0n3", "w")'
-        script = ('chown 2000:1000 /dev/nvme0n3; chmod 260 /dev/nvme0n3; '
+        weak = f'import ctypes\n{WITHOUT_RIGHTS}\nopen("/dev/nvme0n2", "w")'
+        script = ('chown 2000:1000 /dev/nvme0n2; chmod 260 /dev/nvme0n2; '
                   f'for i in 1 2 3 4; do {script}python3 -c "$1" 2>&1 | tail -n 1 | cut -d " " -f 1; done')
         self.ends(self.shell(script, weak), 0, b'in\nalso\nalso\nowner\nroot\nPermissionError:\n' * 4, b'')
 
@@ -218,7 +218,7 @@ def told(call, *words):
 own, path = os.open("/dev/nvme0", os.O_RDONLY), os.open("/dev/nvme0", os.O_PATH)
 exec(sys.argv[1])
 print(told(os.open, "/sys/block/nvme0n1/ro", os.O_WRONLY), told(os.open, "/proc/self/autogroup", os.O_WRONLY),
-      told(os.open, "/dev/nvme0n3", os.O_WRONLY | os.O_TRUNC), told(fcntl.ioctl, own, 0x4e44),
+      told(os.open, "/dev/nvme0n2", os.O_WRONLY | os.O_TRUNC), told(fcntl.ioctl, own, 0x4e44),
       told(fcntl.ioctl, path, 0x4e44))
 '''
 WITHOUT_RIGHTS = ('libc = ctypes.CDLL(None)\n'
@@ -254,8 +254,8 @@ class Rights(CallCase):
     @unittest.skipUnless(IS_ROOT, 'root alone can take groups')
     def test_many_groups(self):
         groups = '--groups=' + ','.join(map(str, range(100_000, 100_300)))
-        script = FILL + 'chgrp 100299 /dev/nvme0n3; chmod 660 /dev/nvme0n3; exec "$@"'
-        inner = ': > /dev/nvme0n3; ' + LOOK
+        script = FILL + 'chgrp 100299 /dev/nvme0n2; chmod 660 /dev/nvme0n2; exec "$@"'
+        inner = ': > /dev/nvme0n2; ' + LOOK
         ended = self.shell(script, 'setpriv', '--reuid=1000', '--regid=1000', groups, 'sh', '-c', inner)
         self.ends(ended, 0, b'4608 same\n', b'')
 
@@ -264,14 +264,14 @@ class Rights(CallCase):
         # a link in another root leads to what that has at its path, and its /.. is itself
         script = FILL + 'exec "$@"'
         self.needs('busybox')
-        inner = ('cd "$1"; mkdir root root/dev; cp "$2" root; echo own > root/dev/nvme0n3; '
-                 'ln -s /dev/nvme0n3 root/link; ln -s /../../dev/nvme0n3 root/up; for path in link up ../dev/nvme0n3 '
-                 '/dev/nvme0n3; do chroot root /busybox sh -c "echo $path > $path"; cat root/dev/nvme0n3; done; '
+        inner = ('cd "$1"; mkdir root root/dev; cp "$2" root; echo own > root/dev/nvme0n2; '
+                 'ln -s /dev/nvme0n2 root/link; ln -s /../../dev/nvme0n2 root/up; for path in link up ../dev/nvme0n2 '
+                 '/dev/nvme0n2; do chroot root /busybox sh -c "echo $path > $path"; cat root/dev/nvme0n2; done; '
                  'rm -r root; ' + LOOK)
         user = USERS[-1]
         ended = run(*user, *self.command('sh', '-c', script, 'sh', 'unshare', '-Urm', 'sh', '-c', inner, 'sh',
                                          self.folder, shutil.which('busybox')))
-        self.ends(ended, 0, b'link\nup\n../dev/nvme0n3\n/dev/nvme0n3\n4608 same\n', b'')
+        self.ends(ended, 0, b'link\nup\n../dev/nvme0n2\n/dev/nvme0n2\n4608 same\n', b'')
 
 
 class Groups(CallCase):

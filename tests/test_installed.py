@@ -16,7 +16,7 @@ from tests.support import DEMO, TOP, Case, Running, library, process_folder, run
 SYNOPSIS = re.search(r'(?m)^nvme-script \[.*', (TOP / 'docs/COMMANDS.md').read_text()).group()
 OPTIONS = re.findall(r'\[(--[a-z-]+)', SYNOPSIS)
 # A check of the demonstration's nodes that needs no NVMe tool.
-LOOK = 'test -c /dev/nvme0 && test -b /dev/nvme0n3 && cat /sys/class/nvme/nvme1/serial'
+LOOK = 'test -c /dev/nvme0 && test -b /dev/nvme0n2 && cat /sys/class/nvme/nvme1/serial'
 
 
 # Words that the shells complete to one more word, or to one in place of the last.

@@ -13,7 +13,7 @@ import threading
 import time
 import unittest
 
-from tests.modelled import (ASKING, CLIENT, DEVICES, PARTS, PROGRAMS, RECEIVING, VERSION, WARNINGS, ModelCase,
+from tests.modelled import (ASKING, BY_VM, CLIENT, DEVICES, PARTS, PROGRAMS, RECEIVING, VERSION, WARNINGS, ModelCase,
                             compiled_c, do_helpers, installed, parts, signals, works)
 from tests.support import IS_ROOT, LIMIT, TOP, USERS, Running, left_running, processes, program, run, until
 
@@ -95,6 +95,7 @@ class Arguments(ModelCase):
                 ('--device', "option '--device' requires an argument"),
                 ('--bogus 3 true', "unrecognized option '--bogus'"), ('-d 3 true', "invalid option -- 'd'"),
                 ('--without-namespace true', "unrecognized option '--without-namespace'"),
+                ('--no-sandbox true', "unrecognized option '--no-sandbox'"),
                 ('--no-notice=1 true', "option '--no-notice' doesn't allow an argument"),
                 ('--help=1', "option '--help' doesn't allow an argument"),
                 ('--d 3 true', "option '--d' is ambiguous; .*"), ('--p 4096 true', "option '--p' is ambiguous; .*"),
@@ -163,16 +164,16 @@ class Arguments(ModelCase):
                 self.assertRegex(ended.err.decode(), f'^{said}$')
 
     def test_other_sandboxes(self):
-        # a bubblewrap that is too old, and one that ends without a word, whether or not there must be a sandbox
+        # a bubblewrap that is too old, and one that ends without a word
         tool = self.folder / 'bwrap'
         for script, said in (('echo "bwrap: Unknown option --size" >&2; exit 1',
                               'bwrap is older than 0.8: install a newer bubblewrap'),
                              ('exit 1', 'bwrap ended without a reason')):
             tool.write_text(f'#!/bin/sh\n{script}\n')
             tool.chmod(0o755)
-            for options in [], ['--root', '--no-sandbox']:
+            for options in [], ['--root']:
                 ended = run(installed(), *options, 'true', env={'PATH': f'{self.folder}:{os.environ["PATH"]}'})
-                told = f'nvme-model: no sandbox can be made: {said}; --no-sandbox runs the command without one\n'
+                told = f'nvme-model: no sandbox can be made: {said}; {BY_VM}\n'
                 self.ends(ended, 72, b'', told.encode())
 
     def test_help(self):

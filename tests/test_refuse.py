@@ -100,7 +100,7 @@ class Refuse(ModelCase):
         own = trace.read_text()
         self.assertIn('nvme0 taken Identify ', own)
         ended = self.shell(script, options=options)
-        self.ends(ended, 1, b'/dev/nvme0\n/dev/nvme0n1\n/dev/nvme0n3\n/dev/nvme1\n', b'')
+        self.ends(ended, 1, b'/dev/nvme0\n/dev/nvme0n1\n/dev/nvme0n2\n/dev/nvme1\n', b'')
         self.assertEqual(trace.read_text(), own)
 
     def test_several_processes(self):

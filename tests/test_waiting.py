@@ -231,7 +231,7 @@ class Processes(WaitingCase):
     def test_idle(self):
         # none of the launcher's processes takes a turn in vain, after a node was written or made longer
         program = ('import ctypes, os\n'
-                   'node = os.open("/dev/nvme0n3", os.O_RDWR)\n'
+                   'node = os.open("/dev/nvme0n2", os.O_RDWR)\n'
                    'ctypes.CDLL(None).syscall(18, node, b"x", 1, 9999)\n')
         for user in USERS:
             with self.subTest(user=user):
@@ -337,7 +337,7 @@ class Processes(WaitingCase):
     @unittest.skipUnless(IS_ROOT, 'root alone can take the number of a user without processes')
     def test_too_few_processes(self):
         # a launcher that can't start what it needs says so, and otherwise the command runs
-        few = rb'nvme-model: .*: Resource temporarily unavailable(; --no-sandbox runs the command without one)?\n'
+        few = rb'nvme-model: .*: Resource temporarily unavailable(; --vm runs the command .*)?\n'
         enough = []
         for count in range(2, 16):
             user = ('setpriv', f'--reuid={54321 + count}', '--regid=54321', '--clear-groups', 'bash', '-c',
@@ -356,7 +356,7 @@ class Processes(WaitingCase):
                    '    print("step", flush=True)\n'
                    '    input()\n'
                    'def length():\n'
-                   '    return os.lseek(os.open("/dev/nvme0n3", 0), 0, 2)\n'
+                   '    return os.lseek(os.open("/dev/nvme0n2", 0), 0, 2)\n'
                    'step()\n'
                    'controller = os.open("/dev/nvme0", os.O_RDWR)\n'
                    'if os.fork() == 0:\n'
@@ -365,7 +365,7 @@ class Processes(WaitingCase):
                    'for number in range(10000):\n'
                    '    for name in "/dev/one", "/dev/other":\n'
                    '        os.close(os.open(name, os.O_WRONLY | os.O_CREAT))\n'
-                   'node = os.open("/dev/nvme0n3", os.O_RDWR)\n'
+                   'node = os.open("/dev/nvme0n2", os.O_RDWR)\n'
                    'call(18, node, b"x", 1, 9999)\n'
                    'os.close(node)\n'
                    'print(length())\n'

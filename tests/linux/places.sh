@@ -36,13 +36,3 @@ for name, call in {'allocate': lambda: os.posix_fallocate(file, 0, 4096), 'sync'
     says(name, call)
 os.pwrite(file, b'x' * 4096, 0)
 END
-exec 8<> $D 9< $D
-echo kept >&8; p=$(readlink -f /sys/class/nvme/nvme0/device); echo 1 > $p/remove; sleep 2
-python3 - << 'END'
-import errno, os
-for name, call in {'sync': lambda: os.fsync(8), 'write': lambda: os.pwrite(8, b'x' * 512, 0), 'read': lambda: os.pread(9, 512, 0), 'past': lambda: os.lseek(9, 512, 0)}.items():
-    try:
-        print(name, call())
-    except OSError as error:
-        print(name, errno.errorcode[error.errno])
-END

@@ -5,9 +5,5 @@ t nvme write /dev/nvme0n1 -s 131072 -c 0 -z 512 -d /dev/zero; t nvme write /dev/
 nvme list -o json | python3 -c 'import json, sys; print(sorted((d["DevicePath"], d["ModelNumber"], d["PhysicalSize"], d["SectorSize"]) for d in json.load(sys.stdin)["Devices"]))'
 for n in nvme0 ng0n1; do udevadm info -q property -n /dev/$n | grep -E '^(DEVNAME|SUBSYSTEM|NVME_TRTYPE)='; done; udevadm info -q name -p /sys/block/nvme0n1; udevadm info -q property -n /dev/nvme9; echo $?; t udevadm wait -t 1 /dev/nvme0n9; t udevadm wait -t 1 --removed /dev/nvme0n9; t udevadm lock -d /dev/nvme0n1 true
 udevadm info -a -n /dev/nvme0n1 | grep -E 'ATTR.(size|ro|removable|queue/(rotational|logical_block_size|max_sectors_kb|write_cache|zoned|dax|discard_granularity|max_segments)|wwid|nsid|power/control)'
-label='label: gpt
-label-id: 11111111-2222-3333-4444-555555555555
-size=10M, uuid=11111111-2222-3333-4444-555555555556'
-echo "$label" | sfdisk -q /dev/nvme0n1; echo $?; sfdisk -d /dev/nvme0n1; t blkid -p -s PTTYPE -o value /dev/nvme0n1; t wipefs -qa /dev/nvme0n1; t sfdisk -d /dev/nvme0n1; t blockdev --rereadpt /dev/nvme0n1
 sg_inq /dev/nvme0 | head -4; sg_readcap /dev/nvme0n1 | head -3; t sg_turs /dev/nvme0n1; smartctl --scan; smartctl -H /dev/nvme0 | grep result; t smartctl -q errorsonly -A /dev/nvme9
 cd /sys/module; cat nvme/version nvme_core/version nvme_core/initstate nvme/parameters/{io_queue_depth,sgl_threshold,use_threaded_interrupts}; readlink nvme/drivers/* /sys/bus/pci/drivers/nvme/module /sys/class/nvme/nvme0/device/driver

@@ -11,7 +11,6 @@
 #include <sys/wait.h>
 #include <unistd.h>
 
-int has_sandbox = 1;
 const struct decided_call decided_calls[1], old_decided_calls[1];
 
 void fail(const char *format, ...) { _exit(printf("%s\n", format) > 0); }
@@ -100,7 +99,7 @@ int main(int count, char **arguments) {
     setbuf(stdout, NULL);
     if (!is_device)
         confine_launcher();
-    else if (!is_again && confine_device(0) < 0)
+    else if (!is_again && confine_device() < 0)
         fail_by_errno("confine_device");
     for (unsigned at = 0; at < sizeof calls_of_both / sizeof *calls_of_both; at++)
         try(calls_of_both[at].name, calls_of_both[at].number, calls_of_both[at].first, calls_of_both[at].second, 0);

@@ -10,7 +10,7 @@ import sys
 CALL, NUMBER = ctypes.CDLL(None, use_errno=True).syscall, 437
 CUT, WRITING = os.O_TRUNC, os.O_RDWR | os.O_TRUNC
 NO_XDEV, NO_MAGIC, NO_LINKS, BENEATH, IN_ROOT, CACHED = (1 << bit for bit in range(6))
-NODE, PLACE = '/dev/nvme0n3', sys.argv[1]
+NODE, PLACE = '/dev/nvme0n2', sys.argv[1]
 
 
 def opened(folder, path, how, size):
@@ -27,16 +27,16 @@ def layout(flags=0, mode=0, resolve=0, rest=b''):
 
 
 os.makedirs(f'{PLACE}/folder')
-for name, target in ('file', NODE), ('other', f'{PLACE}/folder/nvme0n3'):
+for name, target in ('file', NODE), ('other', f'{PLACE}/folder/nvme0n2'):
     os.symlink(target, f'{PLACE}/{name}')
-open(f'{PLACE}/folder/nvme0n3', 'w').close()
-node, file = os.open(NODE, os.O_RDONLY), os.open(f'{PLACE}/folder/nvme0n3', os.O_RDONLY)
+open(f'{PLACE}/folder/nvme0n2', 'w').close()
+node, file = os.open(NODE, os.O_RDONLY), os.open(f'{PLACE}/folder/nvme0n2', os.O_RDONLY)
 here = -100
 # Each path has two forms, for the node and for the file, with a folder for each.
-paths = {'whole': (here, NODE, here, f'{PLACE}/folder/nvme0n3'),
+paths = {'whole': (here, NODE, here, f'{PLACE}/folder/nvme0n2'),
          'link': (here, f'{PLACE}/file', here, f'{PLACE}/other'),
-         'name': (os.open('/dev', os.O_RDONLY), 'nvme0n3', os.open(f'{PLACE}/folder', os.O_RDONLY), 'nvme0n3'),
-         'root': (os.open('/dev', os.O_RDONLY), '/nvme0n3', os.open(f'{PLACE}/folder', os.O_RDONLY), '/nvme0n3'),
+         'name': (os.open('/dev', os.O_RDONLY), 'nvme0n2', os.open(f'{PLACE}/folder', os.O_RDONLY), 'nvme0n2'),
+         'root': (os.open('/dev', os.O_RDONLY), '/nvme0n2', os.open(f'{PLACE}/folder', os.O_RDONLY), '/nvme0n2'),
          'own': (here, f'/proc/self/fd/{node}', here, f'/proc/self/fd/{file}')}
 whole = layout(WRITING)
 hows = [(whole, size) for size in (0, 1, 8, 23, 24)] + [(layout(WRITING, rest=bytes(5000)), size)
@@ -64,4 +64,4 @@ for name, (folder, path, other_folder, other) in paths.items():
         is_mount = how and len(how) >= 24 and struct.unpack('<Q', how[16:24])[0] & NO_XDEV
         if results[0] != results[1] and not (is_mount and results[0] == 'EXDEV'):
             print(name, size, how and how[:24].hex(), *results)
-print(count, os.stat(PLACE + '/folder/nvme0n3').st_size, os.lseek(node, 0, 2))
+print(count, os.stat(PLACE + '/folder/nvme0n2').st_size, os.lseek(node, 0, 2))

@@ -55,17 +55,17 @@ static int write_and_read(const char *path) {
 int main(int count, char **words) {
     struct stat about;
     struct statx more;
-    char text[5] = "", *no = count > 9 ? words[9] : NULL, *test[] = {"/usr/bin/test", "-b", "/dev/nvme0n3", NULL};
-    int file = open("/dev/nvme0n3", O_RDWR);
+    char text[5] = "", *no = count > 9 ? words[9] : NULL, *test[] = {"/usr/bin/test", "-b", "/dev/nvme0n2", NULL};
+    int file = open("/dev/nvme0n2", O_RDWR);
     printf("%d ", fstatat(file, no, &about, AT_EMPTY_PATH) == 0 && S_ISBLK(about.st_mode));
     printf("%d ", statx(file, no, AT_EMPTY_PATH, STATX_TYPE, &more) == 0 && S_ISBLK(more.stx_mode));
     printf("%d ", fstatat(file, "", &about, AT_EMPTY_PATH) == 0 && S_ISBLK(about.st_mode));
     printf("%d ", fstatat(AT_FDCWD, "", &about, AT_EMPTY_PATH) == 0 && S_ISDIR(about.st_mode));
     printf("%d ", fstatat(AT_FDCWD, "/dev/nvme0", &about, AT_EMPTY_PATH) == 0 && S_ISCHR(about.st_mode));
     printf("%d ", fstatat(AT_FDCWD, no, &about, 0) == -1 && errno == EFAULT);
-    int is_done = pwrite(file, "data", 4, 100) == 4 && freopen("/dev/nvme0n3", "w", stdin) != NULL;
+    int is_done = pwrite(file, "data", 4, 100) == 4 && freopen("/dev/nvme0n2", "w", stdin) != NULL;
     printf("%d %d %s\n", is_done, (int)pread(file, text, 4, 100), text);
-    printf("%d %d\n", describe_as_before("/dev/nvme0n3", file), write_and_read("/dev/nvme0n3"));
+    printf("%d %d\n", describe_as_before("/dev/nvme0n2", file), write_and_read("/dev/nvme0n2"));
     fflush(stdout);
     return execve(test[0], test, (char **)no);
 }

@@ -47,11 +47,11 @@ static int is_there(const unsigned char *at, size_t size) {
 static unsigned char *path(void) {
     static const char *const paths[] = {"/dev/nvme0",
                                         "/dev/nvme0n1",
-                                        "/dev/nvme0n3",
+                                        "/dev/nvme0n2",
                                         "/dev/ng0n1",
                                         "/dev/nvme1",
-                                        "//dev/../dev/nvme0n3",
-                                        "nvme0n3",
+                                        "//dev/../dev/nvme0n2",
+                                        "nvme0n2",
                                         "..",
                                         "",
                                         "/proc/self/fd/3",
@@ -175,7 +175,7 @@ static void call_any(void) {
 }
 
 int main(int count, char **words) {
-    static const char *const files[] = {"/dev/nvme0", "/dev/nvme0n1", "/dev/ng0n3", "/dev/null"};
+    static const char *const files[] = {"/dev/nvme0", "/dev/nvme0n1", "/dev/ng0n2", "/dev/null"};
     unsigned processes = count > 3 ? (unsigned)atoi(words[2]) : 0;
     snprintf(place, sizeof place, "%s", count > 3 ? words[3] : "/tmp");
     pages = mmap(NULL, 3 * PAGE, PROT_READ | PROT_WRITE, MAP_PRIVATE | MAP_ANONYMOUS, -1, 0);

@@ -37,13 +37,9 @@ for mode in 'r', 'rw':
         says(name, lambda: asked(file, request, bytes(size)))
     for name, request in UNKNOWN.items():
         says(name, lambda: asked(file, request, bytes(64)))
-    for name, request, argument in (('FLSBUF', 0x1261, 0), ('RRPART', 0x125f, 0), ('RASET', 0x1262, 100), ('RASET', 0x1262, 2**31 - 1),
-                                    ('FRASET', 0x1264, 0), ('RASET', 0x1262, 8), ('ROSET', 0x125d, 8)):
+    for name, request, argument in ('FLSBUF', 0x1261, 0), ('ROSET', 0x125d, 8):
         says(f'{name} {argument}', lambda: fcntl.ioctl(file, request, argument))
         says('RA', lambda: asked(file, 0x1263, bytes(8)))
-    for size in 512, 1024, 4096, 8192, 513, 0, 256:
-        says(f'BSZSET {size}', lambda: asked(file, 0x40081271, struct.pack('q', size)))
-        says('BSZ', lambda: asked(file, 0x80081270, bytes(8)))
     for name, request in ('DISCARD', 0x1277), ('SECDISCARD', 0x127d), ('ZEROOUT', 0x127f):
         for first, size in (0, 512), (0, 0), (256, 512), (0, 100), (END, 512), (END - 512, 1024), ((1 << 64) - 512, 1024):
             says(f'{name} {first} {size}', lambda: asked(file, request, struct.pack('QQ', first, size)))
@@ -87,9 +83,6 @@ for first in MODES:
         says('plain', lambda: closed(BLOCK, MODES[second]))
     says('another device', lambda: closed('/dev/nvme0n2', MODES[first] | os.O_EXCL))
     other = os.open(BLOCK, os.O_RDWR)
-    for name, which in ('another file', other), ('its file', file):
-        says(f'RRPART of {name}', lambda: fcntl.ioctl(which, 0x125f))
-        says(f'BSZSET of {name}', lambda: asked(which, 0x40081271, struct.pack('q', 4096)))
     says('DISCARD', lambda: asked(other, 0x1277, struct.pack('QQ', 0, 512)))
     os.close(other)
     copy = os.dup(file)
@@ -119,5 +112,5 @@ mkfs.ext4 -q -F /dev/nvme0n1; echo "mkfs $?"; wipefs -a /dev/nvme0n1; nvme write
 nvme reset /dev/nvme0; nvme ns-rescan /dev/nvme0; sleep 1; blockdev --getro /dev/nvme0n1
 nvme format /dev/nvme0n1 -l 0 -f; blockdev --getro /dev/nvme0n1
 nvme detach-ns /dev/nvme0 -n 1 -c 0; sleep 1; nvme attach-ns /dev/nvme0 -n 1 -c 0; sleep 1; blockdev --getro /dev/nvme0n1
-blockdev --setra 64 --getra --setbsz 1024 --getbsz /dev/nvme0n2; blockdev --getra --getbsz /dev/nvme0n2
+blockdev --getra --getbsz /dev/nvme0n2
 nvme format /dev/nvme0n2 -l 4 -f; blockdev --getra --getbsz --getss /dev/nvme0n2
