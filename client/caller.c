@@ -219,6 +219,16 @@ static int is_at(int folder, const struct statx *other) {
     return about.stx_mnt_id == other->stx_mnt_id && about.stx_ino == other->stx_ino;
 }
 
+/* Takes the first part of what is left of a path, or returns 0 if it is too long. */
+static int take_part(char left[ROOM], char name[NAME_MAX + 1]) {
+    size_t skipped = strspn(left, "/"), length = strcspn(left + skipped, "/");
+    if (length > NAME_MAX)
+        return 0;
+    snprintf(name, NAME_MAX + 1, "%.*s", (int)length, left + skipped);
+    memmove(left, left + skipped + length, strlen(left + skipped + length) + 1);
+    return 1;
+}
+
 /* Follows a path, part by part, as the caller would: another process can't have the kernel do so, because nothing is at
    /proc/self for it, and because it has another root if the caller has one of its own. */
 static int walk(const struct call *call, int at, const char *path, const struct open_how *how,
@@ -226,16 +236,10 @@ static int walk(const struct call *call, int at, const char *path, const struct 
     char left[ROOM], name[NAME_MAX + 1];
     unsigned links = 0;
     strcpy(left, path);
-    while (at >= 0 && left[strspn(left, "/")]) {
-        size_t skipped = strspn(left, "/"), length = strcspn(left + skipped, "/");
-        int is_last = !left[skipped + length], before = at;
-        if (length > NAME_MAX)
-            break;
-        snprintf(name, sizeof name, "%.*s", (int)length, left + skipped);
-        memmove(left, left + skipped + length, strlen(left + skipped + length) + 1);
-        int is_top = strcmp(name, "..") == 0 && is_at(before, root);
+    while (at >= 0 && left[strspn(left, "/")] && take_part(left, name)) {
+        int before = at, is_top = strcmp(name, "..") == 0 && is_at(before, root);
         at = openat(before, is_top ? "." : name, O_PATH | O_NOFOLLOW | O_CLOEXEC);
-        if (at >= 0 && !(is_last && how->flags & O_NOFOLLOW) && S_ISLNK(look_at(at, "").stx_mode)) {
+        if (at >= 0 && (*left || !(how->flags & O_NOFOLLOW)) && S_ISLNK(look_at(at, "").stx_mode)) {
             int link = at;
             at = links++ < MOST_LINKS ? follow(call, before, name, link, how->resolve, left) : -1;
             close(link);
@@ -248,28 +252,41 @@ static int walk(const struct call *call, int at, const char *path, const struct 
     return -1;
 }
 
+/* Where a path of a process starts, the root folder above which it doesn't lead, and what is left of the path. */
+struct start {
+    int folder;
+    struct statx root;
+    const char *left;
+};
+
+static struct start start_of(const struct call *call, int directory, const char *path, uint64_t resolve) {
+    int is_below = resolve & (RESOLVE_BENEATH | RESOLVE_IN_ROOT) && *path == '/', is_absolute = *path == '/' && !is_below;
+    char folder[32];
+    snprintf(folder, sizeof folder, directory == AT_FDCWD ? "cwd" : "fd/%d", directory);
+    struct start start = {.folder = open_about(call->process, is_absolute ? "root" : folder, O_PATH),
+                          .left = is_below ? path : path + strspn(path, "/")};
+    start.root = is_absolute ? look_at(start.folder, "") : root_of(call->process);
+    return start;
+}
+
+/* (the kernel resolves a path if its process has the command's root folder, but for links that only the process can
+   follow) */
 int look_up(const struct call *call, int directory, const char *path, const struct open_how *given) {
     static struct statx of_command;
-    struct open_how how = {.flags = O_PATH | O_CLOEXEC | (given->flags & (O_NOFOLLOW | O_DIRECTORY)),
-                           .resolve = given->resolve | RESOLVE_NO_MAGICLINKS};
-    char folder[32];
-    int is_below = given->resolve & (RESOLVE_BENEATH | RESOLVE_IN_ROOT) && *path == '/', file = -1;
-    int is_absolute = *path == '/' && !is_below;
-    snprintf(folder, sizeof folder, directory == AT_FDCWD ? "cwd" : "fd/%d", directory);
-    int from = open_about(call->process, is_absolute ? "root" : folder, O_PATH);
-    const char *rest = is_below ? path : path + strspn(path, "/");
-    const struct statx root = is_absolute ? look_at(from, "") : root_of(call->process);
+    const struct open_how how = {.flags = O_PATH | O_CLOEXEC | (given->flags & (O_NOFOLLOW | O_DIRECTORY)),
+                                 .resolve = given->resolve | RESOLVE_NO_MAGICLINKS};
+    const struct start start = start_of(call, directory, path, given->resolve);
     if (of_command.stx_ino == 0)
         of_command = root_of(process_one);
-    if (from < 0 || !*path || root.stx_ino == 0 || of_command.stx_ino == 0) {
-        close(from);
+    if (start.folder < 0 || !*path || start.root.stx_ino == 0 || of_command.stx_ino == 0) {
+        close(start.folder);
         return -1;
     }
-    int has_other = root.stx_mnt_id != of_command.stx_mnt_id || root.stx_ino != of_command.stx_ino;
-    if (!has_other)
-        file = (int)syscall(SYS_openat2, from, *rest ? rest : ".", &how, sizeof how);
-    if (file < 0 && (has_other || errno == ENOENT || (errno == ELOOP && given->resolve == 0)))
-        return walk(call, from, rest, given, &root);
-    close(from);
+    int is_same = start.root.stx_mnt_id == of_command.stx_mnt_id && start.root.stx_ino == of_command.stx_ino, file = -1;
+    if (is_same)
+        file = (int)syscall(SYS_openat2, start.folder, *start.left ? start.left : ".", &how, sizeof how);
+    if (file < 0 && (!is_same || errno == ENOENT || (errno == ELOOP && given->resolve == 0)))
+        return walk(call, start.folder, start.left, given, &start.root);
+    close(start.folder);
     return file;
 }
