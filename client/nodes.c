@@ -44,6 +44,17 @@ static void print_path(char path[MOST_NAME], char kind, unsigned controller, uns
         snprintf(path + length, MOST_NAME - (size_t)length, "n%u", number);
 }
 
+/* The files of controllers (0) and of generic nodes, which are told by their numbers from files of the command. */
+static ino_t characters[MOST_CONTROLLERS][MOST_NSID + 1];
+
+/* Prints the path of a node, and returns whether it is there. */
+static int find_node_at(char path[MOST_NAME], char kind, unsigned controller, uint32_t nsid) {
+    const struct volume *volume = volume_at(device_of(controller), nsid);
+    struct stat about;
+    print_path(path, kind, controller, volume->number);
+    return lstat(path, &about) == 0 && about.st_ino == (kind == 'b' ? volume->inode : characters[controller][nsid]);
+}
+
 int find_namespace(struct node *node) {
     node->nsid = named[device_of(node->controller) - devices][node->number];
     return node->nsid != 0 && is_shown(node->controller, node->nsid);
@@ -69,19 +80,18 @@ int read_name(const char *name, struct node *node) {
 
 /* ---- files that have gone, whose number isn't free as long as a process has them open */
 
+enum { MOST_GONE = 1 << 16 }; /* (as many as may be open are fewer on most machines) */
 static struct gone {
     int file;
     unsigned number;
-} *gone; /* (of the device of this keeper) */
+} gone[MOST_GONE]; /* (of the device of this keeper) */
 static unsigned gone_count;
 
 /* Keeps such a file, which has no permissions then, as on Linux. (The kernel tells its owner alone who has it open.) */
 static void keep(int file, unsigned number) {
-    struct gone *more = reallocarray(gone, gone_count + 1, sizeof *gone);
-    if (fchmod(file, 0) < 0 || (geteuid() == 0 && fchown(file, 0, (gid_t)-1) < 0) || !more)
+    if (fchmod(file, 0) < 0 || (geteuid() == 0 && fchown(file, 0, (gid_t)-1) < 0))
         cannot("/dev");
-    gone = more ?: gone;
-    if (more)
+    if (gone_count < MOST_GONE)
         gone[gone_count++] = (struct gone){file, number};
 }
 
@@ -135,12 +145,9 @@ int open_data(const struct node *node) {
         return -1;
     if (fstat(volume->file, &about) == 0 && about.st_dev == number_of(OF_DEV) && about.st_ino == volume->inode)
         return fcntl(volume->file, F_DUPFD_CLOEXEC, 0);
-    print_path(path, 'b', node->controller, volume->number);
-    int file = open(path, O_RDWR | O_NOFOLLOW | O_NONBLOCK | O_CLOEXEC);
-    if (file < 0 || (fstat(file, &about) == 0 && about.st_ino == volume->inode))
-        return file;
-    close(file);
-    return -1;
+    if (!find_node_at(path, 'b', node->controller, node->nsid))
+        return -1;
+    return open(path, O_RDWR | O_NOFOLLOW | O_NONBLOCK | O_CLOEXEC);
 }
 
 static void set_length(const struct volume *volume, off_t length) {
@@ -193,9 +200,6 @@ static void leave_file(struct volume *volume) {
 
 /* ---- nodes */
 
-/* The files of controllers (0) and of generic nodes, which are told by their numbers from files of the command. */
-static ino_t characters[MOST_CONTROLLERS][MOST_NSID + 1];
-
 /* Makes a node, or leaves what has its name. (The node of a block device is another name of its data.) */
 static void make_node(char kind, unsigned controller, uint32_t nsid) {
     const struct volume *volume = volume_at(device_of(controller), nsid);
@@ -214,19 +218,12 @@ static void make_node(char kind, unsigned controller, uint32_t nsid) {
     characters[controller][nsid] = about.st_ino;
 }
 
-/* Prints the path of a node, and returns whether it is there. */
-static int find_node_at(char path[MOST_NAME], char kind, unsigned controller, uint32_t nsid) {
-    const struct volume *volume = volume_at(device_of(controller), nsid);
-    struct stat about;
-    print_path(path, kind, controller, volume->number);
-    return lstat(path, &about) == 0 && about.st_ino == (kind == 'b' ? volume->inode : characters[controller][nsid]);
-}
-
 static void put(unsigned controller, uint32_t nsid) {
     struct volume *volume = volume_at(device_of(controller), nsid);
     if (volume->file <= 0)
         make_data(volume);
-    set_length(volume, length_of(volume));
+    else
+        set_length(volume, length_of(volume));
     shown[controller][nsid] = CURRENT;
     show(BLOCK, controller, nsid);
     show(GENERIC, controller, nsid);
@@ -237,7 +234,6 @@ static void put(unsigned controller, uint32_t nsid) {
 static void hide_namespace(unsigned controller, uint32_t nsid) {
     const struct device *device = device_of(controller);
     struct volume *volume = volume_at(device, nsid);
-    unsigned others = 0;
     char path[MOST_NAME];
     if (find_node_at(path, 'g', controller, nsid)) {
         int file = open(path, O_RDONLY | O_NOFOLLOW | O_CLOEXEC);
@@ -251,9 +247,8 @@ static void hide_namespace(unsigned controller, uint32_t nsid) {
     hide(BLOCK, controller, nsid);
     shown[controller][nsid] = HIDDEN;
     for (unsigned at = device->first; at < device->first + device->count; at++)
-        others += is_shown(at, nsid);
-    if (others > 0)
-        return;
+        if (is_shown(at, nsid))
+            return;
     leave_file(volume);
     named[device - devices][volume->number] = 0;
     volume->number = 0;
@@ -321,14 +316,15 @@ int list_active(unsigned controller, unsigned char is_active[MOST_NSID + 1]) {
 
 /* Gives numbers to the namespaces that come to a controller, and hides those that go. (As on Linux, each of the first
    has its number before one of the others with a lower NSID goes.) */
-static void number(unsigned controller, const unsigned char is_active[MOST_NSID + 1]) {
-    for (uint32_t nsid = 1, looked = 0; nsid <= MOST_NSID + 1; nsid++) {
-        int is_end = nsid > MOST_NSID;
-        if (!is_end && !is_active[nsid])
-            continue;
-        if (!is_end && shown[controller][nsid] == OUTDATED)
+static void come_and_go(unsigned controller, const unsigned char is_active[MOST_NSID + 1]) {
+    uint32_t looked = 0, nsid = 0;
+    while (nsid <= MOST_NSID) {
+        do
+            nsid++;
+        while (nsid <= MOST_NSID && !is_active[nsid]);
+        if (nsid <= MOST_NSID && shown[controller][nsid] == OUTDATED)
             hide_namespace(controller, nsid);
-        if (!is_end && measure(controller, nsid) == 0)
+        if (nsid <= MOST_NSID && measure(controller, nsid) == 0)
             take_number(device_of(controller), nsid);
         while (++looked < nsid)
             if (is_shown(controller, looked))
@@ -343,7 +339,7 @@ static void scan(unsigned first, unsigned count) {
         if (list_active(controller, is_active[controller]) < 0)
             return;
     for (unsigned controller = first; controller < first + count; controller++)
-        number(controller, is_active[controller]);
+        come_and_go(controller, is_active[controller]);
     for (uint32_t nsid = 1; nsid <= MOST_NSID; nsid++)
         for (unsigned controller = first; controller < first + count; controller++)
             if (is_active[controller][nsid] && shown[controller][nsid] == HIDDEN &&
@@ -359,10 +355,10 @@ static void forget_namespace(const struct device *device, uint32_t nsid) {
     set_length(volume, 0);
     volume->state = UNKNOWN;
     volume->is_read_only = 0;
-    if (volume->number == 0 && volume->file > 0)
+    if (volume->number == 0 && volume->file > 0) {
         close(volume->file);
-    if (volume->number == 0)
         volume->file = 0;
+    }
     for (unsigned at = device->first; at < device->first + device->count; at++)
         shown[at][nsid] = is_shown(at, nsid) ? OUTDATED : HIDDEN;
 }

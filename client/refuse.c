@@ -108,16 +108,10 @@ void note_reset(unsigned controller) {
 static int wait_for(const struct call *call, int is_io, uint64_t seconds, uint32_t limit) {
     const uint64_t most = limit ? (uint64_t)limit << is_io : 60000;
     const uint64_t least = seconds * 1000 < most ? seconds * 1000 : most;
+    const struct timespec time = {.tv_sec = (time_t)(least / 1000), .tv_nsec = (long)(least % 1000 * 1000000)};
     _Atomic unsigned *reset = resets + call->node.controller;
     const unsigned before = *reset;
-    struct timespec end;
-    clock_gettime(CLOCK_MONOTONIC, &end);
-    const uint64_t nanoseconds = (uint64_t)end.tv_nsec + least % 1000 * 1000000;
-    end.tv_sec += (time_t)(least / 1000 + nanoseconds / 1000000000);
-    end.tv_nsec = (long)(nanoseconds % 1000000000);
-    while (*reset == before && (syscall(SYS_futex, reset, FUTEX_WAIT_BITSET, before, &end, NULL,
-                                        FUTEX_BITSET_MATCH_ANY) == 0 || errno != ETIMEDOUT))
-        continue;
+    syscall(SYS_futex, reset, FUTEX_WAIT, before, &time, NULL, 0);
     if (*reset != before)
         return -OVERDUE;
     if (seconds * 1000 <= most)

@@ -183,12 +183,6 @@ static int remove_one(const char *path, const struct stat *about, int type, stru
     return remove(path);
 }
 
-/* (processes may still write in a folder that is removed, so this tries again) */
-static void remove_all(const char *path) {
-    for (int tries = 0; tries < 3 && nftw(path, remove_one, 16, FTW_DEPTH | FTW_PHYS) != 0; tries++)
-        continue;
-}
-
 static void make_folders(char *path) {
     for (char *at = strchr(path + 1, '/'); at; at = strchr(at + 1, '/')) {
         *at = '\0';
@@ -227,21 +221,19 @@ static int make(int folder, const char *name, char mark, const char *text) {
     return result;
 }
 
-/* Makes an entry, in place of what is there. (Of several links with one name in /dev/disk, the first stays.) */
+/* Makes an entry, in place of one of this folder. What is elsewhere stays, such as the first of several links with one
+   name in /dev/disk, or what the command has put there. */
 static void put(int folder, char *name, char mark, const char *text) {
-    for (int tries = 0; make(folder, name, mark, text) < 0; tries++) {
-        int error = errno;
-        if (error == EEXIST && (name[strlen(name) - 1] == '/' || strncmp(name, "/dev/disk/", 10) == 0))
-            return;
-        if (tries > 2)
-            return cannot(name);
-        if (error == ENOENT)
-            make_folders(name);
-        else if (*name == '/')
-            remove_all(name);
-        else
-            unlinkat(folder, name, 0);
+    int result = make(folder, name, mark, text);
+    if (result < 0 && errno == ENOENT) {
+        make_folders(name);
+        result = make(folder, name, mark, text);
+    } else if (result < 0 && errno == EEXIST && *name != '/') {
+        unlinkat(folder, name, 0);
+        result = make(folder, name, mark, text);
     }
+    if (result < 0 && errno != EEXIST)
+        cannot(name);
 }
 
 /* Removes a link, but none that another folder has made, and the folder of the last one, as udev does. */
@@ -308,7 +300,7 @@ void hide(enum part part, unsigned number, uint32_t nsid) {
         else if (*name == '/' && !is_left_out(name))
             unlink(name);
     }
-    remove_all(path);
+    nftw(path, remove_one, 16, FTW_DEPTH | FTW_PHYS);
 }
 
 /* Sets a temperature in thousandths of a degree (0 Kelvin is none, unless it is measured). */

@@ -152,7 +152,8 @@ def signals(part, number, devices=1):
 
 # What a helper does, by the number and the words of its call: it waits for a keeper (futex), delays a command
 # (futex, until some time) or waits for a call (ioctl).
-ASKING, DELAYING, RECEIVING = rb'202 \w+ 0x0 ', rb'202 \w+ 0x9 ', rb'16 \w+ 0xc0502100 '
+ASKING, DELAYING = rb'202 \w+ 0x0 \w+ 0x0 ', rb'202 \w+ 0x0 \w+ 0x[1-9a-f]'
+RECEIVING = rb'16 \w+ 0xc0502100 '
 
 
 def do_helpers(what, least=None):
