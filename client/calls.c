@@ -158,14 +158,37 @@ static uint32_t request_of(const struct call *call) {
     return call->request + (is_sized && nr >= 112 && nr <= 114 ? 4u << _IOC_SIZESHIFT : 0);
 }
 
-/* What the administrator alone may do to a block device. (It has no partitions, a buffer of one size, and nothing that
-   reads ahead.) */
-static int change(const struct call *call, uint32_t request) {
+/* Returns 0 for a size that a buffer may have. (There is no buffer, so that this has no effect.) */
+static int check_buffer(const struct call *call, uint32_t block) {
+    uint32_t size = 0;
+    if (copy_in(call, call->argument, &size, sizeof size) < 0)
+        return -EFAULT;
+    return size < block || size > (block > 4096 ? block : 4096) || size & (size - 1) ? -EINVAL : 0;
+}
+
+/* Returns 0 if there are no partitions to read because there is no data, as after a format. */
+static int read_partitions(const struct call *call) {
+    int file = open_own_data(call), is_empty = file >= 0 && lseek(file, 0, SEEK_DATA) < 0;
+    close(file);
+    return is_empty ? 0 : -EINVAL;
+}
+
+/* What the administrator alone may do to a block device. (It has no partitions, and nothing that reads ahead.) */
+static int change(const struct call *call, uint32_t request, uint32_t block) {
     if (!is_administrator())
         return -EACCES;
-    if (request == BLKROSET)
+    switch (request) {
+    case BLKROSET:
         return set_read_only(call);
-    return request == BLKFLSBUF ? 0 : request == BLKRASET || request == BLKFRASET ? -ENOTTY : -EINVAL;
+    case BLKBSZSET:
+        return check_buffer(call, block);
+    case BLKRRPART:
+        return read_partitions(call);
+    case BLKFLSBUF:
+        return 0;
+    default:
+        return request == BLKRASET || request == BLKFRASET ? -ENOTTY : -EINVAL;
+    }
 }
 
 static int of_block_device(const struct call *call) {
@@ -199,7 +222,7 @@ static int of_block_device(const struct call *call) {
     case BLKRRPART:
     case BLKPG:
     case BLKTRACESTOP:
-        return change(call, request);
+        return change(call, request, (uint32_t)block);
     case BLKDISCARD:
     case BLKZEROOUT:
     case BLKSECDISCARD:

@@ -40,6 +40,8 @@ for mode in 'r', 'rw':
     for name, request, argument in ('FLSBUF', 0x1261, 0), ('ROSET', 0x125d, 8):
         says(f'{name} {argument}', lambda: fcntl.ioctl(file, request, argument))
         says('RA', lambda: asked(file, 0x1263, bytes(8)))
+    for size in 8192, 513, 0, 256, 512, 1024, 4096:
+        says(f'BSZSET {size}', lambda: asked(file, 0x40081271, struct.pack('q', size)))
     for name, request in ('DISCARD', 0x1277), ('SECDISCARD', 0x127d), ('ZEROOUT', 0x127f):
         for first, size in (0, 512), (0, 0), (256, 512), (0, 100), (END, 512), (END - 512, 1024), ((1 << 64) - 512, 1024):
             says(f'{name} {first} {size}', lambda: asked(file, request, struct.pack('QQ', first, size)))
