@@ -106,7 +106,7 @@ class Written(UserCase):
                  '        try:\n            os.open(name.strip(), flags)\n            others.add(name)\n'
                  '        except OSError as error:\n'
                  '            count += error.errno == errno.EACCES\n'
-                 '            if error.errno not in (errno.EACCES, errno.EROFS, errno.ENOENT):\n'
+                 '            if error.errno not in (errno.EACCES, errno.EROFS, errno.ETXTBSY, errno.ENOENT):\n'
                  '                others.add((name, error))\n'
                  'print(count > 800, others)')
         for place, ended in enumerate(self.as_users(f"HOME=$(mktemp -d); TRIES='{tries}'; {script}")):
@@ -159,8 +159,8 @@ class Lists(UserCase):
                   '(echo x > /proc/partitions) 2>&1 | grep -c .')
         for at, ended in enumerate(self.as_users(script)):
             if at < 3:
-                self.ends(ended, 0, b' 259   524288       1024 nvme0n1\n 259   524290          4 nvme0n2\n'
-                          b'259 524288 nvme0n1\n259 524290 nvme0n2\n'
+                self.ends(ended, 0, b' 259   524288       1024 nvme0n1\n 259   524289          4 nvme0n2\n'
+                          b'259 524288 nvme0n1\n259 524289 nvme0n2\n'
                           b' 259   524288       1024 nvme0n1\n 259   525312       1024 nvme1n1\n'
                           b'259 524288 nvme0n1\n259 525312 nvme1n1\nBlock devices:\n259 blkext\n2\n1\n', b'')
 
@@ -176,7 +176,7 @@ class Lists(UserCase):
         mounted = 'mount -t proc proc "$0" && exec "$@"'
         command = self.command('sh', '-c', f'tail -n +3 {place}/partitions; wc -l < {place}/diskstats')
         self.ends(run('unshare', '-m', 'sh', '-c', mounted, place, *command), 0,
-                  b' 259   524288       1024 nvme0n1\n 259   524290          4 nvme0n2\n2\n', b'')
+                  b' 259   524288       1024 nvme0n1\n 259   524289          4 nvme0n2\n2\n', b'')
 
     def test_by_fdisk(self):
         self.needs('fdisk')
@@ -215,10 +215,10 @@ class Udev(UserCase):
         links = ('disk/by-id/nvme-Demo_Controller_S0 disk/by-path/pci-0001:00:00.0-nvme-3 '
                  'disk/by-id/nvme-Demo_Controller_S0_3 '
                  'disk/by-id/nvme-nvme.0000-5330-44656d6f20436f6e74726f6c6c6572-00000003')
-        for ended in self.as_users(script, machine=WITH_UDEV):
+        for ended in self.as_users(script, machine=WITH_UDEV)[:3]:
+            self.ends(ended, 0)
             lines = ended.out.decode().splitlines()
             self.assertEqual(sorted(lines.pop(4).split()), sorted(links.split()), ended)
-            self.ends(ended, 0)
             self.assertEqual(lines, ['0', '0', 'ID_NSID=3', 'ID_SERIAL=Demo_Controller_S0_3', 'detach-ns: Success, nsid:1',
                                      '9', 'attach-ns: Success, nsid:1', '11', '1', '1'])
 
