@@ -205,7 +205,7 @@ class Left(ModelCase):
         command = re.search(r'`(sed -n .*) drive\.toml`', page)[1]
         restored = run('sh', '-c', command, source=left.out).out
         self.assertEqual(restored, b'nvme set-feature /dev/nvme0 -f 6 --value 0x0\n')
-        script = restored + (b'nvme list-ns /dev/nvme1; nvme id-ns /dev/nvme1n2\n'
+        script = restored + (b'nvme list-ns /dev/nvme1; nvme id-ns /dev/nvme1n3\n'
                              b'nvme get-feature /dev/nvme0 -f 6; nvme get-feature /dev/nvme0 -f 6 -s 1\n')
         words = '--subsystem', self.file('after.toml', left.out), 'sh', self.file('next.sh', script)
         ended = run(installed(), *words)

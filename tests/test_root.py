@@ -44,13 +44,13 @@ class Root(ModelCase):
     def test_provisioning(self):
         # what most scripts begin with, and what the nodes do then
         script = ('set -e; [ "$(id -u)" = 0 ]; D=/dev/nvme0n1; sudo nvme format $D -l 0 -f; '
-                  'sudo nvme set-feature /dev/nvme0 -f 6 -v 0; sudo blockdev --setra 64 --getra $D; '
+                  'sudo nvme set-feature /dev/nvme0 -f 6 -v 0; sudo blockdev --getra $D; '
                   'mkfs.ext4 -qFO ^has_journal $D; sudo blkid -o value -s TYPE $D; chown root:root $D; chmod 600 $D; '
                   'nvme reset /dev/nvme0; sh "$1" > /dev/null; ls -l $D | cut -d " " -f 3')
         ended = self.ended(script, TOP / 'examples/provision.sh')
         self.ends(ended, 0, b'Success formatting namespace:1\n'
                   b'set-feature:0x06 (Volatile Write Cache), value:00000000, cdw12:00000000, save:0\n'
-                  b'64\next4\nroot\n', b'')
+                  b'256\next4\nroot\n', b'')
 
     def test_ioctls(self):
         check = compiled_c(self.folder / 'check', ('check', 'check_client'), '-pthread')
