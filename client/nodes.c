@@ -415,30 +415,24 @@ void look_for_changes(struct device *device, const struct request_header *reques
 
 /* ---- controllers */
 
-static int show_controller(unsigned controller) {
-    unsigned char log[IDENTIFY_BYTES];
-    if (identify(controller, 0, CNS_CONTROLLER, identities[controller]) < 0)
-        return -1;
-    show(FUNCTION, controller, 0);
-    show(SUBSYSTEM, controller, 0);
-    show(CONTROLLER, controller, 0);
-    make_node('c', controller, 0);
-    if (ask(controller, OPCODE_GET_LOG, EVERY_NSID, HEALTH_LOG, log) >= 0)
-        show_health(controller, log);
-    return 0;
-}
-
 /* (first the files that describe the controllers) */
 void make_nodes(void) {
     const struct device *last = devices + device_count - 1;
+    unsigned char log[IDENTIFY_BYTES];
     disk = geteuid() == 0 ? getgrnam("disk") : NULL;
     shown = share(MOST_CONTROLLERS * sizeof *shown);
     volumes = share(MOST_DEVICES * sizeof *volumes);
     named = share(MOST_DEVICES * sizeof *named);
     begin_sys();
-    for (unsigned at = 0; at < last->first + last->count; at++)
-        if (show_controller(at) < 0)
+    for (unsigned at = 0; at < last->first + last->count; at++) {
+        if (identify(at, 0, CNS_CONTROLLER, identities[at]) < 0)
             fail("the device does not answer as it should");
+        for (enum part part = SUBSYSTEM; part <= CONTROLLER; part++)
+            show(part, at, 0);
+        make_node('c', at, 0);
+        if (ask(at, OPCODE_GET_LOG, EVERY_NSID, HEALTH_LOG, log) >= 0)
+            show_health(at, log);
+    }
     scan(0, last->first + last->count);
 }
 

@@ -3,7 +3,6 @@
    domain that the machine doesn't have. None of this is proved. */
 #include "launcher.h"
 #include <ctype.h>
-#include <ftw.h>
 #include <stdarg.h>
 #include <time.h>
 
@@ -178,11 +177,6 @@ static struct line *expand_path(char path[PATH_MAX], const struct folder *folder
 
 /* ---- the files */
 
-static int remove_one(const char *path, const struct stat *about, int type, struct FTW *walk) {
-    (void)about, (void)type, (void)walk;
-    return remove(path);
-}
-
 static void make_folders(char *path) {
     for (char *at = strchr(path + 1, '/'); at; at = strchr(at + 1, '/')) {
         *at = '\0';
@@ -288,19 +282,24 @@ void begin_sys(void) {
     show(TOP, 0, 0);
 }
 
-/* Removes what a folder has elsewhere, and then the folder. */
+/* (what a folder has elsewhere is removed first, as it comes last, and then the folder) */
 void hide(enum part part, unsigned number, uint32_t nsid) {
     char path[PATH_MAX], name[PATH_MAX], text[PATH_MAX];
     set_values(part, number, nsid);
-    for (const struct line *line = expand_path(path, &folders[part]); *line->name; line++) {
+    struct line *const lines_of = expand_path(path, &folders[part]), *line = lines_of;
+    int at = open(path, O_PATH | O_DIRECTORY | O_NOFOLLOW | O_CLOEXEC);
+    while (*line->name)
+        line++;
+    while (line-- > lines_of) {
         expand(name, sizeof name, line->name);
         expand(text, sizeof text, line->text);
         if (*name == '/' && line->mark == '>')
             remove_link(name, text);
-        else if (*name == '/' && !is_left_out(name))
-            unlink(name);
+        else if (!is_left_out(name))
+            unlinkat(at, name, name[strlen(name) - 1] == '/' ? AT_REMOVEDIR : 0);
     }
-    nftw(path, remove_one, 16, FTW_DEPTH | FTW_PHYS);
+    close(at);
+    rmdir(path);
 }
 
 /* Sets a temperature in thousandths of a degree (0 Kelvin is none, unless it is measured). */

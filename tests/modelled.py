@@ -22,6 +22,8 @@ PARTS = {'bin/nvme-model': ('launcher', 'relay', 'nodes', 'sysfs', 'sandbox', 'c
 WARNINGS = '-Wall', '-Wextra', '-Wshadow', '-Werror'
 # Waits in a shell until what was written past the end of a node is cut off.
 CUT = 'until test $(busybox wc -c < /dev/nvme0n2) = 4608; do sleep 0.1; done; '
+# The line that tells of this.
+GREW = b'nvme-model: /dev/nvme0n2: what was written past the end is cut off; Linux would have refused it\n'
 VERSION = (TOP / 'VERSION').read_text().strip()
 
 # Programs that need not be installed. A test that calls one is skipped if it isn't.

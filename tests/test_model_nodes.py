@@ -7,11 +7,11 @@ import subprocess
 import sys
 import unittest
 
-from tests.modelled import CUT, PROGRAMS, WARNINGS, ModelCase, installed, static_program, works
+from tests.modelled import CUT, GREW, PROGRAMS, WARNINGS, ModelCase, installed, static_program, works
 from tests.support import IS_ROOT, TOP, USERS, large_file, run
 
 # What programs/io_commands.py prints.
-IO_ANSWERS = (b'0 ;0 abc;0 abc;0 abc;0 abc;0 ;4285 ;0 ;0 ;4080 ;4080 ;4080 ;4002 ;4002 ;0 ;0 ;0 ;0 ;0 ;4080 ;4002 ;'
+IO_ANSWERS = (b'0 ;0 abc;0 abc;0 abc;0 abc;0 ;4285 ;0 ;0 ;4080 ;4080 ;4080 ;4002 ;EINVAL ;0 ;0 ;0 ;0 ;0 ;4080 ;4002 ;'
               b'4001 ;EINVAL ;EINVAL ;EINVAL ;4080 ;4080 ;0 ;0 ;0 ;0 ;EINVAL ;EFAULT ;EFAULT ;EFAULT ;EINVAL ;')
 
 # Runs a command in a namespace of users, with one of its groups and one that isn't there.
@@ -285,7 +285,7 @@ class Data(ModelCase):
         writes = static_program('writes')
         script = ('echo abc > /dev/nvme0n2; "$0" /dev/nvme0n2; echo $?; ' + CUT + 'head -c 3 /dev/nvme0n2; echo; '
                   'busybox stat -c "%F %s" /dev/nvme0n2')
-        self.ends(self.model('sh', '-c', script, writes), 0, b'1 1\n0\nasc\nregular file 4608\n', b'')
+        self.ends(self.model('sh', '-c', script, writes), 0, b'1 1\n0\nasc\nregular file 4608\n', GREW)
         # the ioctls of a static program are answered too
         asks = static_program('asks')
         self.ends(self.model(asks, '/dev/nvme0n2'), 0, b'3 0 4608\n', b'')
@@ -353,7 +353,7 @@ class Library(ModelCase):
         inner = [installed(), '--subsystem', TOP / 'examples/two_controllers.toml']
         ended = self.model(*inner, 'sh', '-c', 'nvme id-ctrl /dev/nvme0 | grep "^sn "; ls /dev/nvme*n*')
         self.ends(ended, 72, b'')
-        self.assertRegex(ended.err, rb'^nvme-model: /dev/nvme0 is a device of this machine, and no sandbox can be '
+        self.assertRegex(ended.err, rb'^nvme-model: no sandbox can be '
                          rb'made .*: .+\n$')
 
 

@@ -5,7 +5,7 @@ user."""
 import re
 import shutil
 
-from tests.modelled import CUT, DELAYING, ModelCase, do_helpers
+from tests.modelled import CUT, DELAYING, GREW, ModelCase, do_helpers
 from tests.support import USERS, run
 
 # An attempt of a Python script, which prints what a call gives or the name of its error.
@@ -153,9 +153,8 @@ class Refused(EachUser):
 
     def test_what_grew_is_told(self):
         # by what the library doesn't see: a stream of the C library, and a program that makes its calls itself
-        line = (b'nvme-model: /dev/nvme0n2: what was written past the end is cut off; Linux would have refused it\n')
         for script in 'seq 2000 > /dev/nvme0n2; ', 'busybox sh -c "seq 2000 > /dev/nvme0n2"; ':
-            self.gives(script + CUT + 'head -n 1 /dev/nvme0n2', b'1\n', err=line)
+            self.gives(script + CUT + 'head -n 1 /dev/nvme0n2', b'1\n', err=GREW)
         # (what fits isn't told)
         self.gives('seq 200 > /dev/nvme0n2; busybox sh -c "seq 200 > /dev/nvme0n2"; head -n 1 /dev/nvme0n2', b'1\n')
 

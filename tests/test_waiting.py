@@ -10,7 +10,7 @@ import time
 import unittest
 from signal import SIGCONT, SIGKILL, SIGSTOP
 
-from tests.modelled import (ASKING, CUT, DEVICES, HELPERS, KEEPERS, LAUNCHER, PROGRAMS, WARNINGS, ModelCase,
+from tests.modelled import (ASKING, CUT, DEVICES, GREW, HELPERS, KEEPERS, LAUNCHER, PROGRAMS, WARNINGS, ModelCase,
                             do_helpers, parts, process_folder, signals, works)
 from tests.support import (IS_ROOT, LIMIT, NOBODY, USERS, Running, environment, left_running, processes, run,
                            until)
@@ -236,7 +236,7 @@ class Processes(WaitingCase):
         for user in USERS:
             with self.subTest(user=user):
                 running = self.stepped(f'python3 -c "$1"; {CUT}step', self.is_idle, user=user, words=[program])
-                self.ends(running.end(), 0, b'step\n')
+                self.ends(running.end(), 0, GREW + b'step\n')
 
     @unittest.skipUnless(IS_ROOT, 'root alone can take groups')
     def test_many_groups(self):
@@ -378,7 +378,7 @@ class Processes(WaitingCase):
             with self.subTest(user=user):
                 running = self.stepped('python3 -c "$1"', signals(DEVICES, SIGSTOP), signals(DEVICES, SIGCONT),
                                        user=user, words=[program])
-                self.ends(running.end(), 0, b'step\n10000\nstep\nend\n')
+                self.ends(running.end(), 0, b'step\n10000\nstep\n' + GREW + b'end\n')
 
 
 if __name__ == '__main__':
