@@ -36,7 +36,7 @@ class Ioctls(ModelCase):
         # a program that doesn't load the library writes to no character device, and isn't stopped by a claim of its own
         self.ends(self.shell('for n in nvme0 ng0n1; do for how in ">" ">>" "1<>"; do '
                              'busybox sh -c "echo x $how /dev/$n" 2>&1; done; busybox wc -c < /dev/$n; done'), 0,
-                  2 * (3 * b'sh: write error: Invalid argument\n' + b'0\n'), b'')
+                  2 * (3 * b'sh: write error: Bad file descriptor\n' + b'0\n'), b'')
         self.ends(self.model('env', '-i', static_program('asks'), '/dev/nvme0n1'), 0, b'1 0 1048576\n', b'')
         # (BLKGETSIZE64, BLKBSZGET, BLKGETZONESZ, BLKBSZSET and none, of 32 bits)
         old = static_program('old', '-O1')

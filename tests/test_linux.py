@@ -147,7 +147,7 @@ class Written(UserCase):
                            '"sh -c \'echo 1 > $p/reset_controller\'"; do eval busybox $c; echo $?; done 2>&1',
                            options=['--trace'])
         self.assertEqual(ended.out.count(b'Permission denied\n1\n') * 10 + ended.out.count(b'\n0\n'), 21, ended)
-        self.assertEqual(ended.out.count(b'nvme0 write CC=0x460001\n'), 1, ended)
+        self.assertEqual(ended.err.count(b'nvme0 write CC=0x460001\n'), 2, ended)
 
 
 class Lists(UserCase):

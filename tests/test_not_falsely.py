@@ -49,7 +49,7 @@ class Names(EachUser):
 
     def test_one_number_in_a_subsystem(self):
         # a shared namespace has one number at both controllers, as long as one of them has it; no other one gets it
-        self.gives(SEE + 'c; a 2; a 2 1; see 1; d 2; c; a 4; see 0; d 2 1; c; a 2 1; see 1; d 1; d 3; d 4; d 2 1; a 3 1; '
+        self.gives(SEE + 'c; a 2; a 2 1; see 1; d 2; c; a 4; see 0; d 2 1; a 2 1; see 1; d 1; d 3; d 4; d 2 1; a 3 1; '
                    'see 1', b'''\
 /dev/nvme1n3 2 2 2
 /dev/nvme0n1 1 1 1
@@ -143,13 +143,13 @@ class Refused(EachUser):
                    b'0\n0\n0\n1\n(0x4080)\n 259   524288          0 nvme0n1\n' + 2 * b'1048576\n2048\n1048576\n')
 
     def test_transfers_above_mdts(self):
-        # (MDTS 1 is 8 KiB)
-        self.subsystem.write_bytes(self.subsystem.read_bytes().replace(b'elpe = 3', b'elpe = 3\nmdts = 1'))
-        self.gives('cd /sys/block/nvme0n1/queue; cat max_sectors_kb; for c in 15 16; do for a in "read -z" "write -d /dev/zero -z" '
+        # (MDTS 2 is 16 KiB)
+        self.subsystem.write_bytes(self.subsystem.read_bytes().replace(b'elpe = 3', b'elpe = 3\nmdts = 2'))
+        self.gives('cd /sys/block/nvme0n1/queue; cat max_sectors_kb; for c in 31 32; do for a in "read -z" "write -d /dev/zero -z" '
                    '"compare -d /dev/zero -z"; do nvme $a $((512 * (c + 1))) /dev/nvme0n1 -s 0 -c $c > /dev/null 2> "$HOME/err"; '
                    'echo $? $(grep -o "Invalid argument" "$HOME/err"); nvme io-passthru /dev/nvme0n1 -n 1 -o 2 -r '
                    '-l $((512 * (c + 1))) --cdw12=$c 2>&1 | grep -c -e "Invalid argument"; done; done'
-                   .replace('"$HOME/err"', '/dev/shm/err'), b'8\n' + b'0\n0\n' * 3 + b'1 Invalid argument\n1\n' * 3)
+                   .replace('"$HOME/err"', '/dev/shm/err'), b'16\n' + b'0\n0\n' * 3 + b'1 Invalid argument\n1\n' * 3)
 
     def test_what_grew_is_told(self):
         # by what the library doesn't see: a stream of the C library, and a program that makes its calls itself

@@ -50,8 +50,8 @@ def every():
 
 def fill():
     """Writes until there is no space left."""
-    for first in 0, 512, 1024:
-        sent(1, first, 512, bytes(range(256)) * 1024)
+    for first in range(0, 1280, 256):
+        sent(1, first, 256, bytes(range(256)) * 512)
 
 
 fill() if sys.argv[1:] == ['fill'] else every()
