@@ -29,9 +29,10 @@ static int is_of_session(int file, const char *link) {
 
 /* Resets a controller, or looks for its namespaces, because such a file of it is opened for writing. What is then
    written goes nowhere. */
-static int open_attribute(const char *name, const char *place, uint64_t flags) {
+static int open_attribute(const char *place, uint64_t flags) {
     unsigned controller;
-    char what[16] = "";
+    char name[PATH_MAX], what[16] = "";
+    read_link(place, name);
     if (sscanf(name, "/sys/devices/pci%*x:%*x/%*[^/]/nvme/nvme%u/%15[a-z]_controller", &controller, what) != 2 ||
         (flags & O_ACCMODE) != O_WRONLY || faccessat(AT_FDCWD, place, W_OK, AT_EACCESS) < 0)
         return -EACCES;
@@ -85,15 +86,15 @@ static int open_found(struct call *call, int file, uint64_t flags, int is_length
     snprintf(place, sizeof place, "/proc/self/fd/%d", file);
     if (fstat(file, &about) < 0 || S_ISDIR(about.st_mode))
         return NOT_OURS;
-    read_link(place, name);
     if (about.st_dev == number_of(OF_SYS)) {
         int is_read = !is_length && (flags & (O_ACCMODE | O_TRUNC)) == O_RDONLY;
-        return is_read ? NOT_OURS : is_length ? -EACCES : open_attribute(name, place, flags);
+        return is_read ? NOT_OURS : is_length ? -EACCES : open_attribute(place, flags);
     }
     if (!S_ISREG(about.st_mode))
         return NOT_OURS;
     if (about.st_dev != number_of(OF_DEV))
         return is_of_session(file, place) ? -EACCES : NOT_OURS;
+    read_link(place, name);
     if (strncmp(name, "/dev/", 5) != 0 || !read_name(name + 5, &call->node))
         return NOT_OURS;
     return is_length ? -EINVAL : open_node(call, place, flags);
