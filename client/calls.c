@@ -173,6 +173,14 @@ static int read_partitions(const struct call *call) {
     return is_empty ? 0 : -EINVAL;
 }
 
+/* Refuses to make or remove a partition. */
+static int refuse_partition(const struct call *call) {
+    struct blkpg_ioctl_arg given;
+    struct blkpg_partition partition;
+    int result = copy_in(call, call->argument, &given, sizeof given);
+    return result < 0 || copy_in(call, (uintptr_t)given.data, &partition, sizeof partition) < 0 ? -EFAULT : -EINVAL;
+}
+
 /* What the administrator alone may do to a block device. (It has no partitions, and nothing that reads ahead.) */
 static int change(const struct call *call, uint32_t request, uint32_t block) {
     if (!is_administrator())
@@ -184,6 +192,8 @@ static int change(const struct call *call, uint32_t request, uint32_t block) {
         return check_buffer(call, block);
     case BLKRRPART:
         return read_partitions(call);
+    case BLKPG:
+        return refuse_partition(call);
     case BLKFLSBUF:
         return 0;
     default:
