@@ -60,6 +60,9 @@ __attribute__((noreturn)) static void become(char **arguments) {
     /* (the address sanitizer wants to be the first library, and udev that /sys is a file system of the kernel) */
     prepend("ASAN_OPTIONS", "verify_asan_link_order=0");
     setenv("SYSTEMD_DEVICE_VERIFY_SYSFS", "0", 1);
+    /* (blkid would make this folder, which is the machine's, to remember what it has seen) */
+    if (access("/run/blkid", F_OK) < 0)
+        setenv("BLKID_FILE", "/dev/null", 1);
     if (access(MODEL_FOLDER "/bin", F_OK) == 0 && getenv("PATH"))
         prepend("PATH", MODEL_FOLDER "/bin");
     for (int file = 0; file <= STDERR_FILENO; file++)

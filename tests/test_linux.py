@@ -234,9 +234,10 @@ class Udev(UserCase):
     def test_nothing_is_made_in_run(self):
         # (there are no records then, not even if the folder comes meanwhile)
         outside = 'mount -t tmpfs run /run && "$@"; ls -A /run'
-        inside = 'mkdir -p /run/udev/data; nvme attach-ns /dev/nvme1 -n 1 -c 1; ls /run/udev/data; ls /dev/disk/by-id | wc -l'
+        inside = ('mkswap /dev/nvme0n1 > /dev/null; blkid | grep -c swap; mkdir -p /run/udev/data; '
+                  'nvme attach-ns /dev/nvme1 -n 1 -c 1; ls /run/udev/data; ls /dev/disk/by-id | wc -l')
         ended = run('unshare', '-m', 'sh', '-c', outside, 'sh', *self.command('sh', '-c', inside))
-        self.ends(ended, 0, b'attach-ns: Success, nsid:1\n8\nudev\n', b'')
+        self.ends(ended, 0, b'1\nattach-ns: Success, nsid:1\n8\nudev\n', b'')
 
     @unittest.skipUnless(IS_ROOT, 'root alone can mount without a user namespace, and keep what blkid has seen')
     def test_what_blkid_remembers(self):
