@@ -194,7 +194,7 @@ class Refused(EachUser):
                                            'nvme format /dev/nvme0n1 -l 1 -f; blockdev --getss /dev/nvme0n1'
                                            .replace('nvme format', 'echo data > /dev/nvme0n1; nvme format', 1),
                                            lambda: self.assertTrue(do_helpers(DELAYING, 2)), user=user,
-                                           options=['--delay=format=9000', '--delay=io:write-zeroes=9000'.replace('io:', '')])
+                                           options=['--delay=format=50', '--delay=write-zeroes=50'])
                     out = running.end().out
                     self.assertEqual(len(re.findall(rb'Interrupted system call', out)), 2, out)
                     self.assertTrue(out.endswith(b'512\ndataSuccess formatting namespace:1\n4096\n'), out)
