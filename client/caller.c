@@ -260,7 +260,8 @@ struct start {
 };
 
 static struct start start_of(const struct call *call, int directory, const char *path, uint64_t resolve) {
-    int is_below = resolve & (RESOLVE_BENEATH | RESOLVE_IN_ROOT) && *path == '/', is_absolute = *path == '/' && !is_below;
+    int is_below = resolve & (RESOLVE_BENEATH | RESOLVE_IN_ROOT) && *path == '/';
+    int is_absolute = *path == '/' && !is_below;
     char folder[32];
     snprintf(folder, sizeof folder, directory == AT_FDCWD ? "cwd" : "fd/%d", directory);
     struct start start = {.folder = open_about(call->process, is_absolute ? "root" : folder, O_PATH),

@@ -2,8 +2,8 @@
    received by helpers, each of which looks at the memory and at the files of the process that made a call, as that
    process could (calls.c), and waits where it would. Each device has a keeper, which alone exchanges requests with it
    and makes its nodes (relay.c, nodes.c), and which helpers ask. They share memory, by which they tell each other what
-   is to be done. Each has a session of its own, so that no signal of a terminal's keys or of a process group reaches it.
-   None of this is proved. */
+   is to be done. Each has a session of its own, so that no signal of a terminal's keys or of a process group reaches
+   it. None of this is proved. */
 #include "launcher.h"
 #include <linux/futex.h>
 #include <poll.h>

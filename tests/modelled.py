@@ -10,7 +10,8 @@ import shutil
 import subprocess
 import sys
 
-from tests.support import DEMO, IS_ROOT, TOP, Case, Running, left_running, process_folder, processes, program, run, until
+from tests.support import (DEMO, IS_ROOT, TOP, Case, Running, left_running, process_folder, processes, program, run,
+                           until)
 
 CLIENT = TOP / 'client'
 PROGRAMS = TOP / 'tests/programs'

@@ -1,5 +1,6 @@
-"""Tests what stands around the drives of ./nvme-model: files of /sys, lists of /proc, records of udev. The jobs of tests/linux print what they printed on a real Linux (JOB.txt, which
-tests/linux/keep makes), but for the lines of JOB.differs, each below the sentence of the page that tells it."""
+"""Tests what stands around the drives of ./nvme-model: files of /sys, lists of /proc, records of udev. The jobs of
+tests/linux print what they printed on a real Linux (JOB.txt, which tests/linux/keep makes), but for the lines of
+JOB.differs, each below the sentence of the page that tells it."""
 
 import difflib
 import os
@@ -26,8 +27,8 @@ class Linux(ModelCase):
     def differences(self, job, user=(), options=()):
         """Returns the lines that differ, each after the mark of diff."""
         shutil.copy(job, self.folder)
-        ended = run(*WITH_UDEV, *user, *self.command('bash', self.folder / job.name, options=options), cwd=self.folder, err='&1',
-                    env={'LANG': 'C', 'HOME': '/root'})
+        ended = run(*WITH_UDEV, *user, *self.command('bash', self.folder / job.name, options=options),
+                    cwd=self.folder, err='&1', env={'LANG': 'C', 'HOME': '/root'})
         wanted = job.with_suffix('.txt').read_text().splitlines()
         got = [*ended.out.decode().splitlines(), f'status {ended.status}']
         return [line for line in difflib.ndiff(wanted, got) if line[0] in '-+']
@@ -96,8 +97,8 @@ class Names(UserCase):
 class Written(UserCase):
     def test_nothing_is_written(self):
         # by whoever, no file of the model in /sys is opened for writing; the last four aren't there
-        script = ('cd /sys; find block/ bus/pci class/nvme* devices/pci* devices/virtual/nvme* module/nvme* fs/nvme-model '
-                  '/proc/partitions /proc/diskstats /proc/devices -type f 2> /dev/null > "$HOME/files"; '
+        script = ('cd /sys; find block/ bus/pci class/nvme* devices/pci* devices/virtual/nvme* module/nvme* '
+                  'fs/nvme-model /proc/partitions /proc/diskstats /proc/devices -type f 2> /dev/null > "$HOME/files"; '
                   'p=devices/pci0001:00/0001:00:00.0; for f in $p/remove $p/reset bus/pci/rescan '
                   'bus/pci/drivers/nvme/unbind; do test -e $f && echo there; echo $f; done >> "$HOME/files"; '
                   'python3 -c "$TRIES" < "$HOME/files"')
@@ -118,7 +119,8 @@ class Written(UserCase):
                   'def told(call, *words):\n    try:\n        return call(*words)\n'
                   '    except OSError as error:\n        return errno.errorcode[error.errno]\n'
                   'for name in "reset_controller", "rescan_controller":\n'
-                  '    for flags in os.O_RDONLY, os.O_RDWR, os.O_RDONLY | os.O_TRUNC, os.O_WRONLY | os.O_CREAT | os.O_EXCL:\n'
+                  '    for flags in (os.O_RDONLY, os.O_RDWR, os.O_RDONLY | os.O_TRUNC, '
+                  'os.O_WRONLY | os.O_CREAT | os.O_EXCL):\n'
                   '        print(told(os.open, p + name, flags))\n'
                   '    file = os.open(p + name, os.O_WRONLY | os.O_TRUNC | os.O_APPEND)\n'
                   '    print(os.write(file, b"x" * 100), told(os.read, file, 1), told(os.truncate, p + name, 0))\n'
@@ -131,8 +133,8 @@ class Written(UserCase):
                   b'cat: /sys/class/nvme/nvme0/reset_controller: Permission denied\n')
 
     def test_reset_of_a_lost_device(self):
-        running = self.stepped('step; for n in reset rescan; do (echo 1 > /sys/class/nvme/nvme0/${n}_controller) 2>&1 | '
-                               'sed "s/.*: //"; done', signals(DEVICES, 9))
+        running = self.stepped('step; cd /sys/class/nvme/nvme0; for n in reset rescan; do '
+                               '(echo 1 > ${n}_controller) 2>&1 | sed "s/.*: //"; done', signals(DEVICES, 9))
         self.assertRegex(running.end().out, b'(?s)\nNo such device or address\nNo such device or address\n$')
 
     @unittest.skipUnless(IS_ROOT, 'root alone can become another user')
@@ -209,8 +211,8 @@ class Udev(UserCase):
         self.needs('udevadm')
         script = ('udevadm wait --timeout=5 /dev/nvme0n1 /dev/nvme0 /dev/ng0n1; echo $?; udevadm settle; echo $?; '
                   'udevadm info -q property /dev/nvme0n2 | grep -e ID_NSID -e ID_SERIAL=; '
-                  'udevadm info -q symlink /dev/nvme0n2; nvme detach-ns /dev/nvme0 -n 1 -c 0; ls /run/udev/data | wc -l; '
-                  'nvme attach-ns /dev/nvme0 -n 1 -c 0; ls /run/udev/data | wc -l; '
+                  'udevadm info -q symlink /dev/nvme0n2; nvme detach-ns /dev/nvme0 -n 1 -c 0; '
+                  'ls /run/udev/data | wc -l; nvme attach-ns /dev/nvme0 -n 1 -c 0; ls /run/udev/data | wc -l; '
                   'for c in "trigger /dev/nvme0n1" "control --reload"; do udevadm $c 2> /dev/null; echo $?; done')
         links = ('disk/by-id/nvme-Demo_Controller_S0 disk/by-path/pci-0001:00:00.0-nvme-3 '
                  'disk/by-id/nvme-Demo_Controller_S0_3 '
@@ -219,8 +221,8 @@ class Udev(UserCase):
             self.ends(ended, 0)
             lines = ended.out.decode().splitlines()
             self.assertEqual(sorted(lines.pop(4).split()), sorted(links.split()), ended)
-            self.assertEqual(lines, ['0', '0', 'ID_NSID=3', 'ID_SERIAL=Demo_Controller_S0_3', 'detach-ns: Success, nsid:1',
-                                     '9', 'attach-ns: Success, nsid:1', '11', '1', '1'])
+            self.assertEqual(lines, ['0', '0', 'ID_NSID=3', 'ID_SERIAL=Demo_Controller_S0_3',
+                                     'detach-ns: Success, nsid:1', '9', 'attach-ns: Success, nsid:1', '11', '1', '1'])
 
     @unittest.skipUnless(IS_ROOT, 'root alone can mount without a user namespace')
     def test_records_of_the_machine(self):

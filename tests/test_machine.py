@@ -52,7 +52,8 @@ TRIES = {
         f'echo CLOBBER > /dev/own; for n in {WRITTEN}; do ln /dev/own $n 2> /dev/null; done; {ATTACH}; cat /dev/own; '
         'cat /sys/block/nvme1n1/nsid', b'CLOBBER\n1\n'),
     'pipes there': (
-        f'mkfifo {WRITTEN}; {ATTACH}; cat /sys/block/nvme1n1/nsid; test -p /dev/nvme1n1 && echo a pipe', b'1\na pipe\n'),
+        f'mkfifo {WRITTEN}; {ATTACH}; cat /sys/block/nvme1n1/nsid; test -p /dev/nvme1n1 && echo a pipe',
+        b'1\na pipe\n'),
     'folders there': (f'mkdir -p $(printf "%s/x " {WRITTEN}); {ATTACH}; cat /sys/block/nvme1n1/nsid', b'1\n'),
     'a folder of /sys that is a link': (
         f'mkdir "$place/victim"; : > "$place/victim/ng1n1"; {ATTACH}; mv /sys/class/nvme-generic /sys/old; '
