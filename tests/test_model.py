@@ -264,7 +264,7 @@ class Subsystems(ModelCase):
         self.ends(self.shell('cd /dev; echo nvme?; echo nvme*n*; cd /sys/class/nvme-subsystem; echo *; ls -d */nvme?; '
                              'cat /sys/class/nvme/*/cntlid; stat -c %t:%T /dev/nvme[24]', options=options), 0,
                   b'nvme0 nvme1 nvme2 nvme3 nvme4 nvme5\n'
-                  b'nvme0n1 nvme0n3 nvme2n1 nvme2n5 nvme3n1 nvme3n2 nvme4n1 nvme4n3\n'
+                  b'nvme0n1 nvme0n2 nvme2n1 nvme2n2 nvme3n1 nvme3n3 nvme4n1 nvme4n2\n'
                   b'nvme-subsys0 nvme-subsys1 nvme-subsys2\nnvme-subsys0/nvme0\nnvme-subsys0/nvme1\n'
                   b'nvme-subsys1/nvme2\nnvme-subsys1/nvme3\nnvme-subsys2/nvme4\nnvme-subsys2/nvme5\n'
                   b'0\n1\n7\n3\n0\n1\nffc:800\nffc:1000\n', b'')
@@ -276,9 +276,9 @@ class Subsystems(ModelCase):
     def test_commands_data_and_traces_are_apart(self):
         ended = self.shell('nvme create-ns /dev/nvme2 -s 8 -c 8 -f 0 && nvme attach-ns /dev/nvme2 -n 2 -c 0 && '
                            'echo hello > /dev/nvme2n1 && head -c 5 /dev/nvme0n1 | od -An -c; head -c 5 /dev/nvme2n1; '
-                           'ls /dev/nvme?n2', options=['--subsystem', self.subsystem, '--trace'])
+                           'ls /dev/nvme?n3', options=['--subsystem', self.subsystem, '--trace'])
         self.ends(ended, 0, b'create-ns: Success, created nsid:2\nattach-ns: Success, nsid:2\n'
-                  b'  \\0  \\0  \\0  \\0  \\0\nhello/dev/nvme2n2\n')
+                  b'  \\0  \\0  \\0  \\0  \\0\nhello/dev/nvme2n3\n')
         self.assertEqual({line[:6] for line in ended.err.splitlines()}, {b'nvme0 ', b'nvme1 ', b'nvme2 ', b'nvme3 '})
         self.assertRegex(ended.err, rb'(?m)^nvme2 taken Namespace Management \(0x0d\) ')
         self.assertNotRegex(ended.err, rb'(?m)^nvme[013] taken Namespace Management \(0x0d\) ')
