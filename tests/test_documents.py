@@ -263,7 +263,7 @@ class Copies(Case):
         patterns = 'client/*.c', 'tools/unproved', 'nvme-model', 'crates/*/src/*.rt'
         sources = ''.join(path.read_text() for pattern in patterns for path in TOP.glob(pattern))
         messages = re.findall(r'(?m)^\| `([^`]+)`(?: \(0x[0-9a-f]+\))? \|', text_of('docs/SUPPORT.md'))
-        self.assertGreater(len(messages), 12)
+        self.assertGreater(len(messages), 11)
         # (in the sources, a long text is cut into several)
         sources = re.sub(r'"\n\s*"', '', sources)
         for message in messages:
