@@ -145,11 +145,11 @@ enum number { BYTES, SECTORS, OF_BLOCK, OF_BUFFER, READ_AHEAD, IS_READ_ONLY, MOS
 static const struct report {
     uint32_t request, bytes; /* (0: those of a word) */
     enum number number;
-} reports[] = {{BLKGETSIZE64, 8, BYTES},       {BLKGETSIZE, 0, SECTORS},     {BLKSSZGET, 4, OF_BLOCK},
-               {BLKPBSZGET, 4, OF_BLOCK},   {BLKIOMIN, 4, OF_BLOCK},    {BLKIOOPT, 4, OF_BLOCK},
-               {BLKBSZGET, 4, OF_BUFFER},   {BLKRAGET, 0, READ_AHEAD},    {BLKFRAGET, 0, READ_AHEAD},
-               {BLKROGET, 4, IS_READ_ONLY},   {BLKSECTGET, 2, MOST_SECTORS}, {BLKALIGNOFF, 4, ZERO},
-               {BLKROTATIONAL, 2, ZERO},      {BLKDISCARDZEROES, 4, ZERO},  {BLKGETZONESZ, 4, ZERO},
+} reports[] = {{BLKGETSIZE64, 8, BYTES},    {BLKGETSIZE, 0, SECTORS},      {BLKSSZGET, 4, OF_BLOCK},
+               {BLKPBSZGET, 4, OF_BLOCK},   {BLKIOMIN, 4, OF_BLOCK},       {BLKIOOPT, 4, OF_BLOCK},
+               {BLKBSZGET, 4, OF_BUFFER},   {BLKRAGET, 0, READ_AHEAD},     {BLKFRAGET, 0, READ_AHEAD},
+               {BLKROGET, 4, IS_READ_ONLY}, {BLKSECTGET, 2, MOST_SECTORS}, {BLKALIGNOFF, 4, ZERO},
+               {BLKROTATIONAL, 2, ZERO},    {BLKDISCARDZEROES, 4, ZERO},   {BLKGETZONESZ, 4, ZERO},
                {BLKGETNRZONES, 4, ZERO}};
 
 /* (a few requests of 32-bit programs have the size of their words) */
@@ -201,6 +201,7 @@ static int change(const struct call *call, uint32_t request, uint32_t block) {
     }
 }
 
+/* Reports a number of a block device, in its size, or changes the device. */
 static int of_block_device(const struct call *call) {
     struct volume volume;
     if (!read_volume(&call->node, &volume))
@@ -210,12 +211,12 @@ static int of_block_device(const struct call *call) {
     while (buffer < 4096 && !(size & buffer))
         buffer *= 2;
     const uint64_t numbers[REPORTED] = {[BYTES] = size,
-                                                 [SECTORS] = size / 512,
-                                                 [OF_BLOCK] = block,
-                                                 [OF_BUFFER] = buffer,
-                                                 [READ_AHEAD] = 256,
-                                                 [IS_READ_ONLY] = (uint64_t)volume.is_read_only,
-                                                 [MOST_SECTORS] = most_sectors(call->node.controller)};
+                                        [SECTORS] = size / 512,
+                                        [OF_BLOCK] = block,
+                                        [OF_BUFFER] = buffer,
+                                        [READ_AHEAD] = 256,
+                                        [IS_READ_ONLY] = (uint64_t)volume.is_read_only,
+                                        [MOST_SECTORS] = most_sectors(call->node.controller)};
     const uint64_t cylinders[2] = {64 | 32 << 8 | (size >> 20 & 0xffff) << 16};
     const uint32_t word = call->is_old ? 4 : 8, request = request_of(call);
     for (const struct report *row = reports; row < reports + sizeof reports / sizeof *reports; row++)

@@ -80,7 +80,7 @@ int read_name(const char *name, struct node *node) {
 
 /* ---- files that have gone, whose number isn't free as long as a process has them open */
 
-enum { MOST_GONE = 1 << 16 }; /* (as many as may be open are fewer on most machines) */
+enum { MOST_GONE = 1 << 16 };
 static struct gone {
     int file;
     unsigned number;
@@ -93,6 +93,8 @@ static void keep(int file, unsigned number) {
         cannot("/dev");
     if (gone_count < MOST_GONE)
         gone[gone_count++] = (struct gone){file, number};
+    else
+        close(file);
 }
 
 /* Closes the files that no process has open. (The kernel gives a lease of such a one alone.) */
