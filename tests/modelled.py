@@ -6,6 +6,7 @@ import functools
 import os
 import pathlib
 import re
+import shlex
 import shutil
 import subprocess
 import sys
@@ -15,11 +16,11 @@ from tests.support import (DEMO, IS_ROOT, TOP, Case, Running, left_running, proc
 
 CLIENT = TOP / 'client'
 PROGRAMS = TOP / 'tests/programs'
-PARTS = {'bin/nvme-model': ('launcher', 'relay', 'nodes', 'sysfs', 'sandbox', 'calls', 'caller', 'filter', 'helpers',
-                            'io', 'refuse', 'device', 'inherited', 'command', 'options',
-                            'opens', 'names', 'lists'),
-         'lib/nvme-model/library.so': ('library',),
-         'lib/nvme-model/qemu': ('qemu', 'messages', 'function', 'memory', 'proxy', 'vfio_user')}
+LISTED = dict(word.split('=', 1) for word in shlex.split((CLIENT / 'programs.sh').read_text(), comments=True))
+# The programs in C and the library, each with its sources.
+PARTS = {'bin/nvme-model': (*LISTED['launcher'].split(),),
+         'lib/nvme-model/library.so': (*LISTED['preloaded'].split(),),
+         'lib/nvme-model/qemu': (*LISTED['qemu'].split(),)}
 WARNINGS = '-Wall', '-Wextra', '-Wshadow', '-Werror'
 # Waits in a shell until what was written past the end of a node is cut off.
 CUT = 'until test $(busybox wc -c < /dev/nvme0n2) = 4608; do sleep 0.1; done; '
@@ -63,8 +64,15 @@ def why_no_sandbox():
     return '' if works('bwrap', '--bind', '/', '/', '--dev', '/dev') else 'bubblewrap can make no sandbox here'
 
 
+def options_for(part):
+    """Returns the compiler's options for one of these programs, or for the library."""
+    kind = 'of_library' if part.endswith('.so') else 'of_program'
+    return [*LISTED['flags'].split(), *LISTED[kind].split(), f'-DMODEL_VERSION="{VERSION}"', '-I', CLIENT]
+
+
 def compiled_c(made, sources, *options):
-    """Compiles C files to a program or a library. The compiler must give no warning."""
+    """Compiles C files, of which some are a test's, to a program that is no part of what is installed. The compiler
+    must give no warning."""
     made.parent.mkdir(parents=True, exist_ok=True)
     files = [(TOP / 'tests' if name.startswith('check') else CLIENT) / f'{name}.c' for name in sources]
     version = f'-DMODEL_VERSION="{VERSION}"'
@@ -74,13 +82,13 @@ def compiled_c(made, sources, *options):
 
 @functools.lru_cache(maxsize=None)
 def installed():
-    """Builds the launcher, with the library and the device where it looks for them, unless the environment says where
-    they are."""
+    """Compiles the launcher, the library and, where it can be made, the server for virtual machines as they are for
+    users, with the device where the launcher looks for it, unless the environment says where they are."""
     if 'NVME_MODEL_INSTALLED' in os.environ:
         return pathlib.Path(os.environ['NVME_MODEL_INSTALLED'], 'bin/nvme-model')
     place = process_folder() / 'installed'
-    compiled_c(place / 'bin/nvme-model', PARTS['bin/nvme-model'])
-    compiled_c(place / 'lib/nvme-model/library.so', PARTS['lib/nvme-model/library.so'], '-shared', '-fPIC', '-ldl')
+    ended = run(TOP / 'nvme-model', '--compile', place)
+    assert (ended.status, ended.out + ended.err) == (0, b''), f'the programs in C could not be compiled\n{ended}'
     shutil.copy(program('nvme_device'), place / 'lib/nvme-model')
     return place / 'bin/nvme-model'
 

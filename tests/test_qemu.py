@@ -17,7 +17,7 @@ import socket
 import subprocess
 
 from tests.as_qemu import BROKEN
-from tests.modelled import CLIENT, PARTS, ModelCase, installed, is_there
+from tests.modelled import CLIENT, PARTS, ModelCase, installed, is_there, options_for
 from tests.support import DEMO, LIMIT, TOP, Case, Running, difference, library, process_folder, run
 
 SCENARIOS = 'configuration', 'registers', 'commands', 'interrupts', 'sections', 'gone'
@@ -96,19 +96,20 @@ for path in re.findall('"path":"([^"]+)"', ' '.join(sys.argv)):
 
 @functools.lru_cache(maxsize=None)
 def program(*options):
-    """Compiles the program, with the library, unless the environment says where it is."""
-    made = pathlib.Path(os.environ.get('NVME_MODEL_INSTALLED', '/none'), 'lib/nvme-model/qemu')
-    if made.exists():
-        return made
-    place = library()
+    """Compiles the program, with the library, as it is for users or with more options, unless the environment says
+    where it is."""
+    if 'NVME_MODEL_SERVER' in os.environ:
+        return pathlib.Path(os.environ['NVME_MODEL_SERVER'])
+    place, part = library(), 'lib/nvme-model/qemu'
     made = process_folder() / f'qemu{len(options)}'
-    files = [CLIENT / f'{name}.c' for name in PARTS['lib/nvme-model/qemu']]
-    subprocess.run(['cc', '-g', '-O1', '-Wall', '-Wextra', '-Werror', *options, '-o', made, f'-I{place}', *files,
+    files = [CLIENT / f'{name}.c' for name in PARTS[part]]
+    subprocess.run(['cc', *options_for(part), '-Werror', *options, '-o', made, f'-I{place}', *files,
                     place / 'libnvme_controller.a'], check=True)
     return made
 
 
-SANITIZERS = '-fsanitize=address,undefined', '-fno-sanitize-recover=all'
+# (the sanitizer looks at what fortified calls would)
+SANITIZERS = '-g', '-fsanitize=address,undefined', '-fno-sanitize-recover=all', '-U_FORTIFY_SOURCE'
 
 
 class Messages(Case):
