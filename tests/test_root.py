@@ -36,7 +36,7 @@ class Root(ModelCase):
 
     def test_rights(self):
         self.ends(self.ended('command -v sudo; grep CapEff /proc/self/status'), 0,
-                  b'/sys/fs/nvme-model/bin/sudo\nCapEff:\t00000000200000fb\n', b'')
+                  b'/sys/fs/model/bin/sudo\nCapEff:\t00000000200000fb\n', b'')
         # (the command may have no PATH)
         without = *(NOBODY if IS_ROOT else ()), 'env', '-u', 'PATH'
         self.ends(run(*without, *self.command('/usr/bin/id', '-u', options=['--root']), cwd='/'), 0, b'0\n', b'')
