@@ -6,6 +6,7 @@
    proved. */
 #include "launcher.h"
 #include "usage.h"
+#include <poll.h>
 #include <stdarg.h>
 #include <sys/resource.h>
 #include <sys/signalfd.h>
@@ -55,6 +56,13 @@ void cannot(const char *path) {
     if (command == 0)
         fail_by_errno(path);
     fprintf(stderr, "nvme-model: %s: %s\n", path, strerror(errno));
+}
+
+void await_room(int file) {
+    struct pollfd either[] = {{.fd = command > 0 ? -1 : OUTSIDE, .events = POLLIN}, {.fd = file, .events = POLLOUT}};
+    unsigned char number;
+    while (poll(either, 2, -1) > 0 && either[0].revents && read(OUTSIDE, &number, 1) == 1)
+        exit(128 + number);
 }
 
 const char *last_line(int file, const char *writer) {

@@ -51,6 +51,9 @@ int must(int result, const char *what);
 /* Reports, with the reason, that a path can't be made, which ends the launcher only before the command runs. */
 void cannot(const char *path);
 
+/* Waits until a file takes a line or, before the command runs, ends the launcher as a signal wants it. */
+void await_room(int file);
+
 /* Gives an open file another number. */
 void keep_as(int number, int file, const char *name);
 

@@ -23,6 +23,15 @@ static int move_all(int file, void *at, size_t size, int outwards) {
     return size > 0 ? -1 : 0;
 }
 
+/* Writes a line of a trace, or reports the first time that this fails, in whatever process. */
+static void write_trace(unsigned controller, const char *line, int length) {
+    static _Atomic int *has_failed;
+    has_failed = has_failed ?: share(sizeof *has_failed);
+    await_room(trace_output);
+    if (dprintf(trace_output, "nvme%u %.*s", controller, length, line) < 0 && !(*has_failed)++)
+        fprintf(stderr, "nvme-model: the trace can't be written: %s\n", strerror(errno));
+}
+
 /* Copies a line of a trace. It begins with a controller, whose number among all devices' controllers replaces its own.
  */
 static void copy_line(const struct device *device, const char *line, size_t length) {
@@ -30,7 +39,7 @@ static void copy_line(const struct device *device, const char *line, size_t leng
     int behind = 0;
     int is_traced = sscanf(line, "nvme%u %n", &number, &behind) == 1 && behind > 0;
     if (is_traced)
-        dprintf(trace_output, "nvme%u %.*s", number + device->first, (int)length - behind, line + behind);
+        write_trace(number + device->first, line + behind, (int)length - behind);
     else
         dprintf(STDERR_FILENO, "%.*s", (int)length, line);
 }

@@ -228,6 +228,16 @@ class Arguments(ModelCase):
                     self.assertEqual(ended.err == b'', file.exists())
         self.says(self.model('true', options=['--trace=/none/x']), 72, 'nvme-model: /none/x: ')
 
+    def test_trace_that_cannot_be_written(self):
+        # of two devices, one reports it, and only once
+        for user in USERS:
+            with self.subTest(user=user):
+                script = 'for n in 0 2; do nvme id-ctrl /dev/nvme$n > /dev/null && echo $n; done'
+                ended = run(*user, *self.command('sh', '-c', script,
+                                                 options=['--subsystem', self.subsystem, '--trace=/dev/full']))
+                self.ends(ended, 0, b'0\n2\n',
+                          b"nvme-model: the trace can't be written: No space left on device\n")
+
     def test_script_in_a_copy(self):
         # no command is run without a device; two launchers may build the client at the same time; paths have spaces and
         # links

@@ -11,7 +11,7 @@ import unittest
 from signal import SIGCONT, SIGKILL, SIGSTOP
 
 from tests.modelled import (ASKING, CUT, DEVICES, GREW, HELPERS, KEEPERS, LAUNCHER, PROGRAMS, WARNINGS, ModelCase,
-                            do_helpers, parts, process_folder, signals, works)
+                            do_helpers, named, parts, process_folder, signals, works)
 from tests.support import (IS_ROOT, LIMIT, NOBODY, USERS, Running, environment, left_running, processes, run,
                            until)
 
@@ -282,6 +282,13 @@ class Processes(WaitingCase):
                                            env=environment())
                 self.addCleanup(process.kill)
                 self.assertTrue(until(lambda: not select.select([], [writer], [], 0)[1]), 'the pipe is never full')
+                process.terminate()
+                self.assertEqual(process.wait(LIMIT), 143)
+                # the pipe may be full from the start
+                process = subprocess.Popen([*user, *command], stderr=writer, stdout=subprocess.DEVNULL,
+                                           env=environment())
+                self.addCleanup(process.kill)
+                self.assertTrue(until(lambda: named()[b'device']), 'no device is started')
                 process.terminate()
                 self.assertEqual(process.wait(LIMIT), 143)
                 os.close(reader)
