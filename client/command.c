@@ -44,14 +44,25 @@ __attribute__((noreturn)) static void be_first(pid_t command) {
     _exit(WIFEXITED(how) ? WEXITSTATUS(how) : 128 + WTERMSIG(how));
 }
 
-/* Puts a value before that of a variable of the environment. */
-static void prepend(const char *name, const char *value) {
-    const char *before = getenv(name);
+/* Sets a variable of the environment to one text, a colon and another, or to the first one if there is no other. */
+static void set_both(const char *name, const char *one, const char *other) {
     char *whole;
-    if (asprintf(&whole, "%s%s%s", value, before ? ":" : "", before ? before : "") < 0 || setenv(name, whole, 1) < 0) {
+    if (asprintf(&whole, "%s%s%s", one, other ? ":" : "", other ? other : "") < 0 || setenv(name, whole, 1) < 0) {
         fputs("nvme-model: out of memory\n", stderr);
         _exit(FAILED);
     }
+}
+
+static void prepend(const char *name, const char *value) { set_both(name, value, getenv(name)); }
+
+/* Appends a folder to PATH, in which it isn't. (Debian has nvme where an ordinary user's PATH doesn't lead.) */
+static void append_folder(const char *folder) {
+    const char *path = getenv("PATH"), *at = path;
+    size_t length = strlen(folder);
+    while (at && (strncmp(at, folder, length) != 0 || (at[length] != ':' && at[length])))
+        at = strchr(at, ':') ? strchr(at, ':') + 1 : NULL;
+    if (path && !at)
+        set_both("PATH", path, folder);
 }
 
 /* (a stream that is closed for the command is one that can't be used) */
@@ -65,6 +76,8 @@ __attribute__((noreturn)) static void become(char **arguments) {
         setenv("BLKID_FILE", "/dev/null", 1);
     if (access(MODEL_FOLDER "/bin", F_OK) == 0 && getenv("PATH"))
         prepend("PATH", MODEL_FOLDER "/bin");
+    append_folder("/usr/sbin");
+    append_folder("/sbin");
     for (int file = 0; file <= STDERR_FILENO; file++)
         if (fcntl(file, F_GETFL) & O_PATH)
             fcntl(file, F_SETFD, FD_CLOEXEC);

@@ -194,11 +194,6 @@ class Arguments(ModelCase):
         self.ends(self.shell('kill -KILL $$'), 137, b'', b'')
         for path in none, '/dev/null/none':
             self.says(self.model(path), 127, f'nvme-model: {path}: ')
-        path = self.folder / 'path'
-        path.mkdir()
-        (path / 'bwrap').symlink_to(shutil.which('bwrap'))
-        self.ends(run(installed(), 'nvme', 'list', env={'PATH': path}), 127, b'',
-                  b'nvme-model: nvme: No such file or directory: install the package nvme-cli\n')
         self.says(self.model(text), 126, f'nvme-model: {text}: ')
         self.ends(self.model('cat', source=b'some\nlines\n'), 0, b'some\nlines\n', b'')
         # (in a container, the launcher may be process 1)
@@ -213,6 +208,22 @@ class Arguments(ModelCase):
         closed[2] = 'exec "$@" <&- 2>&-'
         open_ones = 'for f in 0 1 2; do test -e /proc/$$/fd/$f && echo $f; done'
         self.ends(run(*closed[:4], *self.command('sh', '-c', open_ones)), 1, b'1\n')
+
+    def test_path(self):
+        # a user's PATH in Debian has no folder with nvme in it
+        for path, more in (('/usr/bin:/bin', ':/usr/sbin:/sbin'), ('/sbin:/bin:/usr/sbin', ''),
+                           ('/usr/bin:/sbin', ':/usr/sbin'), ('/usr/sbin/x:/usr/bin:/usr/sbinx', ':/usr/sbin:/sbin')):
+            with self.subTest(path):
+                ended = run(*USERS[-1], 'env', f'PATH={path}', *self.command('/bin/sh', '-c', 'echo $PATH'))
+                self.ends(ended, 0, f'{path}{more}\n'.encode(), b'')
+        self.ends(run(*USERS[-1], 'env', 'PATH=/usr/bin:/bin', *self.command('nvme', 'list-ns', '/dev/nvme0')), 0,
+                  b'[   0]:0x1\n[   1]:0x3\n', b'')
+        # where there is none at all, its package is named
+        hides = 'for folder in /usr/sbin /sbin; do test -L $folder || mount -t tmpfs none $folder; done; exec "$@"'
+        if works('unshare', '-Urm'):
+            ended = run(*USERS[-1], 'unshare', '-Urm', 'sh', '-c', hides, 'sh', installed(), 'nvme', 'list')
+            self.ends(ended, 127, b'',
+                      b'nvme-model: nvme: No such file or directory: install the package nvme-cli\n')
 
     def test_trace(self):
         file = self.folder / 'trace'
