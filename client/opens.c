@@ -14,17 +14,30 @@
 
 /* ---- calls that open a file */
 
-/* Whether a file sets the priority of the caller's session, which has processes outside. (Its name is read by this
-   link.) */
-static int is_of_session(int file, const char *link) {
-    static const char wanted[] = "/autogroup";
-    char name[PATH_MAX];
+/* Whether a file of a procfs sets what is outside: the priority of the caller's session, or the machine's network. (Its
+   mount may be a part of a procfs, which the caller's list of mounts tells. Of a mount that isn't in this list, files of
+   the kernel are known by their numbers.) */
+static int sets_outside(const struct call *call, int file, const char *link) {
+    const unsigned first_of_kernel = 0xf0000000;
+    char path[2 * PATH_MAX + 2], name[PATH_MAX], root[PATH_MAX], part[PATH_MAX] = "", *line = NULL;
+    unsigned long long number;
+    size_t room = 0;
+    struct statx about = {.stx_ino = 0};
     struct statfs system;
-    if (fstatfs(file, &system) < 0 || system.f_type != PROC_SUPER_MAGIC)
+    if (fstatfs(file, &system) < 0 || system.f_type != PROC_SUPER_MAGIC ||
+        statx(file, "", AT_EMPTY_PATH, STATX_INO | STATX_MNT_ID, &about) < 0)
         return 0;
+    snprintf(path, sizeof path, "/proc/%d/mountinfo", call->process);
+    FILE *mounts = fopen(path, "re");
+    while (mounts && getline(&line, &room, mounts) > 0)
+        if (sscanf(line, "%llu %*d %*s %4095s", &number, root) == 2 && number == about.stx_mnt_id)
+            strcpy(part, root);
+    free(line);
+    if (mounts)
+        fclose(mounts);
     read_link(link, name);
-    size_t length = strlen(name);
-    return length >= sizeof wanted && strcmp(name + length - strlen(wanted), wanted) == 0;
+    snprintf(path, sizeof path, "%s%s/", part, name);
+    return strstr(path, "/net/") || strstr(path, "/autogroup/") || (!*part && about.stx_ino >= first_of_kernel);
 }
 
 /* Resets a controller, or looks for its namespaces, because such a file of it is opened for writing. What is then
@@ -93,7 +106,7 @@ static int open_found(struct call *call, int file, uint64_t flags, int is_length
     if (!S_ISREG(about.st_mode))
         return NOT_OURS;
     if (about.st_dev != number_of(OF_DEV))
-        return is_of_session(file, place) ? -EACCES : NOT_OURS;
+        return sets_outside(call, file, place) ? -EACCES : NOT_OURS;
     read_link(place, name);
     if (strncmp(name, "/dev/", 5) != 0 || !read_name(name + 5, &call->node))
         return NOT_OURS;

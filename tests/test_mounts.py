@@ -107,6 +107,18 @@ class Mounts(MachineCase):
             ended = machine.model(script, by=('unshare', '-m', 'sh', '-c', way + '; exit', 'sh'))
             self.assertEqual(ended.out, b'own\n', ended)
 
+    def test_mounts_with_pipes(self):
+        # a mount that holds no files but may hold pipes doesn't come in, whole or in part
+        way = ('mount -t devtmpfs x "$place/gone" && mount --bind "$place/gone/zero" "$place/plain" && '
+               'ls -A "$place/gone" | wc -l; exec "$@"')
+        script = 'ls -A "$place/gone" | wc -l; stat -c %t:%T "$place/plain"; (head -c 1 "$place/plain") 2>&1 | wc -l'
+        for user in (), NOBODY:
+            with self.subTest(user=user), contextlib.closing(Machine(self, 'devices')) as machine:
+                ended = machine.model(script, by=('unshare', '-m', 'sh', '-c', way, 'sh', *user))
+                count, _, rest = ended.out.partition(b'\n')
+                self.assertGreater(int(count), 5)
+                self.assertEqual((rest, ended.err), (b'0\n1:3\n1\n', b''))
+
     def test_parts_of_proc_that_are_hidden(self):
         # (docker hides parts of /proc in this way, and gives a container's root the right to mount if it is asked to)
         way = ('mount --bind /dev/null /proc/keys && mount -t tmpfs -o ro x /proc/acpi && '

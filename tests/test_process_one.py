@@ -31,6 +31,19 @@ call = ctypes.CDLL(None, use_errno=True).syscall
 for number, *words in (250, 0, -3), (248, b"user", b"name", b"data", 4, -3), (249, b"user", b"model-key", None, -3):
     print(call(number, *words), ctypes.get_errno())
 '''
+# Prints how many files of folders can be opened for writing.
+OPENS = '''import os, sys
+opened = 0
+for top in sys.argv[1:]:
+    for folder, _, names in os.walk(top):
+        for name in names:
+            try:
+                os.close(os.open(os.path.join(folder, name), os.O_WRONLY))
+                opened += 1
+            except PermissionError:
+                pass
+print(opened)
+'''
 # The caller has a key, runs the command given, and reads the key again.
 CALLER = '''import ctypes, subprocess, sys
 call = ctypes.CDLL(None, use_errno=True).syscall
@@ -208,15 +221,28 @@ class Outside(ModelCase):
                   '/proc/self/task/../autogroup /proc/thread-self/../../autogroup link; do '
                   '(echo 19 > $path) 2>&1 | grep -c "Permission denied"; done; exec 7< /proc/self/autogroup; '
                   '(echo 19 > /proc/self/fd/7) 2>&1 | grep -c "Permission denied"; rm link')
-        nested = 'unshare -Urm sh -c \'(echo 19 > /proc/self/autogroup) 2>&1 | grep -c "Permission denied"\''
+        # (a part of a procfs may have another name)
+        nested = ('unshare -Urm sh -c \'for path in /proc/self/autogroup "$1"; do '
+                  '(echo 19 > "$path") 2>&1 | grep -c "Permission denied"; '
+                  'mount --bind /proc/self/autogroup "$1" 2> /dev/null; done\' sh "$1/part"')
         self.folder.chmod(0o777)
+        self.file('part', b'').chmod(0o666)
         for user in USERS:
             with self.subTest(user=user):
                 own = pathlib.Path('/proc/self/autogroup').read_text()
                 self.ends(run(*user, *self.command('sh', '-c', script, 'sh', self.folder)), 0, b'1\n' * 6, b'')
                 if user and works(*NESTED):
-                    self.ends(run(*user, *self.command('sh', '-c', nested)), 0, b'1\n', b'')
+                    self.ends(run(*user, *self.command('sh', '-c', nested, 'sh', self.folder)), 0, b'1\n1\n', b'')
                 self.assertEqual(pathlib.Path('/proc/self/autogroup').read_text(), own)
+
+    @unittest.skipUnless(IS_ROOT, 'root alone may open such files for writing')
+    def test_the_network(self):
+        # no file below a `net` of a process is opened for writing, by whatever path
+        opened = int(run('python3', '-c', OPENS, '/proc/self/net').out)
+        self.assertGreater(opened, 20)
+        script = ('cd /proc/$$ && exec python3 -c "$1" net ./task/$$/net /proc/self/net /proc/$$/task/$$/net /proc/net '
+                  '/proc/thread-self/net')
+        self.ends(self.shell(script, OPENS), 0, b'0\n', b'')
 
     def test_keys(self):
         for user in USERS:
