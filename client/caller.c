@@ -7,6 +7,7 @@
 #include <linux/openat2.h>
 #include <sys/statfs.h>
 #include <sys/syscall.h>
+#include <sys/sysmacros.h>
 #include <sys/uio.h>
 
 /* ---- its identity */
@@ -166,7 +167,7 @@ int copy_text(const struct call *call, uint64_t from, char into[PATH_MAX]) {
 
 /* ---- its paths */
 
-enum { MOST_LINKS = 40, TOP_OF_PROC = 1, ROOM = 2 * PATH_MAX };
+enum { MOST_LINKS = 40, TOP_OF_PROC = 1, PROC_BLOCK = 1024, ROOM = 2 * PATH_MAX };
 
 /* Opens what /proc/self or /proc/thread-self is for a process, by its numbers in the command's namespace. */
 static int open_self(const struct call *call, int proc, int is_thread) {
@@ -184,11 +185,7 @@ static int open_self(const struct call *call, int proc, int is_thread) {
    and returns the folder where this begins. Links of /proc other than those at its top can't be read as texts. */
 static int follow(const struct call *call, int at, const char *name, int link, uint64_t resolve, char left[ROOM]) {
     char text[ROOM];
-    struct statfs system;
-    struct stat about;
-    if (fstatfs(at, &system) < 0 || fstat(at, &about) < 0)
-        return -1;
-    int is_proc = system.f_type == PROC_SUPER_MAGIC, is_top = is_proc && about.st_ino == TOP_OF_PROC;
+    int is_proc = is_in_proc(at), is_top = is_proc && known_about(at, "").stx_ino == TOP_OF_PROC;
     if (is_top && (strcmp(name, "self") == 0 || strcmp(name, "thread-self") == 0))
         return open_self(call, at, *name == 't');
     if (is_proc && !is_top)
@@ -200,22 +197,30 @@ static int follow(const struct call *call, int at, const char *name, int link, u
     return *left == '/' ? open_about(call->process, "root", O_PATH) : fcntl(at, F_DUPFD_CLOEXEC, 0);
 }
 
-/* Describes a file by its type, and tells it from others by its mount and number. (A server isn't asked again, because
-   what it tells may change what the caller may do.) */
-static struct statx look_at(int from, const char *path) {
+/* (a server isn't asked, because what it tells may change what the caller may do) */
+struct statx known_about(int from, const char *path) {
     struct statx about = {.stx_ino = 0};
-    statx(from, path, AT_EMPTY_PATH | AT_STATX_DONT_SYNC, STATX_TYPE | STATX_INO | STATX_MNT_ID, &about);
+    statx(from, path, AT_EMPTY_PATH | AT_STATX_DONT_SYNC, STATX_BASIC_STATS | STATX_MNT_ID, &about);
     return about;
+}
+
+dev_t system_of(const struct statx *about) { return makedev(about->stx_dev_major, about->stx_dev_minor); }
+
+/* (a server that has blocks of another size isn't asked what it is) */
+int is_in_proc(int file) {
+    struct statfs system;
+    return known_about(file, "").stx_blksize == PROC_BLOCK && fstatfs(file, &system) == 0 &&
+           system.f_type == PROC_SUPER_MAGIC;
 }
 
 static struct statx root_of(pid_t process) {
     char path[64];
     snprintf(path, sizeof path, "/proc/%d/root", process);
-    return look_at(AT_FDCWD, path);
+    return known_about(AT_FDCWD, path);
 }
 
 static int is_at(int folder, const struct statx *other) {
-    const struct statx about = look_at(folder, "");
+    const struct statx about = known_about(folder, "");
     return about.stx_mnt_id == other->stx_mnt_id && about.stx_ino == other->stx_ino;
 }
 
@@ -239,14 +244,14 @@ static int walk(const struct call *call, int at, const char *path, const struct 
     while (at >= 0 && left[strspn(left, "/")] && take_part(left, name)) {
         int before = at, is_top = strcmp(name, "..") == 0 && is_at(before, root);
         at = openat(before, is_top ? "." : name, O_PATH | O_NOFOLLOW | O_CLOEXEC);
-        if (at >= 0 && (*left || !(how->flags & O_NOFOLLOW)) && S_ISLNK(look_at(at, "").stx_mode)) {
+        if (at >= 0 && (*left || !(how->flags & O_NOFOLLOW)) && S_ISLNK(known_about(at, "").stx_mode)) {
             int link = at;
             at = links++ < MOST_LINKS ? follow(call, before, name, link, how->resolve, left) : -1;
             close(link);
         }
         close(before);
     }
-    if (at < 0 || !*left || S_ISDIR(look_at(at, "").stx_mode))
+    if (at < 0 || !*left || S_ISDIR(known_about(at, "").stx_mode))
         return at;
     close(at);
     return -1;
@@ -266,7 +271,7 @@ static struct start start_of(const struct call *call, int directory, const char 
     snprintf(folder, sizeof folder, directory == AT_FDCWD ? "cwd" : "fd/%d", directory);
     struct start start = {.folder = open_about(call->process, is_absolute ? "root" : folder, O_PATH),
                           .left = is_below ? path : path + strspn(path, "/")};
-    start.root = is_absolute ? look_at(start.folder, "") : root_of(call->process);
+    start.root = is_absolute ? known_about(start.folder, "") : root_of(call->process);
     return start;
 }
 

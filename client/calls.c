@@ -29,15 +29,17 @@ void read_link(const char *link, char name[PATH_MAX]) {
 /* (the mode of a link to an open file says how it was opened) */
 int find_node(struct call *call) {
     char link[64], name[PATH_MAX];
-    struct stat about, how;
+    struct stat how;
     snprintf(link, sizeof link, "/proc/%d/fd/%d", call->process, call->file);
     read_link(link, name);
-    if (strncmp(name, "/dev/", 5) != 0 || stat(link, &about) < 0 || lstat(link, &how) < 0 ||
-        !S_ISREG(about.st_mode) || about.st_dev != number_of(OF_DEV))
+    if (strncmp(name, "/dev/", 5) != 0 || lstat(link, &how) < 0)
+        return 0;
+    const struct statx about = known_about(AT_FDCWD, link);
+    if (!S_ISREG(about.stx_mode) || system_of(&about) != number_of(OF_DEV))
         return 0;
     call->is_writable = (how.st_mode & S_IWUSR) != 0;
     call->is_path = (how.st_mode & (S_IRUSR | S_IWUSR)) == 0;
-    call->is_gone = about.st_nlink == 0 && !(about.st_mode & 0777);
+    call->is_gone = about.stx_nlink == 0 && !(about.stx_mode & 0777);
     return read_name(name + strlen("/dev/"), &call->node);
 }
 

@@ -354,6 +354,16 @@ int look_up(const struct call *call, int directory, const char *path, const stru
 /* Reads the beginning of a file about a process. */
 const char *read_about(pid_t process, const char *name, char *text, size_t room);
 
+/* Looks at a file, whose number is 0 if it isn't there. (No server is asked, because what it tells may change what the
+   caller may do.) */
+struct statx known_about(int from, const char *path);
+
+/* Returns the number of its file system. */
+dev_t system_of(const struct statx *about);
+
+/* Returns whether a file is in a procfs. */
+int is_in_proc(int file);
+
 /* ---- lists.c: the lists of /proc for the command */
 
 /* Writes that of kinds of devices. */

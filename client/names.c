@@ -13,23 +13,24 @@ struct place {
 /* Finds the folder of a name as the caller would, and returns whether there is one. */
 static int find_place(const struct call *call, int directory, char *path, struct place *place) {
     char folder[PATH_MAX + 1], link[64], where[PATH_MAX];
-    struct stat about;
     struct node node;
     for (size_t length = strlen(path); length > 1 && path[length - 1] == '/';)
         path[--length] = '\0';
     const char *name = strrchr(path, '/') ? strrchr(path, '/') + 1 : path;
     snprintf(folder, sizeof folder, "%.*s.", (int)(name - path), path);
     int file = look_up(call, directory, folder, &(struct open_how){.flags = O_PATH | O_DIRECTORY});
-    if (file < 0 || fstat(file, &about) < 0)
+    if (file < 0)
         return 0;
-    place->system = about.st_dev;
-    place->is_there = fstatat(file, name, &about, AT_SYMLINK_NOFOLLOW) == 0;
+    const struct statx about = known_about(file, "");
+    place->system = system_of(&about);
     snprintf(link, sizeof link, "/proc/self/fd/%d", file);
     read_link(link, where);
     int is_in_dev = place->system == number_of(OF_DEV) && strcmp(where, "/dev") == 0;
     int is_node = is_in_dev && read_name(name, &node) && strcmp(name, node.name) == 0;
     place->is_log = is_in_dev && strcmp(name, "kmsg") == 0;
     place->is_kept = place->system == number_of(OF_SYS) || is_node;
+    place->is_there = (place->is_kept || is_in_dev) &&
+                      faccessat(file, name, F_OK, AT_SYMLINK_NOFOLLOW | AT_EACCESS) == 0;
     close(file);
     return 1;
 }

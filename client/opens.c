@@ -5,11 +5,9 @@
 #include <dirent.h>
 #include <linux/filter.h>
 #include <linux/fs.h>
-#include <linux/magic.h>
 #include <linux/openat2.h>
 #include <sched.h>
 #include <sys/resource.h>
-#include <sys/statfs.h>
 #include <sys/syscall.h>
 
 /* ---- calls that open a file */
@@ -22,10 +20,8 @@ static int sets_outside(const struct call *call, int file, const char *link) {
     char path[2 * PATH_MAX + 2], name[PATH_MAX], root[PATH_MAX], part[PATH_MAX] = "", *line = NULL;
     unsigned long long number;
     size_t room = 0;
-    struct statx about = {.stx_ino = 0};
-    struct statfs system;
-    if (fstatfs(file, &system) < 0 || system.f_type != PROC_SUPER_MAGIC ||
-        statx(file, "", AT_EMPTY_PATH, STATX_INO | STATX_MNT_ID, &about) < 0)
+    const struct statx about = known_about(file, "");
+    if (!is_in_proc(file))
         return 0;
     snprintf(path, sizeof path, "/proc/%d/mountinfo", call->process);
     FILE *mounts = fopen(path, "re");
@@ -95,17 +91,17 @@ static int open_node(const struct call *call, const char *place, uint64_t flags)
    opened for writing, even by root, and a node isn't truncated. */
 static int open_found(struct call *call, int file, uint64_t flags, int is_length) {
     char place[64], name[PATH_MAX];
-    struct stat about;
+    const struct statx about = known_about(file, "");
     snprintf(place, sizeof place, "/proc/self/fd/%d", file);
-    if (fstat(file, &about) < 0 || S_ISDIR(about.st_mode))
+    if (about.stx_ino == 0 || S_ISDIR(about.stx_mode))
         return NOT_OURS;
-    if (about.st_dev == number_of(OF_SYS)) {
+    if (system_of(&about) == number_of(OF_SYS)) {
         int is_read = !is_length && (flags & (O_ACCMODE | O_TRUNC)) == O_RDONLY;
         return is_read ? NOT_OURS : is_length ? -EACCES : open_attribute(place, flags);
     }
-    if (!S_ISREG(about.st_mode))
+    if (!S_ISREG(about.stx_mode))
         return NOT_OURS;
-    if (about.st_dev != number_of(OF_DEV))
+    if (system_of(&about) != number_of(OF_DEV))
         return sets_outside(call, file, place) ? -EACCES : NOT_OURS;
     read_link(place, name);
     if (strncmp(name, "/dev/", 5) != 0 || !read_name(name + 5, &call->node))

@@ -1,8 +1,9 @@
 /* Mounts a file system of its own (FUSE) in a folder, and serves it until it is killed. It has the files that were made
    in it, and others that are told below. Before each answer, it opens a file outside for writing:
        fuse FOLDER FILE
-   `hangs` never answers what is asked of it, and `memory` isn't readable until the end. The process that serves prints
-   `ready`. */
+   `hangs` never answers what is asked of it, and `memory` isn't readable until the end. Whoever asks for the owner of
+   the folder hears of a user without a number, after which nobody may make files there, and whoever asks what file
+   system this is hears nothing. The process that serves prints `ready`. */
 #define _GNU_SOURCE
 #include <errno.h>
 #include <fcntl.h>
@@ -15,7 +16,7 @@
 #include <sys/uio.h>
 #include <unistd.h>
 
-enum { MOST_FILES = 1000, ROOM = 1 << 18, TOP = 1, HANGS = 2, MEMORY = 3, FIRST = 4 };
+enum { MOST_FILES = 1000, ROOM = 1 << 18, TOP = 1, HANGS = 2, MEMORY = 3, FIRST = 4, WITHOUT_NUMBER = 54321 };
 
 static char names[MOST_FILES][64];
 static unsigned count = FIRST;
@@ -31,6 +32,7 @@ static struct fuse_attr about(uint64_t node) {
     return (struct fuse_attr){.ino = node,
                               .mode = node == TOP ? S_IFDIR | 0777 : S_IFREG | 0666,
                               .nlink = 1,
+                              .uid = node == TOP ? WITHOUT_NUMBER : 0,
                               .size = node == MEMORY ? 1 << 20 : 0,
                               .blksize = 4096};
 }
@@ -95,6 +97,7 @@ static void serve(const struct fuse_in_header *in, const void *data) {
     case FUSE_FSYNC:
     case FUSE_ACCESS:
         return answer(in->unique, 0, NULL, 0);
+    case FUSE_STATFS:
     case FUSE_FORGET:
     case FUSE_BATCH_FORGET:
     case FUSE_INTERRUPT:
