@@ -285,6 +285,8 @@ int answer_ioctl(struct call *call, const __u64 *words) {
     call->file = (int)words[0];
     call->request = (uint32_t)words[1];
     call->argument = words[2];
+    if (call->request == STOPPED_REQUEST && call->process == process_one)
+        return report_stop();
     return find_node(call) ? carry_out_ioctl(call) : NOT_OURS;
 }
 

@@ -34,13 +34,15 @@ static void drop_rights(uint32_t others) {
 /* Is process 1 while the command runs. */
 __attribute__((noreturn)) static void be_first(pid_t command) {
     int how;
+    pid_t process;
     setsid();
     close_range(0, ~0U, 0);
     prctl(PR_SET_NAME, "init");
     /* (no search for a name finds this process) */
     strcpy(memset(program_invocation_name, '\0', strlen(MODEL_FOLDER "/launcher") + sizeof INSIDE), "init");
-    while (wait(&how) != command)
-        continue;
+    while ((process = waitpid(-1, &how, WUNTRACED)) != command || WIFSTOPPED(how))
+        if (process == command)
+            ioctl(-1, STOPPED_REQUEST);
     _exit(WIFEXITED(how) ? WEXITSTATUS(how) : 128 + WTERMSIG(how));
 }
 

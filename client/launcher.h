@@ -54,6 +54,9 @@ void cannot(const char *path);
 /* Waits until a file takes a line or, before the command runs, ends the launcher as a signal wants it. */
 void await_room(int file);
 
+/* Tells the process outside, in a helper, that the command has stopped. */
+int report_stop(void);
+
 /* Gives an open file another number. */
 void keep_as(int number, int file, const char *name);
 

@@ -52,6 +52,9 @@ struct node {
 /* The ioctl by which the library asks which node a file is. It fails with ENXIO if the node's device is gone. */
 #define NODE_REQUEST _IOWR('N', 0xf0, struct node)
 
+/* The ioctl of the file -1 by which the command's process 1 tells that the command has stopped. */
+#define STOPPED_REQUEST _IO('N', 0xf1)
+
 /* The device numbers of nodes, by their kind. None reaches a device: Linux gives no character device such a major, and
    of block devices with 259 (blkext), those of the machine have the lowest minors. */
 enum { CONTROLLER_MAJOR = 4092, GENERIC_MAJOR = 4093, BLOCK_MAJOR = 259, FIRST_BLOCK = 1 << 19 };

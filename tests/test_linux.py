@@ -98,7 +98,7 @@ class Written(UserCase):
     def test_nothing_is_written(self):
         # by whoever, no file of the model in /sys is opened for writing; the last four aren't there
         script = ('cd /sys; find block/ bus/pci class/nvme* devices/pci* devices/virtual/nvme* module/nvme* '
-                  'fs/nvme-model /proc/partitions /proc/diskstats /proc/devices -type f 2> /dev/null > "$HOME/files"; '
+                  'fs/model /proc/partitions /proc/diskstats /proc/devices -type f 2> /dev/null > "$HOME/files"; '
                   'p=devices/pci0001:00/0001:00:00.0; for f in $p/remove $p/reset bus/pci/rescan '
                   'bus/pci/drivers/nvme/unbind; do test -e $f && echo there; echo $f; done >> "$HOME/files"; '
                   'python3 -c "$TRIES" < "$HOME/files"')

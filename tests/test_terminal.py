@@ -69,6 +69,37 @@ class Terminal(ModelCase):
                 self.told(shell, INTERRUPT)
                 self.assertEqual(self.told(shell, b'echo $?; jobs\n'), b'130\noutside: ')
 
+    def test_suspend(self):
+        # a shell that suspends itself, or an editor at one key, stops the run as well, and both go on together
+        editor = b"sh -c 'echo begun; kill -TSTP 0; echo continued; read -r line; echo $line'\n"
+        for user in USERS:
+            with self.subTest(user=user):
+                shell = self.begun(user)
+                self.told(shell, b'$model env PS1="inside: " bash --norc --noprofile\n', b'inside: ')
+                for _ in range(3):
+                    self.assertIn(b'Stopped', self.told(shell, b'suspend\n'))
+                    self.assertIn(b'Stopped', self.told(shell, b'jobs\n'))
+                    self.told(shell, b'fg\n', b'\ninside: ')
+                    self.assertEqual(self.told(shell, b'echo a | cat\n', b'inside: '), b'a\ninside: ')
+                self.told(shell, b'exit 4\n')
+                self.assertEqual(self.told(shell, b'echo $?\n'), b'4\noutside: ')
+                self.assertIn(b'begun\n', self.told(shell, b'$model ' + editor))
+                self.told(shell, b'fg\n', b'continued\n')
+                self.assertEqual(self.told(shell, b'words\n'), b'words\noutside: ')
+                self.assertEqual(self.told(shell, b'jobs\n'), b'outside: ')
+
+    def test_editor(self):
+        self.needs('busybox')
+        for user in USERS:
+            with self.subTest(user=user):
+                shell = self.begun(user)
+                self.told(shell, f'$model busybox vi {self.folder}/text\n'.encode(), b'text 0/1 100%')
+                for _ in range(2):
+                    self.assertIn(b'Stopped', self.told(shell, SUSPEND))
+                    self.told(shell, b'fg\n', b'100%')
+                self.told(shell, b':q!\n')
+                self.assertEqual(self.told(shell, b'echo $?\n'), b'0\noutside: ')
+
     def test_pagers(self):
         for user in USERS:
             for line in '$model seq 1000 | less', '$model less -P: /etc/services', '$model sh -c "seq 1000 | less"':
