@@ -139,11 +139,17 @@ static int is_in(const char *folder, const char *path) {
 
 int is_replaced(const char *path) { return is_in("/dev", path) || is_in("/proc", path) || is_in("/sys", path); }
 
+/* Returns the most bytes of the model's files that describe nodes. (Few namespaces need less than the least number.) */
+static unsigned long long room_for_files(void) {
+    const unsigned long long least = 64 << 20;
+    return options.limit > least ? options.limit : least;
+}
+
 /* Adds folders of /run of the sandbox's own, if the machine has them: of udev, and of blkid, which remembers there what
    it has seen of nodes. (bwrap would make a folder that isn't there in the machine.) */
 static void add_run(void) {
     for (char **own = find("/run/{udev,blkid}"); *own; own++)
-        add_words("--perms 0755 --tmpfs %s", *own);
+        add_words("--size %llu --perms 0755 --tmpfs %s", room_for_files(), *own);
 }
 
 /* Looks at a path without asking a server, which might not answer. */
@@ -209,12 +215,10 @@ static void add_dev(void) {
         add_below("--dev-bind", find_device(options.added[at]));
 }
 
-/* Adds a /sys with what tools read of the machine, among it its network interfaces, and the command's own /proc. (A
-   model with few namespaces needs less than the least size.) */
+/* Adds a /sys with what tools read of the machine, among it its network interfaces, and the command's own /proc. */
 static void add_sys(void) {
-    const unsigned long long least = 64 << 20;
     add_words("--size %llu --perms 0755 --tmpfs /sys --perms 0755 --dir /sys/fs --perms 0755 --dir " MODEL_FOLDER,
-              options.limit > least ? options.limit : least);
+              room_for_files());
     for (unsigned at = 0; at < sizeof shown / sizeof *shown; at++)
         add_below("--ro-bind-try", shown[at]);
     for (char **interface = find("/sys/class/net/*"); *interface; interface++) {

@@ -8,7 +8,7 @@ import re
 import subprocess
 import unittest
 
-from tests.modelled import CLIENT, DEVICES, WARNINGS, ModelCase, parts, process_folder, works
+from tests.modelled import CLIENT, DEVICES, WARNINGS, ModelCase, mounts, parts, process_folder, works
 from tests.support import IS_ROOT, NOBODY, TOP, USERS, Running, left_running, processes, run
 
 NESTED = 'unshare', '-Ur'
@@ -305,6 +305,12 @@ class Outside(ModelCase):
             ended = self.shell('for folder in /dev /dev/shm /sys; do df -k $folder | tail -n 1 | tr -s " " | '
                                'cut -d " " -f 2; done', options=options)
             self.ends(ended, 0, sizes, b'')
+        # no file system that the sandbox makes is without a limit
+        outside = {line.split()[2] for line in mounts()}
+        lines = [line for line in self.model('cat', '/proc/self/mountinfo').out.decode().splitlines()
+                 if ' - tmpfs ' in line and line.split()[2] not in outside and line.split()[3] == '/']
+        self.assertGreater(len(lines), 2)
+        self.assertEqual([line for line in lines if ',size=' not in line], [])
 
 
 if __name__ == '__main__':
