@@ -8,7 +8,7 @@ import re
 import subprocess
 import unittest
 
-from tests.modelled import CLIENT, DEVICES, WARNINGS, ModelCase, mounts, parts, process_folder, works
+from tests.modelled import CLIENT, DEVICES, WARNINGS, WITH_UDEV, ModelCase, mounts, parts, process_folder, works
 from tests.support import IS_ROOT, NOBODY, TOP, USERS, Running, left_running, processes, run
 
 NESTED = 'unshare', '-Ur'
@@ -307,10 +307,11 @@ class Outside(ModelCase):
             self.ends(ended, 0, sizes, b'')
         # no file system that the sandbox makes is without a limit
         outside = {line.split()[2] for line in mounts()}
-        lines = [line for line in self.model('cat', '/proc/self/mountinfo').out.decode().splitlines()
-                 if ' - tmpfs ' in line and line.split()[2] not in outside and line.split()[3] == '/']
-        self.assertGreater(len(lines), 2)
-        self.assertEqual([line for line in lines if ',size=' not in line], [])
+        ended = run(*WITH_UDEV, *self.command('cat', '/proc/self/mountinfo'))
+        made = [words for words in map(str.split, ended.out.decode().splitlines())
+                if 'tmpfs' in words and words[2] not in outside and words[3] == '/' and words[4] != '/run']
+        self.assertLessEqual({'/dev', '/dev/shm', '/sys', '/run/udev'}, {words[4] for words in made})
+        self.assertEqual([words for words in made if ',size=' not in words[-1]], [])
 
 
 if __name__ == '__main__':
