@@ -66,7 +66,8 @@ class Library(Case):
         self.assertEqual(self.symbols('libnvme_controller.so', '--dynamic'), calls)
         self.assertEqual(self.symbols('libnvme_controller.a', '--extern-only'), calls)
         ended = run('readelf', '--dynamic', '--wide', self.library / 'libnvme_controller.so')
-        self.assertIn(b'soname: [libnvme_controller.so.1]', ended.out, ended)
+        for mark in b'soname: [libnvme_controller.so.1]', b'BIND_NOW':
+            self.assertIn(mark, ended.out, ended)
         self.assertEqual(len(re.findall(rb'\(NEEDED\)', ended.out)), 1, ended)
 
     def test_beside_another_library_of_the_toolchain(self):

@@ -188,6 +188,16 @@ class Arguments(ModelCase):
             self.ends(run(launcher, '--version'), 0, f'nvme-model {VERSION}\n'.encode(), b'')
         self.ends(run(installed(), '--version', out='/dev/full'), 72)
 
+    def test_compiled_as_bubblewrap(self):
+        place = installed().parents[1]
+        parts = [place / part for part in PARTS if (place / part).exists()]
+        self.assertGreater(len(parts), 1)
+        for part in parts:
+            told = run('readelf', '-hldsW', part).out.decode()
+            for mark in r' DYN \(', 'BIND_NOW', 'GNU_RELRO', '__stack_chk_fail', r'__\w+_chk\b':
+                with self.subTest(part.name, mark=mark):
+                    self.assertRegex(told, mark)
+
     def test_statuses_and_streams(self):
         none, text = self.folder / 'none', self.file('text', b'no program\n')
         self.ends(self.shell('exit 7'), 7, b'', b'')
