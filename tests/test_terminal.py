@@ -88,15 +88,22 @@ class Terminal(ModelCase):
                 self.assertEqual(self.told(shell, b'words\n'), b'words\noutside: ')
                 self.assertEqual(self.told(shell, b'jobs\n'), b'outside: ')
 
+    def shows(self, shell, keys, *texts):
+        """Types keys, and waits until the terminal shows these texts."""
+        shell.heard = b''
+        shell.say(keys)
+        for text in texts:
+            shell.has(text)
+
     def test_editor(self):
-        self.needs('busybox')
         for user in USERS:
             with self.subTest(user=user):
+                self.needs('busybox')
                 shell = self.begun(user)
-                self.told(shell, f'$model busybox vi {self.folder}/text\n'.encode(), b'text 0/1 100%')
+                self.shows(shell, f'$model busybox vi {self.folder}/text\n'.encode(), b'100%')
                 for _ in range(2):
-                    self.assertIn(b'Stopped', self.told(shell, SUSPEND))
-                    self.told(shell, b'fg\n', b'100%')
+                    self.shows(shell, SUSPEND, b'Stopped', b'outside: ')
+                    self.shows(shell, b'fg\n', b'100%')
                 self.told(shell, b':q!\n')
                 self.assertEqual(self.told(shell, b'echo $?\n'), b'0\noutside: ')
 
