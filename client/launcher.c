@@ -21,7 +21,6 @@ static int status;                     /* of the command, or of the launcher ins
 static int status_of_failure = FAILED; /* its status then */
 static sigset_t watched;               /* the signals that are passed on, and that of an ended process */
 static char here[PATH_MAX];            /* the current folder */
-static unsigned *continued;            /* how often the launcher was continued, which its helpers tell */
 sigset_t blocked;
 char library_path[PATH_MAX + 32], program_path[PATH_MAX + 32];
 
@@ -62,11 +61,9 @@ void cannot(const char *path) {
 void await_room(int file) {
     struct pollfd either[] = {{.fd = command > 0 ? -1 : OUTSIDE, .events = POLLIN}, {.fd = file, .events = POLLOUT}};
     unsigned char number;
-    while (poll(either, 2, -1) > 0 && either[0].revents && read(OUTSIDE, &number, 1) == 1) {
+    while (poll(either, 2, -1) > 0 && either[0].revents && read(OUTSIDE, &number, 1) == 1)
         if (number != SIGCONT)
             exit(128 + number);
-        ++*continued;
-    }
 }
 
 const char *last_line(int file, const char *writer) {
@@ -91,19 +88,13 @@ static void reap(void) {
     }
 }
 
-/* Sends the command a signal. One that continues processes reaches it anyway, unless it has a group of its own. */
-static void pass_on(unsigned char number) {
+static int is_stopped(void) {
     char text[512];
     const char *behind = strrchr(read_about(command, "stat", text, sizeof text), ')');
-    *continued += number == SIGCONT;
-    if (number != SIGCONT || (behind && strncmp(behind, ") T", 3) == 0))
-        kill(command, number);
+    return behind && strncmp(behind, ") T", 3) == 0;
 }
 
-int report_stop(void) {
-    const unsigned told = 1 + *continued;
-    return write(OUTSIDE, &told, sizeof told) < 0 ? -errno : 0;
-}
+int report_stop(void) { return is_stopped() && write(OUTSIDE, "\1", 1) < 0 ? -errno : 0; }
 
 /* Lets the command begin, and has calls answered until it ends. Passes on signals that came to the process outside,
    without which nothing goes on. */
@@ -118,22 +109,23 @@ static void run_command(int ends) {
         ssize_t count = ready & 2 ? read(OUTSIDE, &number, 1) : -1;
         if (count == 0)
             fail("the process outside has ended");
-        if (count > 0)
-            pass_on(number);
+        /* (what continues its group continues it too, unless it has a group of its own) */
+        if (count > 0 && (number != SIGCONT || is_stopped()))
+            kill(command, number);
     }
 }
 
-/* Blocks the signals that are received one by one, and those that a socket of a lost device, a limit of the sizes of
-   files and a lease cause. */
+/* Blocks the signals that are received one by one, those that a socket of a lost device, a limit of the sizes of files
+   and a lease cause, and those by which a terminal stops processes, because this one stops only after the command. */
 static void block_signals(void) {
-    static const int numbers[] = {SIGCHLD, SIGINT, SIGTERM, SIGHUP, SIGQUIT, SIGUSR1, SIGUSR2, SIGCONT};
+    static const int numbers[] = {SIGCHLD, SIGINT, SIGTERM, SIGHUP, SIGQUIT, SIGUSR1, SIGUSR2, SIGCONT},
+                     others[] = {SIGPIPE, SIGXFSZ, SIGIO, SIGTSTP, SIGTTIN, SIGTTOU};
     sigemptyset(&watched);
     for (unsigned at = 0; at < sizeof numbers / sizeof *numbers; at++)
         sigaddset(&watched, numbers[at]);
     sigset_t all = watched;
-    sigaddset(&all, SIGPIPE);
-    sigaddset(&all, SIGXFSZ);
-    sigaddset(&all, SIGIO);
+    for (unsigned at = 0; at < sizeof others / sizeof *others; at++)
+        sigaddset(&all, others[at]);
     sigprocmask(SIG_BLOCK, &all, NULL);
 }
 
@@ -194,15 +186,13 @@ static int run(char **arguments) {
     pid_t started = start_command(arguments, ends);
     status_of_failure = FAILED;
     restore_errors();
-    continued = share(sizeof *continued);
-    must((int)write(OUTSIDE, continued, sizeof *continued), "the process outside");
+    must((int)write(OUTSIDE, "", 1), "the process outside");
     umask(0);
     devices = share(MOST_DEVICES * sizeof *devices);
     /* (each namespace has its data in an open file) */
     getrlimit(RLIMIT_NOFILE, &files);
     files.rlim_cur = files.rlim_max;
     setrlimit(RLIMIT_NOFILE, &files);
-    signal(SIGTTOU, SIG_IGN); /* (messages come from the background as well) */
     options.device_words[0] = program_path;
     if (options.subsystem_count > 0)
         options.device_words[options.device_word_count++] = "--subsystem=/proc/self/fd/3";
@@ -258,7 +248,7 @@ static void begin_inside(void) {
     must(close_range(FILES + options.subsystem_count, ~0U, 0), "close_range");
 }
 
-/* Stops with this process's group, as by a key, because the command has stopped. When they go on in the foreground, the
+/* Stops, and this process's group as by a key, because the command has stopped. When they go on in the foreground, the
    terminal is again that of the command's own group, if this had it. */
 static void stop_too(void) {
     char text[8192];
@@ -266,8 +256,10 @@ static void stop_too(void) {
     pid_t group = tcgetpgrp(terminal);
     const char *numbers = strstr(read_about(group, "status", text, sizeof text), "\nNSpid:");
     int is_own = numbers && sscanf(numbers, " NSpid: %d %d", &outer, &inner) == 2;
-    if (terminal >= 0)
+    if (terminal >= 0) {
         kill(0, SIGTSTP);
+        raise(SIGSTOP);
+    }
     if (is_own && tcgetpgrp(terminal) == getpgrp())
         tcsetpgrp(terminal, group);
     close(terminal);
@@ -275,29 +267,29 @@ static void stop_too(void) {
 
 /* Passes the signals that come to this process on to the launcher, which ends when the command does, and returns
    whether that was started. What is typed reaches the command anyway, if it is there. If the command stops, this
-   process does too, unless it was continued since. */
+   process does too, unless it is to go on by now. */
 static int await_launcher(pid_t launcher, int channel) {
     const int signals = must(signalfd(-1, &watched, SFD_CLOEXEC | SFD_NONBLOCK), "signalfd");
     struct signalfd_siginfo signal;
-    unsigned told, times = 0;
     int how, has_begun = 0;
     for (;;) {
+        unsigned char has_stopped = 0;
         await_files((const int[]){signals, channel}, 2, -1);
-        ssize_t length = recv(channel, &told, sizeof told, MSG_DONTWAIT);
+        ssize_t length = recv(channel, &has_stopped, 1, MSG_DONTWAIT);
         has_begun |= length > 0;
         channel = length == 0 ? -1 : channel;
         while (read(signals, &signal, sizeof signal) > 0) {
             unsigned char number = (unsigned char)signal.ssi_signo;
             if (number == SIGCHLD && waitpid(launcher, &how, WNOHANG) == launcher) {
                 status = WIFEXITED(how) ? WEXITSTATUS(how) : 128 + WTERMSIG(how);
-                return has_begun || recv(channel, &told, sizeof told, MSG_DONTWAIT) > 0;
+                return has_begun || recv(channel, &number, 1, MSG_DONTWAIT) > 0;
             }
-            times += number == SIGCONT;
+            has_stopped &= number != SIGCONT;
             int is_typed = signal.ssi_code == SI_KERNEL && (number == SIGINT || number == SIGQUIT);
             if (number != SIGCHLD && !(is_typed && has_begun))
                 send(channel, &number, 1, MSG_DONTWAIT | MSG_NOSIGNAL);
         }
-        if (length > 0 && told == 1 + times)
+        if (has_stopped)
             stop_too();
     }
 }
