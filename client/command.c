@@ -57,16 +57,6 @@ static void set_both(const char *name, const char *one, const char *other) {
 
 static void prepend(const char *name, const char *value) { set_both(name, value, getenv(name)); }
 
-/* Appends a folder to PATH, in which it isn't. (Debian has nvme where an ordinary user's PATH doesn't lead.) */
-static void append_folder(const char *folder) {
-    const char *path = getenv("PATH"), *at = path;
-    size_t length = strlen(folder);
-    while (at && (strncmp(at, folder, length) != 0 || (at[length] != ':' && at[length])))
-        at = strchr(at, ':') ? strchr(at, ':') + 1 : NULL;
-    if (path && !at)
-        set_both("PATH", path, folder);
-}
-
 /* (a stream that is closed for the command is one that can't be used) */
 __attribute__((noreturn)) static void become(char **arguments) {
     prepend("LD_PRELOAD", library_path);
@@ -78,8 +68,9 @@ __attribute__((noreturn)) static void become(char **arguments) {
         setenv("BLKID_FILE", "/dev/null", 1);
     if (access(MODEL_FOLDER "/bin", F_OK) == 0 && getenv("PATH"))
         prepend("PATH", MODEL_FOLDER "/bin");
-    append_folder("/usr/sbin");
-    append_folder("/sbin");
+    /* (Debian has nvme where an ordinary user's PATH doesn't lead) */
+    if (getenv("PATH") && !strstr(getenv("PATH"), "/usr/sbin"))
+        set_both("PATH", getenv("PATH"), "/usr/sbin:/sbin");
     for (int file = 0; file <= STDERR_FILENO; file++)
         if (fcntl(file, F_GETFL) & O_PATH)
             fcntl(file, F_SETFD, FD_CLOEXEC);

@@ -221,8 +221,7 @@ class Arguments(ModelCase):
 
     def test_path(self):
         # a user's PATH in Debian has no folder with nvme in it
-        for path, more in (('/usr/bin:/bin', ':/usr/sbin:/sbin'), ('/sbin:/bin:/usr/sbin', ''),
-                           ('/usr/bin:/sbin', ':/usr/sbin'), ('/usr/sbin/x:/usr/bin:/usr/sbinx', ':/usr/sbin:/sbin')):
+        for path, more in ('/usr/bin:/bin', ':/usr/sbin:/sbin'), ('/sbin:/bin:/usr/sbin', ''):
             with self.subTest(path):
                 ended = run(*USERS[-1], 'env', f'PATH={path}', *self.command('/bin/sh', '-c', 'echo $PATH'))
                 self.ends(ended, 0, f'{path}{more}\n'.encode(), b'')

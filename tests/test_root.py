@@ -60,7 +60,7 @@ class Root(ModelCase):
                 ended = self.ended('env -i "$@" sudo $options env -0', *words, env={'options': options})
                 found = dict(line.split('=', 1) for line in ended.out.decode().split('\0')[:-1])
                 # (what the sandbox needs, and what a shell sets)
-                for name in 'LD_PRELOAD', 'SYSTEMD_DEVICE_VERIFY_SYSFS', 'PWD', 'OLDPWD', 'SHLVL', '_':
+                for name in 'LD_PRELOAD', 'BLKID_FILE', 'SYSTEMD_DEVICE_VERIFY_SYSFS', 'PWD', 'OLDPWD', 'SHLVL', '_':
                     found.pop(name, None)
                 self.assertEqual(found, wanted, ended)
 
