@@ -58,7 +58,7 @@ static int open_attribute(const char *place, uint64_t flags) {
 /* Opens a character device, if the caller may open it so, but for reading, so that nobody writes to its file. (From the
    greatest offset, reads fail with EINVAL, as they should.) */
 static int open_character(const char *place, uint64_t flags) {
-    int as_asked = flags & O_DIRECT ? (errno = EINVAL, -1) : open(place, (int)flags | O_CLOEXEC);
+    int as_asked = flags & O_DIRECT ? (errno = EINVAL, -1) : open(place, (int)flags | O_CLOEXEC, 0);
     int file = as_asked < 0 ? -1 : open(place, O_RDONLY | ((int)flags & O_NONBLOCK) | O_CLOEXEC);
     int error = errno;
     close(as_asked);
@@ -67,7 +67,7 @@ static int open_character(const char *place, uint64_t flags) {
 }
 
 /* Opens a node as the caller could, but doesn't truncate it. (Linux 6.6 and later open files in memory for direct
-   access. The library tells by this flag which writes fail.) */
+   access. The library tells by this flag which writes fail. With O_TMPFILE, the C library wants a mode.) */
 static int open_node(const struct call *call, const char *place, uint64_t flags) {
     const int left_out = O_CREAT | O_EXCL | O_TRUNC | O_NOFOLLOW | O_APPEND;
     const int changed = O_TRUNC | O_DIRECT | O_EXCL | O_APPEND;
@@ -75,9 +75,9 @@ static int open_node(const struct call *call, const char *place, uint64_t flags)
         return open_character(place, flags & ~left_out);
     if (!(flags & changed))
         return NOT_OURS;
-    int file = open(place, ((int)flags & ~left_out) | O_CLOEXEC);
+    int file = open(place, ((int)flags & ~left_out) | O_CLOEXEC, 0);
     if (file < 0 && errno == EINVAL && flags & O_DIRECT)
-        file = open(place, ((int)flags & ~(left_out | O_DIRECT)) | O_CLOEXEC);
+        file = open(place, ((int)flags & ~(left_out | O_DIRECT)) | O_CLOEXEC, 0);
     if (file < 0)
         return -errno;
     int result = flags & O_EXCL ? claim(call, file) : 0;
