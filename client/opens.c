@@ -13,8 +13,8 @@
 /* ---- calls that open a file */
 
 /* Whether a file of a procfs sets what is outside: the priority of the caller's session, or the machine's network. (Its
-   mount may be a part of a procfs, which the caller's list of mounts tells. Of a mount that isn't in this list, files of
-   the kernel are known by their numbers.) */
+   mount may be a part of a procfs, which the caller's list of mounts tells. If it isn't in this list, files of the
+   kernel are known by their numbers.) */
 static int sets_outside(const struct call *call, int file, const char *link) {
     const unsigned first_of_kernel = 0xf0000000;
     char path[2 * PATH_MAX + 2], name[PATH_MAX], root[PATH_MAX], part[PATH_MAX] = "", *line = NULL;
