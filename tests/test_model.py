@@ -230,8 +230,8 @@ class Arguments(ModelCase):
         # where there is none at all, its package is named
         hides = 'for folder in /usr/sbin /sbin; do test -L $folder || mount -t tmpfs none $folder; done; exec "$@"'
         if works('unshare', '-Urm'):
-            ended = run(*USERS[-1], 'env', 'PATH=/usr/bin:/bin', 'unshare', '-Urm', 'sh', '-c', hides, 'sh', installed(),
-                        'nvme', 'list')
+            by = *USERS[-1], 'env', 'PATH=/usr/bin:/bin', 'unshare', '-Urm', 'sh', '-c', hides, 'sh'
+            ended = run(*by, installed(), 'nvme', 'list')
             self.ends(ended, 127, b'',
                       b'nvme-model: nvme: No such file or directory: install the package nvme-cli\n')
 
