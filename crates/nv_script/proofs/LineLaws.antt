@@ -1,6 +1,6 @@
 -- What one line leaves behind, by how its text was printed.
-use Rattle.std.proofs.Common.{◌≡◌, ◌⊎◌, ◌∙◌, ℕ, ◌+◌, List, [], ◌++◌, length, take, sym, ap, subst, refl, inl, inr}
-use Rattle.std.proofs.Common.{append-nil, arith, Bool, Option, Result, Ok, Err}
+use Rattle.std.proofs.Common.{◌≡◌, ◌≢◌, ◌⊎◌, ◌∙◌, ℕ, ◌+◌, List, [], ◌++◌, length, take, sym, ap, subst, refl, inl, inr}
+use Rattle.std.proofs.Common.{append-nil, arith, Bool, Option, None, Some, Result, Ok, Err}
 use Rattle.std.proofs.lemmas.Grind.{common_steps}
 use Rattle.std.specs.Prelude.{unwrap_or}
 use Rattle.std.specs.Io.KnownBytes.{Appends}
@@ -10,17 +10,21 @@ use Rattle.nv_script.specs.Cuts.{Holds, Left, left_at, state_amid}
 use Rattle.nv_script.specs.inner.Feeding.{LineLeaves, PrintLeaves, ReportLeaves}
 use Rattle.nv_script.specs.Orders.{orders_of}
 use Rattle.nv_script.specs.Outcomes.{outcome_of}
-use Rattle.nv_line.specs.Line.{reading}
+use Rattle.nv_layout.specs.Steps.{◌>>=◌}
+use Rattle.nv_line.specs.Line.{NeedsNoMemory, begun, reading, reading_from}
 use Rattle.nv_script.specs.Results.{LineResult, Progress, line_result, request_result, result_at, said_at}
 use Rattle.nv_driver.specs.inner.Linked.{next_cids_of}
 use Rattle.nv_script.specs.declared.ends.RunEnd.{RunEnd}
 use Rattle.nv_script.specs.declared.ends.RunEnd.TheVariants.{OutWrite}
 use Rattle.nv_script.specs.declared.session.Session.{Session}
+use Rattle.nv_line.specs.Request.{request_of}
+use Rattle.nv_line.specs.Word.{without_nvme, words_of}
 use Rattle.nv_line.specs.declared.fault.LineFault.{LineFault}
 use Rattle.nv_line.specs.declared.fault.LineFault.TheVariants as fault
 use Rattle.nv_line.specs.declared.line.Line.{Line}
 use Rattle.nv_line.specs.declared.line.Line.TheVariants as line
 use Rattle.nv_line.specs.declared.request.Request.{Request}
+use Rattle.nv_line.specs.declared.verb.Verb.{Verb}
 use Rattle.nv_stream.proofs.Taking.{Appends-at, Appends-join}
 
 -- a stream that took x also took x with an empty text after it
@@ -36,7 +40,8 @@ module _ {A : Type 0} (p : Progress) (text : List ℕ) (lr : LineResult) (k : �
     (same : result_at p text ≡ lr) (held : Holds old p.output p.messages p.state) (reached : new ≡ lr.state)
     (next : next_cids_of session.driver ≡ lr.next_cids)
     (number : session.number ≡ p.number + 1) (status : session.status ≡ unwrap_or lr.status p.status)
-    (all : lr.state ≡ state_amid p.state p.next_cids (said_at p text) k) where
+    (all : lr.state ≡ state_amid p.state p.next_cids (said_at p text) k)
+    (asks : said_at p text ≢ Ok line.Skipped) where
   -- a line whose message was reported leaves what the result of the report says
   pub message_leaves : (r : Result A RunEnd) (messages : Option (List ℕ)) (failed : Bool) → lr.output ≡ []
       → ReportLeaves r lr.message old.messages messages failed
@@ -64,6 +69,35 @@ pub fault_said : (f : LineFault) (said : Said) → (f ≡ fault.Memory → ⊥)
     → (f ≡ fault.Memory) ⊎ (◌≡◌ {A = Said} said (Err f)) → ◌≡◌ {A = Said} said (Err f)
 fault_said f said other (inl memory) = absurd (other memory)
 fault_said f said other (inr is) = is
+
+-- a line with a request isn't skipped, and neither is one with a fault
+pub asks_request : (said : Said) (r : Request) → said ≡ Ok (line.Request r) → said ≢ Ok line.Skipped
+asks_request said r is skipped = cc
+
+pub asks_fault : (said : Said) (f : LineFault) → said ≡ Err f → said ≢ Ok line.Skipped
+asks_fault said f is skipped = cc
+
+-- a line that is skipped is found so before memory is used
+skipped_first : (text : List ℕ) (controllers : ℕ) (b : Result (Option Verb) LineFault)
+    → ◌≡◌ {A = Said} (b >>= reading_from text controllers) (Ok line.Skipped) → NeedsNoMemory b
+skipped_first text controllers (Ok None) e = tt
+skipped_first text controllers (Err f) e = tt
+skipped_first text controllers (Ok (Some verb)) e =
+    asked (request_of controllers verb (without_nvme (words_of text))) e
+  where
+    asked : (r : Result Request LineFault) → ◌≡◌ {A = Said} (r >>= (λ q. Ok (line.Request q))) (Ok line.Skipped) → ⊥
+    asked (Ok q) e = cc
+    asked (Err f) e = cc
+
+-- so a line at which memory was refused isn't skipped
+pub asks_memory : (p : Progress) (text : List ℕ) (s : State) (controllers : ℕ) (f : LineFault) → s ≡ p.state
+    → controllers ≡ length s.controllers
+    → (NeedsNoMemory (begun text) → ◌≡◌ {A = Said} (Err f) (reading text controllers))
+    → said_at p text ≢ Ok line.Skipped
+asks_memory p text s controllers f es ec plain skipped =
+    let here : ◌≡◌ {A = Said} (reading text controllers) (Ok line.Skipped) =
+    ap (reading text) (ec ∙ ap (λ (x : State). length x.controllers) es) ∙ skipped in
+    asks_fault _ f (sym (plain (skipped_first text controllers (begun text) here))) here
 
 -- the meaning of a line by the number of controllers is its meaning at the place of the run
 pub said_here : (p : Progress) (text : List ℕ) (s : State) (controllers : ℕ) (said : Said) → s ≡ p.state

@@ -15,8 +15,9 @@ use Rattle.nv_driver.specs.declared.error.DriverError.{DriverError}
 use Rattle.nv_driver.specs.declared.error.DriverError.TheVariants as error
 use Rattle.nv_driver.specs.declared.geometry.Geometry.{Geometry as DriverGeometry}
 use Rattle.nv_driver.specs.declared.geometry_field.GeometryField.{GeometryField}
-use Rattle.nv_script.specs.Ends.{AllEnabled, AreFaults, Headline, IsEndOf, IsRun, Leaves, LeavesAll, RunState, Runs}
-use Rattle.nv_script.specs.Ends.{RunsFrom, WasRead, begun, end_without}
+use Rattle.nv_script.specs.Ends.{AllEnabled, AreFaults, BringingUp, Headline, IsEndOf, IsRun, IsUp, Leaves, LeavesAll}
+use Rattle.nv_script.specs.Ends.{RunState, Runs}
+use Rattle.nv_script.specs.Ends.{RunsFrom, WasRead, begun, end_without, left_by}
 use Rattle.nv_script.specs.inner.Feeding.{LastLeaves, PieceLeaves, Stands}
 use Rattle.nv_script.specs.Results.{Progress, whole}
 use Rattle.nv_script.specs.ScriptLines.{IsReadToEnd, as_line, has_stopped, pieces, script_lines}
@@ -163,11 +164,23 @@ without (Some field) e end same gives = gives.0 field same
 without None e end same gives = gives.1 same
 
 -- a run from the subsystem that bringing up a driver leaves is a run
-pub with_driver : (g : DriverGeometry) (reads : ℕ) (end : RunEnd) {B : Type 0} {before after : B}
-    (old new : RunState) (s : State) (enabled : List Bool) → fault_of g ≡ None → s ≡ begun old
-    → RunsFrom s reads end (record old { subsystem = s; enabled = enabled }) new → AllEnabled new
-    → Runs g reads end before after old new
-with_driver g reads end old new s enabled is same runs all = grind (arith, common_steps)
+pub with_driver : {B : Type 0} (brings_up : BringingUp B) (g : DriverGeometry) (reads : ℕ) (end : RunEnd)
+    (before after : B) (old new : RunState) (s : State) (enabled : List Bool) → fault_of g ≡ None → s ≡ begun old
+    → IsUp brings_up g before old → RunsFrom s reads end (record old { subsystem = s; enabled = enabled }) new
+    → AllEnabled new → Runs brings_up g reads end before after old new
+with_driver brings_up g reads end before after old new s enabled is same up runs all =
+    inr (
+      is,
+      up,
+      all,
+      record {
+        bytes = runs.bytes;
+        was_read = runs.was_read;
+        left = subst (λ from. Leaves end reads new.script from runs.bytes (left_by old new)) same runs.left;
+        end_of = runs.end_of;
+        calls = runs.calls;
+      },
+    )
 
 -- ---- the main promise
 
@@ -177,13 +190,11 @@ headline_without None old new status e = absurd (cc)
 headline_without (Some field) old new status e = absurd (cc)
 
 -- each run leaves what the headline says
-runs_headline : (g : DriverGeometry) (reads : ℕ) (end : RunEnd) {B : Type 0} {before after : B} (old new : RunState)
-    → Runs g reads end before after old new
-    → Headline end old new
-runs_headline g reads end old new (inl h) =
+runs_headline : {B : Type 0} (brings_up : BringingUp B) (g : DriverGeometry) (reads : ℕ) (end : RunEnd)
+    (before after : B) (old new : RunState) → Runs brings_up g reads end before after old new → Headline end old new
+runs_headline brings_up g reads end before after old new (inl h) =
     subst (λ x. Headline x old new) (sym h.0) (headline_without (fault_of g) old new)
-runs_headline g reads end old new (inr h) =
-    headline_with reads end old new h.2
+runs_headline brings_up g reads end before after old new (inr h) = headline_with reads end old new h.3
 
 -- ---- the geometry
 
@@ -195,11 +206,14 @@ geometry_without (Some f) field =
     (λ e. let same : f ≡ field = cc in ap Some same, λ e. let same : f ≡ field = cc in ap Geometry same)
 
 -- a run ends with a field of the geometry if and only if that is the first one outside its limits
-runs_geometry : (g : DriverGeometry) (reads : ℕ) (end : RunEnd) {B : Type 0} {before after : B} (old new : RunState)
-    (field : GeometryField) → Runs g reads end before after old new → (end ≡ Geometry field) ↔ (fault_of g ≡ Some field)
-runs_geometry g reads end old new field (inl h) =
+runs_geometry : {B : Type 0} (brings_up : BringingUp B) (g : DriverGeometry) (reads : ℕ) (end : RunEnd)
+    (before after : B) (old new : RunState) (field : GeometryField) → Runs brings_up g reads end before after old new
+    → (end ≡ Geometry field) ↔ (fault_of g ≡ Some field)
+runs_geometry brings_up g reads end before after old new field (inl h) =
     subst (λ x. (x ≡ Geometry field) ↔ (fault_of g ≡ Some field)) (sym h.0) (geometry_without (fault_of g) field)
-runs_geometry g reads end old new field (inr h) = grind (arith, common_steps)
+runs_geometry brings_up g reads end before after old new field (inr h) =
+    let is = h.0 in
+    let ended = h.3.end_of in grind (arith, common_steps, is, ended)
 
 -- ---- the faults
 
@@ -239,19 +253,18 @@ faults_without (Some field) reads now well = grind (arith, common_steps)
 faults_without None reads now well = faults_with reads Memory now (well.out, well.messages)
 
 -- each run has the faults of AreFaults, if the streams were well before it
-faults : (g : DriverGeometry) (reads : ℕ) (end : RunEnd) {B : Type 0} {before after : B} (old new : RunState)
-    → IsWell reads old → Runs g reads end before after old new → AreFaults reads end new
-faults g reads end old new well (inl h) = grind (arith, common_steps, faults_without)
-faults g reads end old new well (inr h) =
-    faults_with reads end new h.2.end_of
+faults : {B : Type 0} (brings_up : BringingUp B) (g : DriverGeometry) (reads : ℕ) (end : RunEnd) (before after : B)
+    (old new : RunState) → IsWell reads old → Runs brings_up g reads end before after old new → AreFaults reads end new
+faults brings_up g reads end before after old new well (inl h) = grind (arith, common_steps, faults_without)
+faults brings_up g reads end before after old new well (inr h) = faults_with reads end new h.3.end_of
 
 -- all that a run promises follows from how it ends
-pub is_run : (g : DriverGeometry) (reads : ℕ) (end : RunEnd) {B : Type 0} {before after : B} (old new : RunState)
-    → IsWell reads old → Runs g reads end before after old new
-    → IsRun g reads end before after old new
-is_run g reads end old new well h = record {
-  headline = runs_headline g reads end old new h;
+pub is_run : {B : Type 0} (brings_up : BringingUp B) (g : DriverGeometry) (reads : ℕ) (end : RunEnd) (before after : B)
+    (old new : RunState) → IsWell reads old → Runs brings_up g reads end before after old new
+    → IsRun brings_up g reads end before after old new
+is_run brings_up g reads end before after old new well h = record {
+  headline = runs_headline brings_up g reads end before after old new h;
   ends = h;
-  geometry = λ field. runs_geometry g reads end old new field h;
-  faults = faults g reads end old new well h;
+  geometry = λ field. runs_geometry brings_up g reads end before after old new field h;
+  faults = faults brings_up g reads end before after old new well h;
 }

@@ -1,5 +1,5 @@
 -- The state of the streams and of the subsystem after some lines, and where a line was cut short.
-use Rattle.std.specs.Prelude.{◌≡◌, ℕ, ◌+◌, ◌<◌, Bool, true, false, List, [], ◌∷◌, ◌++◌, length}
+use Rattle.std.specs.Prelude.{◌≡◌, ◌≢◌, ℕ, ◌+◌, ◌<◌, Bool, true, false, List, [], ◌∷◌, ◌++◌, length}
 use Rattle.std.specs.Prelude.{take, flat_map, Option, Result, Ok, Err}
 use Rattle.std.specs.Io.KnownBytes.{Appends}
 use Rattle.nv_model.specs.State.{State}
@@ -64,10 +64,12 @@ abbrev pub IsMessageBeginning : Progress → List ℕ → Left → Type 0
 IsMessageBeginning p line left = (part : List ℕ) × IsBeginning part (result_at p line).message
     × Holds left p.output (p.messages ++ part) (result_at p line).state
 
--- memory was refused: nothing of the line is written, and some of its orders were executed
+-- memory was refused, at a line that isn't skipped: nothing of it is written, and some of its orders
+-- were executed
 abbrev pub IsMemoryBeginning : Progress → List ℕ → Left → Type 0
-IsMemoryBeginning p line left = (k : ℕ)
-    × Holds left p.output p.messages (state_amid p.state p.next_cids (said_at p line) k)
+IsMemoryBeginning p text left = (k : ℕ)
+    × Holds left p.output p.messages (state_amid p.state p.next_cids (said_at p text) k)
+    × (said_at p text ≢ Ok line.Skipped)
 
 -- what an end in a line after p leaves; no other end than these three cuts a line short
 abbrev pub IsCutIn : RunEnd → Progress → List ℕ → Left → Type 0

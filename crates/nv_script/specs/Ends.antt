@@ -90,12 +90,24 @@ abbrev pub end_without : Option GeometryField → RunEnd
 end_without (Some field) = Geometry field
 end_without None = Memory
 
+-- what is said of bringing up a driver: its geometry, how many controllers there are, and the bus
+-- before and after it
+abbrev pub BringingUp : Type 0 → Type 1
+BringingUp B = DriverGeometry → ℕ → B → B → Type 0
+
+-- a driver of this geometry was brought up for all controllers
+abbrev pub IsUp : {B : Type 0} → BringingUp B → DriverGeometry → B → RunState → Type 0
+IsUp {B} brings_up g before old = (up : B) × brings_up g (length old.subsystem.controllers) before up
+
 -- A run without a driver changes nothing, and the bus is the one from before. A run with a driver
--- has a geometry within its limits, which has no other effect, and leaves each controller enabled.
-abbrev pub Runs : {B : Type 0} → DriverGeometry → ℕ → RunEnd → B → B → RunState → RunState → Type 0
-Runs g reads end before after old new =
+-- has a geometry within its limits, by which the driver is brought up, and which has no other effect
+-- on what is left, and leaves each controller enabled.
+abbrev pub Runs : {B : Type 0} → BringingUp B → DriverGeometry → ℕ → RunEnd → B → B → RunState → RunState
+    → Type 0
+Runs brings_up g reads end before after old new =
     ((end ≡ end_without (fault_of g)) × (after ≡ before) × (new ≡ old))
-    ⊎ ((fault_of g ≡ None) × AllEnabled new × RunsFrom (begun old) reads end old new)
+    ⊎ ((fault_of g ≡ None) × IsUp brings_up g before old × AllEnabled new
+    × RunsFrom (begun old) reads end old new)
 
 -- the headline: a script whose bytes are known and that was read to its end leaves what the fold
 -- over its lines says
@@ -116,12 +128,12 @@ pub record AreFaults (reads : ℕ) (end : RunEnd) (now : RunState) : Type 0 wher
       × (now.messages.has_failed ≡ false) × (end ≢ Memory))
 
 -- What a run of at most so many reads promises, with the bus before and after it.
-pub record IsRun {B : Type 0} (g : DriverGeometry) (reads : ℕ) (end : RunEnd) (before after : B)
-    (old new : RunState) : Type 0 where
+pub record IsRun {B : Type 0} (brings_up : BringingUp B) (g : DriverGeometry) (reads : ℕ) (end : RunEnd)
+    (before after : B) (old new : RunState) : Type 0 where
   -- what a script whose bytes are known leaves if it was read to its end
   pub headline : Headline end old new
   -- what each end leaves, and how many reads there were
-  pub ends : Runs g reads end before after old new
+  pub ends : Runs brings_up g reads end before after old new
   -- when each fault occurs
   pub geometry : (field : GeometryField) → (end ≡ Geometry field) ↔ (fault_of g ≡ Some field)
   pub faults : AreFaults reads end new

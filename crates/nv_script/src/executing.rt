@@ -7,7 +7,7 @@ ghost use Rattle.nv_script.specs.Cuts.{left_at};
 ghost use Rattle.nv_script.specs.inner.Feeding.{IsFailureOf, LineLeaves, PrintLeaves};
 ghost use Rattle.nv_script.specs.inner.Feeding.{ReportLeaves, Stands};
 ghost use Rattle.nv_layout.specs.UnlessMemory.{IsUnlessMemory};
-ghost use Rattle.nv_line.specs.Line.{IsKnown, reading};
+ghost use Rattle.nv_line.specs.Line.{IsKnown, NeedsNoMemory, begun, reading};
 ghost use Rattle.nv_line.specs.Word.{line_limit};
 ghost use Rattle.nv_script.specs.Results.{Progress, message_at};
 ghost use Rattle.nv_script.specs.inner.ScriptLines.{buffer_after, buffer_of};
@@ -71,6 +71,8 @@ impl LineBuffer {
     ) -> Result<Line<'a>, LineFault>
         ensures said { (text : List ℕ) → self.old ≡ buffer_of text
             → IsUnlessMemory LineFault.Memory (λ l. l) result (reading text controllers) }
+        ensures plain { (text : List ℕ) → self.old ≡ buffer_of text → NeedsNoMemory (begun text)
+            → result ≡ reading text controllers }
         ensures known { IfOk result (IsKnown controllers) }
         ensures emptied { self.new ≡ Some [] }
     {

@@ -9,6 +9,7 @@ ghost use Rattle.nv_script.specs.Ends.{IsRun, RunsFrom, run_state};
 ghost use Rattle.nv_script.specs.inner.Feeding.{IsFailureOf, LastLeaves, PieceLeaves, Stands};
 ghost use Rattle.nv_script.specs.ScriptLines.{read_limit, pieces};
 ghost use Rattle.nv_script.specs.inner.ScriptLines.{buffer_of};
+ghost use Rattle.nv_driver.specs.BringingUp.{BringsUp, Still};
 ghost use Rattle.nv_driver.specs.Linked.{IsLinked};
 ghost use Rattle.nv_script.specs.inner.Link.{IsFirst};
 ghost use Rattle.nv_script.specs.Results.{whole};
@@ -20,7 +21,7 @@ use crate::session::Session;
 use bumpalo::Bump;
 use memchr::memchr;
 use nv_bus::Bus;
-use nv_driver::Geometry;
+use nv_driver::{Geometry, Zeroing};
 use nv_line::LineReader;
 use nv_stream::{READ_SIZE, Sink, Source};
 use std::alloc::Global;
@@ -157,7 +158,7 @@ pub const READ_LIMIT: u32 = u32::MAX;
 
 /// Runs a script as `run` does, with at most `reads` reads. The bytes of the last read count, and
 /// after it the run ends as after a failed read, whatever it returned.
-pub fn run_within<B: Bus, R: Source, O: Sink, M: Sink>(
+pub fn run_within<B: Bus + Zeroing, R: Source, O: Sink, M: Sink>(
     alloc: Global,
     bus: &mut B,
     geometry: Geometry,
@@ -172,7 +173,8 @@ pub fn run_within<B: Bus, R: Source, O: Sink, M: Sink>(
     requires fresh_messages { (M.state messages.old).has_failed ≡ false }
     requires some_read { 0 < reads }
     // The main promise: how the run ends, what each end leaves behind, and when each fault comes.
-    ensures run { IsRun geometry reads result bus.old bus.new
+    ensures run { IsRun (BringsUp B.was_written (Still B.was_read) B.was_zeroed)
+        geometry reads result bus.old bus.new
         (run_state (B.meaning bus.old) (R.state script.old) (O.state out.old)
         (M.state messages.old))
         (run_state (B.meaning bus.new) (R.state script.new) (O.state out.new)
@@ -192,7 +194,7 @@ pub fn run_within<B: Bus, R: Source, O: Sink, M: Sink>(
 /// `messages`. At most 4,294,967,295 reads are made, and none after one that returned no byte or
 /// failed. If the geometry is outside its limits, nothing is read or written, and the subsystem
 /// doesn't change.
-pub fn run<B: Bus, R: Source, O: Sink, M: Sink>(
+pub fn run<B: Bus + Zeroing, R: Source, O: Sink, M: Sink>(
     alloc: Global,
     bus: &mut B,
     geometry: Geometry,
@@ -205,7 +207,8 @@ pub fn run<B: Bus, R: Source, O: Sink, M: Sink>(
     requires fresh_out { (O.state out.old).has_failed ≡ false }
     requires fresh_messages { (M.state messages.old).has_failed ≡ false }
     // The main promise: how the run ends, what each end leaves behind, and when each fault comes.
-    ensures run { IsRun geometry read_limit result bus.old bus.new
+    ensures run { IsRun (BringsUp B.was_written (Still B.was_read) B.was_zeroed)
+        geometry read_limit result bus.old bus.new
         (run_state (B.meaning bus.old) (R.state script.old) (O.state out.old)
         (M.state messages.old))
         (run_state (B.meaning bus.new) (R.state script.new) (O.state out.new)

@@ -2,7 +2,7 @@
 
 use crate::ends::RunEnd;
 use nv_bus::Bus;
-use nv_driver::{AnswerSlot, Driver, Geometry};
+use nv_driver::{AnswerSlot, Driver, Geometry, Zeroing};
 use nv_line::CtrlList;
 use std::alloc::Global;
 use std::array;
@@ -32,8 +32,9 @@ pub struct Session {
 }
 
 impl Session {
-    ghost use Rattle.std.specs.Prelude.{◌≡◌, IfOk, MatchResult, None, OnErr};
+    ghost use Rattle.std.specs.Prelude.{◌≡◌, IfOk, MatchResult, None, OnErr, length};
     ghost use Rattle.nv_bus.specs.Bus.{IsBus, enabled_in};
+    ghost use Rattle.nv_driver.specs.BringingUp.{BringsUp, Still};
     ghost use Rattle.nv_driver.specs.Geometry.{fault_of};
     ghost use Rattle.nv_model.specs.Step.{reset_where};
     ghost use Rattle.nv_script.specs.Ends.{end_without};
@@ -43,7 +44,7 @@ impl Session {
     /// Creates the state before the first line: allocates storage for answers, and brings up a
     /// driver of this geometry, which resets each controller that was enabled. If it fails, the bus
     /// is untouched.
-    pub(crate) fn begin<B: Bus>(
+    pub(crate) fn begin<B: Bus + Zeroing>(
         alloc: Global,
         bus: &mut B,
         geometry: Geometry,
@@ -52,6 +53,8 @@ impl Session {
         ensures state { IfOk result (λ _. (B.meaning bus.new).state
             ≡ reset_where (enabled_in (B.meaning bus.old).banks) (B.meaning bus.old).state) }
         ensures untouched { OnErr result (bus.new ≡ bus.old) }
+        ensures up { IfOk result (λ _. BringsUp B.was_written (Still B.was_read) B.was_zeroed geometry
+            (length (B.meaning bus.old).banks) bus.old bus.new) }
         ensures bus { IsBus (B.meaning bus.new) }
         ensures fault { MatchResult result (λ _. fault_of geometry ≡ None)
             (λ end. end ≡ end_without (fault_of geometry)) }

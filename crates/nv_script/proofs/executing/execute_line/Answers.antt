@@ -6,8 +6,8 @@ use Rattle.nv_script.specs.Results.{LineResult, answer_result, message_at, outpu
 use Rattle.nv_driver.specs.inner.Linked.{next_cids_of}
 use Rattle.nv_print.specs.declared.fault.FaultCause.TheVariants as cause
 use Rattle.nv_line.specs.declared.line.Line.TheVariants as line
-use Rattle.nv_script.proofs.LineLaws.{amid-all, amid-some, amid-zero, fault_said, message_leaves}
-use Rattle.nv_script.proofs.LineLaws.{output_leaves, result_asked, result_fault, said_here}
+use Rattle.nv_script.proofs.LineLaws.{amid-all, amid-some, amid-zero, asks_fault, asks_memory, asks_request, fault_said}
+use Rattle.nv_script.proofs.LineLaws.{message_leaves, output_leaves, result_asked, result_fault, said_here}
 use Rattle.nv_script.proofs.executing.execute_line.Goals as goal
 
 pub returns-in-Ok-perform-clause-left : goal.returns-in-Ok-perform-clause-left
@@ -36,7 +36,7 @@ returns-in-Ok-perform-clause-left g c text p o m is stands =
     (left_at o (g.O.Sink.state c.args.out.now).taken m (g.M.Sink.state c.args.messages.now).taken s)
     (g.B.Bus.meaning c.perform.new.bus).state _
     same stands.holds left.2.subsystem left.2.next (ap (λ n. n + 1) stands.number) refl
-    (amid-all p text r s next_cids here stands.holds.reached stands.next)
+    (amid-all p text r s next_cids here stands.holds.reached stands.next) (asks_request _ r here)
     c.print.result c.deref.result.now
     (g.O.Sink.state c.print.new.sink).taken _ refl (c.deref.ensures.value ∙ left.1) c.print.ensures
 
@@ -67,7 +67,7 @@ returns-in-Err-Refused-clause-left g c text p o m is stands =
     (left_at o (g.O.Sink.state c.args.out.now).taken m (g.M.Sink.state c.args.messages.now).taken s)
     (g.B.Bus.meaning c.perform.new.bus).state _
     same stands.holds left.1.subsystem left.1.next (ap (λ n. n + 1) stands.number) refl
-    (amid-all p text r s next_cids here stands.holds.reached stands.next)
+    (amid-all p text r s next_cids here stands.holds.reached stands.next) (asks_request _ r here)
     c.report-in-Err-Refused.result
     (g.M.Sink.state c.report-in-Err-Refused.new.messages).taken _ refl c.report-in-Err-Refused.ensures
 
@@ -87,6 +87,7 @@ returns-in-Err-Memory-clause-left g c text p o m is stands =
         took_messages = stands.holds.took_messages;
         reached = left.1.subsystem ∙ amid-some p text r s next_cids left.0 here stands.holds.reached stands.next;
       },
+      asks_request _ r here,
     )
 
 pub returns-in-Memory-clause-left : goal.returns-in-Memory-clause-left
@@ -97,6 +98,8 @@ returns-in-Memory-clause-left g c text p o m is stands = (
     took_messages = stands.holds.took_messages;
     reached = stands.holds.reached ∙ sym (amid-zero p.state p.next_cids _);
   },
+  asks_memory p text (g.B.Bus.meaning c.args.bus.now).state c.controllers.result c.in-Err.fault stands.holds.reached
+      (c.controllers.ensures ∙ c.requires.linked.bus.banks) (c.in-Err.ensures.plain text is),
 )
 
 pub returns-in_default-clause-left : goal.returns-in_default-clause-left
@@ -114,6 +117,6 @@ returns-in_default-clause-left g c text p o m is stands =
     message_leaves p text lr 0
     (left_at o (g.O.Sink.state c.args.out.now).taken m (g.M.Sink.state c.args.messages.now).taken s) s _
     same stands.holds refl refl (ap (λ n. n + 1) stands.number) refl
-    (stands.holds.reached ∙ sym (amid-zero p.state p.next_cids _))
+    (stands.holds.reached ∙ sym (amid-zero p.state p.next_cids _)) (asks_fault _ f here)
     c.report.result
     (g.M.Sink.state c.report.new.messages).taken _ refl c.report.ensures

@@ -1,5 +1,6 @@
-use Rattle.std.proofs.Common.{ap, inl}
+use Rattle.std.proofs.Common.{ap, inl, subst}
 use Rattle.nv_bus.specs.Bus.{BusValue, enabled_in}
+use Rattle.nv_driver.specs.BringingUp.{BringsUp, Still}
 use Rattle.nv_script.specs.Ends.{RunState, run_state}
 use Rattle.nv_driver.proofs.LinkedLaws.{all_enabled}
 use Rattle.nv_script.proofs.RunLaws.{fresh_well, is_run, with_driver}
@@ -7,23 +8,28 @@ use Rattle.nv_script.proofs.running.run_within.Goals as goal
 
 pub returns-in-Ok-clause-run : goal.returns-in-Ok-clause-run
 returns-in-Ok-clause-run g c =
+    let brings_up = BringsUp g.B.Bus.was_written (Still g.B.Bus.was_read) g.B.Zeroing.was_zeroed in
     let old : RunState = run_state (g.B.Bus.meaning c.args.bus.now) (g.R.Source.state c.args.script.now)
     (g.O.Sink.state c.args.out.now) (g.M.Sink.state c.args.messages.now) in
     let begun = g.B.Bus.meaning c.begin.new.bus in
+    let up = subst (λ n. brings_up c.args.geometry n c.args.bus.now c.begin.new.bus) c.requires.bus.banks
+    c.in-Ok.ensures.up in
     let well = fresh_well c.args.reads old c.requires.fresh_script c.requires.some_read c.requires.fresh_out
     c.requires.fresh_messages in
-    is_run c.args.geometry c.args.reads c.run_session.result old _ well
-    (with_driver c.args.geometry c.args.reads c.run_session.result old _ begun.state
-    (enabled_in begun.banks) c.in-Ok.ensures.fault c.in-Ok.ensures.state c.run_session.ensures.runs
+    is_run brings_up c.args.geometry c.args.reads c.run_session.result c.args.bus.now c.run_session.new.bus old _ well
+    (with_driver brings_up c.args.geometry c.args.reads c.run_session.result c.args.bus.now c.run_session.new.bus old _
+    begun.state (enabled_in begun.banks) c.in-Ok.ensures.fault c.in-Ok.ensures.state (c.begin.new.bus, up)
+    c.run_session.ensures.runs
     (all_enabled (g.B.Bus.meaning c.run_session.new.bus) c.run_session.new.session.driver c.run_session.ensures.linked))
 
 pub returns-in-Err-clause-run : goal.returns-in-Err-clause-run
 returns-in-Err-clause-run g c =
+    let brings_up = BringsUp g.B.Bus.was_written (Still g.B.Bus.was_read) g.B.Zeroing.was_zeroed in
     let old : RunState = run_state (g.B.Bus.meaning c.args.bus.now) (g.R.Source.state c.args.script.now)
     (g.O.Sink.state c.args.out.now) (g.M.Sink.state c.args.messages.now) in
     let same = ap (λ (b : BusValue). run_state b (g.R.Source.state c.args.script.now) (g.O.Sink.state c.args.out.now)
     (g.M.Sink.state c.args.messages.now)) (ap g.B.Bus.meaning c.in-Err.ensures.untouched) in
     let well = fresh_well c.args.reads old c.requires.fresh_script c.requires.some_read c.requires.fresh_out
     c.requires.fresh_messages in
-    is_run c.args.geometry c.args.reads c.in-Err.end old _ well
+    is_run brings_up c.args.geometry c.args.reads c.in-Err.end c.args.bus.now _ old _ well
     (inl (c.in-Err.ensures.fault, c.in-Err.ensures.untouched, same))
