@@ -166,7 +166,7 @@ class Examples(Case):
             (self.folder / name).symlink_to(TOP / name)
         self.ends(run('sh', '-c', check, cwd=self.folder), 0, b'every line succeeded\n', b'')
         self.ends(run('sh', '-c', check.replace('guide.toml', 'missing.toml'), cwd=self.folder), 0,
-                  b'nvme-script: subsystem: unreadable\n', b'')
+                  b"nvme-script: subsystem: unreadable\nnvme-script: there is no file 'examples/missing.toml'\n", b'')
         if shutil.which('jq'):
             self.ends(run('sh', '-c', query, cwd=self.folder), 0, b'"0"\n', b'')
 
