@@ -66,6 +66,22 @@ class Names(Case):
                 self.assertEqual(sorted(names), sorted(set(names)), path.name)
 
 
+class Tools(Case):
+    def test_arguments(self):
+        # (without a look at their arguments, these would build, or try all edits and tests)
+        build = rb'usage: tools/build \[PROGRAM\], .* nvme_script nvme_trace$'
+        for words, status, text in (('tools/build bogus', 72, build), ('tools/build --help', 72, build),
+                                    ('tools/build nvme_trace nvme_bench', 72, build),
+                                    ('tools/library --help', 72, b'tools/library takes no arguments'),
+                                    ('tools/mutants --help', 0, rb'usage: mutants \[-h\] \[WORD '),
+                                    ('tools/coverage --help', 0, rb'usage: coverage \[-h\] \[MODULE '),
+                                    ('tools/mutants --bogus', 2, b'unrecognized arguments: --bogus')):
+            with self.subTest(words):
+                ended = run(*words.split(), err='&1')
+                self.ends(ended, status)
+                self.assertRegex(ended.out, text)
+
+
 class Mutants(Case):
     def test_each_edit_can_be_made(self):
         loader = importlib.machinery.SourceFileLoader('mutants', str(TOP / 'tools/mutants'))
