@@ -330,6 +330,8 @@ class Texts(Copy):
             self.ends(ended, 0, err=b'')
             self.assertTrue(ended.out.startswith(out), ended)
         self.assertEqual(run(self.copy / 'nvme-model', '--qemu', '--help', '-x').status, 72)
+        ended = run(self.copy / 'nvme-model', '--build', 'now')
+        self.ends(ended, 72, b'', b'nvme-model: --build takes no other argument\n')
 
     def test_beside_an_installation(self):
         # a clone in the folder of an installation runs its own sources
