@@ -226,10 +226,12 @@ class Copies(Case):
         self.assertIn(f'There are {len(commands)} commands', text_of('README.md'))
 
     def test_versions(self):
-        version = text_of('VERSION').strip()
-        readme = text_of('README.md')
-        self.assertEqual(set(re.findall(r'[0-9]+\.[0-9]+\.[0-9]+', readme)), {version})
-        self.assertIn(f'\n## {version}, ', text_of('CHANGELOG.md'))
+        """README names the last release, and CHANGELOG's first section is that of VERSION, which ends with ~dev before
+        its release."""
+        version, dev = re.fullmatch(r'([0-9.]+)(~dev)?\n', text_of('VERSION')).groups()
+        sections = re.findall(r'(?m)^## ([^,\n]+)', text_of('CHANGELOG.md'))
+        self.assertEqual(sections[0], 'Next' if dev else version)
+        self.assertEqual(set(re.findall(r'[0-9]+\.[0-9]+\.[0-9]+', text_of('README.md'))), {sections[bool(dev)]})
         if shutil.which('rt') is None:
             self.skipTest('there is no toolchain')
         toolchain = run('rt', 'version').out.decode()
