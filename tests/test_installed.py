@@ -25,6 +25,7 @@ COMPLETED = {('nvme-script', '--page'): '--page-size', ('nvme-trace', '--win'): 
              ('nvme-script', '--subsystem', 'examples/demo.t'): 'examples/demo.toml',
              ('nvme-model', '--device', '/dev/nul'): '/dev/null', ('nvme-describe', '/dev/nul'): '/dev/null',
              ('nvme-model', 'mkfs.ext4'): 'mkfs.ext4', ('nvme-model', '--qemu', '--mem'): '--memory',
+             ('nvme-model', '--vfio-user', '--soc'): '--socket',
              ('nvme-model', '--vfio-user', '--subsystem', 'examples/demo.t'): 'examples/demo.toml',
              **{('nvme-model', *words.split(), 'nvme-describe', '--cu'): '--current'
                 for words in ('', '--root', '--trace', '--depth 8', '--window 2 --')}}
