@@ -80,6 +80,9 @@ class Installed(Case):
         elsewhere = self.file('elsewhere.toml', DEMO.read_bytes())
         ended = run(self.prefix / 'bin/nvme-model', '--subsystem', elsewhere, 'sh', '-c', LOOK, cwd='/')
         self.ends(ended, 0, b'S1                  \n', b'')
+        words = re.search(r"`\./nvme-model (sh -c 'ls .*?)`", (TOP / 'docs/SUPPORT.md').read_text())[1]
+        ended = run(self.prefix / 'bin/nvme-model', *shlex.split(words))
+        self.ends(ended, 0, b'/dev/nvme0\n/dev/nvme0n1\n/dev/nvme0n3\n/dev/nvme1\n', b'')
 
     def test_library(self):
         library()

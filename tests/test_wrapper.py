@@ -73,6 +73,11 @@ class Copy(Case):
     def script(self, *arguments, source=b'list-ns /dev/nvme0\n', cwd=TOP, command=None, **more):
         return run(command or self.command, *arguments, source=source, cwd=cwd, env={**self.env, 'PWD': cwd}, **more)
 
+    def refuses(self, words, message, advice, **more):
+        """Checks that a run is refused with two lines."""
+        ended = self.script(*words, **more)
+        self.ends(ended, 3, b'', f'nvme-script: {message}\nnvme-script: {advice}\n'.encode())
+
     def is_proved(self):
         self.ends(self.script(), 0, b'[   0]:0x1\n[   1]:0x3\n', b'')
 
@@ -128,11 +133,6 @@ class WhichProgram(Copy):
     def test_no_rt(self):
         self.env['PATH'] = '/usr/bin:/bin'
         self.is_proved()
-
-    def refuses(self, words, message, advice, **more):
-        """Checks that a run is refused with two lines."""
-        ended = self.script(*words, **more)
-        self.ends(ended, 3, b'', f'nvme-script: {message}\nnvme-script: {advice}\n'.encode())
 
     def is_refused(self, message, rows):
         """Checks that arguments are refused with these lines by the proved program, and without it before `rt` runs."""
@@ -423,7 +423,9 @@ class SubsystemFiles(Copy):
         self.leaves_nothing()
 
     def test_none_of_another_folder(self):
-        self.ends(self.script('--subsystem', 'up.toml', cwd=self.caller), 0, ANSWER)
+        self.refuses(['--subsystem', 'up.toml'], 'subsystem: unreadable', "there is no file 'up.toml'", cwd=self.caller)
+        words = 'nvme_script', '--subsystem', 'up.toml'
+        self.ends(self.script(*words, cwd=self.caller, command=self.copy / 'tools/unproved'), 0, ANSWER)
         self.assertEqual((self.given('1'), self.given('file')), (b'--subsystem', None))
 
     def test_pipe(self):
