@@ -218,6 +218,7 @@ class WhichProgram(Copy):
         talk.say(b'\x03')
         self.assertEqual(talk.process.wait(LIMIT), -signal.SIGINT)
         self.made.unlink()
+        (self.kit / 'out').write_bytes(b'')
         self.answer_ended(3, b'nvme-script: geometry: depth\n')
         talk = Running('sh', '-c', '"$0" < /dev/null', self.command, terminal=True, env=self.env)
         talk.comes(b'nvme-script: geometry: depth\nnvme-script: nvme-script --help shows what options take, and '
