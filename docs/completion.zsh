@@ -9,7 +9,7 @@ options=($first ${(f)"$("${words[1]/nvme-trace/nvme-script}" $first --help 2> /d
     -e 's/^  (--[a-z-]+) [A-Z].*/\1=: : /p; t' \
     -e 's/^  (-h, )?(--[a-z-]+).*/\2/p')"})
 case $service$first in
-    nvme-model | nvme-model--vm) _arguments $options '1: :_command_names -e' '*:: :_normal' ;;
+    nvme-model | nvme-model--vm) _arguments -S $options '1: :_command_names -e' '*:: :_normal' ;;
     nvme-model* | nvme-describe) _arguments $options '*: :_files' ;;
     *) _arguments $options ;;
 esac
