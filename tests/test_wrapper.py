@@ -78,6 +78,19 @@ class Copy(Case):
         ended = self.script(*words, **more)
         self.ends(ended, 3, b'', f'nvme-script: {message}\nnvme-script: {advice}\n'.encode())
 
+    def is_refused(self, message, rows):
+        """Checks that arguments are refused with these lines by the proved program, and without it before `rt` runs."""
+        for words, advice in rows:
+            with self.subTest(words):
+                self.refuses(words, message, advice)
+        self.made.unlink()
+        for path in self.kit.glob('given.*'):
+            path.unlink()
+        for words, advice in rows:
+            with self.subTest(words, unproved=True):
+                self.refuses(words, message, advice)
+                self.assertIsNone(self.given('input'))
+
     def is_proved(self):
         self.ends(self.script(), 0, b'[   0]:0x1\n[   1]:0x3\n', b'')
 
@@ -134,20 +147,8 @@ class WhichProgram(Copy):
         self.env['PATH'] = '/usr/bin:/bin'
         self.is_proved()
 
-    def is_refused(self, message, rows):
-        """Checks that arguments are refused with these lines by the proved program, and without it before `rt` runs."""
-        for words, advice in rows:
-            with self.subTest(words):
-                self.refuses(words, message, advice)
-        self.made.unlink()
-        for path in self.kit.glob('given.*'):
-            path.unlink()
-        for words, advice in rows:
-            with self.subTest(words, unproved=True):
-                self.refuses(words, message, advice)
-                self.assertIsNone(self.given('input'))
-
-    def test_arguments(self):
+    def test_advice(self):
+        # a second line says what to do about the usual mistakes
         see, read = 'nvme-script --help shows the options', 'a script is read from standard input: nvme-script < FILE'
         needs, twice, alone = '--depth needs a value', '--depth is given twice', '--help takes no other argument'
         rows = {see: ['-h', '--bogus', '--pace=1 -q', '--bogus=3 x', '--help=1', '---', '--depth 8 --explain'],
