@@ -208,7 +208,10 @@ static void tell_summary(void) {
     }
 }
 
+/* Shows how the options are used, after the value of an option that doesn't take it. */
 static void show_usage(FILE *to) {
+    if (optarg)
+        warnx("%s: the option doesn't take this, or not once more", optarg);
     fputs(qemu_usage, to);
     exit(fflush(to) == 0 && to == stdout ? 0 : FAILED);
 }
@@ -235,8 +238,15 @@ static unsigned read_options(int count, char **arguments) {
         else if (option != 0)
             show_usage(option == 'h' ? stdout : stderr);
     }
-    if (!is_server != !sockets || (optind < count && (is_server || strcmp(arguments[optind - 1], "--") != 0)))
+    const char *reason = is_server && !sockets   ? "--vfio-user needs --socket PATH"
+                         : sockets && !is_server ? "--socket goes with --vfio-user"
+                         : optind == count       ? NULL
+                         : is_server             ? "--vfio-user runs nothing"
+                         : strcmp(arguments[optind - 1], "--") != 0 ? "QEMU's options come after --" : NULL;
+    if (reason) {
+        warnx("%s%s%s", optind < count ? arguments[optind] : "", optind < count ? ": " : "", reason);
         show_usage(stderr);
+    }
     return (unsigned)optind;
 }
 

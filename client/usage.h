@@ -10,6 +10,7 @@ static const char qemu_usage[] =
     "  --subsystem FILE  use the subsystem of FILE; repeat it for several subsystems\n"
     "  --memory SIZE     give the machine of --qemu this memory, such as 256M (default: 128M; at most 64G)\n"
     "  --summary         at the end, write each controller's counts and error log to standard error\n"
+    "  --socket PATH     as PATH0 and so on, listen with --vfio-user\n"
     "  --help            show this help\n\n"
     "The exit status is that of QEMU, or 72 if nvme-model itself can't continue. See QEMU.md.\n";
 

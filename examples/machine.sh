@@ -1,5 +1,6 @@
 # Boots the newest kernel of a Debian machine, with nvme-cli, over the model's controllers (docs/QEMU.md). What it packs
 # stays in your home folder.
+set -e
 guest=$HOME/nvme-guest
 release=$(ls /lib/modules | tail -n 1)
 mkdir -p "$guest/bin" "$guest/proc" "$guest/sys" "$guest/dev" "$guest/modules"
@@ -8,7 +9,8 @@ for library in $(ldd /usr/sbin/nvme | grep -o '/[^ ]*'); do
     mkdir -p "$guest${library%/*}" && cp "$library" "$guest$library"
 done
 for module in crct10dif_generic crc64_rocksoft_generic nvme; do
-    /sbin/modprobe -S "$release" --show-depends $module 2> /dev/null
+    # (a kernel may have no such module, or have it built in)
+    /sbin/modprobe -S "$release" --show-depends $module 2> /dev/null || :
 done | awk '$1 == "insmod" && !seen[$2]++ { print $2 }' | while read -r module; do
     name=$(basename "$module" .xz)
     case $module in *.xz) xz -dc "$module" > "$guest/modules/$name" ;; *) cp "$module" "$guest/modules" ;; esac

@@ -1,10 +1,11 @@
-"""Runs the test modules side by side, each as a process: `python3 -m tests.run`, or with `--quick` those that need no
-proof. Each test of PARTED is a process of its own. Those that took longest in the last run begin first, or else those
-of LONGEST. The output of a failed one is shown in full. The last line is `N passed, N failed, N skipped`, where each
-row of a table counts, and the status is 1 if anything failed. Without `--quick`, a test that was skipped has failed,
-unless the reason is one of ALLOWED."""
+"""Runs test modules side by side, each as a process: `python3 -m tests.run [MODULE..]`, or with `--quick` those that
+need no proof. Each test of PARTED is a process of its own. Those that took longest in the last run begin first, or else
+those of LONGEST. One that takes more than MINUTES has failed. The output of a failed one is shown in full. The last
+line is `N passed, N failed, N skipped`, where each row of a table counts, and the status is 1 if anything failed.
+Without `--quick`, a test that was skipped has failed, unless the reason is one of ALLOWED."""
 
 import ast
+import contextlib
 import json
 import math
 import os
@@ -18,6 +19,7 @@ import unittest
 
 from tests.support import IS_UNPROVED, TOP, environment, process_folder
 
+MINUTES = 60
 SUMS = '{} passed, {} failed, {} skipped'
 # The modules whose tests are processes of their own, and these with the others that take longest.
 PARTED = 'test_machine', 'test_waiting', 'test_wrapper'
@@ -72,6 +74,8 @@ class Part:
     """A module that runs as a process. If it is killed, its files and the processes that it started are found through
     this object."""
 
+    is_late = False
+
     def __init__(self, name):
         self.name = name
         self.begun_at = time.monotonic()
@@ -80,17 +84,29 @@ class Part:
             [sys.executable, '-m', 'tests.run', '--one', name], cwd=TOP, env=environment({'TMPDIR': process_folder()}),
             stdin=subprocess.DEVNULL, stdout=self.written, stderr=subprocess.STDOUT)
 
+    def ends_in_time(self, seconds):
+        """Ends a process that takes longer than this, first by a signal after which it cleans up."""
+        late = time.monotonic() - self.begun_at - seconds
+        if late > 60:
+            self.process.kill()
+        elif late > 0 and not self.is_late:
+            self.is_late = True
+            self.process.terminate()
+
     def counts(self):
         """Reports how the module ended, and returns how many tests passed, failed and were skipped. A module that ran
         nothing counts as one failure."""
-        self.written.seek(0)
-        text = self.written.read().decode(errors='replace')
+        with self.written as file:
+            file.seek(0)
+            text = file.read().decode(errors='replace')
         found = re.search(r'^(\d+) passed, (\d+) failed, (\d+) skipped\n\Z', text, re.M)
         counts = [int(number) for number in found.groups()] if found else [0, 0, 0]
         if self.process.returncode != 0 or counts == [0, 0, 0]:
             counts[1] += 1
         if counts[1]:
             print(f'{text}\nThe module alone: python3 -m unittest tests.{self.name}')
+        if self.is_late:
+            print(f'{self.name} did not end in time')
         self.seconds = int(time.monotonic() - self.begun_at)
         print(*re.findall('^skipped.*: .*\n', text, re.M), sep='', end='')
         print(f'{self.name}: {SUMS.format(*counts)}, {self.seconds // 60} min {self.seconds % 60} s', flush=True)
@@ -105,9 +121,9 @@ def names_of(path):
             if isinstance(case, ast.ClassDef) for test in case.body if getattr(test, 'name', '').startswith('test_')]
 
 
-def run_all(names, times, most):
-    """Runs modules, at most so many at once, and returns the sums of their counts. A file has the seconds that each
-    took in the last run, and then has those of this run."""
+def run_all(names, times, most, limit=60 * MINUTES):
+    """Runs modules, at most so many at once, each for at most so many seconds, and returns the sums of their counts. A
+    file has the seconds that each took in the last run, and then has those of this run."""
     seconds = json.loads(times.read_text()) if times.exists() else {}
     waiting = sorted(names, key=lambda name: (-seconds.get(name, math.inf), name.partition('.')[0] not in LONGEST))
     running, sums = [], [0, 0, 0]
@@ -116,6 +132,8 @@ def run_all(names, times, most):
             while waiting and len(running) < most:
                 running.append(Part(waiting.pop(0)))
             time.sleep(0.1)
+            for part in running:
+                part.ends_in_time(limit)
             for part in [part for part in running if part.process.poll() is not None]:
                 running.remove(part)
                 sums = [sum(pair) for pair in zip(sums, part.counts())]
@@ -141,27 +159,30 @@ def main(arguments):
     if arguments[:1] == ['--one']:
         return run_one(arguments[1])
     paths = sorted((TOP / 'tests').glob('test_*.py'))
-    names = [name for path in paths for name in names_of(path)]
-    os.environ['UNPROVED'] = '1' if arguments else '0'
-    if arguments == ['--quick']:
+    is_quick = arguments == ['--quick']
+    if any(argument not in {path.stem for path in paths} for argument in arguments) and not is_quick:
+        sys.exit('usage: python3 -m tests.run [--quick | MODULE..], such as test_calls')
+    names = [name for path in paths for name in names_of(path) if path.stem in (arguments or [path.stem])]
+    if is_quick or not arguments:
+        os.environ['UNPROVED'] = str(int(is_quick))
+    if is_quick:
         from tests import unproved
         of_sources = ['test_program.Scripts', 'test_program.Program', 'test_unready', 'test_documents', 'test_gate']
         modules = {name.partition('.')[0] for name in of_sources}
         print('not run: proofs, wrong bodies,', ', '.join(path.stem for path in paths if path.stem not in modules))
         names = [*unproved.names(), *of_sources]
-    elif arguments:
-        sys.exit('usage: python3 -m tests.run [--quick]')
-    elif missing := unbuilt():
+    elif not arguments and (missing := unbuilt()):
         sys.exit('\n'.join(['the tests need all that is built, and', *missing]))
     else:
         from tests import modelled
-        # (the launcher is compiled once for all)
-        os.environ['NVME_MODEL_INSTALLED'] = str(modelled.installed().parents[1])
+        # (the launcher is compiled once for all that can have it)
+        with contextlib.suppress(FileNotFoundError):
+            os.environ['NVME_MODEL_INSTALLED'] = str(modelled.installed().parents[1])
     processors = len(os.sched_getaffinity(0))
     # (without proofs, no test waits, and the three that take longest run side by side even on two processors)
-    sums = (run_all(names, TOP / 'out/seconds.quick', max(3, processors)) if arguments else
-            run_all(names, TOP / 'out/seconds', 3 * processors // 2))
-    print('unproved: ' * len(arguments) + SUMS.format(*sums))
+    sums = (run_all(names, TOP / 'out/seconds.quick', max(3, processors)) if is_quick else
+            run_all(names, TOP / f'out/seconds{".some" * bool(arguments)}', 3 * processors // 2))
+    print('unproved: ' * is_quick + SUMS.format(*sums))
     sys.exit(1 if sums[1] or not sums[0] else 0)
 
 

@@ -53,8 +53,10 @@ for end_signal in signal.SIGHUP, signal.SIGINT, signal.SIGQUIT, signal.SIGTERM:
 
 
 def program(name):
-    """Returns the proved program of a crate."""
+    """Returns the proved program of a crate, or the device of a package that NVME_DEVICE names."""
     path = TOP / 'crates' / name / 'out' / name
+    if name == 'nvme_device' and 'NVME_DEVICE' in os.environ:
+        path = pathlib.Path(os.environ['NVME_DEVICE']).resolve()
     if not path.exists():
         raise FileNotFoundError(f'{path} is not built')
     return str(path)

@@ -7,23 +7,12 @@ import re
 import shutil
 
 from tests.described import MASKS, meaning, random_file, tables_of
-from tests.modelled import ModelCase, installed
+from tests.modelled import PROGRAMS, ModelCase, installed
 from tests.support import DEMO, TOP, program, run
 from tests.test_subsystem_files import largest
 
 DESCRIBE = TOP / 'nvme-describe'
 FILES, MOST_AT_ONCE, SEED = 200, 16, 1
-
-# Sends Set Features by ioctl: controller, feature, NSID, value and whether it is saved.
-SETTER = '''
-import fcntl, struct, sys
-for line in sys.stdin:
-    controller, fid, nsid, value, save = map(int, line.split())
-    words = 9, 0, 0, nsid, *6 * [0], fid | save << 31, value, *6 * [0]
-    command = bytearray(struct.pack('=BBHIIIQQII8I', *words))
-    with open(f'/dev/nvme{controller}', 'rb', buffering=0) as node:
-        fcntl.ioctl(node, 0xc0484e41, command)
-'''
 
 
 def controllers_in(text):
@@ -103,7 +92,7 @@ class Sends(ModelCase):
 
 
 def operations(source, text):
-    """Returns random changes of the features that a file's controllers have, each as SETTER takes it."""
+    """Returns random changes of the features that a file's controllers have, each as set_features.py takes it."""
     tables = tables_of(text)
     controllers = [keys for name, keys in tables if name == 'controller']
     for _ in range(source.randint(1, 30)):
@@ -144,7 +133,7 @@ class Left(ModelCase):
             text = random_file(source, 3, 8)
             asked = list(operations(source, text))
             given = self.file('given', ''.join(f'{" ".join(map(str, one))}\n' for one in asked).encode())
-            path, setter = self.file('left.toml', text.encode()), self.file('setter.py', SETTER.encode())
+            path, setter = self.file('left.toml', text.encode()), PROGRAMS / 'set_features.py'
             script = '/usr/bin/python3 "$1" < "$2" && "$3" /dev/nvme* && echo "# END" && "$3" --current /dev/nvme*'
             ended = run(installed(), '--subsystem', path, 'sh', '-c', script, 'sh', setter, given, DESCRIBE)
             self.ends(ended, 0, err=b'')
@@ -179,8 +168,7 @@ class Left(ModelCase):
         (self.folder / 'nvme-model').symlink_to(installed())
         shutil.copy(TOP / 'examples/split.sh', self.folder / 'provision.sh')
         drive = TOP / 'examples/split.toml'
-        self.assertTrue(describe.startswith('sudo '))
-        self.ends(run(installed(), '--subsystem', drive, 'sh', '-c', describe[5:], cwd=self.folder), 0, b'', b'')
+        self.ends(run(installed(), '--subsystem', drive, 'sh', '-c', describe, cwd=self.folder), 0, b'', b'')
         self.assertEqual((self.folder / 'drive.toml').read_text(), drive.read_text())
         self.assertEqual(copy, 'scp server:drive.toml .')
         said = (TOP / 'examples/split.txt').read_bytes()
@@ -196,7 +184,7 @@ class Left(ModelCase):
         keeping = re.search(r"(?m)^    \./nvme-model --subsystem my\.toml sh -c '(.*)' > after\.toml$", page)[1]
         self.file('layout.sh', b"echo said\nnvme set-feature /dev/nvme0 --feature-id 6 --value 0\n")
         (self.folder / 'nvme-describe').symlink_to(DESCRIBE)
-        describing = re.search(r'(?m)^    sudo (\./nvme-describe .*) > drive\.toml$', page)[1]
+        describing = re.search(r'(?m)^    (\./nvme-describe .*) > drive\.toml +# as root$', page)[1]
         self.assertEqual(meaning(self.shell(describing, cwd=self.folder).out.decode()), meaning(DEMO.read_text()))
         kept = self.shell(keeping, cwd=self.folder)
         self.assertEqual(kept.status, 0, kept)

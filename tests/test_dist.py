@@ -191,24 +191,6 @@ class Archive(Packages):
             if path.is_file() and not path.is_symlink():
                 self.assertNotIn(os.fsencode(TOP), path.read_bytes(), path)
 
-    def test_library(self):
-        made = self.folder / 'bench'
-        flags = [f'-I{self.place}/include', f'{self.place}/lib/libnvme_controller.a']
-        if shutil.which('pkg-config'):
-            env = {'PKG_CONFIG_PATH': self.place / 'lib/pkgconfig'}
-            line = 'eval "$1 -o $2 $3 $(pkg-config --cflags --libs nvme_controller) -Wl,-rpath,\\"$4\\""'
-            words = 'cc', made, TOP / 'examples/c/bench.c', self.place / 'lib'
-            self.ends(run('sh', '-c', line, 'sh', *words, env=env), 0, b'', b'')
-            self.ends(run(*as_another(made), cwd='/'), 0)
-        self.ends(run('cc', '-o', made, TOP / 'examples/c/bench.c', *flags), 0, b'', b'')
-        self.ends(run(*as_another(made), cwd='/'), 0)
-
-    def test_python(self):
-        use = 'from nvme_controller import Machine; print(Machine().controllers())'
-        env = {'PYTHONPATH': self.place / 'share/nvme_controller', 'NVME_CONTROLLER': '',
-               'LD_LIBRARY_PATH': self.place / 'lib'}
-        self.ends(run(*as_another('/usr/bin/env', 'python3', '-c', use), env=env, cwd='/'), 0, b'2\n', b'')
-
     def test_install(self):
         prefix = self.folder / 'another place/prefix'
         prefix.parent.mkdir()

@@ -47,7 +47,8 @@ class Explain(Case):
             ended = self.explain('--subsystem', self.file('faulty.toml', text))
             self.assertEqual(ended.status, 1, ended)
             self.assertTrue(ended.out.startswith(wanted), ended)
-        self.ends(self.explain('--subsystem', 'missing.toml'), 3, b'', b'nvme-script: subsystem: unreadable\n')
+        self.ends(self.explain('--subsystem', 'missing.toml'), 3, b'', b'nvme-script: subsystem: unreadable\n'
+                  b"nvme-script: there is no file 'missing.toml'\n")
         self.ends(self.explain('--bogus'), 3, b'', b'nvme-script: arguments\n'
                   b'nvme-script: nvme-script --help shows the options\n')
 

@@ -1,14 +1,18 @@
 """Runs .ci/run on machines that lack programs, in a copy of its files: it names everything that is missing, and
 installs it only in CI. A stand-in for apt-get stores what it was told."""
 
-import ast
+import contextlib
 import glob
 import importlib.machinery
 import importlib.util
+import io
 import re
 import shutil
+import subprocess
+import sys
 
-from tests.support import IS_ROOT, TOP, Case, run
+from tests.run import run_all
+from tests.support import IS_ROOT, TOP, Case, environment, run
 
 QUICK = b"missing: apt install python3 gcc\nmissing: the Rattle toolchain's command rt\n"
 
@@ -56,14 +60,43 @@ class Gate(Case):
             self.assertEqual(self.told(), f'update\ninstall -y --no-install-recommends {packages}\n', ended)
 
 
-class Names(Case):
-    def test_no_test_hides_another(self):
-        # (of two classes or tests with one name, Python keeps the last)
-        for path in (TOP / 'tests').glob('*.py'):
-            module = ast.parse(path.read_text())
-            for scope in [module, *(node for node in module.body if isinstance(node, ast.ClassDef))]:
-                names = [node.name for node in scope.body if isinstance(node, (ast.ClassDef, ast.FunctionDef))]
-                self.assertEqual(sorted(names), sorted(set(names)), path.name)
+class Runner(Case):
+    def takes_long(self):
+        """Waits, for the test below, together with a process."""
+        subprocess.run(['sleep', '1000'], env=environment())
+
+    def test_limit(self):
+        with contextlib.redirect_stdout(io.StringIO()) as said:
+            sums = run_all(['test_gate.Runner.takes_long'], self.folder / 'seconds', 1, 2)
+        self.assertEqual(sums, [0, 1, 0])
+        self.assertIn('\ntest_gate.Runner.takes_long did not end in time\n', said.getvalue())
+
+    def test_names(self):
+        usage = b'usage: python3 -m tests.run [--quick | MODULE..], such as test_calls\n'
+        for words in ['test_bogus'], ['--quick', 'test_gate'], ['--help']:
+            self.ends(run(sys.executable, '-m', 'tests.run', *words), 1, b'', usage)
+        # (without a build, the module fails)
+        ended = run(sys.executable, '-m', 'tests.run', 'test_order')
+        sums = rb'test_order: (\d+) passed, (\d+) failed, 0 skipped, .*\n\1 passed, \2 failed, 0 skipped\n\Z'
+        found = re.search(b'(?m)^' + sums, ended.out)
+        self.assertTrue(found, ended)
+        self.assertEqual(ended.status, int(int(found[2]) > 0), ended)
+
+
+class Tools(Case):
+    def test_arguments(self):
+        # (without a look at their arguments, these would build, or try all edits and tests)
+        build = rb'usage: tools/build \[PROGRAM\], .* nvme_script nvme_trace$'
+        for words, status, text in (('tools/build bogus', 72, build), ('tools/build --help', 72, build),
+                                    ('tools/build nvme_trace nvme_bench', 72, build),
+                                    ('tools/library --help', 72, b'tools/library takes no arguments'),
+                                    ('tools/mutants --help', 0, rb'usage: mutants \[-h\] \[WORD '),
+                                    ('tools/coverage --help', 0, rb'usage: coverage \[-h\] \[MODULE '),
+                                    ('tools/mutants --bogus', 2, b'unrecognized arguments: --bogus')):
+            with self.subTest(words):
+                ended = run(*words.split(), err='&1')
+                self.ends(ended, status)
+                self.assertRegex(ended.out, text)
 
 
 class Mutants(Case):

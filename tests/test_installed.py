@@ -24,7 +24,11 @@ COMPLETED = {('nvme-script', '--page'): '--page-size', ('nvme-trace', '--win'): 
              ('nvme-model', '--no-n'): '--no-notice', ('nvme-describe', '--cu'): '--current',
              ('nvme-script', '--subsystem', 'examples/demo.t'): 'examples/demo.toml',
              ('nvme-model', '--device', '/dev/nul'): '/dev/null', ('nvme-describe', '/dev/nul'): '/dev/null',
-             ('nvme-model', 'mkfs.ext4'): 'mkfs.ext4'}
+             ('nvme-model', 'mkfs.ext4'): 'mkfs.ext4', ('nvme-model', '--qemu', '--mem'): '--memory',
+             ('nvme-model', '--vfio-user', '--soc'): '--socket',
+             ('nvme-model', '--vfio-user', '--subsystem', 'examples/demo.t'): 'examples/demo.toml',
+             **{('nvme-model', *words.split(), 'nvme-describe', '--cu'): '--current'
+                for words in ('', '--root', '--trace', '--depth 8', '--window 2 --')}}
 
 
 def make(target, prefix):
@@ -58,8 +62,10 @@ class Installed(Case):
         self.ends(run(link, source=b'list-ns /dev/nvme0\n', cwd='/'), 0, b'[   0]:0x1\n[   1]:0x3\n', b'')
         self.ends(run(link, '--version', cwd='/'), 0, f'nvme-script {VERSION}\n'.encode(), b'')
         self.assertIn(b'usage: nvme-script ', run(link, '--help', cwd='/').out)
-        for words in ('--build',), ('--help', '--help'), ('--version', 'x'):
-            self.ends(run(link, *words), 3, b'', b'nvme-script: arguments\n')
+        for words, advice in (('--build', b'--build is for a clone of the repository'),
+                              ('--build x', b'--build takes no other argument'),
+                              ('--help --help', b'--help takes no other argument')):
+            self.ends(run(link, *words.split()), 3, b'', b'nvme-script: arguments\nnvme-script: ' + advice + b'\n')
 
     def test_describe(self):
         words = self.prefix / 'bin/nvme-model', 'sh', '-c', '"$0" /dev/nvme*', self.prefix / 'bin/nvme-describe'
@@ -74,6 +80,9 @@ class Installed(Case):
         elsewhere = self.file('elsewhere.toml', DEMO.read_bytes())
         ended = run(self.prefix / 'bin/nvme-model', '--subsystem', elsewhere, 'sh', '-c', LOOK, cwd='/')
         self.ends(ended, 0, b'S1                  \n', b'')
+        words = re.search(r"`\./nvme-model (sh -c 'ls .*?)`", (TOP / 'docs/SUPPORT.md').read_text())[1]
+        ended = run(self.prefix / 'bin/nvme-model', *shlex.split(words))
+        self.ends(ended, 0, b'/dev/nvme0\n/dev/nvme0n1\n/dev/nvme0n3\n/dev/nvme1\n', b'')
 
     def test_library(self):
         library()
@@ -162,8 +171,10 @@ class Installed(Case):
             self.assertRegex(page, rf'It (.*, )?Fl \\{option[1:]}\b|, \\?\n?Fl \\{option[1:]}\b')
 
     def completed(self, *words):
-        """Returns what bash can complete the last of these words to."""
-        line = '. "$0"; compopt() { :; }; COMP_WORDS=("$@"); COMP_CWORD=$(($# - 1)); _nvme_model; echo ${COMPREPLY[*]}'
+        """Returns what bash can complete the last of these words to. (The package bash-completion has the function for
+        the words of a command in a command.)"""
+        offset = '_command_offset() { COMP_WORDS=("${COMP_WORDS[@]:$1}"); ((COMP_CWORD -= $1)); _nvme_model; }'
+        line = f'. "$0"; {offset}; COMP_WORDS=("$@"); COMP_CWORD=$(($# - 1)); _nvme_model; echo ${{COMPREPLY[*]}}'
         completion = self.prefix / f'share/bash-completion/completions/{words[0]}'
         ended = run('bash', '-c', line, completion, *words, env=self.env)
         self.ends(ended, 0, err=b'')
@@ -176,6 +187,8 @@ class Installed(Case):
         self.assertEqual(self.completed('nvme-script', ''), [*OPTIONS, '--explain', '--help', '--version'])
         self.assertEqual(self.completed('nvme-script', '--subsystem', '=', 'examples/demo.t'), ['examples/demo.toml'])
         self.assertEqual(self.completed('nvme-script', '--depth', '=', '8'), [])
+        self.assertEqual(self.completed('nvme-model', '--trace', '=', 'x', 'nvme-describe', '--cu'), ['--current'])
+        self.assertEqual(self.completed('nvme-model', '--qemu', '--no'), [])
         for name in 'nvme-script', 'nvme-model', 'nvme-describe':
             shown = re.findall('(?m)^  (?:-h, )?(--[a-z-]+)', run(name, '--help', env=self.env).out.decode())
             self.assertEqual(self.completed(name, '--'), [option for option in shown if option != '--build'])

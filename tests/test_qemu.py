@@ -160,6 +160,13 @@ class Messages(Case):
                 ended = run(program(), *words.split())
                 self.ends(ended, 72, b'')
                 self.assertIn(b'usage: nvme-model --qemu ', ended.err)
+        for words, reason in (('--memory 128G', b"128G: the option doesn't take this, or not once more"),
+                              ('--memory=1', b"1: the option doesn't take this, or not once more"),
+                              ('--vfio-user', b'--vfio-user needs --socket PATH'),
+                              ('--vfio-user --socket s x', b'x: --vfio-user runs nothing'),
+                              ('--socket s', b'--socket goes with --vfio-user'),
+                              ('--summary x', b"x: QEMU's options come after --")):
+            self.assertEqual(run(program(), *words.split()).err.splitlines()[0], b'nvme-model: ' + reason)
         self.assertTrue(run(program(), '--help').out.startswith(b'usage: nvme-model --qemu '))
         self.ends(run(program(), '--vfio-user', '--socket', 'x' * 107), 72, b'',
                   b'nvme-model: ' + b'x' * 107 + b': the path is too long for a socket\n')

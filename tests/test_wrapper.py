@@ -10,7 +10,8 @@ import time
 import unittest
 
 from tests.modelled import works
-from tests.support import LIMIT, TOP, Case, Running, copy_sources, left_running, program, run, until
+from tests.support import (DEMO, IS_ROOT, LIMIT, NOBODY, TOP, Case, Running, copy_sources, left_running, program, run,
+                           until)
 from tests.test_installed import OPTIONS
 
 SCRIPT = program('nvme_script')
@@ -71,6 +72,24 @@ class Copy(Case):
 
     def script(self, *arguments, source=b'list-ns /dev/nvme0\n', cwd=TOP, command=None, **more):
         return run(command or self.command, *arguments, source=source, cwd=cwd, env={**self.env, 'PWD': cwd}, **more)
+
+    def refuses(self, words, message, advice, **more):
+        """Checks that a run is refused with two lines."""
+        ended = self.script(*words, **more)
+        self.ends(ended, 3, b'', f'nvme-script: {message}\nnvme-script: {advice}\n'.encode())
+
+    def is_refused(self, message, rows):
+        """Checks that arguments are refused with these lines by the proved program, and without it before `rt` runs."""
+        for words, advice in rows:
+            with self.subTest(words):
+                self.refuses(words, message, advice)
+        self.made.unlink()
+        for path in self.kit.glob('given.*'):
+            path.unlink()
+        for words, advice in rows:
+            with self.subTest(words, unproved=True):
+                self.refuses(words, message, advice)
+                self.assertIsNone(self.given('input'))
 
     def is_proved(self):
         self.ends(self.script(), 0, b'[   0]:0x1\n[   1]:0x3\n', b'')
@@ -143,16 +162,82 @@ class WhichProgram(Copy):
 
     def test_advice(self):
         # a second line says what to do about the usual mistakes
-        see, read = b'nvme-script --help shows the options', b'a script is read from standard input: nvme-script < FILE'
-        for words, advice in (
-                ('-h', see), ('--bogus', see), ('--pace=1 -q', see), ('--bogus=3 x', see), ('-', see), ('x.nvme', read),
-                ('--depth 8 x', read), ('--subsystem=-x x', read), ('--depth', None), ('--subsystem -x', None),
-                ('--depth 8 --depth 8', None), ('--build more', None), ('--help --help', None)):
+        see, read = 'nvme-script --help shows the options', 'a script is read from standard input: nvme-script < FILE'
+        needs, twice, alone = '--depth needs a value', '--depth is given twice', '--help takes no other argument'
+        rows = {see: ['-h', '--bogus', '--pace=1 -q', '--bogus=3 x', '--help=1', '---', '--depth 8 --explain'],
+                read: ['-', 'x.nvme', '--depth 8 x', '--subsystem=-x x', '--window 1 -'],
+                needs: ['--depth', '--depth -1', '--depth --', '--depth --pace', '--window 1 --depth'],
+                twice: ['--depth 8 --depth 8', '--depth=8 --depth'],
+                alone: ['--help --help', '--help x', '--pace 1 --help']}
+        self.is_refused('arguments', [
+            *((words.split(), advice) for advice, all_words in rows.items() for words in all_words), ([''], read),
+            (['--build', 'now'], '--build takes no other argument'), (['--depth='], "--depth takes a number, not ''"),
+            *((['--depth', value], f"--depth takes a number, not '{value}'") for value in ('many', '8k', '+8', '8 '))])
+
+    def test_files_that_are_not_read(self):
+        most = self.file('most.toml', DEMO.read_bytes().ljust(1 << 20))
+        self.ends(self.script('--subsystem', most), 0)
+        more = self.file('more.toml', DEMO.read_bytes().ljust((1 << 20) + 1))
+        self.is_refused('subsystem: unreadable', [
+            (['--subsystem', 'missing.toml'], "there is no file 'missing.toml'"),
+            (['--subsystem='], "there is no file ''"), (['--depth', '1', '--subsystem', 'docs'], "'docs' is a folder"),
+            (['--subsystem', more], f"'{more}' has more than 1048576 bytes")])
+
+    def test_file_of_another_user(self):
+        path = self.file('own.toml', DEMO.read_bytes())
+        path.chmod(0o600 if IS_ROOT else 0)
+        self.folder.chmod(0o755)
+        first, *words = [*(NOBODY if IS_ROOT else ()), self.command, '--subsystem', path]
+        self.refuses(words, 'subsystem: unreadable', f"you may not read '{path}'", command=first)
+
+    def test_what_the_program_finds(self):
+        see, explain = 'nvme-script --help shows what each option takes', 'nvme-script --explain --subsystem'
+        for words in '--depth 4294967296', '--depth 08', '--depth f':
+            self.refuses(words.split(), 'arguments', see)
+        for words, field in ('--depth 1', 'depth'), ('--window 32', 'window'), ('--page-size 5000', 'page_size'):
+            self.refuses(words.split(), f'geometry: {field}', see)
+        text = DEMO.read_bytes()
+        for old, new, fault, advice in (
+                (b'4608', b'9437185', 'capacity', "the namespaces of '{0}' have more bytes together than tnvmcap"),
+                (b'[0]', b'[7]', 'attachment',
+                 "a namespace of '{0}' has an unknown controller, one twice, or several without 'shared = true'"),
+                (b'nn = 4', b'nn = 0', 'out of range top.nn', explain + " '{0}' < /dev/null says where"),
+                (b'nn = 4', b'nn =', 'not TOML', explain + " '{0}' < /dev/null says where")):
+            path = self.file('faulty.toml', text.replace(old, new))
+            self.refuses(['--subsystem', path], f'subsystem: {fault}', advice.format(path))
+
+    def test_what_is_not_refused(self):
+        # a file that can be read only once is read by the run alone
+        for words in '--', '--subsystem /dev/stdin':
             with self.subTest(words):
-                line = b'nvme-script: ' + advice + b'\n' if advice else b''
-                self.ends(self.script(*words.split()), 3, b'', b'nvme-script: arguments\n' + line)
-        for words in '', '--pace 0', '--subsystem missing.toml':
-            self.assertNotIn(b'FILE', self.script(*words.split()).err)
+                wanted = run(SCRIPT, *words.split(), source=DEMO)
+                self.assertNotEqual(wanted.status, 3, wanted)
+                self.ends(self.script(*words.split(), source=DEMO), wanted.status, wanted.out, wanted.err)
+        line = 'cat "$1" | "$0" --subsystem /dev/stdin'
+        self.ends(self.script('-c', line, self.command, DEMO, command='sh'), 0, b'', b'')
+
+    def test_advice_on_a_terminal(self):
+        explain = b'nvme-script: nvme-script --explain < SCRIPT says what is wrong with a line\n'
+        for lines, status, err in ((b'bogus\n', 1, b'line 1: usage error\n' + explain),
+                                   (b'bogus\nreset /dev/nvme0\n', 0, b'line 1: usage error\nreset: Success\n')):
+            talk = Running(self.command, terminal=True, env=self.env)
+            talk.say(lines)
+            talk.has(err.partition(b'nvme')[0])
+            ended = talk.end()
+            self.ends(ended, status, lines + err)
+        # (a key ends the program too, or it would be left running)
+        talk = Running(self.command, terminal=True, env=self.env)
+        talk.say(b'list-ns /dev/nvme0 -n 3\n')
+        talk.has(b'[   0]:0x3\n')
+        talk.say(b'\x03')
+        self.assertEqual(talk.process.wait(LIMIT), -signal.SIGINT)
+        self.made.unlink()
+        (self.kit / 'out').write_bytes(b'')
+        self.answer_ended(3, b'nvme-script: geometry: depth\n')
+        talk = Running('sh', '-c', '"$0" < /dev/null', self.command, terminal=True, env=self.env)
+        talk.comes(b'nvme-script: geometry: depth\nnvme-script: nvme-script --help shows what options take, and '
+                   b'--explain a fault of FILE\n')
+        self.assertEqual(talk.process.wait(LIMIT), 3)
 
 
 class Builds(Copy):
@@ -198,13 +283,18 @@ class Builds(Copy):
         self.ends(ended, 72, b'', b'nvme-script: the disk is full: a build needs 6 GB in %s\n' % os.fsencode(place))
 
     def test_packages(self):
-        # a build of the device names what commands need besides
-        (self.kit / 'go').touch()
         tools = self.folder / 'tools'
         tools.mkdir()
-        for tool in {name for folder in ('/usr/bin', '/bin') for name in os.listdir(folder)} - {'cc', 'bwrap'}:
+        missing = {'cc', 'bwrap', 'python3'}
+        for tool in {name for folder in ('/usr/bin', '/bin') for name in os.listdir(folder)} - missing:
             (tools / tool).symlink_to(f'/usr/bin/{tool}' if os.path.exists(f'/usr/bin/{tool}') else f'/bin/{tool}')
         self.env['PATH'] = f'{self.kit}/bin:{tools}'
+        self.says(self.script('--build'), 72, b'the toolchain needs python3: apt install python3')
+        ended = self.script(command=self.copy / 'tools/library')
+        self.ends(ended, 72, b'', b'nvme-controller: the library needs a C compiler: apt install gcc\n')
+        # a build of the device names what commands need besides
+        (self.kit / 'go').touch()
+        (tools / 'python3').symlink_to('/usr/bin/python3')
         ended = self.script('nvme_device', command=self.copy / 'tools/build')
         self.assertIn(b'nvme-device: what runs over the device needs more: apt install gcc bubblewrap\n', ended.err)
 
@@ -236,8 +326,6 @@ class Builds(Copy):
         self.assertIn(b'nvme-script: building nv_bits, 1 of %d\n' % total, ended.err)
         self.is_proved()
         self.says(self.script('--build'), 0, b'nothing to do')
-        # next to another argument, --build is passed to the program
-        self.ends(self.script('--build', 'more'), 3, b'', b'nvme-script: arguments\n')
 
 
 class Texts(Copy):
@@ -250,9 +338,6 @@ class Texts(Copy):
             self.assertIn(option.encode(), ended.out)
         version = (TOP / 'VERSION').read_text().strip()
         self.ends(self.script('--version'), 0, f'nvme-script {version}\n'.encode(), b'')
-        for words in ('--help', '--version'), ('--version', '--depth', '2'), ('--help=1',):
-            self.ends(self.script(*words), 0, ANSWER, LINE + b'\n')
-            self.assertEqual(self.given('1'), words[0].encode())
         for option in '--help', '--version':
             self.assertEqual(self.script(option, out='/dev/full').status, 72)
 
@@ -266,6 +351,8 @@ class Texts(Copy):
             self.ends(ended, 0, err=b'')
             self.assertTrue(ended.out.startswith(out), ended)
         self.assertEqual(run(self.copy / 'nvme-model', '--qemu', '--help', '-x').status, 72)
+        ended = run(self.copy / 'nvme-model', '--build', 'now')
+        self.ends(ended, 72, b'', b'nvme-model: --build takes no other argument\n')
 
     def test_beside_an_installation(self):
         # a clone in the folder of an installation runs its own sources
@@ -312,12 +399,13 @@ class Unproved(Copy):
 
     def test_arguments(self):
         # arguments are passed on unchanged, except for those that aren't UTF-8, in whose place another one is refused
-        words = '', 'a  b', 'x\ny', 'x\u00e9', '--depth', '*', '--'
+        words = '--', '', 'a  b', 'x\ny', 'x\u00e9', '--depth', '*', '--'
         option = '--subsystem', '-x'
         for arguments, given in ((words, words), (option, option), (('--depth', b'\xed\xa0\x80'), ('refused',)),
-                                 (('--depth', b'\xf4\x90\x80\x80'), ('refused',))):
+                                 (('--subsystem', b'\xf4\x90\x80\x80'), ('refused',))):
             with self.subTest(arguments):
-                self.ends(self.script(*arguments), 0, ANSWER, LINE + b'\n')
+                ended = self.script('nvme_script', *arguments, command=self.copy / 'tools/unproved')
+                self.ends(ended, 0, ANSWER, LINE + b'\n')
                 found = [self.given(number) for number in range(1, len(given) + 2)]
                 self.assertEqual(found, [word.encode() for word in given] + [None])
         self.leaves_nothing()
@@ -350,7 +438,9 @@ class SubsystemFiles(Copy):
         self.leaves_nothing()
 
     def test_none_of_another_folder(self):
-        self.ends(self.script('--subsystem', 'up.toml', cwd=self.caller), 0, ANSWER)
+        self.refuses(['--subsystem', 'up.toml'], 'subsystem: unreadable', "there is no file 'up.toml'", cwd=self.caller)
+        words = 'nvme_script', '--subsystem', 'up.toml'
+        self.ends(self.script(*words, cwd=self.caller, command=self.copy / 'tools/unproved'), 0, ANSWER)
         self.assertEqual((self.given('1'), self.given('file')), (b'--subsystem', None))
 
     def test_pipe(self):
