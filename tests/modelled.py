@@ -18,7 +18,8 @@ PARTS = {'bin/nvme-model': ('launcher', 'relay', 'nodes', 'sysfs', 'sandbox', 'c
                             'io', 'refuse', 'device', 'inherited', 'command', 'options',
                             'opens', 'attributes', 'names', 'lists', 'udev'),
          'lib/nvme-model/library.so': ('library',),
-         'lib/nvme-model/qemu': ('qemu', 'messages', 'function', 'memory', 'proxy', 'vfio_user')}
+         'lib/nvme-model/qemu': ('qemu', 'messages', 'function', 'memory', 'proxy', 'vfio_user', 'drive', 'queues',
+                                'volumes')}
 WARNINGS = '-Wall', '-Wextra', '-Werror'
 # Waits in a shell until what was written past the end of a node is cut off.
 CUT = 'until test $(busybox wc -c < /dev/nvme0n3) = 4608; do sleep 0.1; done; '
