@@ -206,10 +206,11 @@ static const struct row {
             {OPCODE_GET_LOG, CHANGED_NAMESPACES, 4 * MOST_NSID, list_changes}};
 
 /* What Identify Controller must therefore say, by the offset of a byte: that there are events of namespaces (OAES), how
-   many requests for events may wait (AERL, one less), and that there are Compare and Verify (ONCS). */
+   many requests for events may wait (AERL, one less), and that there are Compare, Dataset Management, Write Zeroes and
+   Verify (ONCS). */
 static const struct {
     unsigned offset, bits;
-} additions[] = {{93, WANTS_CHANGES >> 8}, {259, MOST_REQUESTS - 1}, {520, 1 << 0 | 1 << 7}};
+} additions[] = {{93, WANTS_CHANGES >> 8}, {259, MOST_REQUESTS - 1}, {520, 1 << 0 | 1 << 2 | 1 << 3 | 1 << 7}};
 
 static const struct row *row_of(const unsigned char *entry) {
     const struct row *row = rows, *end = rows + sizeof rows / sizeof *rows;

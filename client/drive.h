@@ -21,11 +21,6 @@ struct subsystem {
     struct volume volumes[MOST_NSID + 1];
 };
 
-/* A part of the data, in bytes. */
-struct part {
-    uint64_t offset, length;
-};
-
 /* When the data of a namespace is looked after. */
 enum moment { AT_START, AFTER_COMMAND, AFTER_FORMAT };
 
@@ -73,8 +68,9 @@ void tell_changes(struct function *function);
 void look_at_namespaces(struct subsystem *subsystem, enum moment moment);
 void prepare_data(const char *folder, uint64_t most);
 void follow_namespace(struct subsystem *subsystem, uint32_t nsid, enum moment moment);
-int reserve(struct volume *volume, const struct part *part);
-unsigned char *begin_use(struct volume *volume, const struct part *part);
+int reserve(struct volume *volume, const nvme_range *part);
+int set_zeros(struct volume *volume, const nvme_range *part);
+unsigned char *begin_use(struct volume *volume, const nvme_range *part);
 int end_use(void);
 int replace_lost(uintptr_t place);
 #endif

@@ -61,32 +61,44 @@ int has_completions(const struct function *function) {
 }
 
 /* Returns the part of the data that an entry names, or nothing if it isn't there or longer than any transfer. */
-static struct part part_of(const struct volume *volume, const unsigned char *entry) {
+static nvme_range part_of(const struct volume *volume, const unsigned char *entry) {
     uint64_t first = number_at(entry + 40, 8), count = number_at(entry + 48, 2) + 1;
     uint64_t blocks = volume->size / volume->block_size;
     if (first > blocks || count > blocks - first || count * volume->block_size > MOST_DATA)
-        return (struct part){0, 0};
-    return (struct part){first * volume->block_size, count * volume->block_size};
+        return (nvme_range){0, 0};
+    return (nvme_range){first * volume->block_size, count * volume->block_size};
+}
+
+/* Clears what an entry deallocates or zeroes, by holes in the file. Returns whether that is all that it does. */
+static int clear(struct volume *volume, const nvme_blocks *blocks, const unsigned char *entry,
+                 const unsigned char *memory, uint32_t page) {
+    nvme_range ranges[256];
+    if (entry[0] != NVME_IO_WRITE_ZEROES && entry[0] != NVME_IO_DATASET_MANAGEMENT)
+        return 0;
+    int count = nvme_blocks_zeroing(blocks, entry, memory, MOST_MEMORY / page, page, ranges), is_done = count >= 0;
+    for (int at = 0; at < count && is_done; at++)
+        is_done = set_zeros(volume, ranges + at);
+    return is_done;
 }
 
 /* Lets the library take an entry over the data of its namespace, with memory for what is written. Returns whether that
    could be done. */
 static int turn_over(struct function *function, struct volume *volume, struct submissions *from,
                      struct completions *to, const unsigned char *entry, unsigned char *memory) {
-    struct part part = part_of(volume, entry);
+    nvme_range part = part_of(volume, entry);
     uint32_t page = page_size(function);
     int reads = entry[0] == NVME_IO_READ || entry[0] == NVME_IO_COMPARE, writes = entry[0] == NVME_IO_WRITE;
     nvme_blocks blocks = {volume->bytes, volume->size, (uint32_t)number_at(entry + 4, 4), volume->block_size,
                           (uint64_t)SMALL_PAGE << function->identity[MDTS], writes && !reserve(volume, &part)};
+    if (clear(volume, &blocks, entry, memory, page))
+        return nvme_queue_complete(&from->queue, &to->queue, memory, MOST_MEMORY / page, page, (nvme_answer){0}) == 1;
     blocks.data = begin_use(volume, reads ? &part : NULL);
     int status = nvme_queue_turn(&from->queue, &to->queue, memory, MOST_MEMORY / page, page, &blocks);
     return end_use() && status >= 0;
 }
 
-/* Takes the next entry of a queue. Returns whether there was one. (Identify Controller doesn't tell of commands that set
-   any number of blocks to zeros, for which a file would take memory.) */
+/* Takes the next entry of a queue. Returns whether there was one. */
 static int take_from(struct function *function, struct submissions *from) {
-    static const nvme_answer refusal = {.status = 0x4000 | NVME_STATUS_INVALID_COMMAND_OPCODE};
     struct completions *to = function->drive.completions + from->completions;
     uint64_t slot = next_completion(&to->queue);
     unsigned char entry[ENTRY_BYTES], *memory = lend(function, next_entry(&from->queue), slot);
@@ -97,9 +109,7 @@ static int take_from(struct function *function, struct submissions *from) {
         return 0;
     uint64_t nsid = is_taken > 0 ? number_at(entry + 4, 4) : 0;
     struct volume *volume = function->subsystem->volumes + (nsid <= MOST_NSID ? nsid : 0);
-    if (is_taken > 0 && (entry[0] == NVME_IO_WRITE_ZEROES || entry[0] == NVME_IO_DATASET_MANAGEMENT))
-        is_taken = nvme_queue_complete(&from->queue, &to->queue, memory, pages, page, refusal);
-    else if (is_taken > 0 && nsid <= MOST_NSID && function->drive.is_active[nsid] && volume->bytes)
+    if (is_taken > 0 && nsid <= MOST_NSID && function->drive.is_active[nsid] && volume->bytes)
         is_taken = turn_over(function, volume, from, to, entry, memory);
     else if (is_taken > 0)
         is_taken = nvme_queue_turn(&from->queue, &to->queue, memory, pages, page, NULL) >= 0;

@@ -115,7 +115,7 @@ void follow_namespace(struct subsystem *subsystem, uint32_t nsid, enum moment mo
 
 /* Returns how many bytes of a part's pages are in holes of the file. (A file is asked where data is, page by page: it
    would look through all of its data to find a hole.) */
-static uint64_t missing(const struct volume *volume, const struct part *part) {
+static uint64_t missing(const struct volume *volume, const nvme_range *part) {
     uint64_t at = part->offset - part->offset % SMALL_PAGE, end = part->offset + part->length, count = 0;
     while (at < end) {
         off_t data = lseek(volume->file, (off_t)at, SEEK_DATA);
@@ -128,7 +128,7 @@ static uint64_t missing(const struct volume *volume, const struct part *part) {
 
 /* Has memory or room on a disk for a part of the data. Returns whether there is enough. (What can't be reserved there,
    is found by the turn.) */
-int reserve(struct volume *volume, const struct part *part) {
+int reserve(struct volume *volume, const nvme_range *part) {
     uint64_t count = missing(volume, part);
     if (count == 0)
         return 1;
@@ -140,9 +140,18 @@ int reserve(struct volume *volume, const struct part *part) {
     return is_done;
 }
 
+/* Sets a part of the data to zeros, which then takes no memory. Returns whether it could. */
+int set_zeros(struct volume *volume, const nvme_range *part) {
+    int how = FALLOC_FL_PUNCH_HOLE | FALLOC_FL_KEEP_SIZE;
+    if (part->length > 0 && fallocate(volume->file, how, (off_t)part->offset, (off_t)part->length) < 0)
+        return 0;
+    count_used(volume);
+    return 1;
+}
+
 /* Lends the data for a turn. If it only reads this part, and that isn't all there, a copy of the part is lent, because a
    file in memory would take more of it. */
-unsigned char *begin_use(struct volume *volume, const struct part *part) {
+unsigned char *begin_use(struct volume *volume, const nvme_range *part) {
     int how = MAP_PRIVATE | MAP_ANONYMOUS | MAP_NORESERVE;
     in_use = volume;
     if (!part || folder >= 0 || missing(volume, part) == 0)

@@ -209,7 +209,7 @@ class Guest(Driver, Client):
             places = [first + at if at < self.page - first % self.page else second + at - self.page + first % self.page
                       for at in (93, 259, 520)]
             if places[2] < REACHED and self.flat[places[2]] == 0x10:
-                for place, bits in zip(places, (1, 3, 0x81)):
+                for place, bits in zip(places, (1, 3, 0x8d)):
                     self.flat[place] |= bits
 
     def set(self, offset, value, size=4):

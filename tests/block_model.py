@@ -4,13 +4,15 @@ of namespaces, by the rules of the standard, one entry after the other. It is to
 import struct
 
 from tests.blocks import (
-    COMPARE, DIFFERS, FLUSH, INVALID_FIELD, INVALID_NAMESPACE, INVALID_OPCODE, OUT_OF_RANGE, READ, VERIFY, WRITE)
+    COMPARE, DATASET, DIFFERS, FLUSH, INVALID_FIELD, INVALID_NAMESPACE, INVALID_OPCODE, OUT_OF_RANGE, READ, VERIFY, WRITE,
+    WRITE_ZEROES)
 from tests.driver import INVALID_OFFSET, PAGE, TRANSFER_ERROR
 
 REACHED = 128 << 30
 RESERVED = {FLUSH: (2 ** 32 - 1,) * 6, WRITE: (0, 0, 0x030f_0000, 0xff00, 0, 0), READ: (0, 0, 0x03ff_0000, 0xffff_ff00, 0, 0),
-            COMPARE: (0, 0, 0x03ff_0000, 2 ** 32 - 1, 0, 0),
-            VERIFY: (0, 0, 0x03ff_0000, 2 ** 32 - 1, 0, 0)}
+            COMPARE: (0, 0, 0x03ff_0000, 2 ** 32 - 1, 0, 0), WRITE_ZEROES: (0, 0, 0x01ff_0000, 2 ** 32 - 1, 0, 0),
+            VERIFY: (0, 0, 0x03ff_0000, 2 ** 32 - 1, 0, 0),
+            DATASET: (0xffff_ff00, 0xffff_fff8, *(2 ** 32 - 1,) * 4)}
 
 
 class Refused(Exception):
@@ -79,7 +81,9 @@ class Model:
         if any(dword & mask for dword, mask in zip(dwords, RESERVED[opcode])):
             raise Refused(INVALID_FIELD)
         data, block = self.data[nsid]
-        if opcode != FLUSH:
+        if opcode == DATASET:
+            self.deallocate(data, block, prp1, prp2, dwords)
+        elif opcode != FLUSH:
             first, count = dwords[0] | dwords[1] << 32, (dwords[2] & 0xffff) + 1
             transfers = opcode in (READ, WRITE, COMPARE)
             if transfers and count * block > self.most:
@@ -88,6 +92,8 @@ class Model:
                 raise Refused(OUT_OF_RANGE)
             if transfers:
                 self.transfer(opcode, data, first * block, self.spans(prp1, prp2, count * block))
+            elif opcode == WRITE_ZEROES:
+                data[first * block:(first + count) * block] = bytes(count * block)
 
     def transfer(self, opcode, data, at, spans):
         if opcode == COMPARE:
@@ -101,6 +107,15 @@ class Model:
             else:
                 data[at:at + length] = self.get(address, length)
             at += length
+
+    def deallocate(self, data, block, prp1, prp2, dwords):
+        count = (dwords[0] & 0xff) + 1
+        told = b''.join(self.get(*span) for span in self.spans(prp1, prp2, 16 * count))
+        ranges = [struct.unpack_from('<4xIQ', told, 16 * at) for at in range(count)]
+        if any((first + length) * block > len(data) for length, first in ranges):
+            raise Refused(OUT_OF_RANGE)
+        for length, first in ranges if dwords[1] & 4 else ():
+            data[first * block:(first + length) * block] = bytes(length * block)
 
     def take(self, number):
         """Takes the next entry of a submission queue, and returns whether there was one that could be completed."""

@@ -377,8 +377,8 @@ def told(error):
 
 def as_drive(text):
     """Returns what nvme-cli tells of controllers, with what those of a virtual machine have besides."""
-    for old, new in ((b'oncs      : 0x10\n', b'oncs      : 0x91\n'), (b'oaes      : 0\n', b'oaes      : 0x100\n'),
-                     (b'aerl      : 0\n', b'aerl      : 3\n'), (b'"oncs":16,', b'"oncs":145,'),
+    for old, new in ((b'oncs      : 0x10\n', b'oncs      : 0x9d\n'), (b'oaes      : 0\n', b'oaes      : 0x100\n'),
+                     (b'aerl      : 0\n', b'aerl      : 3\n'), (b'"oncs":16,', b'"oncs":157,'),
                      (b'"oaes":0,', b'"oaes":256,'), (b'"aerl":0,', b'"aerl":3,')):
         assert text.count(old) == 1, (old, text.count(old))
         text = text.replace(old, new)

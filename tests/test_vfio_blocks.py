@@ -214,7 +214,7 @@ class Commands(Blocks):
             page = bytes(drive.at(place, PAGE))
             self.assertEqual(struct.unpack_from('<I', page, 92), (0x100,))
             self.assertEqual((page[258], page[259], page[261]), (0, 3, 4))
-            self.assertEqual(struct.unpack_from('<H', page, 520), (0x91,))
+            self.assertEqual(struct.unpack_from('<H', page, 520), (0x9d,))
             self.assertEqual(page[4:6], b'S0')
 
     def test_descriptors(self):
@@ -349,9 +349,9 @@ class Data(Blocks):
         drive = self.drive()
         self.assertEqual(drive.store(3, 0, b'kept' * 128 * 9), 0)
         size, place = 9, 40 * PAGE
-        for opcode in WRITE, READ, COMPARE, VERIFY:
+        for opcode in WRITE, READ, COMPARE, WRITE_ZEROES, VERIFY:
             for first, count in (size, 1), (size - 1, 2), (0, size + 1), (2 ** 64 - 1, 1), (2 ** 64 - 1, 2), (2 ** 63, 9), (0, 65536):
-                wanted = OUT_OF_RANGE if count < 300 or opcode == VERIFY else INVALID_FIELD
+                wanted = OUT_OF_RANGE if count < 300 or opcode in (WRITE_ZEROES, VERIFY) else INVALID_FIELD
                 self.assertEqual(drive.io(opcode, 3, first, count, place, 41 * PAGE), wanted, (opcode, first, count))
             for nsid in 0, 2, 4, 5, 1025, EVERY - 1, EVERY:
                 self.assertEqual(drive.io(opcode, nsid, 0, 1, place), INVALID_NAMESPACE, (opcode, nsid))
@@ -365,7 +365,7 @@ class Data(Blocks):
                 self.assertEqual(drive.io(opcode, 3, 0, count, prp1, prp2), status, (opcode, hex(prp1), hex(prp2)))
             # (MDTS 5: 128 KiB)
             self.assertEqual(drive.io(opcode, 1, 0, 257, *drive.pages(32 * PAGE, 129 * 1024, 31 * PAGE)), INVALID_FIELD)
-        for opcode in 3, 4, 6, 7, WRITE_ZEROES, DATASET, 0xa, 0xd, 0xe, 0x11, 0x15, 0x80, 0xff:
+        for opcode in 3, 4, 6, 7, 0xa, 0xd, 0xe, 0x11, 0x15, 0x80, 0xff:
             self.assertEqual(drive.io(opcode, 1, 0, 1, place), INVALID_OPCODE, opcode)
         self.assertEqual(drive.load(3, 0, 9), b'kept' * 128 * 9)
 
@@ -378,6 +378,17 @@ class Data(Blocks):
         self.assertEqual(drive.store(1, 100, data[:-1] + bytes([data[-1] ^ 1]), opcode=COMPARE), DIFFERS)
         self.assertEqual(drive.store(1, 99, data, opcode=COMPARE), DIFFERS)
         self.assertEqual(drive.io(VERIFY, 1, 100, 64), 0)
+        self.assertEqual(drive.io(WRITE_ZEROES, 1, 103, 7), 0)
+        data = data[:3 * 512] + bytes(7 * 512) + data[10 * 512:]
+        self.assertEqual(drive.load(1, 100, 64), data)
+        # of ranges that are deallocated, all are in the namespace
+        inside, outside = struct.pack('<IIQIIQ', 0, 5, 120, 0, 1, 163), struct.pack('<IIQIIQ', 0, 5, 120, 0, 2049, 0)
+        for ranges, dword11, status in (inside, 0, 0), (outside, 4, OUT_OF_RANGE), (inside, 4, 0):
+            self.assertEqual(drive.load(1, 100, 64), data)
+            drive.at(40 * PAGE, 32)[:] = ranges
+            self.assertEqual(drive.io(DATASET, 1, 1 | dword11 << 32, 1, 40 * PAGE), status)
+        data = data[:20 * 512] + bytes(5 * 512) + data[25 * 512:63 * 512] + bytes(512)
+        self.assertEqual(drive.load(1, 100, 64), data)
 
     def test_management(self):
         # data is zeros after a create and a format, and stays over a detach and resets
@@ -534,6 +545,11 @@ class Data(Blocks):
         for first in range(0, last - 256, last // 64):
             self.assertEqual(drive.load(1, first, 256, 16 * PAGE), bytes(256 * 512))
         self.assertEqual(drive.load(1, last, 8), b'last' * 1024)
+        # (to zero or deallocate all of it takes none)
+        for opcode, first, count, ranges in ((WRITE_ZEROES, 0, 65536, b''),
+                                             (DATASET, 4 << 32, 1, struct.pack('<IIQ', 0, 2 ** 32 - 1, 8))):
+            drive.at(40 * PAGE, len(ranges))[:] = ranges
+            self.assertEqual(drive.io(opcode, 1, first, count, 40 * PAGE), 0)
         self.assertEqual(drive.store(1, 1 << 32, b'x' * 4096), 0)
         self.assertEqual(drive.load(1, (1 << 32) - 8, 24), bytes(4096) + b'x' * 4096 + bytes(4096))
 
