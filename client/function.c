@@ -12,6 +12,8 @@ enum { COMMAND = 4, STATUS = 6, CAPABILITY = 0x34, MESSAGES = 0x42 };
 enum { IS_MASTER = 1 << 2, HAS_NO_PIN = 1 << 2, IS_WAITING = 1 << 3, SENDS_MESSAGES = 1 };
 /* After how many milliseconds the pin is raised again if no completion was taken, and the kernel's queue of events. */
 enum { PIN_WAIT = 10, MOST_EVENTS = 64 };
+/* How many entries of I/O queues are taken at once, bits of the status, and those that tell of a shutdown. */
+enum { MOST_ENTRIES = 8, IS_FATAL = 2, IS_SHUT_DOWN = 2 << 2, NOTICES = 3 << 14 };
 
 /* The configuration after a reset: QEMU's own numbers, class 010802h, INTA, and a capability of one message (MSI). */
 static const unsigned char config_at_reset[CONFIG_SIZE] = {
@@ -41,7 +43,7 @@ void set_counter(struct function *function, int *counter, int *file) {
     *counter = *file;
     *file = -1;
     function->mask = counter == &function->pin ? UNMASKED : function->mask;
-    function->has_message |= counter == &function->bell && function->posted != function->head;
+    function->has_message |= counter == &function->bell && has_completions(function);
 }
 
 /* Returns in how many milliseconds the pin is to be raised because completions wait, or -1. If that is now, the pin is
@@ -50,7 +52,7 @@ void set_counter(struct function *function, int *counter, int *file) {
 static int raise_pin(struct function *function) {
     int is_off = function->config[COMMAND + 1] & HAS_NO_PIN || function->config[MESSAGES] & SENDS_MESSAGES;
     struct timespec time;
-    if (function->posted == function->head || function->pin < 0 || function->bell >= 0 || is_off || function->mask)
+    if (function->pin < 0 || function->bell >= 0 || is_off || function->mask || !has_completions(function))
         return -1;
     clock_gettime(CLOCK_MONOTONIC, &time);
     int64_t now = time.tv_sec * 1000 + time.tv_nsec / 1000000, left = function->raised_at + PIN_WAIT - now;
@@ -93,42 +95,42 @@ void see_interrupt(struct function *function) {
     function->mask = UNMASKED;
 }
 
-static uint32_t read_register(const struct function *function, uint32_t offset) {
-    return nvme_machine_read32(function->machine, function->number, offset);
+/* Reads a register. (A drive has what the host told of a shutdown, which is over at once.) */
+uint32_t read_register(const struct function *function, uint32_t offset) {
+    uint32_t value = nvme_machine_read32(function->machine, function->number, offset), notice = function->drive.notice;
+    if (offset == NVME_CC)
+        return value | notice;
+    if (offset != NVME_CSTS)
+        return value;
+    return value | (function->drive.has_failed ? IS_FATAL : 0) | (notice && notice != NOTICES ? IS_SHUT_DOWN : 0);
 }
 
-/* Takes one waiting entry of the guest's ring, if the function may access the guest's memory, and sends a message. */
+/* Takes waiting entries of the guest's queues, if the function may access the guest's memory: of I/O queues several,
+   because then an interrupt tells of all of them. */
 void take_turn(struct function *function) {
-    uint64_t entry = nvme_machine_read64(function->machine, function->number, NVME_ASQ) + 64 * function->fetched;
-    uint64_t slot = nvme_machine_read64(function->machine, function->number, NVME_ACQ) + 16 * function->posted;
-    uint32_t less_one = read_register(function, NVME_AQA), power = read_register(function, NVME_CC) >> 7 & 15;
-    function->has_more = function->fetched != function->tail && function->config[COMMAND] & IS_MASTER &&
-                         turn(function, entry, slot, SMALL_PAGE << power);
-    if (!function->has_more)
+    function->has_more = 0;
+    if (!(function->config[COMMAND] & IS_MASTER) || function->drive.has_failed)
         return;
-    function->fetched = (function->fetched + 1) % ((less_one & 0xfff) + 1);
-    function->posted = (function->posted + 1) % ((less_one >> 16 & 0xfff) + 1);
-    function->has_more = function->fetched != function->tail;
-    function->has_message = 1;
+    tell_changes(function);
+    int is_taken = take_command(function);
+    for (unsigned count = 0; count < MOST_ENTRIES && take_entry(function); count++)
+        is_taken = 1;
+    function->has_more |= is_taken && has_entries(function);
 }
 
-/* Writes a register. A doorbell's value is kept unless the controller ignores it: a tail that names no slot, or a head
-   that names none of the completions that wait. */
 static void write_register(struct function *function, uint32_t offset, uint32_t value) {
+    int was_ready = read_register(function, NVME_CSTS) & IS_READY;
     nvme_machine_write32(function->machine, function->number, offset, value);
-    uint32_t less_one = read_register(function, NVME_AQA), is_ready = read_register(function, NVME_CSTS) & 1;
-    uint32_t slots = (less_one >> 16 & 0xfff) + 1, head = function->head;
-    if (offset == NVME_CC && !(value & 1))
-        function->fetched = function->tail = function->posted = function->head = 0;
-    else if (offset == NVME_TAIL_DOORBELL && is_ready && value <= (less_one & 0xfff))
-        function->tail = value;
-    else if (offset == NVME_HEAD_DOORBELL && is_ready && value < slots &&
-             (value + slots - head) % slots <= (function->posted + slots - head) % slots)
-        function->head = value;
-    int may_take = offset == NVME_CC || offset == NVME_HEAD_DOORBELL;
+    if (offset == NVME_CC && (!(value & 1) || !was_ready))
+        reset_drive(function);
+    if (offset == NVME_CC)
+        function->drive.notice = value & NOTICES;
+    else
+        ring(function, offset, value);
+    int may_take = offset == NVME_CC || (offset > NVME_TAIL_DOORBELL && offset % 8 == NVME_HEAD_DOORBELL % 8);
     function->has_taken |= may_take;
     // (a raise that nobody has read yet would be an interrupt without a completion)
-    if (may_take && function->posted == function->head && function->mask == BY_RAISE && take_back(function->pin))
+    if (may_take && !has_completions(function) && function->mask == BY_RAISE && take_back(function->pin))
         function->mask = UNMASKED;
 }
 
@@ -142,7 +144,7 @@ int use(struct function *function, int is_config, uint64_t offset, uint64_t coun
         if (is_config && is_write)
             function->config[at] ^= (function->config[at] ^ *bytes) & config_mask[at];
         else if (is_config)
-            *bytes = function->config[at] | (at == STATUS && function->posted != function->head ? IS_WAITING : 0);
+            *bytes = function->config[at] | (at == STATUS && has_completions(function) ? IS_WAITING : 0);
         else if (!is_write)
             *bytes = read_register(function, at - at % 4) >> at % 4 * 8;
         else if ((offset | count | at) % 4 == 0)

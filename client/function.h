@@ -1,9 +1,9 @@
 /* A controller as a PCI function of a virtual machine (function.c), the machine's memory (memory.c), and the protocols
-   by which programs such as QEMU reach the function (vfio_user.c, proxy.c), with their messages (messages.c). */
+   by which programs such as QEMU reach the function (vfio_user.c, proxy.c), with their messages (messages.c). What
+   else a drive has is in drive.h. */
 #ifndef FUNCTION_H
 #define FUNCTION_H
-#include "nvme_controller.h"
-#include "wire.h"
+#include "drive.h"
 #include <err.h>
 #include <errno.h>
 #include <fcntl.h>
@@ -16,7 +16,8 @@
 /* The most functions, sections of a machine's memory, descriptors with a message, and bytes of an access. */
 enum { MOST_FUNCTIONS = 16, MOST_SECTIONS = 256, MOST_FILES = 8, MOST_ACCESS = 0x4000 };
 enum { FAILED = 72, HEADER = 16, MOST_MESSAGE = HEADER + 16 + MOST_ACCESS, BATCH = 256 /* bytes of small messages */ };
-enum { BAR_SIZE = MOST_ACCESS, CONFIG_SIZE = 256, SMALL_PAGE = 4096 };
+enum { BAR_SIZE = MOST_ACCESS, CONFIG_SIZE = 256, SMALL_PAGE = 4096, IS_READY = 1 /* of the status */ };
+#define MOST_MEMORY ((uint64_t)128 << 30) /* the addresses that a controller reaches */
 
 /* A piece of the machine's memory, in a file that is mapped with this access. What has none (-1) is a hole. */
 struct section {
@@ -33,8 +34,11 @@ struct files {
 
 struct function {
     const struct protocol *protocol;
+    struct subsystem *subsystem;
     nvme_machine *machine;
     uint16_t number;                           /* of the controller in its machine */
+    unsigned char identity[IDENTIFY_BYTES];    /* what Identify Controller said at the start */
+    struct drive drive;
     int socket, listener;                      /* or -1 */
     pid_t receiver;                            /* the process that takes the client's descriptors, or 0 */
     int to_receiver, is_asked;                 /* the socket to it, or -1, and whether it is to answer */
@@ -49,9 +53,7 @@ struct function {
     enum { UNMASKED, BY_RAISE, BY_CLIENT } mask; /* whether the pin waits to be seen, or the client masked it */
     int64_t raised_at;         /* when the pin was raised, in milliseconds */
     int has_taken;             /* whether the guest wrote a head since then */
-    int has_message, has_more; /* whether a message is due, and whether entries may wait after the last turn */
-    uint32_t fetched, tail;    /* the place of the next entry, and the tail that the guest wrote */
-    uint32_t posted, head;     /* the place of the next completion, and the head that the guest wrote */
+    int has_message, has_more; /* whether a message is due, and whether something may be to do after the last turn */
 };
 
 struct protocol {
@@ -66,6 +68,7 @@ static inline uint32_t put_dwords(unsigned char *at, const uint32_t *numbers, ui
     return 4 * count;
 }
 
+uint32_t read_register(const struct function *function, uint32_t offset);
 void reset(struct function *function);
 int use(struct function *function, int is_config, uint64_t offset, uint64_t count, unsigned char *bytes, int is_write);
 void take_turn(struct function *function);
@@ -77,7 +80,8 @@ void see_interrupt(struct function *function);
 void reserve_memory(void);
 int add_section(struct function *function, struct section section, int *file);
 int drop_sections(struct function *function, uint64_t address, uint64_t size);
-int turn(struct function *function, uint64_t entry, uint64_t slot, uint32_t page);
+unsigned char *lend(const struct function *function, uint64_t entry, uint64_t slot);
+void give_back(uint64_t slot);
 void let_go(struct function *function, int *file);
 unsigned serve_client(struct function *function, struct pollfd awaited[2], unsigned other);
 #endif

@@ -9,9 +9,9 @@
 #include <stdatomic.h>
 #include <sys/stat.h>
 
-/* More pages than an entry touches, how many are kept for the next turn, and how the lent addresses are mapped. */
-enum { MOST_PAGES = 512, MOST_KEPT = 8, LENT = MAP_PRIVATE | MAP_ANONYMOUS | MAP_NORESERVE };
-#define MOST_MEMORY ((uint64_t)128 << 30) /* the addresses that a controller reaches */
+/* More pages than an entry touches, how many are kept for the next turn, how many are brought at once, and how the lent
+   addresses are mapped. */
+enum { MOST_PAGES = 768, MOST_KEPT = 4, MOST_RUN = 16, LENT = MAP_PRIVATE | MAP_ANONYMOUS | MAP_NORESERVE };
 
 static unsigned char *lent;                          /* the addresses that are lent, from the guest's 0 on */
 static const struct function *user;                  /* the function that has its turn, or had the last one */
@@ -56,17 +56,37 @@ static void load(unsigned number) {
     memcpy(before[number], page, SMALL_PAGE);
 }
 
+/* Returns how many pages are to be brought from one on: more, if those before it were touched one after the other. */
+static unsigned run_at(uint64_t page) {
+    static uint64_t next;
+    static unsigned run;
+    unsigned count = 1;
+    run = page == next ? 2 * run : 1;
+    run = run < MOST_RUN ? run : MOST_RUN;
+    while (count < run && page_count + count < MOST_PAGES && page + count * SMALL_PAGE < MOST_MEMORY)
+        count++;
+    for (unsigned number = 0; number < page_count; number++)
+        if (pages[number] > page && (pages[number] - page) / SMALL_PAGE < count)
+            count = (unsigned)((pages[number] - page) / SMALL_PAGE);
+    next = page + count * SMALL_PAGE;
+    return count;
+}
+
 /* Brings the page that was touched, or ends a copy with a page that the file lacks. Any other fault is fatal. */
 static void bring(int number, siginfo_t *about, __attribute__((unused)) void *context) {
     uint64_t place = (uintptr_t)about->si_addr - (uintptr_t)lent, page = place - place % SMALL_PAGE;
     if (number == SIGBUS && is_copying)
         siglongjmp(copying, 1);
-    if (place < MOST_MEMORY && page_count < MOST_PAGES &&
-        mprotect(lent + page, SMALL_PAGE, PROT_READ | PROT_WRITE) == 0) {
+    if (number == SIGBUS && replace_lost((uintptr_t)about->si_addr))
+        return;
+    unsigned count = place < MOST_MEMORY && page_count < MOST_PAGES ? run_at(page) : 0;
+    int how = LENT | MAP_FIXED | MAP_POPULATE;
+    if (count == 0 || mmap(lent + page, count * SMALL_PAGE, PROT_READ | PROT_WRITE, how, -1, 0) == MAP_FAILED)
+        signal(number, SIG_DFL);
+    for (; count > 0; count--, page += SMALL_PAGE) {
         pages[page_count] = page;
         load(page_count++);
-    } else
-        signal(number, SIG_DFL);
+    }
 }
 
 void reserve_memory(void) {
@@ -118,9 +138,35 @@ int drop_sections(struct function *function, uint64_t address, uint64_t size) {
     return size > 0 && to == end ? ENOENT : 0;
 }
 
-/* Writes what the turn changed, of each page from the first byte to the last one. The completion comes after all data,
-   and its phase tag at the end. */
-static void store_all(uint64_t slot) {
+/* Lends a function's memory for calls of the library about an entry and the slot of its completion, or nothing if one of
+   them isn't in memory. Of the pages of former calls, theirs are kept, and the latest ones. */
+unsigned char *lend(const struct function *function, uint64_t entry, uint64_t slot) {
+    unsigned kept = 0, surplus = page_count > MOST_KEPT ? page_count - MOST_KEPT : 0, count;
+    entry -= entry % SMALL_PAGE;
+    slot -= slot % SMALL_PAGE;
+    for (unsigned number = 0; number < page_count; number += count) {
+        uint64_t first = pages[number], next = first;
+        for (count = 0; count < surplus && number + count < page_count && pages[number + count] == next; count++) {
+            if (next == entry || next == slot)
+                break;
+            next += SMALL_PAGE;
+        }
+        if (count == 0 || mmap(lent + first, next - first, PROT_NONE, LENT | MAP_FIXED, -1, 0) == MAP_FAILED) {
+            pages[kept++] = first;
+            count = 1;
+        } else
+            surplus -= count;
+    }
+    page_count = kept;
+    user = function;
+    for (unsigned number = 0; number < page_count; number++)
+        load(number);
+    return section_at(function, entry) && section_at(function, slot) ? lent : NULL;
+}
+
+/* Writes what the calls changed, of each page from the first byte to the last one. The completion in this slot comes
+   after all data, and its phase tag at the end. */
+void give_back(uint64_t slot) {
     unsigned char completion[16];
     memcpy(completion, lent + slot, sizeof completion);
     for (unsigned at = 0; at < page_count; at++) {
@@ -136,19 +182,4 @@ static void store_all(uint64_t slot) {
     }
     store(slot, completion, 12);
     store(slot + 12, completion + 12, 4);
-}
-
-/* Lets the function's controller take the entry at this address, and put its completion into this slot. Returns whether
-   it took it. Where either isn't in memory, it finds no memory at all, which is fatal for it. */
-int turn(struct function *function, uint64_t entry, uint64_t slot, uint32_t page) {
-    uint64_t count = section_at(function, entry) && section_at(function, slot) ? MOST_MEMORY / page : 0;
-    while (page_count > MOST_KEPT && mmap(lent + *pages, SMALL_PAGE, PROT_NONE, LENT | MAP_FIXED, -1, 0) != MAP_FAILED)
-        memmove(pages, pages + 1, --page_count * sizeof *pages);
-    user = function;
-    for (unsigned number = 0; number < page_count; number++)
-        load(number);
-    int is_taken = nvme_machine_turn(function->machine, function->number, lent, count, page, 1) == 1;
-    if (is_taken)
-        store_all(slot);
-    return is_taken;
 }

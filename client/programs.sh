@@ -9,4 +9,4 @@ of_library='-fPIC -shared'
 launcher='launcher relay nodes sysfs sandbox calls caller filter helpers io refuse device inherited command options
     opens names lists'
 preloaded='library'
-qemu='qemu messages function memory proxy vfio_user'
+qemu='qemu messages function memory proxy vfio_user drive queues volumes'

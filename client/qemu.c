@@ -19,6 +19,9 @@ static int is_server, has_summary; /* the values of the options */
 static const char *paths[MOST_FUNCTIONS], *memory = "128M";
 static unsigned path_count, function_count;
 static struct function functions[MOST_FUNCTIONS];
+static struct subsystem subsystems[MOST_FUNCTIONS];
+static const char *folder_of_data;
+static unsigned long long most_data;
 static int ways[MOST_FUNCTIONS];     /* QEMU's ways to the sockets */
 static char folder[100], *sockets;   /* for QEMU's sockets, and how the paths of all begin */
 static pid_t qemu;
@@ -145,8 +148,8 @@ static void watch_signals(void) {
         errx(FAILED, "a thread could not be started");
 }
 
-/* Makes a function for each controller of a subsystem: that of a file, or the demonstration subsystem. */
-static void make_functions(const char *path, const struct protocol *protocol) {
+/* Opens the machine of a subsystem: that of a file, or the demonstration subsystem. */
+static nvme_machine *open_machine(const char *path) {
     static unsigned char bytes[MOST_FILE + 1];
     char fault[512] = "";
     nvme_machine *machine;
@@ -157,13 +160,24 @@ static void make_functions(const char *path, const struct protocol *protocol) {
         err(FAILED, "%s", path);
     if (path ? nvme_machine_open(bytes, length, &machine, fault, sizeof fault) : nvme_machine_demo(&machine))
         errx(FAILED, "%s", *fault ? fault : "out of memory");
-    for (uint16_t number = 0; number < nvme_machine_controllers(machine); number++, function_count++) {
+    return machine;
+}
+
+/* Makes a function for each controller of a subsystem, and the data of its namespaces. */
+static void make_functions(const char *path, unsigned place, const struct protocol *protocol) {
+    nvme_machine *machine = open_machine(path);
+    struct subsystem *subsystem = subsystems + place;
+    *subsystem = (struct subsystem){machine, place, functions + function_count, nvme_machine_controllers(machine), {{0}}};
+    for (uint16_t number = 0; number < subsystem->count; number++, function_count++) {
         if (function_count == MOST_FUNCTIONS)
             errx(FAILED, "there are more than %d controllers", MOST_FUNCTIONS);
-        functions[function_count] = (struct function){protocol, machine, number, .socket = -1, .listener = -1,
+        functions[function_count] = (struct function){protocol, subsystem, machine, number, .socket = -1, .listener = -1,
             .to_receiver = -1, .pin = -1, .bell = -1, .unmask = -1, .files.at = {[0 ... MOST_FILES - 1] = -1}};
-        reset(functions + function_count);
+        nvme_machine_identify(machine, number, functions[function_count].identity);
     }
+    look_at_namespaces(subsystem, AT_START);
+    for (unsigned number = 0; number < subsystem->count; number++)
+        reset(subsystem->functions + number);
 }
 
 /* Makes the sockets. A socket at which nobody listens is replaced, and no other file. (A connection to one that isn't a
@@ -216,12 +230,24 @@ static void show_usage(FILE *to) {
     exit(fflush(to) == 0 && to == stdout ? 0 : FAILED);
 }
 
+/* Reads a number of bytes, or one with K, M or G. Returns whether it is one. */
+static int read_size(const char *text, unsigned long long *size) {
+    char unit = 0, rest;
+    int count = *text >= '0' && *text <= '9' ? sscanf(text, "%12llu%c%c", size, &unit, &rest) : 0;
+    const char *found = strchr("KMG", unit);
+    *size = found && unit ? *size << 10 * (found - "KMG" + 1) : *size;
+    *size += *size == 0;
+    return count == 1 || (count == 2 && found);
+}
+
 static unsigned read_options(int count, char **arguments) {
     static const struct option options[] = {{"qemu", no_argument, &is_server, 0},
                                             {"vfio-user", no_argument, &is_server, 1},
                                             {"subsystem", required_argument, NULL, 's'},
                                             {"memory", required_argument, NULL, 'm'},
                                             {"socket", required_argument, NULL, 'p'},
+                                            {"data", required_argument, NULL, 'd'},
+                                            {"data-limit", required_argument, NULL, 'l'},
                                             {"summary", no_argument, &has_summary, 1},
                                             {"help", no_argument, NULL, 'h'},
                                             {0}};
@@ -235,6 +261,10 @@ static unsigned read_options(int count, char **arguments) {
             memory = optarg;
         else if (option == 'p')
             sockets = optarg;
+        else if (option == 'd')
+            folder_of_data = optarg;
+        else if (option == 'l' && read_size(optarg, &most_data))
+            continue;
         else if (option != 0)
             show_usage(option == 'h' ? stdout : stderr);
     }
@@ -260,8 +290,9 @@ int main(int count, char **arguments) {
     if (getrlimit(RLIMIT_NOFILE, &files) == 0)
         setrlimit(RLIMIT_NOFILE, &(struct rlimit){files.rlim_max, files.rlim_max});
     reserve_memory();
+    prepare_data(folder_of_data, most_data);
     for (unsigned path = 0; path < path_count || path == 0; path++)
-        make_functions(paths[path], protocol);
+        make_functions(paths[path], path, protocol);
     atexit(remove_sockets);
     make_sockets();
     pid_t self = getpid();

@@ -8,7 +8,8 @@ import os
 import socket
 import struct
 
-from tests.driver import ACQ, AQA, ASQ, CC, COMMAND, CSTS, HEAD, MASTER, PAGE, TAIL, Driver, counter, memory_file
+from tests.driver import (
+    ACQ, AQA, ASQ, CC, COMMAND, CSTS, HEAD, IDENTIFY, MASTER, PAGE, TAIL, Driver, counter, memory_file)
 from tests.support import LIMIT
 
 REACHED = 128 << 30
@@ -132,6 +133,20 @@ class Client:
         return True
 
 
+def register_of(machine, ctrl, offset):
+    """Returns a register of the library's machine, with what a drive adds: a shutdown that was announced is over. (The
+    machine keeps nothing of it, so `machine.notices` does.)"""
+    value, notice = machine.read32(ctrl, offset), getattr(machine, 'notices', {}).get(ctrl, 0)
+    return value | (notice if offset == CC else 8 if offset == CSTS and notice >> 14 in (1, 2) else 0)
+
+
+def write_register(machine, ctrl, offset, value):
+    """Writes a register of the library's machine."""
+    machine.write32(ctrl, offset, value)
+    if offset == CC:
+        machine.notices = {**getattr(machine, 'notices', {}), ctrl: value & 3 << 14}
+
+
 def machine_of(place, file=None):
     """Returns a machine of the library in this folder, by its Python module."""
     found = importlib.util.spec_from_file_location('nvme_controller', place / 'nvme_controller.py')
@@ -157,6 +172,7 @@ class Guest(Driver, Client):
     def __init__(self, path, machine=None, ctrl=0, layout=((0, 64 * PAGE),), command=MASTER, holes=()):
         super().__init__(path)
         self.machine, self.ctrl, self.pieces, self.holes = machine, ctrl, [], holes
+        self.identities = []  # where Identify Controller was asked for
         if machine:
             self.flat = mmap.mmap(-1, REACHED, flags=mmap.MAP_PRIVATE | mmap.MAP_ANONYMOUS | 0x4000)  # (MAP_NORESERVE)
         self.greet()
@@ -182,6 +198,20 @@ class Guest(Driver, Client):
                 return memoryview(piece.bytes)[start:start + length]
         raise IndexError(hex(address))
 
+    def put(self, opcode, first=0, second=0, nsid=0, dword10=0, *rest, **more):
+        if opcode == IDENTIFY and dword10 == 1:
+            self.identities.append((first, second))
+        super().put(opcode, first, second, nsid, dword10, *rest, **more)
+
+    def add_bits(self):
+        """Sets in the machine's answers to Identify Controller what a drive adds (OAES, AERL, ONCS)."""
+        for first, second in self.identities:
+            places = [first + at if at < self.page - first % self.page else second + at - self.page + first % self.page
+                      for at in (93, 259, 520)]
+            if places[2] < REACHED and self.flat[places[2]] == 0x10:
+                for place, bits in zip(places, (1, 3, 0x8d)):
+                    self.flat[place] |= bits
+
     def set(self, offset, value, size=4):
         """Writes a register, also that of the machine, which then takes its turn. All memory must then agree."""
         if not self.machine:
@@ -194,15 +224,16 @@ class Guest(Driver, Client):
             self.flat[hole:hole + PAGE] = b'\xff' * PAGE
         self.set_register(offset, value, size)
         for part in range(0, size, 4):
-            self.machine.write32(self.ctrl, offset + part, value >> 8 * part & 0xffff_ffff)
+            write_register(self.machine, self.ctrl, offset + part, value >> 8 * part & 0xffff_ffff)
         if offset in (TAIL, HEAD):
             self.machine.turn(self.ctrl, self.flat, PAGE << (self.machine.read32(self.ctrl, CC) >> 7 & 15))
+            self.add_bits()
         self.agree()
 
     def agree(self):
         """Compares the registers, and each byte of the memory."""
         for offset in 0, 4, 8, CC, CSTS, AQA, ASQ, ASQ + 4, ACQ, ACQ + 4, TAIL, HEAD:
-            got, wanted = self.register(offset), self.machine.read32(self.ctrl, offset)
+            got, wanted = self.register(offset), register_of(self.machine, self.ctrl, offset)
             assert got == wanted, (hex(offset), hex(got), hex(wanted))
         for piece in self.pieces:
             wanted = self.flat[piece.address:piece.address + piece.length]

@@ -62,10 +62,10 @@ class Driver:
                               (CC, ENABLED | power << 7)):
             self.set(offset, value, 8 if offset in (ASQ, ACQ) else 4)
 
-    def put(self, opcode, first=0, second=0, nsid=0, dword10=0, dword11=0, rings=True):
+    def put(self, opcode, first=0, second=0, nsid=0, dword10=0, dword11=0, dword12=0, flags=0, rings=True):
         """Writes an entry, and rings the tail doorbell."""
-        entry = struct.pack('<BBHIQQQQ6I', opcode, 0, self.tail + 100, nsid, 0, 0, first, second, dword10, dword11,
-                            *[0] * 4)
+        entry = struct.pack('<BBHIQQQQ6I', opcode, flags, self.tail + 100, nsid, 0, 0, first, second, dword10, dword11,
+                            dword12, *[0] * 3)
         self.at(self.rings[0] + 64 * self.tail, 64)[:] = entry
         self.tail = (self.tail + 1) % self.slots[0]
         if rings:

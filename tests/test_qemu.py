@@ -5,6 +5,7 @@ instead of the newest one in /boot or that of tools/kernel, and NVME_TEST_MODULE
 
 import functools
 import glob
+import hashlib
 import json
 import lzma
 import os
@@ -39,6 +40,7 @@ echo 0 > /sys/bus/pci/drivers_autoprobe
 for module in $(cat /modules/order); do insmod "/modules/$module" 2>&1; done
 stty -F /dev/ttyS1 raw
 if grep -q plugged /proc/cmdline; then sh /plugged.sh > /dev/ttyS1; fi
+if grep -q kept /proc/cmdline; then sh /data.sh > /dev/ttyS1 2> /dev/null; fi
 for address in $(grep -l 0x010802 /sys/bus/pci/devices/*/class); do
     basename "${address%/class}" > /sys/bus/pci/drivers/nvme/bind
 done
@@ -79,6 +81,26 @@ nvme list-ns /dev/nvme0 --all
 nvme reset /dev/nvme0 && wait_until is_live
 dmesg | grep -E 'nvme.*(timeout|[Tt]imed|dead|Abort)'
 echo END
+echo b > /proc/sysrq-trigger
+sleep 60
+'''
+# What a guest does with a drive: it fills its disk, restarts, and reads it.
+DATA = '''
+for address in $(grep -l 0x010802 /sys/bus/pci/devices/*/class); do
+    basename "${address%/class}" > /sys/bus/pci/drivers/nvme/bind
+done
+disk() { for name in $(cd /dev && echo nvme*n*); do grep -q '^2048$' "/sys/block/$name/size" && echo "/dev/$name"; done; }
+for second in $(seq 600); do [ -z "$(disk)" ] || break; sleep 1; done
+disk=$(disk)
+if [ "$(dd if="$disk" bs=4 count=1)" = full ]; then
+    echo "READ $(md5sum < "$disk")"
+    dmesg | grep -E 'nvme.*(timeout|[Tt]imed|dead|Abort)|I/O error'
+    echo o > /proc/sysrq-trigger
+    sleep 60
+fi
+dd if=/dev/urandom of="$disk" bs=64k count=16 conv=fsync
+printf full | dd of="$disk" conv=notrunc,fsync
+echo "WRITTEN $(md5sum < "$disk")"
 echo b > /proc/sysrq-trigger
 sleep 60
 '''
@@ -326,6 +348,7 @@ def initial_files():
         (root / 'modules' / name).write_bytes(data)
     (root / 'modules/order').write_text(' '.join(needed))
     (root / 'plugged.sh').write_text(PLUGGED)
+    (root / 'data.sh').write_text(DATA)
     (root / 'init').write_text(INIT)
     (root / 'init').chmod(0o755)
     packed = process_folder() / 'guest.cpio'
@@ -360,6 +383,25 @@ def told(error):
     return tuple('{} {} {:x} {:x} {:x}'.format(*numbers).split())
 
 
+def as_drive(text):
+    """Returns what nvme-cli tells of controllers, with what those of a virtual machine have besides."""
+    for old, new in ((b'oncs      : 0x10\n', b'oncs      : 0x9d\n'), (b'oaes      : 0\n', b'oaes      : 0x100\n'),
+                     (b'aerl      : 0\n', b'aerl      : 3\n'), (b'"oncs":16,', b'"oncs":157,'),
+                     (b'"oaes":0,', b'"oaes":256,'), (b'"aerl":0,', b'"aerl":3,')):
+        assert text.count(old) == 1, (old, text.count(old))
+        text = text.replace(old, new)
+    return text
+
+
+def apart_from_scans(text):
+    """Leaves out what depends on how often Linux itself sends a command that is refused: when it looks for namespaces,
+    as after a format, even one that was refused."""
+    before, mark, after = text.partition(b'> nvme format /dev/nvme0 -n 2 -l 7 ')
+    errors, end, rest = after.partition(b'> nvme delete-ns')
+    errors = re.sub(rb'(?m)^ *"(status_field|parm_error_location|nsid)":.*\n', b'', errors)
+    return re.sub(rb'(?m)^refused: .*\n', b'', before + mark + errors + end + rest)
+
+
 class Drivers(ModelCase):
     def setUp(self):
         super().setUp()
@@ -376,10 +418,9 @@ class Drivers(ModelCase):
         return ended.err.decode()
 
     def test_seabios(self):
-        # SeaBIOS's driver identifies a controller, and then creates an I/O queue, whose opcode is refused
+        # SeaBIOS's driver identifies a controller, creates I/O queues, and identifies each namespace
         summary = self.boot('-boot', 'reboot-timeout=1')
-        self.assertEqual(re.findall(COUNTS, summary), [('0', '2', '1'), ('1', '2', '1')])
-        self.assertEqual([error[2:] for error in re.findall(ERROR, summary)], [('6001', 'ffff', '0')] * 2)
+        self.assertEqual(re.findall(COUNTS, summary), [('0', '5', '0'), ('1', '5', '0')])
 
     def test_linux(self):
         # (Without KVM, the older device has no interrupts. A busy machine fails the kernel's check of the timer.)
@@ -388,11 +429,12 @@ class Drivers(ModelCase):
                             *['-smp', '2'] * is_new, '-kernel', kernel()[0], '-initrd', initial_files(), '-append',
                             'console=ttyS0 panic=-1 no_timer_check' + ' irqpoll nolapic_timer' * (not is_new))
         console = self.console.read_text(errors='replace')
-        self.assertEqual(len(re.findall('IO queues (?:not created|lost)', console)), 3, console[-3000:])
+        self.assertEqual(len(re.findall('1/0/0 default/read/poll queues', console)), 3, console[-3000:])
         self.assertEqual(re.findall(r'(?i)nvme.*(?:timeout|timed out|dead|abort)', console), [])
         script, logs = self.results.read_text().split('END OF SCRIPT\n')
         wanted = self.model('sh', TOP / 'tests/guest.sh')
-        self.assertEqual(difference('guest', wanted.out, script.encode()), [], console[-3000:])
+        wanted, got = apart_from_scans(as_drive(wanted.out)), apart_from_scans(script.encode())
+        self.assertEqual(difference('guest', wanted, got), [], console[-3000:])
         # what the guest read last, and what the program reported at its end
         self.assertTrue(logs.endswith('END OF LOGS\n'), logs)
         pages = documents(logs[:-len('END OF LOGS\n')])
@@ -400,6 +442,20 @@ class Drivers(ModelCase):
         self.assertEqual(errors, re.findall(ERROR, summary))
         refused = [smart['num_err_log_entries'] for smart in pages[1::2]]
         self.assertEqual(refused, [counts[2] for counts in re.findall(COUNTS, summary)])
+
+    def test_data(self):
+        # what Linux writes is there after the machine's restart, and in the file
+        place = self.folder / 'data'
+        place.mkdir()
+        interrupts = '' if b'vfio-user-pci' in devices() else ' irqpoll nolapic_timer'
+        ended = run(program(), '--subsystem', self.subsystem, '--data', place, '--', '-nodefaults', '-display', 'none',
+                    '-serial', f'file:{self.console}', '-serial', f'file:{self.results}', '-kernel', kernel()[0],
+                    '-initrd', initial_files(), '-append', f'console=ttyS0 panic=-1 no_timer_check{interrupts} kept')
+        self.ends(ended, 0, b'')
+        stored = (place / 'subsystem0.namespace1').read_bytes()
+        digest = hashlib.md5(stored).hexdigest()
+        self.assertEqual((len(stored), stored[:4]), (1 << 20, b'full'))
+        self.assertEqual(self.results.read_text(), f'WRITTEN {digest}  -\nREAD {digest}  -\n')
 
     def test_plugged(self):
         # a controller is unplugged, and plugged in again, in two machines one after the other
@@ -458,9 +514,6 @@ class Drivers(ModelCase):
         self.assertEqual(set(re.findall(r'(?m)^sn +: (\S+)', said)), {'S0', 'S1'}, said[-3000:])
         self.assertRegex(said, r'(?m)^serials: (S\d) \1\s*$')
         self.assertRegex(said, r'(?m)^\[ +0\]:0x1\r?$')
-        for sentence in 'Could not set queue count (24578)', 'IO queues not created':
-            self.assertIn(sentence, said)
-            self.assertIn(f'`{sentence}`', page)
         self.assertEqual(os.listdir(self.folder / 'here'), ['nvme-model'])
 
     def order(self, name, event=None, **arguments):

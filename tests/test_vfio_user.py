@@ -7,7 +7,8 @@ import struct
 import threading
 
 from tests.as_client import (
-    BAR, BIND, CONFIG, DEVICE_INFO, DMA_UNMAP, IRQ_INFO, PIN, READ, REGION_INFO, RESET, UNBIND, WANTS_NONE, WRITE)
+    BAR, BIND, CONFIG, DEVICE_INFO, DMA_UNMAP, IRQ_INFO, PIN, READ, REGION_INFO, RESET, UNBIND, WANTS_NONE, WRITE,
+    register_of, write_register)
 from tests.driver import (
     ASQ, BASE, CC, COMMAND, CSTS, HEAD, IDENTIFY, INVALID_OFFSET, MASTER, NOWHERE, PAGE, TAIL, TRANSFER_ERROR, counter,
     memory_file)
@@ -87,10 +88,10 @@ class Order(Served):
             client.write(BAR, offset, data, posted=lot.random() < 0.5)
             for at in range(0, size, 4):
                 if offset % 4 == size % 4 == 0:
-                    machine.write32(0, offset + at, int.from_bytes(data[at:at + 4], 'little'))
+                    write_register(machine, 0, offset + at, int.from_bytes(data[at:at + 4], 'little'))
             for at in range(0, 0x40, 4):
-                self.assertEqual(client.register(at), machine.read32(0, at), (hex(offset), data, hex(at)))
-        wanted = b''.join(machine.read32(0, at).to_bytes(4, 'little') for at in range(0, 0x1000, 4))
+                self.assertEqual(client.register(at), register_of(machine, 0, at), (hex(offset), data, hex(at)))
+        wanted = b''.join(register_of(machine, 0, at).to_bytes(4, 'little') for at in range(0, 0x1000, 4))
         self.assertEqual(client.read(BAR, 0, 0x4000), wanted.ljust(0x4000, b'\0'))
 
     def test_posted_writes(self):
@@ -111,7 +112,7 @@ class Commands(Served):
             guest.enable()
         for _ in range(20):
             self.assertEqual([guest.serial() for guest in guests], ['S0', 'S1'])
-        for opcode in 0, 0x18, 0xff:
+        for opcode in 0x18, 0xff:
             self.assertEqual(guests[0].status_of(opcode), 1)
         guests[0].ask(RESET)
         machine.write32(0, CC, 0)

@@ -1,0 +1,366 @@
+/* The admin commands of a drive that the proved controller lacks: they are seen before it takes them, and answered in
+   its place. And what follows from commands that it accepted: the data of namespaces, and events at the controllers
+   whose namespaces changed. None of this is proved. */
+#include "function.h"
+
+/* Statuses, with the bit Do Not Retry; and that no completion is due yet. */
+enum { DONE = 0, INVALID_FIELD = 0x4002, INVALID_NAMESPACE = 0x400b, SEQUENCE_ERROR = 0x400c, INVALID_OFFSET = 0x4013 };
+enum { NO_COMPLETION_QUEUE = 0x4100, INVALID_QUEUE, INVALID_SIZE, TOO_MANY_REQUESTS = 0x4105, INVALID_VECTOR = 0x4108 };
+enum { INVALID_DELETION = 0x410c, NOT_SAVEABLE, NOT_OF_NAMESPACE = 0x410f, IS_HELD = 0xffff };
+/* Opcodes and selectors of the commands here, bits of their dwords, and fields of Identify Controller. */
+enum { DELETE_SUBMISSIONS = 0, CREATE_SUBMISSIONS, DELETE_COMPLETIONS = 4, CREATE_COMPLETIONS, ABORT = 8 };
+enum { SET_FEATURES = 9, GET_FEATURES, REQUEST_EVENT = 0x0c, NUMBER_OF_QUEUES = 7, EVENTS = 0x0b, ANY = -1 };
+enum { IDENTIFIERS = 3, ATTACHED_TO = 0x12, CONTROLLERS = 0x13, FIRMWARE = 3, CHANGED_NAMESPACES = 4 };
+enum { IS_CONTIGUOUS = 1, HAS_INTERRUPTS = 2, KEEPS_EVENT = 1 << 15, WANTS_CHANGES = 1 << 8, CAN_CHANGE = 4 };
+enum { FIRMWARE_NAME = 64, CONTROLLER_ID = 78 };
+#define IS_SAVED (1u << 31)
+/* Dword 0 of the event that namespaces have changed, which a log lists. */
+enum { CHANGE = 2 | CHANGED_NAMESPACES << 16 };
+
+/* A command that is answered here, and what it is answered: dword 0, and data (of which a read may begin after a part
+   of a page). */
+struct command {
+    struct function *function;
+    unsigned char entry[ENTRY_BYTES], *memory;
+    uint32_t dword_0;
+    unsigned char page[2 * IDENTIFY_BYTES];
+};
+
+static uint32_t dword(const struct command *command, unsigned number) {
+    return (uint32_t)number_at(command->entry + 4 * number, 4);
+}
+
+/* ---- queues */
+
+/* Returns where the depth of the queue is that a command names, or NULL if it can't be one. */
+static uint16_t *depth_of(const struct command *command) {
+    struct drive *drive = &command->function->drive;
+    uint32_t id = dword(command, 10) & 0xffff;
+    int is_completions = command->entry[0] >= DELETE_COMPLETIONS;
+    uint32_t most = (is_completions ? drive->counts >> 16 : drive->counts & 0xffff) + 1;
+    if (id == 0 || id > most)
+        return NULL;
+    return is_completions ? &drive->completions[id].queue.depth : &drive->submissions[id].queue.depth;
+}
+
+static int create_queue(struct command *command) {
+    struct drive *drive = &command->function->drive;
+    uint64_t base = number_at(command->entry + 24, 8);
+    uint32_t id = dword(command, 10) & 0xffff, last_slot = dword(command, 10) >> 16, how = dword(command, 11);
+    uint32_t other = how >> 16, has_completions = other <= MOST_QUEUES && drive->completions[other].queue.depth > 0;
+    int is_submissions = command->entry[0] == CREATE_SUBMISSIONS;
+    if (!depth_of(command) || *depth_of(command) > 0)
+        return INVALID_QUEUE;
+    if (last_slot == 0 || last_slot > (read_register(command->function, NVME_CAP) & 0xffff))
+        return INVALID_SIZE;
+    if (base % page_size(command->function))
+        return INVALID_OFFSET;
+    if (!(how & IS_CONTIGUOUS))
+        return INVALID_FIELD;
+    if (is_submissions && (other == 0 || other > (drive->counts >> 16) + 1))
+        return INVALID_QUEUE;
+    if (other > 0 && !(is_submissions && has_completions))
+        return is_submissions ? NO_COMPLETION_QUEUE : INVALID_VECTOR;
+    if (is_submissions) {
+        nvme_submission_queue_make(&drive->submissions[id].queue, (uint16_t)id, base, last_slot + 1);
+        drive->submissions[id].completions = (uint16_t)other;
+    } else {
+        nvme_completion_queue_make(&drive->completions[id].queue, base, last_slot + 1);
+        drive->completions[id].interrupts = (how & HAS_INTERRUPTS) != 0;
+    }
+    return DONE;
+}
+
+static int delete_queue(struct command *command) {
+    struct drive *drive = &command->function->drive;
+    uint32_t id = dword(command, 10) & 0xffff;
+    if (!depth_of(command) || *depth_of(command) == 0)
+        return INVALID_QUEUE;
+    if (command->entry[0] == DELETE_SUBMISSIONS) {
+        drive->submissions[id] = (struct submissions){0};
+        return DONE;
+    }
+    for (const struct submissions *at = drive->submissions; at <= drive->submissions + MOST_QUEUES; at++)
+        if (at->queue.depth > 0 && at->completions == id)
+            return INVALID_DELETION;
+    drive->completions[id] = (struct completions){0};
+    return DONE;
+}
+
+static int set_queue_counts(struct command *command) {
+    struct drive *drive = &command->function->drive;
+    uint32_t submissions = dword(command, 11) & 0xffff, completions = dword(command, 11) >> 16;
+    uint32_t last = MOST_QUEUES - 1, nsid = dword(command, 1);
+    if (dword(command, 10) & IS_SAVED)
+        return NOT_SAVEABLE;
+    if (nsid != 0 && nsid != EVERY_NSID)
+        return NOT_OF_NAMESPACE;
+    if (submissions == 0xffff || completions == 0xffff)
+        return INVALID_FIELD;
+    for (unsigned id = 1; id <= MOST_QUEUES; id++)
+        if (drive->submissions[id].queue.depth > 0 || drive->completions[id].queue.depth > 0)
+            return SEQUENCE_ERROR;
+    drive->counts = (submissions < last ? submissions : last) | (completions < last ? completions : last) << 16;
+    command->dword_0 = drive->counts;
+    return DONE;
+}
+
+/* (What can be asked for are the current value, the default, the saved one, and what can be done.) */
+static int get_queue_counts(struct command *command) {
+    const uint32_t values[] = {command->function->drive.counts, DEFAULT_COUNTS, DEFAULT_COUNTS, CAN_CHANGE};
+    uint32_t which = dword(command, 10) >> 8 & 7;
+    command->dword_0 = which < 4 ? values[which] : 0;
+    return which < 4 ? DONE : INVALID_FIELD;
+}
+
+/* ---- other controllers, firmware and events */
+
+/* (Bit 0 says that the command wasn't aborted.) */
+static int abort_nothing(struct command *command) {
+    command->dword_0 = 1;
+    return DONE;
+}
+
+static int hold_request(struct command *command) {
+    struct drive *drive = &command->function->drive;
+    if (drive->request_count == MOST_REQUESTS)
+        return TOO_MANY_REQUESTS;
+    drive->requests[drive->request_count++] = (uint16_t)number_at(command->entry + 2, 2);
+    return IS_HELD;
+}
+
+/* Looks whether the command's namespace is active at the controller, or allocated. */
+static int look_for(const struct command *command, int is_active) {
+    const struct function *function = command->function;
+    uint32_t nsid = dword(command, 1);
+    unsigned char about[IDENTIFY_BYTES];
+    if (nsid == EVERY_NSID)
+        return is_active ? INVALID_NAMESPACE : INVALID_FIELD;
+    if (!nvme_machine_namespace(function->machine, function->number, nsid, is_active, about))
+        return INVALID_NAMESPACE;
+    return number_at(about, 8) == 0 ? INVALID_FIELD : DONE;
+}
+
+/* A namespace has no identifiers, but that of its command set. */
+static int list_identifiers(struct command *command) {
+    memcpy(command->page, (const unsigned char[]){4, 1, 0, 0, 0}, 5);
+    return look_for(command, 1);
+}
+
+/* The controllers of the subsystem, or those to which a namespace is attached, in the order of their identifiers. */
+static int list_controllers(struct command *command) {
+    const struct subsystem *subsystem = command->function->subsystem;
+    int is_of_one = command->entry[40] == ATTACHED_TO, status = is_of_one ? look_for(command, 0) : DONE;
+    uint32_t nsid = dword(command, 1), count = 0;
+    for (uint32_t id = dword(command, 10) >> 16; id <= UINT16_MAX && status == DONE; id++)
+        for (const struct function *at = subsystem->functions; at < subsystem->functions + subsystem->count; at++)
+            if (number_at(at->identity + CONTROLLER_ID, 2) == id && (!is_of_one || at->drive.is_active[nsid]))
+                put_dword(command->page + 2 * ++count, id);
+    put_dword(command->page, count | (uint32_t)number_at(command->page + 2, 2) << 16);
+    return status;
+}
+
+/* The firmware that Identify names is in the first slot. */
+static int list_firmware(struct command *command) {
+    command->page[0] = 1;
+    memcpy(command->page + 8, command->function->identity + FIRMWARE_NAME, 8);
+    return DONE;
+}
+
+/* The namespaces that changed since this was read. */
+static int list_changes(struct command *command) {
+    struct drive *drive = &command->function->drive;
+    unsigned char *next = command->page;
+    for (uint32_t nsid = 1; nsid <= MOST_NSID; nsid++)
+        if (drive->has_changed[nsid]) {
+            put_dword(next, nsid);
+            next += 4;
+        }
+    if (!(dword(command, 10) & KEEPS_EVENT)) {
+        memset(drive->has_changed, 0, sizeof drive->has_changed);
+        drive->is_told = 0;
+    }
+    return DONE;
+}
+
+/* ---- the table */
+
+/* A command, by its opcode and the lowest byte of dword 10, with the size of the data that it has. */
+static const struct row {
+    unsigned char opcode;
+    int selector;
+    uint32_t size;
+    int (*answer)(struct command *command);
+} rows[] = {{DELETE_SUBMISSIONS, ANY, 0, delete_queue},
+            {CREATE_SUBMISSIONS, ANY, 0, create_queue},
+            {DELETE_COMPLETIONS, ANY, 0, delete_queue},
+            {CREATE_COMPLETIONS, ANY, 0, create_queue},
+            {ABORT, ANY, 0, abort_nothing},
+            {SET_FEATURES, NUMBER_OF_QUEUES, 0, set_queue_counts},
+            {GET_FEATURES, NUMBER_OF_QUEUES, 0, get_queue_counts},
+            {REQUEST_EVENT, ANY, 0, hold_request},
+            {OPCODE_IDENTIFY, IDENTIFIERS, IDENTIFY_BYTES, list_identifiers},
+            {OPCODE_IDENTIFY, ATTACHED_TO, IDENTIFY_BYTES, list_controllers},
+            {OPCODE_IDENTIFY, CONTROLLERS, IDENTIFY_BYTES, list_controllers},
+            {OPCODE_GET_LOG, FIRMWARE, 512, list_firmware},
+            {OPCODE_GET_LOG, CHANGED_NAMESPACES, 4 * MOST_NSID, list_changes}};
+
+/* What Identify Controller must therefore say, by the offset of a byte: that there are events of namespaces (OAES), how
+   many requests for events may wait (AERL, one less), and that there are Compare, Dataset Management, Write Zeroes and
+   Verify (ONCS). */
+static const struct {
+    unsigned offset, bits;
+} additions[] = {{93, WANTS_CHANGES >> 8}, {259, MOST_REQUESTS - 1}, {520, 1 << 0 | 1 << 2 | 1 << 3 | 1 << 7}};
+
+static const struct row *row_of(const unsigned char *entry) {
+    const struct row *row = rows, *end = rows + sizeof rows / sizeof *rows;
+    while (row < end && (row->opcode != entry[0] || (row->selector != ANY && row->selector != entry[40])))
+        row++;
+    return row < end ? row : NULL;
+}
+
+/* Writes data to where a command wants it. Returns the status. */
+static int write_data(const struct command *command, const unsigned char *data, size_t length) {
+    uint32_t page = page_size(command->function);
+    return nvme_entry_write(command->entry, command->memory, MOST_MEMORY / page, page, data, length);
+}
+
+/* Answers a command, and returns its status. (Of a log, no more than a page is read at once.) */
+static int answer(struct command *command, const struct row *row) {
+    uint64_t from = 0, length = row->size;
+    uint32_t nsid = dword(command, 1);
+    if (row->opcode == OPCODE_GET_LOG) {
+        from = number_at(command->entry + 48, 8);
+        length = 4 * ((uint64_t)(dword(command, 11) & 0xffff) << 16 | dword(command, 10) >> 16) + 4;
+        if (from % 4 || from > row->size || length > IDENTIFY_BYTES || (nsid != 0 && nsid != EVERY_NSID))
+            return INVALID_FIELD;
+    }
+    int status = command->entry[1] ? INVALID_FIELD : row->answer(command);
+    return status == DONE && length > 0 ? write_data(command, command->page + from, length) : status;
+}
+
+/* ---- what follows from commands that the controllers accept */
+
+static void change(struct function *function, uint32_t nsid) {
+    function->drive.has_changed[nsid] = 1;
+    function->has_more = 1;
+}
+
+/* Looks at each namespace, which may have come or gone, here or at other controllers. */
+void look_at_namespaces(struct subsystem *subsystem, enum moment moment) {
+    unsigned char about[IDENTIFY_BYTES];
+    for (uint32_t nsid = 1; nsid <= MOST_NSID; nsid++) {
+        follow_namespace(subsystem, nsid, moment);
+        for (struct function *at = subsystem->functions; at < subsystem->functions + subsystem->count; at++) {
+            int is_known = nvme_machine_namespace(at->machine, at->number, nsid, 1, about);
+            int is_active = is_known && number_at(about, 8) > 0;
+            if (is_active != at->drive.is_active[nsid])
+                change(at, nsid);
+            at->drive.is_active[nsid] = (unsigned char)is_active;
+        }
+    }
+}
+
+/* Clears the data of the namespaces that were formatted: one, or all that are active. */
+static void clear_formatted(struct function *function, uint32_t formatted) {
+    struct subsystem *subsystem = function->subsystem;
+    for (uint32_t nsid = 1; nsid <= MOST_NSID; nsid++) {
+        if (nsid != formatted && (formatted != EVERY_NSID || !function->drive.is_active[nsid]))
+            continue;
+        follow_namespace(subsystem, nsid, AFTER_FORMAT);
+        for (struct function *at = subsystem->functions; at < subsystem->functions + subsystem->count; at++)
+            if (at->drive.is_active[nsid])
+                change(at, nsid);
+    }
+}
+
+static void see_accepted(const struct command *command) {
+    struct function *function = command->function;
+    unsigned char opcode = command->entry[0], selector = command->entry[40], page[IDENTIFY_BYTES];
+    if (opcode == OPCODE_IDENTIFY && selector == CNS_CONTROLLER) {
+        nvme_machine_identify(function->machine, function->number, page);
+        for (unsigned at = 0; at < sizeof additions / sizeof *additions; at++)
+            page[additions[at].offset] |= (unsigned char)additions[at].bits;
+        write_data(command, page, sizeof page);
+    } else if (opcode == SET_FEATURES && selector == EVENTS)
+        function->drive.wants_changes = (dword(command, 11) & WANTS_CHANGES) != 0;
+    else if (opcode == OPCODE_FORMAT)
+        clear_formatted(function, dword(command, 1));
+    else if (opcode == OPCODE_MANAGEMENT || opcode == OPCODE_ATTACHMENT)
+        look_at_namespaces(function->subsystem, AFTER_COMMAND);
+}
+
+/* ---- the admin queue */
+
+/* Lets the controller take the next entry. Returns whether it did. */
+static int pass_on(const struct command *command, size_t pages) {
+    struct function *function = command->function;
+    uint64_t refused_before, refused, count;
+    nvme_machine_counts(function->machine, function->number, &refused_before, &count);
+    if (nvme_machine_turn(function->machine, function->number, command->memory, pages, page_size(function), 1) != 1)
+        return 0;
+    nvme_machine_counts(function->machine, function->number, &refused, &count);
+    if (refused == refused_before)
+        see_accepted(command);
+    return 1;
+}
+
+/* Takes the next entry, and completes it unless it is held. Returns whether there was one. */
+static int take_over(struct command *command, size_t pages, int status) {
+    nvme_machine *machine = command->function->machine;
+    uint16_t number = command->function->number;
+    uint32_t page = page_size(command->function);
+    nvme_answer answer = {command->dword_0, 0, (uint16_t)status};
+    if (status == IS_HELD)
+        return nvme_machine_fetch(machine, number, command->memory, pages, page, command->entry);
+    return nvme_machine_complete(machine, number, command->memory, pages, page, answer);
+}
+
+/* Sees that a completion was posted. */
+static void complete(struct function *function, uint64_t slot) {
+    nvme_completion_queue *queue = &function->drive.completions[0].queue;
+    queue->posted = (queue->posted + 1) % (2 * queue->depth);
+    give_back(slot);
+    function->has_message = 1;
+}
+
+/* Takes the next entry of the admin queue, or lets the controller take it. Where it or the slot for its completion
+   isn't in memory, the controller finds no memory at all, which is fatal for it. Returns whether there was one. */
+int take_command(struct function *function) {
+    nvme_submission_queue *queue = &function->drive.submissions[0].queue;
+    uint64_t slot = next_completion(&function->drive.completions[0].queue);
+    if (queue->fetched == queue->rung)
+        return 0;
+    struct command command = {.function = function, .memory = lend(function, next_entry(queue), slot)};
+    uint32_t page = page_size(function);
+    size_t pages = command.memory ? MOST_MEMORY / page : 0;
+    const struct row *row = NULL;
+    if (nvme_machine_next(function->machine, function->number, command.memory, pages, page, command.entry))
+        row = row_of(command.entry);
+    int status = row ? answer(&command, row) : DONE;
+    if (!(row ? take_over(&command, pages, status) : pass_on(&command, pages)))
+        return 0;
+    queue->fetched = (queue->fetched + 1) % (2 * queue->depth);
+    if (status != IS_HELD)
+        complete(function, slot);
+    return 1;
+}
+
+/* Completes a request for events if namespaces have changed since the host was told so. */
+void tell_changes(struct function *function) {
+    struct drive *drive = &function->drive;
+    nvme_answer answer = {CHANGE, drive->requests[0], DONE};
+    if (drive->request_count == 0 || !drive->wants_changes || drive->is_told ||
+        !memchr(drive->has_changed, 1, sizeof drive->has_changed))
+        return;
+    uint64_t slot = next_completion(&drive->completions[0].queue);
+    unsigned char *memory = lend(function, slot, slot);
+    uint32_t page = page_size(function);
+    size_t pages = memory ? MOST_MEMORY / page : 0;
+    if (!nvme_machine_post(function->machine, function->number, memory, pages, page, answer))
+        return;
+    complete(function, slot);
+    drive->is_told = 1;
+    drive->request_count--;
+    memmove(drive->requests, drive->requests + 1, drive->request_count * sizeof *drive->requests);
+}

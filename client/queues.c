@@ -1,0 +1,135 @@
+/* The queues of a drive, whose slots the library alone reads and writes. An entry of an I/O queue is taken by a proved
+   turn over the data of its namespace. None of this is proved. */
+#include "function.h"
+#include "nvme_records.h"
+
+enum { MDTS = 77 /* of Identify Controller */ };
+
+uint32_t page_size(const struct function *function) {
+    return SMALL_PAGE << (read_register(function, NVME_CC) >> 7 & 15);
+}
+
+uint64_t next_entry(const nvme_submission_queue *queue) {
+    return queue->depth > 0 ? queue->base + queue->fetched % queue->depth * 64u : 0;
+}
+
+uint64_t next_completion(const nvme_completion_queue *queue) {
+    return queue->depth > 0 ? queue->base + queue->posted % queue->depth * 16u : 0;
+}
+
+/* Removes all queues, and creates the admin queues if the controller has them. */
+void reset_drive(struct function *function) {
+    struct drive *drive = &function->drive;
+    struct drive new = {.counts = DEFAULT_COUNTS, .completions[0].interrupts = 1};
+    uint32_t depths = read_register(function, NVME_AQA);
+    uint64_t base = nvme_machine_read64(function->machine, function->number, NVME_ASQ);
+    memcpy(new.is_active, drive->is_active, sizeof new.is_active);
+    if (read_register(function, NVME_CSTS) & IS_READY) {
+        nvme_submission_queue_make(&new.submissions[0].queue, 0, base, (depths & 0xfff) + 1);
+        base = nvme_machine_read64(function->machine, function->number, NVME_ACQ);
+        nvme_completion_queue_make(&new.completions[0].queue, base, (depths >> 16 & 0xfff) + 1);
+    }
+    *drive = new;
+}
+
+/* Writes a doorbell. A value that its queue can't have is ignored, as the controller ignores those of its own. */
+void ring(struct function *function, uint32_t offset, uint32_t value) {
+    uint32_t doorbell = (offset - NVME_TAIL_DOORBELL) / 4, id = doorbell / 2;
+    struct drive *drive = &function->drive;
+    if (offset < NVME_TAIL_DOORBELL || id > MOST_QUEUES)
+        return;
+    if (doorbell % 2 == 0 && drive->submissions[id].queue.depth > 0)
+        nvme_submission_queue_tail(&drive->submissions[id].queue, value);
+    else if (doorbell % 2 == 1 && drive->completions[id].queue.depth > 0)
+        nvme_completion_queue_head(&drive->completions[id].queue, value);
+}
+
+/* Returns whether an entry waits in any queue. */
+int has_entries(const struct function *function) {
+    const struct submissions *at = function->drive.submissions, *end = at + MOST_QUEUES + 1;
+    while (at < end && at->queue.fetched == at->queue.rung)
+        at++;
+    return at < end;
+}
+
+/* Returns whether a completion waits for which there is an interrupt. */
+int has_completions(const struct function *function) {
+    const struct completions *at = function->drive.completions, *end = at + MOST_QUEUES + 1;
+    while (at < end && (!at->interrupts || at->queue.posted == at->queue.told))
+        at++;
+    return at < end;
+}
+
+/* Returns the part of the data that an entry names, or nothing if it isn't there or longer than any transfer. */
+static nvme_range part_of(const struct volume *volume, const unsigned char *entry) {
+    uint64_t first = number_at(entry + 40, 8), count = number_at(entry + 48, 2) + 1;
+    uint64_t blocks = volume->size / volume->block_size;
+    if (first > blocks || count > blocks - first || count * volume->block_size > MOST_DATA)
+        return (nvme_range){0, 0};
+    return (nvme_range){first * volume->block_size, count * volume->block_size};
+}
+
+/* Clears what an entry deallocates or zeroes, by holes in the file. Returns whether that is all that it does. */
+static int clear(struct volume *volume, const nvme_blocks *blocks, const unsigned char *entry,
+                 const unsigned char *memory, uint32_t page) {
+    nvme_range ranges[256];
+    if (entry[0] != NVME_IO_WRITE_ZEROES && entry[0] != NVME_IO_DATASET_MANAGEMENT)
+        return 0;
+    int count = nvme_blocks_zeroing(blocks, entry, memory, MOST_MEMORY / page, page, ranges), is_done = count >= 0;
+    for (int at = 0; at < count && is_done; at++)
+        is_done = set_zeros(volume, ranges + at);
+    return is_done;
+}
+
+/* Lets the library take an entry over the data of its namespace, with memory for what is written. Returns whether that
+   could be done. */
+static int turn_over(struct function *function, struct volume *volume, struct submissions *from,
+                     struct completions *to, const unsigned char *entry, unsigned char *memory) {
+    nvme_range part = part_of(volume, entry);
+    uint32_t page = page_size(function);
+    int reads = entry[0] == NVME_IO_READ || entry[0] == NVME_IO_COMPARE, writes = entry[0] == NVME_IO_WRITE;
+    nvme_blocks blocks = {volume->bytes, volume->size, (uint32_t)number_at(entry + 4, 4), volume->block_size,
+                          (uint64_t)SMALL_PAGE << function->identity[MDTS], writes && !reserve(volume, &part)};
+    if (clear(volume, &blocks, entry, memory, page))
+        return nvme_queue_complete(&from->queue, &to->queue, memory, MOST_MEMORY / page, page, (nvme_answer){0}) == 1;
+    blocks.data = begin_use(volume, reads ? &part : NULL);
+    int status = nvme_queue_turn(&from->queue, &to->queue, memory, MOST_MEMORY / page, page, &blocks);
+    return end_use() && status >= 0;
+}
+
+/* Takes the next entry of a queue. Returns whether there was one. */
+static int take_from(struct function *function, struct submissions *from) {
+    struct completions *to = function->drive.completions + from->completions;
+    uint64_t slot = next_completion(&to->queue);
+    unsigned char entry[ENTRY_BYTES], *memory = lend(function, next_entry(&from->queue), slot);
+    uint32_t page = page_size(function);
+    size_t pages = memory ? MOST_MEMORY / page : 0;
+    int is_taken = nvme_queue_next(&from->queue, &to->queue, memory, pages, page, entry);
+    if (is_taken == 0)
+        return 0;
+    uint64_t nsid = is_taken > 0 ? number_at(entry + 4, 4) : 0;
+    struct volume *volume = function->subsystem->volumes + (nsid <= MOST_NSID ? nsid : 0);
+    if (is_taken > 0 && nsid <= MOST_NSID && function->drive.is_active[nsid] && volume->bytes)
+        is_taken = turn_over(function, volume, from, to, entry, memory);
+    else if (is_taken > 0)
+        is_taken = nvme_queue_turn(&from->queue, &to->queue, memory, pages, page, NULL) >= 0;
+    if (is_taken <= 0) {
+        function->drive.has_failed = 1;
+        return 0;
+    }
+    give_back(slot);
+    function->has_message |= to->interrupts;
+    return 1;
+}
+
+/* Takes an entry of the I/O queues, by turns. Returns whether there was one. */
+int take_entry(struct function *function) {
+    struct drive *drive = &function->drive;
+    for (unsigned count = 0; count < MOST_QUEUES && !drive->has_failed; count++) {
+        drive->next = drive->next % MOST_QUEUES + 1;
+        struct submissions *from = drive->submissions + drive->next;
+        if (from->queue.fetched != from->queue.rung && take_from(function, from))
+            return 1;
+    }
+    return 0;
+}

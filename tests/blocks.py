@@ -1,0 +1,112 @@
+"""I/O queues of a guest of tests/as_client.py, with a driver that puts entries into them and takes their completions."""
+
+import struct
+
+from tests.as_client import Guest
+from tests.driver import PAGE
+
+DELETE_SUBMISSIONS, CREATE_SUBMISSIONS, GET_LOG, DELETE_COMPLETIONS, CREATE_COMPLETIONS, ABORT = 0, 1, 2, 4, 5, 8
+SET_FEATURES, GET_FEATURES, REQUEST_EVENT, MANAGE, ATTACH, FORMAT = 9, 0xa, 0xc, 0xd, 0x15, 0x80
+FLUSH, WRITE, READ, COMPARE, WRITE_ZEROES, DATASET, VERIFY = 0, 1, 2, 5, 8, 9, 0xc
+INVALID_OPCODE, INVALID_FIELD, INVALID_NAMESPACE, SEQUENCE_ERROR, OUT_OF_RANGE, NO_CAPACITY, DIFFERS = (
+    1, 2, 0xb, 0xc, 0x80, 0x81, 0x285)
+(NO_COMPLETION_QUEUE, INVALID_QUEUE, INVALID_SIZE, TOO_MANY_REQUESTS, INVALID_VECTOR, INVALID_DELETION, NOT_SAVEABLE,
+ NOT_OF_NAMESPACE) = 0x100, 0x101, 0x102, 0x105, 0x108, 0x10c, 0x10d, 0x10f
+
+
+class Drive(Guest):
+    """A guest that has I/O queues: it keeps a queue's ring, depth, tail or head, and phase by its identifier."""
+
+    def __init__(self, *arguments, **more):
+        super().__init__(*arguments, **more)
+        self.submissions, self.completions = {}, {}
+
+    def enable(self, *arguments, **more):
+        super().enable(*arguments, **more)
+        self.submissions, self.completions = {}, {}
+
+    def dword0_of(self, *command, **more):
+        """Returns dword 0 of a command's completion, which must be a success."""
+        place = self.rings[1] + 16 * self.head
+        status = self.status_of(*command, **more)
+        assert status == 0, hex(status)
+        return struct.unpack('<I', self.at(place, 4))[0]
+
+    def create_completions(self, number, ring, depth=16, flags=3, vector=0):
+        status = self.status_of(CREATE_COMPLETIONS, ring, dword10=number | depth - 1 << 16, dword11=flags | vector << 16)
+        if status == 0:
+            self.completions[number] = [ring, depth, 0, 1]
+        return status
+
+    def create_submissions(self, number, ring, depth=16, completions=None, flags=1):
+        completions = number if completions is None else completions
+        status = self.status_of(CREATE_SUBMISSIONS, ring, dword10=number | depth - 1 << 16,
+                                dword11=flags | completions << 16)
+        if status == 0:
+            self.submissions[number] = [ring, depth, 0, completions]
+        return status
+
+    def create_pair(self, number, rings, depths=(16, 16)):
+        """Creates a completion queue and a submission queue with one identifier."""
+        self.at(rings[1], 16 * depths[1])[:] = bytes(16 * depths[1])
+        assert self.create_completions(number, rings[1], depths[1]) == 0
+        assert self.create_submissions(number, rings[0], depths[0]) == 0
+
+    def put_io(self, number, entry, rings=True):
+        """Writes an entry, and rings the tail doorbell."""
+        queue = self.submissions[number]
+        self.at(queue[0] + 64 * queue[2], 64)[:] = entry
+        queue[2] = (queue[2] + 1) % queue[1]
+        if rings:
+            self.set_register(0x1000 + 8 * number, queue[2])
+
+    def take_io(self, number, rings=True):
+        """Takes the next completion of a queue, and returns its command identifier, status, submission queue and its
+        head, or nothing if there is none."""
+        self.register(0)
+        queue = self.completions[number]
+        ring, depth, head, phase = queue
+        dword0, rest, at, submissions, identifier, status = struct.unpack('<IIHHHH', self.at(ring + 16 * head, 16))
+        if status & 1 != phase:
+            return None
+        assert dword0 == rest == 0
+        queue[2:] = [head + 1, phase] if head + 1 < depth else [0, 1 - phase]
+        if rings:
+            self.set_register(0x1004 + 8 * number, queue[2])
+        return identifier, status >> 1 & 0x7ff, submissions, at
+
+    def io(self, opcode, nsid, first=0, count=1, prp1=0, prp2=0, number=1, **more):
+        """Sends a command for blocks, and returns its status."""
+        queue = self.submissions[number]
+        self.put_io(number, block_entry(opcode, nsid, first, count, prp1, prp2, **more))
+        identifier, status, submissions, at = self.take_io(queue[3])
+        assert (identifier, submissions, at) == (77, number, queue[2]), (identifier, submissions, at, queue)
+        return status
+
+    def pages(self, place, count, at):
+        """Returns both PRP entries for this many bytes from a place on, with a list at another place."""
+        first = PAGE - place % PAGE
+        rest = [page for page in range(place + first, place + count, PAGE)]
+        if len(rest) < 2:
+            return place, rest[0] if rest else 0
+        self.at(at, 8 * len(rest))[:] = struct.pack(f'<{len(rest)}Q', *rest)
+        return place, at
+
+    def store(self, nsid, first, data, place=32 * PAGE, number=1, block=512, opcode=WRITE):
+        """Writes blocks, or compares them, from a place in memory."""
+        self.at(place, len(data))[:] = data
+        prps = self.pages(place, len(data), 14 * PAGE)
+        return self.io(opcode, nsid, first, len(data) // block, *prps, number=number)
+
+    def load(self, nsid, first, count, place=32 * PAGE, number=1, block=512):
+        """Returns blocks that were read."""
+        size = count * block
+        self.at(place, size)[:] = b'\x5a' * size
+        status = self.io(READ, nsid, first, count, *self.pages(place, size, 14 * PAGE), number=number)
+        assert status == 0, hex(status)
+        return bytes(self.at(place, size))
+
+
+def block_entry(opcode, nsid, first=0, count=1, prp1=0, prp2=0, flags=0, dword12=0, dword13=0, identifier=77):
+    return struct.pack('<BBHIQQQQQIIII', opcode, flags, identifier, nsid, 0, 0, prp1, prp2, first,
+                       (count - 1 & 0xffff) | dword12, dword13, 0, 0)
