@@ -1,6 +1,7 @@
 /* `nvme-model --vm`: runs a command in a virtual machine whose files are those of this machine, below an overlay in
    memory, and whose drives are the model's. It starts the server of the controllers, which runs QEMU, and passes on the
-   command's streams, signals and status. No file is made, and all that it starts ends with it. None of this is proved. */
+   command's streams, signals and status. No file is made, and all that it starts ends with it. None of this is proved.
+   */
 #include "vm.h"
 #include <limits.h>
 #include <sys/mman.h>
@@ -12,8 +13,8 @@
 #include <sys/utsname.h>
 #include <time.h>
 
-/* How many seconds a machine may be silent: while it starts, which a busy machine emulates slowly, later, and at the end;
-   and after how many it is asked whether it lives. */
+/* How many seconds a machine may be silent: while it starts, which a busy machine emulates slowly, later, and at the
+   end; and after how many it is asked whether it lives. */
 #ifndef MOST_START
 enum { MOST_START = 900, MOST_SILENCE = 300, MOST_END = 60, PERIOD = 10 };
 #endif
@@ -104,8 +105,8 @@ static void start_streams(void) {
 /* Adds a file to an archive of cpio ("newc"), or a folder. */
 static void pack(FILE *to, const char *name, unsigned kind, const char *bytes, size_t count) {
     static unsigned number;
-    fprintf(to, "070701%08X%08X%08X%08X%08X%08X%08zX%08X%08X%08X%08X%08zX%08X%s%c", ++number, kind, 0, 0, 1, 0, count, 0,
-            0, 0, 0, strlen(name) + 1, 0, name, 0);
+    fprintf(to, "070701%08X%08X%08X%08X%08X%08X%08zX%08X%08X%08X%08X%08zX%08X%s%c", ++number, kind, 0, 0, 1, 0, count,
+            0, 0, 0, 0, strlen(name) + 1, 0, name, 0);
     while (ftell(to) % 4)
         fputc(0, to);
     fwrite(bytes, 1, count, to);
@@ -177,8 +178,8 @@ static int make_first_files(char **words, const char *settings, char *modules) {
     return file;
 }
 
-/* Starts the server, which runs QEMU, in a session of its own, away from the terminal's keys. It ends with this process.
-   (vm.sh has told QEMU the numbers of the files that it inherits.) */
+/* Starts the server, which runs QEMU, in a session of its own, away from the terminal's keys. It ends with this
+   process. (vm.sh has told QEMU the numbers of the files that it inherits.) */
 static void start_machine(char *words, int first_files) {
     enum { FIRST_FILES = 200, FIRST_PORT };
     static char *list[MOST_WORDS];
@@ -258,8 +259,8 @@ __attribute__((noreturn)) static void fail_by_machine(void) {
 
 /* ---- the command */
 
-/* Stops this process, and on a terminal others of its group, as the command was stopped, until it is to continue. For the
-   terminal it stops only if the keys aren't this process's. */
+/* Stops this process, and on a terminal others of its group, as the command was stopped, until it is to continue. For
+   the terminal it stops only if the keys aren't this process's. */
 static void stop(int number) {
     int is_for_terminal = number == SIGTTIN || number == SIGTTOU;
     sigset_t one;

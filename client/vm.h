@@ -1,5 +1,5 @@
-/* What both ends of `nvme-model --vm` share: the messages, and the streams of the command, each of which has a port of a
-   virtio-serial device. None of this is proved. */
+/* What both ends of `nvme-model --vm` share: the messages, and the streams of the command, each of which has a port of
+   a virtio-serial device. None of this is proved. */
 #ifndef VM_H
 #define VM_H
 #define _GNU_SOURCE
@@ -28,8 +28,7 @@ enum port { INPUT, OUTPUT, ERRORS, TERMINAL, MESSAGES, PORTS };
 enum kind { BEGUN, STOPPED, ENDED, UNREAD, ALIVE, SIGNAL, SIGNAL_GROUP, SIZE, CONTINUE, FINISH };
 struct message { enum kind kind; uint32_t value; };
 
-/* How the command begins. In the file, its arguments and environment, the machine's name and the current folder follow.
- */
+/* How the command begins. In the file, its arguments and environment, this machine's name and the folder follow. */
 struct begin {
     enum stream { CLOSED, NOTHING, PIPE, ON_TERMINAL } streams[3];
     int has_terminal, is_in_front;

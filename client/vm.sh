@@ -43,7 +43,8 @@ refuse() {
 }
 
 share() {
-    folder=$(CDPATH= cd -- "$1" 2> /dev/null && pwd -P) && [ "$folder" != / ] || stop "--share $1: there is no such folder"
+    folder=$(CDPATH= cd -- "$1" 2> /dev/null && pwd -P) && [ "$folder" != / ] ||
+        stop "--share $1: there is no such folder"
     path=$(printf %s "$folder" | sed 's/,/,,/g')
     more="$more$line-fsdev${line}local,id=share$shares,path=$path,security_model=none,multidevs=remap"
     more="$more$line-device${line}virtio-9p-pci,fsdev=share$shares,mount_tag=share$shares"

@@ -1,6 +1,6 @@
 /* Process 1 of the machine of `nvme-model --vm`. Its root folder is that of the machine outside, below an overlay in
-   memory. A second process keeps the command: it passes streams and signals on, and tells how the command ended. None of
-   this is proved. */
+   memory. A second process keeps the command: it passes streams and signals on, and tells how the command ended. None
+   of this is proved. */
 #include "vm.h"
 #include <glob.h>
 #include <pty.h>
@@ -15,6 +15,7 @@ static int master = -1, slave = -1;             /* the two ends of the command's
 static pid_t command;
 static _Atomic int is_stopped;
 static struct flow flows[3], screen, keys;
+static const int ignored[] = {SIGHUP, SIGPIPE, SIGTTOU}; /* by the process that keeps the command */
 
 /* Ends the machine at once: a shutdown would wait for each drive. */
 __attribute__((noreturn)) static void end_machine(void) {
@@ -101,6 +102,14 @@ static void make_root(void) {
     attach("/dev", "/root/dev", NULL, MS_MOVE, NULL);
     if (chdir("/root") < 0 || mount(".", "/", NULL, MS_MOVE, NULL) < 0 || chroot(".") < 0)
         refuse("its root folder");
+    attach("run", "/run", "tmpfs", MS_NOSUID | MS_NODEV, "mode=755");
+    attach("pts", "/dev/pts", "devpts", 0, "gid=5,mode=620,ptmxmode=666");
+    attach("shm", "/dev/shm", "tmpfs", MS_NOSUID | MS_NODEV, "mode=1777");
+    attach("mqueue", "/dev/mqueue", "mqueue", 0, NULL);
+    attach("cgroup2", "/sys/fs/cgroup", "cgroup2", 0, NULL);
+    if (symlink("/proc/self/fd", "/dev/fd") < 0 || symlink("fd/0", "/dev/stdin") < 0 ||
+        symlink("fd/1", "/dev/stdout") < 0 || symlink("fd/2", "/dev/stderr") < 0)
+        refuse("its streams");
     if (system(script) != 0)
         end_machine();
     sethostname(name, strlen(name));
@@ -120,8 +129,8 @@ __attribute__((noreturn)) static void become(const int streams[3]) {
     for (int stream = 0; stream < 3; stream++)
         if (dup2(streams[stream], stream) < 0)
             close(stream);
-    signal(SIGTTOU, SIG_DFL);
-    signal(SIGPIPE, SIG_DFL);
+    for (unsigned at = 0; at < sizeof ignored / sizeof *ignored; at++)
+        signal(ignored[at], SIG_DFL);
     umask(begin.mask);
     execvp(*words, words);
     dprintf(STDERR_FILENO, "nvme-model: %s: %s\n", *words, strerror(errno));
@@ -191,8 +200,8 @@ __attribute__((noreturn)) static void keep_command(void) {
     struct message message;
     pthread_t waiter;
     setsid();
-    signal(SIGTTOU, SIG_IGN);
-    signal(SIGPIPE, SIG_IGN);
+    for (unsigned at = 0; at < sizeof ignored / sizeof *ignored; at++)
+        signal(ignored[at], SIG_IGN);
     if (begin.has_terminal && openpty(&master, &slave, NULL, &begin.mode, &begin.size) == 0) {
         ioctl(slave, TIOCSCTTY, 0);
         fcntl(slave, F_SETFD, FD_CLOEXEC);

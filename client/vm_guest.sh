@@ -1,18 +1,11 @@
-# Run by process 1 of the machine of `nvme-model --vm`, in its root folder, before the command: mounts, what the options
-# ask for, and udev. The last line on the console says why it fails. $settings has a line each for the folder of modules,
-# a network, and shared folders.
+# Run by process 1 of the machine of `nvme-model --vm`, in its root folder, before the command: what the options ask
+# for, and udev. The last line on the console says why it fails. $settings has a line each for the folder of modules, a
+# network, and shared folders.
 exec > /dev/null
 stop() {
     echo "nvme-model: the machine: $1" >&2
     exit 1
 }
-
-mount -t tmpfs -o mode=755,nosuid,nodev run /run && mkdir -p /run/lock /run/lvm /run/mount /dev/pts /dev/shm /dev/mqueue
-mount -t devpts -o gid=5,mode=620,ptmxmode=666 pts /dev/pts || stop 'no terminals'
-mount -t tmpfs -o mode=1777,nosuid,nodev shm /dev/shm
-mount -t mqueue mqueue /dev/mqueue
-mount -t cgroup2 cgroup2 /sys/fs/cgroup
-for link in fd: stdin:/0 stdout:/1 stderr:/2; do ln -sfn "/proc/self/fd${link#*:}" "/dev/${link%:*}"; done
 
 network() {
     command -v ip || stop '--net needs the command ip (package iproute2)'
@@ -23,6 +16,7 @@ network() {
         stop 'no network'
 }
 
+mkdir -p /run/rules /run/lock /run/lvm /run/mount
 while read -r what path; do
     case $what in
         modules) modules=$path ;;
@@ -33,24 +27,27 @@ while read -r what path; do
 done << END
 $settings
 END
-own=/lib/modules/$(uname -r)
+read -r release < /proc/sys/kernel/osrelease
+own=/lib/modules/$release
 [ "$modules" -ef "$own" ] || { mkdir -p "$own" && mount --bind "$modules" "$own" || stop "no modules in $modules"; }
 
 # (files that sudo and others need, and the user outside may not read)
-cat /etc/shadow || {
-    sed 's/:.*/:*:19000:0:99999:7:::/' /etc/passwd > /run/shadow && mv -f /run/shadow /etc/shadow
-    echo 'ALL ALL=(ALL:ALL) NOPASSWD: ALL' > /run/sudoers && chmod 440 /run/sudoers && mv -f /run/sudoers /etc/sudoers
+{ read -r _ < /etc/shadow; } || {
+    sed 's/:.*/:*:19000:0:99999:7:::/' /etc/passwd > /run/shadow
+    echo 'ALL ALL=(ALL:ALL) NOPASSWD: ALL' > /run/sudoers
+    chmod 440 /run/shadow /run/sudoers
+    mv -f /run/shadow /run/sudoers /etc
 } 2> /dev/null
 
 # (the rules of other devices, and their thousands of names, would take most of the time of a start)
 for daemon in /usr/lib/systemd/systemd-udevd /lib/systemd/systemd-udevd; do
     [ -x "$daemon" ] || continue
     rules=${daemon%/systemd/*}/udev/rules.d
-    mkdir /run/rules
     for name in 50-udev-default 55-dm 60-block 60-persistent-storage 60-persistent-storage-dm 63-md-raid-arrays \
         64-btrfs 64-md-raid-assembly 69-lvm 80-drivers 95-dm-notify 99-systemd; do
-        [ ! -e "$rules/$name.rules" ] || cp "$rules/$name.rules" /run/rules
+        [ ! -e "$rules/$name.rules" ] || kept="${kept-} $rules/$name.rules"
     done
+    cp ${kept-} /run/rules
     mount --bind /run/rules "$rules"
     "$daemon" --daemon 2> /dev/null
     udevadm trigger --action=add --subsystem-match=block --subsystem-match=nvme --subsystem-match=nvme-generic

@@ -18,7 +18,8 @@ import termios
 import unittest
 
 from tests.modelled import CLIENT, WARNINGS
-from tests.support import LIMIT, TOP, USERS, Case, Running, environment, left_running, process_folder, processes, run, until
+from tests.support import (LIMIT, TOP, USERS, Case, Running, end_all, environment, left_running, process_folder, processes, run,
+                           until)
 from tests.test_qemu import kernel
 
 SHORT = '-DMOST_START=3', '-DMOST_SILENCE=3', '-DMOST_END=2', '-DPERIOD=1'
@@ -38,7 +39,8 @@ def parts(server, *options):
     folder.chmod(0o755)
     files = [CLIENT / 'vm_streams.c', '-pthread', *WARNINGS]
     subprocess.run(['cc', '-g', '-O1', *options, '-o', folder / 'vm', CLIENT / 'vm.c', *files], check=True)
-    subprocess.run(['cc', '-O1', '-static', '-o', folder / 'vm_guest.static', CLIENT / 'vm_guest.c', *files], check=True)
+    guest = folder / 'vm_guest.static', CLIENT / 'vm_guest.c'
+    subprocess.run(['cc', '-O1', '-static', '-o', *guest, *files], check=True)
     for name in 'vm.sh', 'vm_guest.sh':
         shutil.copy(CLIENT / name, folder)
     (folder / 'qemu').write_text(server)
@@ -166,8 +168,9 @@ class Ends(Machine):
     def test_closed_streams(self):
         for closed in '<&-', '>&-', '2>&-', '<&- >&- 2>&-':
             with self.subTest(closed):
-                env = {**self.env, 'MACHINE': 'killed', 'command': ' '.join(f"'{word}'" for word in self.command('true'))}
-                self.ends(run('sh', '-c', f'eval "$command" {closed}', env=env), 128 + signal.SIGUSR1, b'', b'')
+                words = 'sh', '-c', f'exec "$@" {closed}', 'sh', *self.command('true')
+                ended = run(*words, env={**self.env, 'MACHINE': 'killed'})
+                self.ends(ended, 128 + signal.SIGUSR1, b'', b'')
 
 
 class Refusals(Machine):
@@ -211,17 +214,19 @@ class Refusals(Machine):
         # what QEMU and the server are given: KVM only if a machine runs with it, and polling only without either
         folder = parts('#!/bin/sh\necho "nvme-model: $*"\n')
         for kvm, devices, wanted in (
-                (1, 'vfio-user-pci', ('-accel tcg', '-smp 3')), (0, 'vfio-user-pci', ('-accel kvm -cpu host', '-smp 3')),
-                (1, 'x-pci-proxy-dev', ('-accel tcg', '-smp 1', 'irqpoll')), (0, 'x-pci-proxy-dev', ('-accel kvm', '-smp 3'))):
+                (1, 'vfio-user-pci', ('-accel tcg -cpu max -smp 3', 'mitigations=off -nodefaults')),
+                (0, 'vfio-user-pci', ('-accel kvm -cpu host -smp 3', 'mitigations=off -nodefaults')),
+                (1, 'x-pci-proxy-dev', ('-accel tcg -cpu max -smp 1', 'irqpoll nolapic_timer -nodefaults')),
+                (0, 'x-pci-proxy-dev', ('-accel kvm -cpu host -smp 3', 'mitigations=off -nodefaults'))):
             with self.subTest(kvm=kvm, devices=devices):
-                tool = self.file('qemu-system-x86_64', f'#!/bin/sh\ncase $* in *kvm*) exit {kvm} ;; *) echo {devices} ;; '
-                                 'esac\n'.encode())
-                tool.chmod(0o755)
+                tool = f'#!/bin/sh\ncase $* in *kvm*) exit {kvm} ;; *) echo {devices} ;; esac\n'
+                self.file('qemu-system-x86_64', tool.encode()).chmod(0o755)
                 path = f'{self.folder}:{os.environ["PATH"]}'
                 words = '--vm', '--kernel', self.place / 'boot/vmlinuz-1.0', '--cpus', '3', '--subsystem', 'a b', 'true'
                 for more in (), ('--no-kvm',):
                     said = run(folder / 'vm.sh', *more, *words, env={'PATH': path}).err.decode()
                     self.assertIn('nvme-model: --qemu --memory 1G --subsystem a b -- -accel ', said)
+                    self.assertIn(' -fsdev local,id=root,path=/,security_model=none,readonly=on,multidevs=remap ', said)
                     if more or not os.access('/dev/kvm', os.W_OK):
                         self.assertIn('-accel tcg', said)
                     else:
@@ -261,12 +266,12 @@ class Boot(Case):
             (self.folder / name).chmod(0o666)
         self.output = os.open(self.folder / 'out', os.O_RDONLY | os.O_NONBLOCK)
         found, modules = kernel()
-        words = [self.parts / 'vm.sh', '--no-kvm', '--kernel', found, '--modules', modules, '--share', self.shared, 'sh',
-                 TOP / 'tests/vm_boot.sh', self.data, self.shared, 'a  b']
+        words = [self.parts / 'vm.sh', '--no-kvm', '--kernel', found, '--modules', modules, '--share', self.shared,
+                 'sh', TOP / 'tests/vm_boot.sh', self.data, self.shared, 'a  b']
         env = {'PS1': 'outside: ', 'TERM': 'dumb', 'HOME': '/none', 'VARIABLE': 'a  value', 'TMPDIR': '/none',
                'machine': '\n'.join(map(str, words)), 'IFS': '\n'}
         self.shell = Running(*USERS[-1], 'bash', '--norc', '--noprofile', '-i', terminal=True, env=env, cwd=self.here)
-        self.addCleanup(self.shell.process.kill)
+        self.addCleanup(end_all)
         self.size(37, 101)
         self.shell.comes(b'outside: ')
         self.shell.say(b"umask 027; IFS='\n'; $machine < ../in > ../out\n")
@@ -281,7 +286,10 @@ class Boot(Case):
         heard = b''
         while not heard.endswith(text):
             piece = os.read(self.output, 1)
-            self.assertTrue(piece, (heard[-2000:], self.shell.heard))
+            if not piece:
+                while self.shell.hear(10):
+                    pass
+                self.fail(f'the output ends after {heard[-2000:]}, and the terminal has {self.shell.heard}')
             heard += piece
         return heard[:-len(text)].decode()
 

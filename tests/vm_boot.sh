@@ -24,9 +24,11 @@ read -r line < /dev/tty
 echo "continued $line"
 until [ "$(stty size < /dev/tty)" = '50 132' ]; do sleep 0.1; done
 
-for name in HUP INT QUIT USR1 USR2 TERM; do trap "echo $name; last=$name" $name; done
+for name in HUP INT QUIT USR1 USR2; do trap "echo $name" $name; done
+trap 'over=yes; echo TERM' TERM
+over=
 echo signals
-until [ "$last" = TERM ]; do sleep 0.1; done
+until [ "$over" ]; do sleep 0.1; done
 
 test -e /dev/disk/by-id/nvme-QEMU_NVMe_Ctrl_S0 && echo udev
 sh examples/mounted.sh
