@@ -25,7 +25,7 @@ static char folder[PATH_MAX - 20]; /* that of the parts of nvme-model */
 static struct begin begin;
 static pid_t machine;
 static int said, signals;          /* what the machine writes, and signals for this process */
-static char last[4001];            /* the end of what it wrote */
+static char last[1 << 15];         /* the end of what it wrote */
 static size_t last_count;
 static int terminal = -1, is_raw, owns_terminal, has_begun;
 static struct termios mode;
@@ -218,10 +218,9 @@ static void start_machine(char *words, int first_files) {
 
 /* Reads what the machine writes, and keeps the end of it. Returns whether there can be more. */
 static int hear(void) {
-    if (last_count > sizeof last / 2) {
-        last_count = sizeof last / 4;
-        memmove(last, last + sizeof last / 4, last_count);
-    }
+    size_t kept = last_count < sizeof last / 2 ? last_count : sizeof last / 4;
+    memmove(last, last + last_count - kept, kept);
+    last_count = kept;
     ssize_t got = read(said, last + last_count, sizeof last / 2 - 1);
     last_count += got > 0 ? (size_t)got : 0;
     return got > 0;
@@ -252,9 +251,12 @@ __attribute__((noreturn)) static void fail_by_machine(void) {
     char *line = strstr(last, "Kernel panic");
     for (char *next = line ? NULL : strtok(last, "\r\n"); next; next = strtok(NULL, "\r\n"))
         line = next;
-    if (line && strncmp(line, own, strlen(own)) == 0)
+    if (!line)
+        errx(FAILED, "the machine has ended without a word, as by a kill, or by too little memory");
+    line[strcspn(line, "\r\n")] = '\0';
+    if (strncmp(line, own, strlen(own)) == 0)
         errx(FAILED, "%s", line + strlen(own));
-    errx(FAILED, "the machine has ended: %.*s", line ? (int)strcspn(line, "\r\n") : 0, line ?: "");
+    errx(FAILED, "the machine has ended: %s", line);
 }
 
 /* ---- the command */

@@ -130,8 +130,9 @@ how=kvm model=host append=''
 }
 server=$(
     printf '%s\n' "$words" -- -accel "$how" -cpu "$model" -smp "$cpus" -kernel "$kernel" -initrd /proc/self/fd/200 \
-        -append "console=ttyS0 quiet panic=-1 no_timer_check mitigations=off$append" \
-        -nodefaults -no-user-config -display none -no-reboot -serial stdio -nic "$network" -device virtio-serial-pci
+        -append "console=ttyS0 quiet panic=-1 no_timer_check mitigations=off$append" -serial stdio -display none \
+        -nodefaults -no-user-config -no-reboot -sandbox on,obsolete=deny,elevateprivileges=deny,spawn=deny \
+        -nic "$network" -device virtio-serial-pci
     for port in 1 2 3 4 5; do
         printf '%s\n' -chardev "socket,id=port$port,fd=20$port" -device "virtserialport,nr=$port,chardev=port$port"
     done

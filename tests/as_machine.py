@@ -145,11 +145,12 @@ def writes():
     tell(UNREAD, INPUT - 201)
     os.set_blocking(MESSAGES, False)
     message = b''
-    while not message:
+    while message != struct.pack('<II', UNREAD, OUTPUT - 201):
         frame(OUTPUT, b'y\n' * 1000)
         with contextlib.suppress(BlockingIOError):
             message = os.read(MESSAGES, 8)
-    ends(struct.unpack('<II', message) != (UNREAD, OUTPUT - 201), OUTPUT, ERRORS)
+    os.set_blocking(MESSAGES, True)
+    ends(0, OUTPUT, ERRORS)
 
 
 if __name__ == '__main__':

@@ -18,13 +18,14 @@ import termios
 import unittest
 
 from tests.modelled import CLIENT, WARNINGS
-from tests.support import (LIMIT, TOP, USERS, Case, Running, end_all, environment, left_running, process_folder, processes, run,
-                           until)
+from tests.support import (LIMIT, TOP, USERS, Case, Running, end_all, environment, left_running, process_folder,
+                           processes, run, until)
 from tests.test_qemu import kernel
 
 SHORT = '-DMOST_START=3', '-DMOST_SILENCE=3', '-DMOST_END=2', '-DPERIOD=1'
 NEEDED = 'virtio_pci', 'virtio_console', '9pnet_virtio', '9p', 'overlay', 'nvme'
 MIB = 1 << 20
+SILENT = b'nvme-model: the machine has ended without a word, as by a kill, or by too little memory\n'
 # A stand-in for QEMU, and one for the server and its machine.
 QEMU = '#!/bin/sh\ncase $* in *kvm*) exit 1 ;; *) echo vfio-user-pci ;; esac\n'
 # (the Python that every user can run)
@@ -80,6 +81,13 @@ class Machine(Case):
         """Runs a command in a machine that does what the function of this name does."""
         return run(*self.command(*(words or ['true']), options=options), env={**self.env, 'MACHINE': name}, **more)
 
+    def started(self, name):
+        """Waits for a process whose name begins so, and returns its number."""
+        found = []
+        self.assertTrue(until(lambda: found.extend(
+            {*left_running()} & {*processes('comm', lambda text: text.startswith(name))}) or found))
+        return found[0]
+
     def fails(self, ended, reason):
         self.ends(ended, 72, b'', f'nvme-model: {reason}\n'.encode())
 
@@ -102,7 +110,7 @@ class Ends(Machine):
                              ('refuses', 'a reason')):
             with self.subTest(name):
                 self.fails(self.machine(name), reason)
-        self.ends(self.machine('breaks_off'), 72, b'some\n', b'nvme-model: the machine has ended: \n')
+        self.ends(self.machine('breaks_off'), 72, b'some\n', SILENT)
         self.fails(self.machine('loses'), 'what was written is lost')
 
     def test_silence(self):
@@ -118,15 +126,13 @@ class Ends(Machine):
             for victim in b'vm\n', b'python':
                 with self.subTest(name, victim=victim):
                     running = Running(*self.command('true'), env={**self.env, 'MACHINE': name})
-                    found = []
-                    self.assertTrue(until(lambda: found.extend(
-                        {*left_running()} & {*processes('comm', lambda text: text.startswith(victim))}) or found))
-                    os.kill(found[0], signal.SIGKILL)
+                    self.started(b'python')
+                    os.kill(self.started(victim), signal.SIGKILL)
                     ended = running.end()
                     if victim == b'vm\n':
                         self.assertEqual(ended.status, -signal.SIGKILL)
                     else:
-                        self.ends(ended, 72, b'nvme-model: the machine has ended: \n')
+                        self.ends(ended, 72, SILENT)
                     self.leaves_no_process()
 
     def test_signals(self):
@@ -138,14 +144,9 @@ class Ends(Machine):
         self.assertEqual(running.end().status, 0)
         for number in signal.SIGTERM, signal.SIGINT, signal.SIGUSR1:
             running = Running(*self.command('true'), env={**self.env, 'MACHINE': 'is_silent'})
-            self.assertTrue(until(lambda: self.awaits_signals(running)))
+            self.started(b'python')
             running.process.send_signal(number)
             self.ends(running.end(), 128 + number, b'')
-
-    def awaits_signals(self, running):
-        """Returns whether the program runs, and blocks the signals that it passes on."""
-        status = pathlib.Path(f'/proc/{running.process.pid}/status').read_text()
-        return 'Name:\tvm\n' in status and int(status.partition('SigBlk:\t')[2][:16], 16) >> (signal.SIGTERM - 1) & 1
 
     def test_stops(self):
         # (in a group that no shell could have continue, a stop has no effect)
@@ -214,10 +215,10 @@ class Refusals(Machine):
         # what QEMU and the server are given: KVM only if a machine runs with it, and polling only without either
         folder = parts('#!/bin/sh\necho "nvme-model: $*"\n')
         for kvm, devices, wanted in (
-                (1, 'vfio-user-pci', ('-accel tcg -cpu max -smp 3', 'mitigations=off -nodefaults')),
-                (0, 'vfio-user-pci', ('-accel kvm -cpu host -smp 3', 'mitigations=off -nodefaults')),
-                (1, 'x-pci-proxy-dev', ('-accel tcg -cpu max -smp 1', 'irqpoll nolapic_timer -nodefaults')),
-                (0, 'x-pci-proxy-dev', ('-accel kvm -cpu host -smp 3', 'mitigations=off -nodefaults'))):
+                (1, 'vfio-user-pci', ('-accel tcg -cpu max -smp 3', 'mitigations=off -serial')),
+                (0, 'vfio-user-pci', ('-accel kvm -cpu host -smp 3', 'mitigations=off -serial')),
+                (1, 'x-pci-proxy-dev', ('-accel tcg -cpu max -smp 1', 'irqpoll nolapic_timer -serial')),
+                (0, 'x-pci-proxy-dev', ('-accel kvm -cpu host -smp 3', 'mitigations=off -serial'))):
             with self.subTest(kvm=kvm, devices=devices):
                 tool = f'#!/bin/sh\ncase $* in *kvm*) exit {kvm} ;; *) echo {devices} ;; esac\n'
                 self.file('qemu-system-x86_64', tool.encode()).chmod(0o755)
@@ -271,6 +272,7 @@ class Boot(Case):
         env = {'PS1': 'outside: ', 'TERM': 'dumb', 'HOME': '/none', 'VARIABLE': 'a  value', 'TMPDIR': '/none',
                'machine': '\n'.join(map(str, words)), 'IFS': '\n'}
         self.shell = Running(*USERS[-1], 'bash', '--norc', '--noprofile', '-i', terminal=True, env=env, cwd=self.here)
+        self.addCleanup(self.shell.process.wait)
         self.addCleanup(end_all)
         self.size(37, 101)
         self.shell.comes(b'outside: ')
