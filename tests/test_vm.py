@@ -159,11 +159,11 @@ class Ends(Machine):
         env = environment({**self.env, 'MACHINE': 'writes'})
         with subprocess.Popen(self.command('true'), stdin=theirs, stdout=subprocess.PIPE, env=env) as process:
             theirs.close()
-            process.stdout.read(10000)
-            process.stdout.close()
             with self.assertRaises((BrokenPipeError, ConnectionResetError)):
                 while True:
                     ours.sendall(bytes(10000))
+            process.stdout.read(10000)
+            process.stdout.close()
             self.assertEqual(process.wait(LIMIT), 0)
 
     def test_closed_streams(self):
