@@ -23,7 +23,7 @@ MINUTES = 60
 SUMS = '{} passed, {} failed, {} skipped'
 # The modules whose tests are processes of their own, and these with the others that take longest.
 PARTED = 'test_machine', 'test_waiting', 'test_wrapper'
-LONGEST = *PARTED, 'test_dist', 'test_model', 'test_program', 'test_qemu', 'test_unready'
+LONGEST = *PARTED, 'test_dist', 'test_model', 'test_program', 'test_qemu', 'test_unready', 'test_vm'
 # What a reason to skip a test may begin with, each with what allows it.
 ALLOWED = {
     **dict.fromkeys(('root alone', 'true device nodes can be made by root alone'),

@@ -1,0 +1,370 @@
+"""Tests ./nvme-model --vm: in one boot, if QEMU and a kernel are installed, what the command finds, its streams,
+terminal and signals, and that nothing of this machine is changed; and, with tests/as_machine.py in the machine's place,
+how runs end, are killed, and can't begin."""
+
+import contextlib
+import fcntl
+import functools
+import os
+import pathlib
+import shutil
+import signal
+import socket
+import struct
+import subprocess
+import sys
+import tempfile
+import termios
+import unittest
+
+from tests.modelled import CLIENT, WARNINGS
+from tests.support import (LIMIT, TOP, USERS, Case, Running, end_all, environment, left_running, process_folder,
+                           processes, run, until)
+from tests.test_qemu import kernel
+
+SHORT = '-DMOST_START=3', '-DMOST_SILENCE=3', '-DMOST_END=2', '-DPERIOD=1'
+NEEDED = 'virtio_pci', 'virtio_console', '9pnet_virtio', '9p', 'overlay', 'nvme'
+MIB = 1 << 20
+SILENT = b'nvme-model: the machine has ended without a word, as by a kill, or by too little memory\n'
+# A stand-in for QEMU, and one for the server and its machine.
+QEMU = '#!/bin/sh\ncase $* in *kvm*) exit 1 ;; *) echo vfio-user-pci ;; esac\n'
+# (the Python that every user can run)
+PYTHON = shutil.which('python3', path='/usr/bin:/bin') or sys.executable
+MACHINE = f'#!/bin/sh\nexec {PYTHON} {TOP}/tests/as_machine.py\n'
+
+
+@functools.lru_cache(maxsize=None)
+def parts(server, *options):
+    """Returns the folder of the programs, with a script in the server's place."""
+    folder = pathlib.Path(tempfile.mkdtemp(dir=process_folder()))
+    folder.chmod(0o755)
+    files = [CLIENT / 'vm_streams.c', '-pthread', *WARNINGS]
+    subprocess.run(['cc', '-g', '-O1', *options, '-o', folder / 'vm', CLIENT / 'vm.c', *files], check=True)
+    guest = folder / 'vm_guest.static', CLIENT / 'vm_guest.c'
+    subprocess.run(['cc', '-O1', '-static', '-o', *guest, *files], check=True)
+    for name in 'vm.sh', 'vm_guest.sh':
+        shutil.copy(CLIENT / name, folder)
+    (folder / 'qemu').write_text(server)
+    (folder / 'qemu').chmod(0o755)
+    return folder
+
+
+@functools.lru_cache(maxsize=None)
+def installation():
+    """Returns a folder with a kernel, its modules and QEMU, as far as they are looked at without a boot."""
+    folder = pathlib.Path(tempfile.mkdtemp(dir=process_folder()))
+    folder.chmod(0o755)
+    modules = folder / 'lib/modules/1.0'
+    modules.mkdir(parents=True)
+    (folder / 'boot').mkdir()
+    (folder / 'boot/vmlinuz-1.0').write_bytes(b'kernel')
+    for name in NEEDED:
+        (modules / f'{name}.ko').write_bytes(b'module')
+    (modules / 'modules.dep').write_text(''.join(f'kernel/{name}.ko:\n' for name in NEEDED))
+    (modules / 'kernel').symlink_to('.')
+    (folder / 'qemu-system-x86_64').write_text(QEMU)
+    (folder / 'qemu-system-x86_64').chmod(0o755)
+    return folder
+
+
+class Machine(Case):
+    def setUp(self):
+        super().setUp()
+        self.folder.chmod(0o755)
+        self.place = installation()
+        self.env = {'PATH': f'{self.place}:{os.environ["PATH"]}', 'TMPDIR': self.folder / 'none'}
+
+    def command(self, *words, options=()):
+        return [parts(MACHINE, *options) / 'vm.sh', '--vm', '--kernel', self.place / 'boot/vmlinuz-1.0', *words]
+
+    def machine(self, name, *words, options=(), **more):
+        """Runs a command in a machine that does what the function of this name does."""
+        return run(*self.command(*(words or ['true']), options=options), env={**self.env, 'MACHINE': name}, **more)
+
+    def started(self, name):
+        """Waits for a process whose name begins so, and returns its number."""
+        found = []
+        self.assertTrue(until(lambda: found.extend(
+            {*left_running()} & {*processes('comm', lambda text: text.startswith(name))}) or found))
+        return found[0]
+
+    def fails(self, ended, reason):
+        self.ends(ended, 72, b'', f'nvme-model: {reason}\n'.encode())
+
+
+class Ends(Machine):
+    def test_statuses(self):
+        for user in USERS:
+            with self.subTest(user=user):
+                data = os.urandom(1000)
+                ended = run(*user, *self.command('true'), env={**self.env, 'MACHINE': 'copy'}, source=data)
+                self.ends(ended, 5, data, data)
+        self.ends(self.machine('killed'), 128 + signal.SIGUSR1, b'', b'')
+
+    def test_large_streams(self):
+        data = os.urandom(MIB) * 100
+        self.ends(self.machine('copy', source=data), 5, data, data)
+
+    def test_failures(self):
+        for name, reason in (('panics', 'the machine has ended: Kernel panic - not syncing: a reason'),
+                             ('refuses', 'a reason')):
+            with self.subTest(name):
+                self.fails(self.machine(name), reason)
+        self.ends(self.machine('breaks_off'), 72, b'some\n', SILENT)
+        self.fails(self.machine('loses'), 'what was written is lost')
+
+    def test_silence(self):
+        for name in 'is_silent', 'falls_silent':
+            with self.subTest(name):
+                self.fails(self.machine(name, options=SHORT), "the machine doesn't answer")
+        self.ends(self.machine('lives', options=SHORT), 0, b'', b'')
+        self.ends(self.machine('stays', options=SHORT), 3, b'', b'')
+
+    def test_kills(self):
+        # whichever process is killed, nothing is left, and the others say why
+        for name in 'is_silent', 'falls_silent':
+            for victim in b'vm\n', b'python':
+                with self.subTest(name, victim=victim):
+                    running = Running(*self.command('true'), env={**self.env, 'MACHINE': name})
+                    self.started(b'python')
+                    os.kill(self.started(victim), signal.SIGKILL)
+                    ended = running.end()
+                    if victim == b'vm\n':
+                        self.assertEqual(ended.status, -signal.SIGKILL)
+                    else:
+                        self.ends(ended, 72, SILENT)
+                    self.leaves_no_process()
+
+    def test_signals(self):
+        running = Running(*self.command('true'), env={**self.env, 'MACHINE': 'hears'})
+        running.comes(b'begun\n')
+        for number in 'SIGHUP', 'SIGINT', 'SIGQUIT', 'SIGUSR1', 'SIGUSR2', 'SIGTERM':
+            running.process.send_signal(getattr(signal, number))
+            running.comes(f'{number} False\n'.encode())
+        self.assertEqual(running.end().status, 0)
+        for number in signal.SIGTERM, signal.SIGINT, signal.SIGUSR1:
+            running = Running(*self.command('true'), env={**self.env, 'MACHINE': 'is_silent'})
+            self.started(b'python')
+            running.process.send_signal(number)
+            self.ends(running.end(), 128 + number, b'')
+
+    def test_stops(self):
+        # (in a group that no shell could have continue, a stop has no effect)
+        running = Running(*self.command('true'), env={**self.env, 'MACHINE': 'stops'}, terminal=True)
+        self.assertEqual(running.end().status, 0)
+
+    def test_unread(self):
+        ours, theirs = socket.socketpair()
+        self.addCleanup(ours.close)
+        env = environment({**self.env, 'MACHINE': 'writes'})
+        with subprocess.Popen(self.command('true'), stdin=theirs, stdout=subprocess.PIPE, env=env) as process:
+            theirs.close()
+            with self.assertRaises((BrokenPipeError, ConnectionResetError)):
+                while True:
+                    ours.sendall(bytes(10000))
+            process.stdout.read(10000)
+            process.stdout.close()
+            self.assertEqual(process.wait(LIMIT), 0)
+
+    def test_closed_streams(self):
+        for closed in '<&-', '>&-', '2>&-', '<&- >&- 2>&-':
+            with self.subTest(closed):
+                words = 'sh', '-c', f'exec "$@" {closed}', 'sh', *self.command('true')
+                ended = run(*words, env={**self.env, 'MACHINE': 'killed'})
+                self.ends(ended, 128 + signal.SIGUSR1, b'', b'')
+
+
+class Refusals(Machine):
+    def test_options(self):
+        for words in ((), ('--bogus',), ('--share',), ('--memory',), ('--memory=', 'true'), ('--share', 'a\nb', 'true'),
+                      ('--trace', 'true'), ('--',)):
+            with self.subTest(words):
+                ended = self.machine('copy', *words) if words else run(*self.command())
+                self.ends(ended, 72, b'')
+                self.assertTrue(ended.err.startswith(b'usage: nvme-model --vm '), ended)
+        ended = self.machine('copy', '--help')
+        self.ends(ended, 0, err=b'')
+        self.assertTrue(ended.out.startswith(b'usage: nvme-model --vm '), ended)
+        for path in '/none', '/', '/etc/passwd':
+            self.fails(self.machine('copy', '--share', path, 'true'), f'--share {path}: there is no such folder')
+
+    def test_what_is_missing(self):
+        tools = self.folder / 'tools'
+        tools.mkdir()
+        for name in 'sh', 'dirname', 'cat', 'sed', 'sort', 'awk', 'grep', 'readlink', 'timeout':
+            (tools / name).symlink_to(shutil.which(name))
+        self.env['PATH'] = tools
+        self.fails(self.machine('copy'), 'there is no qemu-system-x86_64: install QEMU (qemu-system-x86)')
+        self.env['PATH'] = f'{self.place}:{os.environ["PATH"]}'
+        missing = self.folder / 'missing'
+        self.fails(self.machine('copy', '--kernel', missing, 'true'), f"--kernel {missing}: this file can't be read")
+        self.fails(self.machine('copy', '--modules', missing, 'true'),
+                   f'there is no {missing}/modules.dep: name the folder of modules by --modules')
+        for name in NEEDED:
+            lacking = self.folder / name
+            lacking.mkdir()
+            (lacking / 'modules.dep').write_text(''.join(f'kernel/{other}.ko:\n' for other in NEEDED if other != name))
+            self.fails(self.machine('copy', '--modules', lacking, 'true'),
+                       f'{self.place}/boot/vmlinuz-1.0 has no module {name} in {lacking}')
+        (lacking / 'modules.dep').write_text(''.join(f'kernel/{name}.ko:\n' for name in NEEDED))
+        ended = self.machine('copy', '--modules', lacking, 'true')
+        self.ends(ended, 72, b'')
+        self.assertIn(f"nvme-model: {lacking}/kernel/virtio_pci.ko can't be unpacked\n".encode(), ended.err)
+
+    def test_words(self):
+        # what QEMU and the server are given: KVM only if a machine runs with it, and polling only without either
+        folder = parts('#!/bin/sh\necho "nvme-model: $*"\n')
+        for kvm, devices, wanted in (
+                (1, 'vfio-user-pci', ('-accel tcg -cpu max -smp 3', 'mitigations=off -serial')),
+                (0, 'vfio-user-pci', ('-accel kvm -cpu host -smp 3', 'mitigations=off -serial')),
+                (1, 'x-pci-proxy-dev', ('-accel tcg -cpu max -smp 1', 'irqpoll nolapic_timer -serial')),
+                (0, 'x-pci-proxy-dev', ('-accel kvm -cpu host -smp 3', 'mitigations=off -serial'))):
+            with self.subTest(kvm=kvm, devices=devices):
+                tool = f'#!/bin/sh\ncase $* in *kvm*) exit {kvm} ;; *) echo {devices} ;; esac\n'
+                self.file('qemu-system-x86_64', tool.encode()).chmod(0o755)
+                path = f'{self.folder}:{os.environ["PATH"]}'
+                words = '--vm', '--kernel', self.place / 'boot/vmlinuz-1.0', '--cpus', '3', '--subsystem', 'a b', 'true'
+                for more in (), ('--no-kvm',):
+                    said = run(folder / 'vm.sh', *more, *words, env={'PATH': path}).err.decode()
+                    self.assertIn('nvme-model: --qemu --memory 1G --subsystem a b -- -accel ', said)
+                    self.assertIn(' -fsdev local,id=root,path=/,security_model=none,readonly=on,multidevs=remap ', said)
+                    if more or not os.access('/dev/kvm', os.W_OK):
+                        self.assertIn('-accel tcg', said)
+                    else:
+                        self.assertEqual([word for word in wanted if word not in said], [], said)
+
+
+def why_not():
+    """Returns the reason why no machine can be booted here, or nothing."""
+    if not shutil.which('qemu-system-x86_64'):
+        return 'qemu-system-x86_64 not installed'
+    if not all(map(os.access, kernel(), (os.R_OK, os.R_OK))):
+        return 'there is no kernel with its modules: NVME_TEST_KERNEL and NVME_TEST_MODULES name them'
+    return None
+
+
+class Boot(Case):
+    def setUp(self):
+        super().setUp()
+        if why_not():
+            self.skipTest(why_not())
+        self.folder.chmod(0o755)
+        self.parts = parts((TOP / 'tests/own_drives.sh').read_text())
+        self.shared = self.folder / 'shared, with a comma'
+        self.shared.mkdir()
+        self.shared.chmod(0o777)
+        self.file('shared, with a comma/old', b'old\n')
+        self.here = self.folder / 'here'
+        shutil.copytree(TOP / 'examples', self.here / 'examples')
+        for name in 'kept', 'lost':
+            self.file(f'here/{name}', b'as it was\n')
+        self.data = self.file('data', os.urandom(MIB) * 100)
+
+    def begun(self):
+        """Starts the command from bash on a terminal, with pipes for input and output, as a user if there are two."""
+        for name in 'in', 'out':
+            os.mkfifo(self.folder / name)
+            (self.folder / name).chmod(0o666)
+        self.output = os.open(self.folder / 'out', os.O_RDONLY | os.O_NONBLOCK)
+        found, modules = kernel()
+        words = [self.parts / 'vm.sh', '--no-kvm', '--kernel', found, '--modules', modules, '--share', self.shared,
+                 'sh', TOP / 'tests/vm_boot.sh', self.data, self.shared, 'a  b']
+        env = {'PS1': 'outside: ', 'TERM': 'dumb', 'HOME': '/none', 'VARIABLE': 'a  value', 'TMPDIR': '/none',
+               'machine': '\n'.join(map(str, words)), 'IFS': '\n'}
+        self.shell = Running(*USERS[-1], 'bash', '--norc', '--noprofile', '-i', terminal=True, env=env, cwd=self.here)
+        self.addCleanup(self.shell.process.wait)
+        self.addCleanup(end_all)
+        self.size(37, 101)
+        self.shell.comes(b'outside: ')
+        self.shell.say(b"umask 027; IFS='\n'; $machine < ../in > ../out\n")
+        self.input = os.open(self.folder / 'in', os.O_WRONLY)
+        os.set_blocking(self.output, True)
+
+    def size(self, rows, columns):
+        fcntl.ioctl(self.shell.speaks, termios.TIOCSWINSZ, struct.pack('4H', rows, columns, 0, 0))
+
+    def hears(self, text):
+        """Reads the output up to this text, and returns what comes before it."""
+        heard = b''
+        while not heard.endswith(text):
+            piece = os.read(self.output, 1)
+            if not piece:
+                while self.shell.hear(10):
+                    pass
+                self.fail(f'the output ends after {heard[-2000:]}, and the terminal has {self.shell.heard}')
+            heard += piece
+        return heard[:-len(text)].decode()
+
+    def test_command(self):
+        before = {path: path.stat().st_mtime_ns for path in self.here.rglob('*')}
+        self.begun()
+        self.assertEqual(self.hears(b'begun\n').splitlines(), [
+            f'3 a  b a  value {self.here} 0027 0', 'fifo', 'fifo', 'character special file', '37 101',
+            f'{socket.gethostname()} 0'])
+        self.streams()
+        self.terminal()
+        self.signals()
+        self.finds()
+        self.unread()
+        self.assertEqual({path: path.stat().st_mtime_ns for path in self.here.rglob('*')}, before)
+        self.assertEqual((self.here / 'kept').read_bytes(), b'as it was\n')
+        self.assertEqual(sorted(path.name for path in self.shared.iterdir()), ['moved', 'new', 'yes'])
+        self.assertEqual((self.shared / 'yes').read_bytes(), b'141\n')
+        self.assertFalse(os.path.exists('/at the root'))
+
+    def streams(self):
+        data = self.data.read_bytes()
+        os.write(self.input, b'\n')
+        with subprocess.Popen(['cat', self.data], stdout=self.input) as writer:
+            self.assertEqual(self.hears(b'same\n'), '')
+            self.assertEqual(writer.wait(LIMIT), 0)
+        pieces = [b' ']
+        while pieces[-1] and sum(map(len, pieces)) <= len(data):
+            pieces.append(os.read(self.output, 1 + len(data) - sum(map(len, pieces))))
+        self.assertTrue(b''.join(pieces[1:]) == data, self.shell.heard)
+
+    def terminal(self):
+        self.assertEqual(self.hears(b'keys\n'), '')
+        os.write(self.input, b'\n')
+        self.shell.say(b'words\r')
+        self.assertEqual(self.hears(b'waits\n'), 'typed words\n')
+        self.shell.say(b'\x03')
+        self.assertEqual(self.hears(b'status 5\n'), 'interrupted\n')
+        self.shell.heard = b''
+        self.shell.say(b'\x1a')
+        self.shell.comes(b'outside: ')
+        self.assertIn(b'Stopped', self.shell.heard)
+        self.shell.say(b'fg\n')
+        self.shell.has(b'fg\n$machine')
+        self.shell.say(b'more\r')
+        self.assertEqual(self.hears(b'more\n'), 'continued ')
+        self.size(50, 132)
+
+    def signals(self):
+        self.assertEqual(self.hears(b'signals\n'), '')
+        number, = {*left_running()} & {*processes('comm', lambda text: text == b'vm\n')}
+        for name in 'HUP', 'INT', 'QUIT', 'USR1', 'USR2', 'TERM':
+            os.kill(number, getattr(signal, f'SIG{name}'))
+            self.assertEqual(self.hears(f'{name}\n'.encode()), '')
+
+    def finds(self):
+        mounted = (TOP / 'examples/mounted.txt').read_text()
+        self.assertEqual(self.hears(b'files\n'), f'udev\n{mounted}1\n1\n1\n1\n1\n/sys/class/net/lo\n')
+
+    def unread(self):
+        self.assertEqual(self.hears(b'unread\n'), '')
+        os.write(self.input, b'\n')
+        with self.assertRaises(BrokenPipeError):
+            while True:
+                os.write(self.input, bytes(10000))
+        self.assertEqual(self.hears(b'y\ny\n'), '')
+        os.close(self.output)
+        self.shell.heard = b''
+        self.shell.comes(b'outside: ')
+        self.shell.say(b'echo status $?.\n')
+        self.shell.has(b'.\noutside: ')
+        self.assertIn(b'\nstatus 7.\n', self.shell.heard)
+
+
+if __name__ == '__main__':
+    unittest.main()
