@@ -3,14 +3,14 @@
 ghost use Rattle.std.specs.Prelude.{◌≡◌, ◌+◌, ◌*◌, ◌<◌, ◌≤◌, ◌↔◌, IfNone, IfSome, IsErr, IsNone, IsSome};
 ghost use Rattle.std.specs.Prelude.{IsTrue, OnErr, OnOk, OnSome, false, length, replicate};
 ghost use Rattle.nv_host.specs.Bytes.{with_bytes};
-ghost use Rattle.nv_queue.specs.Numbers.{IsDepth, IsSlotBetween, phase_of, slot_of};
+ghost use Rattle.nv_queue.specs.Numbers.{IsDepth, IsSlotBetween, IsWithinRing, phase_of, slot_of};
 ghost use Rattle.nv_queue.specs.Rings.{IsCollectRing, IsPostFull, IsPostRing, collected_one, posted_one};
 ghost use Rattle.nv_queue.specs.Rings.{renewed_collect, renewed_post, told_all, told_to};
 ghost use Rattle.nv_queue.specs.Slots.{CollectsPosted, FindsByTags, HoldsOneMore, HoldsTags};
 ghost use Rattle.nv_queue.specs.Slots.{IsAwaitedThere, KeepsTags, awaited_completion, completion_place};
 ghost use Rattle.nv_queue.specs.Slots.{with_completion};
 
-use crate::ring::Ring;
+use crate::ring::{Ring, is_within_ring};
 use nv_host::{PagedMemory, size_of_memory};
 use nv_layout::Cqe;
 use std::marker::Model;
@@ -166,6 +166,29 @@ impl Post {
         Post {
             ring: Ring::new(base, depth),
         }
+    }
+
+    /// Creates a ring again from its base, depth and numbers, or returns none if no ring has them.
+    pub fn of_numbers(base: u64, depth: u16, posted: u16, told: u16) -> Option<Post>
+        ensures ring { IsSome result ↔ IsWithinRing depth told posted }
+        ensures value { IfSome result
+            (λ r. r ≡ record { base = base; depth = depth; posted = posted; told = told }) }
+    {
+        if !is_within_ring(depth, told, posted) {
+            return None;
+        }
+        Some(Post {
+            ring: Ring::of_numbers(base, depth, posted, told),
+        })
+    }
+
+    /// Returns the numbers of the next completion and of that for which the head doorbell was last
+    /// rung, from which `of_numbers` creates the ring again.
+    pub fn numbers(&self) -> (u16, u16)
+        ensures ring { IsPostRing self.now }
+        ensures numbers { result ≡ (self.now.posted, self.now.told) }
+    {
+        self.ring.numbers()
     }
 
     /// Begins anew: the next completion is number 0, and every slot is free.

@@ -1,7 +1,9 @@
 //! A ring of slots in the host's memory, with two places in it.
 
 ghost use Rattle.std.specs.Prelude.{◌≡◌, ◌+◌, ◌*◌, ◌<◌, ◌≤◌, ◌↔◌, IsTrue, false, length};
-ghost use Rattle.nv_queue.specs.Numbers.{IsDepth, IsSlotBetween, distance, first_in_slot, next, number_of};
+ghost use Rattle.nv_queue.specs.Numbers.{IsDepth, IsSlotBetween, IsWithinRing, distance, first_in_slot};
+ghost use Rattle.nv_queue.specs.Numbers.{next, number_of};
+ghost use Rattle.nv_queue.specs.Rings.{IsRing, own_number, told_number};
 
 use nv_host::{PagedMemory, size_of_memory};
 
@@ -13,6 +15,39 @@ pub struct RingPlace {
 }
 
 impl RingPlace {
+    /// Returns the place of a number below twice the depth.
+    pub(crate) fn of_number(number: u16, depth: u16) -> RingPlace
+        requires depth { IsDepth depth }
+        requires below { number < 2 * depth }
+        ensures number { number_of depth result.slot result.second ≡ number }
+        ensures within { result.slot < depth }
+    {
+        if number < depth {
+            RingPlace {
+                slot: number,
+                second: false,
+            }
+        } else {
+            RingPlace {
+                slot: number - depth,
+                second: true,
+            }
+        }
+    }
+
+    /// Returns the number of the place.
+    pub(crate) fn number(self, depth: u16) -> u16
+        requires depth { IsDepth depth }
+        requires within { self.slot < depth }
+        ensures { result ≡ number_of depth self.slot self.second }
+    {
+        if self.second {
+            depth + self.slot
+        } else {
+            self.slot
+        }
+    }
+
     /// Returns the place of the next number.
     #[tactic(auto, using(crate::proofs::PlaceLaws::steps))]
     pub(crate) fn step(self, depth: u16) -> RingPlace
@@ -84,6 +119,17 @@ pub struct Ring {
     pub told: RingPlace,
 }
 
+/// Returns whether a ring can have these numbers: fewer than the slots from `low` to `high`.
+#[tactic(auto, unfolding(crate::specs::Numbers::distance))]
+pub(crate) fn is_within_ring(depth: u16, low: u16, high: u16) -> bool
+    ensures { IsTrue result ↔ IsWithinRing depth low high }
+{
+    if depth < 2 || depth > 4096 || low >= 2 * depth || high >= 2 * depth {
+        return false;
+    }
+    (high + 2 * depth - low) % (2 * depth) < depth
+}
+
 impl Ring {
     /// Creates a ring whose two places are those of number 0.
     pub(crate) fn new(base: u64, depth: u16) -> Ring
@@ -104,6 +150,33 @@ impl Ring {
             own: first,
             told: first,
         }
+    }
+
+    /// Creates a ring whose two places are those of these numbers.
+    pub(crate) fn of_numbers(base: u64, depth: u16, own: u16, told: u16) -> Ring
+        requires depth { IsDepth depth }
+        requires own { own < 2 * depth }
+        requires told { told < 2 * depth }
+        ensures base { result.base ≡ base }
+        ensures depth { result.depth ≡ depth }
+        ensures own { own_number result ≡ own }
+        ensures told { told_number result ≡ told }
+        ensures ring { IsRing result }
+    {
+        Ring {
+            base,
+            depth,
+            own: RingPlace::of_number(own, depth),
+            told: RingPlace::of_number(told, depth),
+        }
+    }
+
+    /// Returns the numbers of its own place and of the place that was told last.
+    pub(crate) fn numbers(&self) -> (u16, u16)
+        requires { IsRing self.now }
+        ensures { result ≡ (own_number self.now, told_number self.now) }
+    {
+        (self.own.number(self.depth), self.told.number(self.depth))
     }
 
     /// Returns whether the slot of the own place lies in the memory, if slots have `size` bytes.

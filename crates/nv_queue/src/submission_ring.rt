@@ -1,13 +1,13 @@
 //! The two sides of a submission ring.
 
-ghost use Rattle.std.specs.Prelude.{◌≡◌, ◌+◌, ◌*◌, ◌<◌, ◌≤◌, ◌↔◌, IfNone, IfOk, IfSome, IsErr, IsNone};
+ghost use Rattle.std.specs.Prelude.{◌≡◌, ◌+◌, ◌*◌, ◌<◌, ◌≤◌, ◌↔◌, IfNone, IfOk, IfSome, IsErr, IsNone, IsSome};
 ghost use Rattle.std.specs.Prelude.{IsTrue, OnErr, OnOk, OnSome, length};
-ghost use Rattle.nv_queue.specs.Numbers.{IsDepth, IsSlotBetween, next, slot_of};
+ghost use Rattle.nv_queue.specs.Numbers.{IsDepth, IsSlotBetween, IsWithinRing, next, slot_of};
 ghost use Rattle.nv_queue.specs.Rings.{IsFetchRing, IsSubmitFull, IsSubmitRing, fetched_one, known_to};
 ghost use Rattle.nv_queue.specs.Rings.{renewed_fetch, renewed_submit, rung_to, submitted_one};
 ghost use Rattle.nv_queue.specs.Slots.{next_submission, submission_place, with_submission};
 
-use crate::ring::Ring;
+use crate::ring::{Ring, is_within_ring};
 use nv_host::PagedMemory;
 use nv_layout::Sqe;
 use std::marker::Model;
@@ -144,6 +144,29 @@ impl Fetch {
         Fetch {
             ring: Ring::new(base, depth),
         }
+    }
+
+    /// Creates a ring again from its base, depth and numbers, or returns none if no ring has them.
+    pub fn of_numbers(base: u64, depth: u16, fetched: u16, rung: u16) -> Option<Fetch>
+        ensures ring { IsSome result ↔ IsWithinRing depth fetched rung }
+        ensures value { IfSome result
+            (λ r. r ≡ record { base = base; depth = depth; fetched = fetched; rung = rung }) }
+    {
+        if !is_within_ring(depth, fetched, rung) {
+            return None;
+        }
+        Some(Fetch {
+            ring: Ring::of_numbers(base, depth, fetched, rung),
+        })
+    }
+
+    /// Returns the numbers of the next submission to take and of that up to which the tail doorbell
+    /// was last rung, from which `of_numbers` creates the ring again.
+    pub fn numbers(&self) -> (u16, u16)
+        ensures ring { IsFetchRing self.now }
+        ensures numbers { result ≡ (self.now.fetched, self.now.rung) }
+    {
+        self.ring.numbers()
     }
 
     /// Begins anew: the ring is empty, and the next submission is number 0.
