@@ -226,6 +226,21 @@ impl Fetch {
         self.ring.address(mem, 64)
     }
 
+    /// Returns what the slot of the next submission holds, which must lie in the memory, as `fits`
+    /// checks.
+    #[tactic(auto, using(crate::proofs::PlaceLaws::places))]
+    pub fn peek<M: PagedMemory>(&self, mem: &M) -> Sqe
+        requires { submission_place self.now.base self.now.depth self.now.fetched + 64
+            ≤ length (M.bytes mem.now) }
+        ensures { result ≡ next_submission (M.bytes mem.now) self.now }
+    {
+        let mut bytes = [0; 64];
+        let addr = self.ring.address(mem, 64);
+        // The slot lies in the memory.
+        let _ = mem.load(addr, &mut bytes);
+        Sqe::get(&bytes)
+    }
+
     /// Takes the next submission, or returns none if the ring is empty. The slot must lie in the
     /// memory, as `fits` checks.
     #[tactic(auto, using(crate::proofs::PlaceLaws::rings))]
@@ -240,11 +255,8 @@ impl Fetch {
         if self.is_empty() {
             return None;
         }
-        let mut bytes = [0; 64];
-        let addr = self.ring.address(mem, 64);
-        // The slot lies in the memory.
-        let _ = mem.load(addr, &mut bytes);
+        let submission = self.peek(mem);
         self.ring.own = self.ring.own.step(self.ring.depth);
-        Some(Sqe::get(&bytes))
+        Some(submission)
     }
 }
