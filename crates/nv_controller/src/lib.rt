@@ -46,9 +46,11 @@
 //! Sections are named as in the NVM Express Base Specification, revision 1.4.
 #![tactic(auto)]
 
+mod caller;
 mod deliver;
 mod entry;
 mod machine;
+mod pair;
 mod reply_data;
 mod scratch;
 

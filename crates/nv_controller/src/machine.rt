@@ -1,6 +1,7 @@
 //! The controllers of a subsystem.
 
-ghost use Rattle.std.specs.Prelude.{◌≡◌, ◌<◌, IfOk, if◌then◌else◌, length, replicate, slice_set};
+ghost use Rattle.std.specs.Prelude.{◌≡◌, ◌<◌, IfNone, IfOk, IfSome, MatchBool, OnSome, if◌then◌else◌, length};
+ghost use Rattle.std.specs.Prelude.{replicate, slice_set};
 ghost use Rattle.nv_register.specs.RegisterBank.{new_bank, stops_at, with_register_at};
 ghost use Rattle.nv_model.specs.Step.{reset};
 ghost use Rattle.nv_model.specs.WellFormed.{IsWellFormed};
@@ -9,14 +10,18 @@ ghost use Rattle.nv_bus.specs.Entry.{scene};
 ghost use Rattle.nv_bus.specs.Shown.{AreShown};
 ghost use Rattle.nv_bus.specs.Turn.{BankTurn, RingsTurn, TakesCount, Turn, site};
 ghost use Rattle.nv_subsystem.specs.Tagged.{untagged};
+ghost use Rattle.nv_controller.specs.Caller.{answered, can_post, completed, entry_of, rings_completed};
+ghost use Rattle.nv_controller.specs.Caller.{rings_fetched, rings_posted, with_rings_of};
 ghost use Rattle.nv_controller.specs.Machine.{bus_of, machine_written};
 ghost use Rattle.nv_controller.specs.Exchanges.{exchanges, exchanges_by, turn_exchanges};
 ghost use Rattle.nv_controller.specs.Tags.{TaggedBy, TaggedTurn, scenes_after};
 
+use crate::caller;
 use crate::entry::take_one;
 use crate::scratch::Scratch;
-use nv_bus::{Bus, Observer, Unobserved};
+use nv_bus::{Bus, Observer, Told, Unobserved};
 use nv_host::{Memory, PagedMemory};
+use nv_layout::Sqe;
 use nv_register::{Readiness, RegisterBank, Rings};
 use nv_subsystem::Subsystem;
 use std::alloc::Global;
@@ -191,6 +196,63 @@ impl Machine {
         ensures { result.now ≡ self.now.state }
     {
         &self.subsystem
+    }
+
+    /// Returns the entry that a turn of the controller over this memory would take next, or none if it
+    /// would take none. Nothing changes.
+    pub fn next_entry<M: PagedMemory>(&self, ctrl: u16, mem: &M) -> Option<Sqe>
+        requires { ctrl < length self.now.banks }
+        ensures { result ≡ entry_of self.now ctrl (M.page_len mem.now) (M.bytes mem.now) }
+    {
+        caller::next_of(&self.banks[ctrl as usize], mem)
+    }
+
+    /// Takes that entry in place of the controller, which knows nothing of it. The caller owes it a
+    /// completion, by `post`.
+    pub fn fetch<M: PagedMemory>(&mut self, ctrl: u16, mem: &M) -> Option<Sqe>
+        requires { ctrl < length self.old.banks }
+        ensures entry { result ≡ entry_of self.old ctrl (M.page_len mem.now) (M.bytes mem.now) }
+        ensures taken { OnSome result (self.new ≡ with_rings_of ctrl rings_fetched self.old) }
+        ensures none { IfNone result (self.new ≡ self.old) }
+        ensures bus { IsBus (bus_of self.old) → IsBus (bus_of self.new) }
+    {
+        caller::fetch(&mut self.banks[ctrl as usize], mem)
+    }
+
+    /// Takes that entry in place of the controller, and posts its completion, with the head of the
+    /// submission queue past it and the phase tag that is due.
+    pub fn complete<M: PagedMemory>(&mut self, ctrl: u16, mem: &mut M, told: Told) -> Option<Sqe>
+        requires { ctrl < length self.old.banks }
+        ensures entry { result ≡ entry_of self.old ctrl (M.page_len mem.old) (M.bytes mem.old) }
+        ensures machine { OnSome result (self.new ≡ with_rings_of ctrl rings_completed self.old) }
+        ensures bytes { IfSome result
+            (λ e. M.bytes mem.new ≡ completed self.old ctrl told (M.bytes mem.old) e) }
+        ensures none { IfNone result (self.new ≡ self.old) }
+        ensures none_bytes { IfNone result (M.bytes mem.new ≡ M.bytes mem.old) }
+        ensures bus { IsBus (bus_of self.old) → IsBus (bus_of self.new) }
+        ensures len { length (M.bytes mem.new) ≡ length (M.bytes mem.old) }
+        ensures page { M.page_len mem.new ≡ M.page_len mem.old }
+    {
+        caller::complete_next(&mut self.banks[ctrl as usize], mem, told)
+    }
+
+    /// Posts the completion of an entry that the caller took, with the head of the submission queue
+    /// and the phase tag that is due. Returns whether the completion queue had a free slot in the
+    /// memory. If it hadn't, nothing changes.
+    pub fn post<M: PagedMemory>(&mut self, ctrl: u16, mem: &mut M, cid: u16, told: Told) -> bool
+        requires { ctrl < length self.old.banks }
+        ensures can { result
+            ≡ can_post self.old ctrl (M.page_len mem.old) (length (M.bytes mem.old)) }
+        ensures machine { MatchBool result (self.new ≡ with_rings_of ctrl rings_posted self.old)
+            (self.new ≡ self.old) }
+        ensures bytes { MatchBool result
+            (M.bytes mem.new ≡ answered self.old ctrl cid told (M.bytes mem.old))
+            (M.bytes mem.new ≡ M.bytes mem.old) }
+        ensures bus { IsBus (bus_of self.old) → IsBus (bus_of self.new) }
+        ensures len { length (M.bytes mem.new) ≡ length (M.bytes mem.old) }
+        ensures page { M.page_len mem.new ≡ M.page_len mem.old }
+    {
+        caller::post(&mut self.banks[ctrl as usize], mem, cid, told)
     }
 
     /// Does what `turn` does, and shows the observer each entry that was taken, in order. An
