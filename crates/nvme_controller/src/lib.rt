@@ -6,10 +6,14 @@
 //! `library/nvme_controller.h` declares the calls for a program in C.
 #![tactic(auto)]
 
+mod caller;
 mod calls;
 mod fault;
 mod handle;
 mod parts;
+mod queues;
 mod status;
 
+pub use caller::Answer;
 pub use handle::Handle;
+pub use queues::{CompletionQueue, SubmissionQueue};
