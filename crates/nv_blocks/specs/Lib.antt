@@ -1,0 +1,6 @@
+pub mod Refusal
+pub mod Command
+pub mod Blocks
+pub mod Ranges
+pub mod Effect
+pub mod Turn
