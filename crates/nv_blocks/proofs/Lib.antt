@@ -1,2 +1,5 @@
 pub mod BlockLaws
 pub mod RangeLaws
+pub mod PlaceLaws
+pub mod CompareLaws
+pub mod TurnLaws

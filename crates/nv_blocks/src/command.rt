@@ -159,7 +159,12 @@ pub(crate) fn is_within(blocks: u64, first: u64, count: u64) -> bool
 
 /// Returns the bytes of a range of blocks of this size, if they lie within `size` bytes.
 #[tactic(auto, using(crate::proofs::BlockLaws::blocks_inside))]
-pub(crate) fn extent_within(size: usize, block_size: u32, first: u64, count: u64) -> Result<Extent, Refusal>
+pub(crate) fn extent_within(
+    size: usize,
+    block_size: u32,
+    first: u64,
+    count: u64,
+) -> Result<Extent, Refusal>
     requires { 0 < block_size }
     ensures found { result ≡ extent_within size block_size first count }
     ensures inside { IfOk result (λ extent. extent.start + extent.len ≤ size) }

@@ -47,6 +47,7 @@ fn holds<M: PagedMemory>(mem: &M, address: u64, bytes: &[u8]) -> bool
 
 /// Returns whether the spans of the memory hold these bytes.
 
+#[tactic(auto, using(nv_prp::proofs::CopyLaws::lefts))]
 pub(crate) fn are_held<M: PagedMemory>(mem: &M, spans: &Spans, bytes: &[u8]) -> bool
     requires inside { LieIn (length (M.bytes mem.now)) spans.now }
     requires len { length (places spans.now) ≡ length bytes.now }

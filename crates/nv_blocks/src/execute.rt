@@ -27,6 +27,7 @@ fn prp_refusal(fault: PrpError) -> Refusal
 }
 
 /// Finds where an entry's data lies, of which there may be none.
+#[tactic(auto, using(crate::proofs::PlaceLaws::found))]
 fn find_data<M: PagedMemory>(
     mem: &M,
     entry: &Sqe,
@@ -50,6 +51,7 @@ fn find_data<M: PagedMemory>(
 }
 
 /// Sends bytes to where an entry's data lies, if there are any.
+#[tactic(auto, unfolding(crate::specs::Effect::sent))]
 pub(crate) fn send<M: PagedMemory>(mem: &mut M, entry: &Sqe, bytes: &[u8]) -> Result<(), Refusal>
     requires { length bytes.now ≤ most_bytes }
     ensures sent { let found = sent (M.page_len mem.old) entry.now bytes.now (M.bytes mem.old) in
@@ -85,21 +87,21 @@ fn act<M: PagedMemory>(
     ensures len { length (M.bytes mem.new) ≡ length (M.bytes mem.old) }
     ensures page { M.page_len mem.new ≡ M.page_len mem.old }
 {
-    let blocks = &mut stored[extent.start..extent.start + extent.len];
+    let end = extent.start + extent.len;
     match action {
-        Action::Read => copy_out(mem, spans, blocks),
+        Action::Read => copy_out(mem, spans, &stored[extent.start..end]),
         Action::Write => {
             if is_exhausted {
                 return Err(Refusal::CapacityExceeded);
             }
-            copy_in(mem, spans, blocks);
+            copy_in(mem, spans, &mut stored[extent.start..end]);
         }
         Action::Compare => {
-            if !are_held(mem, spans, blocks) {
+            if !are_held(mem, spans, &stored[extent.start..end]) {
                 return Err(Refusal::CompareFailure);
             }
         }
-        Action::WriteZeroes => blocks.fill(0),
+        Action::WriteZeroes => zero(stored, extent),
         Action::Verify => {}
     }
     Ok(())

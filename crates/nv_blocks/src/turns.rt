@@ -32,6 +32,7 @@ pub struct Taken {
 }
 
 /// Returns the entry that the next turn takes, or why it takes none.
+#[tactic(auto, using(std::proofs::lemmas::Bool::Decides::nat_tests), unfolding(crate::specs::Turn::next_entry))]
 pub fn next_entry<M: PagedMemory>(fetch: &Fetch, post: &Post, mem: &M) -> Result<Sqe, Stop>
     ensures { result ≡ next_entry fetch.now post.now (M.bytes mem.now) }
 {
@@ -130,6 +131,7 @@ fn finish<M: PagedMemory>(
 
 /// Takes the next entry of an I/O queue: does what it asks for, and then posts its completion. If it
 /// takes none, nothing changes.
+#[tactic(auto, using(crate::proofs::TurnLaws::entry_ready))]
 pub fn turn<M: PagedMemory>(
     fetch: &mut Fetch,
     post: &mut Post,
@@ -152,6 +154,7 @@ pub fn turn<M: PagedMemory>(
 /// Takes the next entry of a queue and answers it as the caller says: sends the data, if there is
 /// any, to where the entry's data lies, and then posts the completion. A faulty data pointer is
 /// refused. If no entry is taken, nothing changes.
+#[tactic(auto, using(crate::proofs::TurnLaws::entry_ready))]
 pub fn complete<M: PagedMemory>(
     fetch: &mut Fetch,
     post: &mut Post,
