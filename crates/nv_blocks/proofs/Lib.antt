@@ -3,3 +3,6 @@ pub mod RangeLaws
 pub mod PlaceLaws
 pub mod CompareLaws
 pub mod TurnLaws
+pub mod ExecutionLaws
+pub mod HistoryLaws
+pub mod RunLaws

@@ -4,3 +4,5 @@ pub mod Blocks
 pub mod Ranges
 pub mod Effect
 pub mod Turn
+pub mod History
+pub mod Runs
