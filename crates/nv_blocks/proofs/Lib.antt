@@ -6,3 +6,4 @@ pub mod TurnLaws
 pub mod ExecutionLaws
 pub mod HistoryLaws
 pub mod RunLaws
+pub mod OrderLaws

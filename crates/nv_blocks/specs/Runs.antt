@@ -4,7 +4,7 @@ use Rattle.std.specs.Prelude.{Option, Some, None, replicate, slice_index_or, Res
 use Rattle.nv_host.specs.Bytes.{bytes_at}
 use Rattle.nv_layout.specs.declared.sqe.Sqe.{Sqe}
 use Rattle.nv_prp.specs.Place.{written_at}
-use Rattle.nv_queue.specs.Numbers.{IsDepth, kept_number, slot_of}
+use Rattle.nv_queue.specs.Numbers.{kept_number, slot_of}
 use Rattle.nv_queue.specs.Rings.{FetchNumbers, PostNumbers}
 use Rattle.nv_blocks.specs.Command.{block_count, first_block, opcode_by}
 use Rattle.nv_blocks.specs.Effect.{Effect, execution}
@@ -158,3 +158,56 @@ abbrev pub EveryReadGivesTheNewest : Type 0
 EveryReadGivesTheNewest =
     (events : List Event) (w : World) → HasNoData w → MayAllHappen events w
     → HoldsNewest (history events w) (world_after events w) × ReadsNewest (history events w) (world_after events w)
+
+-- ---- what is completed
+
+-- an entry that was taken, if one was
+abbrev pub as_list : Result Taken Stop → List Taken
+as_list (Ok taken) = taken ∷ []
+as_list (Err stop) = []
+
+-- the entry of queue q that an event takes, if it takes one, with its completion
+abbrev pub taken_from : ℕ → Event → World → List Taken
+taken_from q (Turn cqid terms) w =
+    if terms.sqid == q then as_list (taken_in terms w.page_size (turn_scene cqid terms w)) else []
+taken_from q (Answered cqid sqid told written) w =
+    if sqid == q then as_list (taken_with sqid w.page_size told written (answer_scene cqid sqid w)) else []
+taken_from q (NewData nsid size blocks) w = []
+taken_from q (Between bytes submissions completions) w = []
+
+-- the entries of queue q that events take, in order, with their completions
+abbrev pub completed : ℕ → List Event → World → List Taken
+completed q [] w = []
+completed q (event ∷ events) w = taken_from q event w ++ completed q events (after event w)
+
+-- what happens between turns takes no entry of queue q, and doesn't move it; its doorbell may be rung
+abbrev pub KeepsQueue : ℕ → Event → World → Type 0
+KeepsQueue q (Between bytes submissions completions) w =
+    ((submissions q).depth ≡ (w.submissions q).depth) × ((submissions q).fetched ≡ (w.submissions q).fetched)
+KeepsQueue q event w = Unit {0}
+
+-- the same along events
+abbrev pub KeepQueue : ℕ → List Event → World → Type 0
+KeepQueue q [] w = Unit {0}
+KeepQueue q (event ∷ events) w = KeepsQueue q event w × KeepQueue q events (after event w)
+
+-- the completion of entry k of queue q has the entry's command identifier and the queue's identifier, and reports the
+-- slot after the entry's
+pub record IsCompletionOf (q depth k : ℕ) (taken : Taken) : Type 0 where
+  pub cid : taken.completion.cid ≡ taken.entry.cid
+  pub queue : taken.completion.sq_identifier ≡ q
+  pub head : taken.completion.sq_head ≡ slot_of depth (k + 1)
+
+-- these are the completions of a queue from its entry number `from` on, each entry once and in order, and those are all
+-- entries that were taken
+pub record IsInOrder (q depth from : ℕ) (done : List Taken) (last : FetchNumbers) : Type 0 where
+  pub all : last.fetched ≡ kept_number depth (from + length done)
+  pub each : (k : ℕ) (other : Taken) → k < length done
+      → IsCompletionOf q depth (from + k) (slice_index_or done k other)
+
+-- after all events, each entry that was taken from a queue since it was new has one completion, in the queue's order
+abbrev pub EveryQueueIsInOrder : Type 0
+EveryQueueIsInOrder =
+    (events : List Event) (w : World) (q : ℕ) → (w.submissions q).fetched ≡ 0
+    → KeepQueue q events w
+    → IsInOrder q (w.submissions q).depth 0 (completed q events w) ((world_after events w).submissions q)
