@@ -36,6 +36,25 @@ enum {
     NVME_OPCODE_FORMAT_NVM = 0x80
 };
 
+/* Opcodes of I/O commands, which nvme_queue_turn performs. All others are refused in the same way. */
+enum {
+    NVME_IO_FLUSH = 0x00,
+    NVME_IO_WRITE = 0x01,
+    NVME_IO_READ = 0x02,
+    NVME_IO_COMPARE = 0x05,
+    NVME_IO_WRITE_ZEROES = 0x08,
+    NVME_IO_DATASET_MANAGEMENT = 0x09,
+    NVME_IO_VERIFY = 0x0c
+};
+
+/* Opcodes of admin commands for I/O queues, which a program completes in a controller's place. */
+enum {
+    NVME_QUEUE_DELETE_SUBMISSION = 0x00,
+    NVME_QUEUE_CREATE_SUBMISSION = 0x01,
+    NVME_QUEUE_DELETE_COMPLETION = 0x04,
+    NVME_QUEUE_CREATE_COMPLETION = 0x05
+};
+
 /* What Identify returns, in bits 7:0 of its dword 10 (CNS). */
 enum {
     NVME_IDENTIFY_NAMESPACE = 0x00,            /* struct nvme_identify_namespace */
@@ -83,6 +102,8 @@ enum {
     NVME_STATUS_DATA_TRANSFER_ERROR = 0x004,
     NVME_STATUS_INVALID_NAMESPACE_OR_FORMAT = 0x00b,
     NVME_STATUS_PRP_OFFSET_INVALID = 0x013,
+    NVME_STATUS_LBA_OUT_OF_RANGE = 0x080,
+    NVME_STATUS_CAPACITY_EXCEEDED = 0x081,
     NVME_STATUS_INVALID_LOG_PAGE = 0x109,
     NVME_STATUS_INVALID_FORMAT = 0x10a,
     NVME_STATUS_FEATURE_IDENTIFIER_NOT_SAVEABLE = 0x10d,
@@ -94,7 +115,8 @@ enum {
     NVME_STATUS_NAMESPACE_IS_PRIVATE = 0x119,
     NVME_STATUS_NAMESPACE_NOT_ATTACHED = 0x11a,
     NVME_STATUS_THIN_PROVISIONING_NOT_SUPPORTED = 0x11b,
-    NVME_STATUS_CONTROLLER_LIST_INVALID = 0x11c
+    NVME_STATUS_CONTROLLER_LIST_INVALID = 0x11c,
+    NVME_STATUS_COMPARE_FAILURE = 0x285
 };
 
 /* The other bits of a status: More and Do Not Retry. */

@@ -13,6 +13,7 @@ mod terms;
 mod turns;
 
 pub use answer::{Answer, Told};
+pub use execute::send;
 pub use refusal::Refusal;
 pub use terms::{Namespace, Terms};
 pub use turns::{Stop, Taken, complete, next_entry, turn};

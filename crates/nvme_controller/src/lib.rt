@@ -6,14 +6,18 @@
 //! `library/nvme_controller.h` declares the calls for a program in C.
 #![tactic(auto)]
 
+mod blocks;
 mod caller;
 mod calls;
+mod data;
 mod fault;
 mod handle;
+mod identify;
 mod parts;
 mod queues;
 mod status;
 
+pub use blocks::LentBlocks;
 pub use caller::Answer;
 pub use handle::Handle;
 pub use queues::{CompletionQueue, SubmissionQueue};
