@@ -1,6 +1,6 @@
 -- What a command that succeeds did, by the fields of its entry.
-use Rattle.std.proofs.Common.{◌≡◌, ◌∙◌, ◌==◌, if◌then◌else◌, nat_le, nat_lt, ℕ, zero, suc, ◌+◌, ◌*◌, ◌/◌, ◌<◌, ◌≤◌, ◌&&◌, Bool, true, false}
-use Rattle.std.proofs.Common.{ap, arith, length, refl, subst, sym, List, [], ◌∷◌, replicate, Option, Some, None, Result, Ok, Err}
+use Rattle.std.proofs.Common.{◌≡◌, ◌∙◌, ◌==◌, if◌then◌else◌, nat_lt, ℕ, ◌+◌, ◌*◌, ◌/◌, ◌<◌, ◌≤◌, ◌&&◌, Bool, true, false}
+use Rattle.std.proofs.Common.{ap, arith, length, refl, sym, List, replicate, Option, Some, None, Result, Ok, Err}
 use Rattle.std.proofs.Math.Nat.{mul-le-mul_left}
 use Rattle.std.proofs.lemmas.Bool.{leb-true, ne_eqb}
 use Rattle.std.specs.Str.{bytes_eq}
@@ -18,7 +18,7 @@ use Rattle.nv_blocks.specs.Command.{asked_of, block_count, command_of, data_set,
 use Rattle.nv_blocks.specs.Command.{first_block, has_data, is_plain, is_within, length_of, lent_as, namespace_of, on_blocks}
 use Rattle.nv_blocks.specs.Command.{opcode_by, opcode_of, range_count, sets_reserved, unreserved}
 use Rattle.nv_blocks.specs.Effect.{Effect, acted, effect, effect_of, execution, places_of, places_unless}
-use Rattle.nv_blocks.specs.Effect.{prp_refusal, sent}
+use Rattle.nv_blocks.specs.Effect.{sent}
 use Rattle.nv_blocks.specs.History.{host_bytes, host_places}
 use Rattle.nv_blocks.specs.Ranges.{are_within, deallocated, managed}
 use Rattle.nv_blocks.specs.declared.command.Action.{Action}
@@ -28,7 +28,6 @@ use Rattle.nv_blocks.specs.declared.command.Command.TheVariants as command
 use Rattle.nv_blocks.specs.declared.command.Extent.{Extent}
 use Rattle.nv_blocks.specs.declared.command.Opcode.{Opcode}
 use Rattle.nv_blocks.specs.declared.command.Opcode.TheVariants.{Flush, OnBlocks, DatasetManagement}
-use Rattle.nv_blocks.specs.declared.refusal.Refusal.{Refusal}
 use Rattle.nv_blocks.specs.declared.refusal.Refusal.TheVariants.{CapacityExceeded, InvalidFieldInCommand, InvalidNamespaceOrFormat}
 use Rattle.nv_blocks.specs.declared.refusal.Refusal.TheVariants.{CompareFailure, LbaOutOfRange}
 use Rattle.nv_blocks.specs.declared.terms.Namespace.{Namespace}

@@ -1,5 +1,5 @@
 -- The completion of each entry that is taken is posted.
-use Rattle.std.proofs.Common.{◌≡◌, ◌∙◌, ◌==◌, if◌then◌else◌, ℕ, ◌+◌, ◌≤◌, ap, arith, length, refl, sym, List, Result, Ok, Err}
+use Rattle.std.proofs.Common.{◌≡◌, ◌∙◌, if◌then◌else◌, ℕ, ◌+◌, ◌≤◌, ap, arith, length, refl, sym, List, Result, Ok, Err}
 use Rattle.std.proofs.lemmas.Bool.{eq-eqb}
 use Rattle.nv_host.proofs.BytesLaws.{bytes_at-with_same}
 use Rattle.nv_host.specs.Bytes.{bytes_at}
@@ -12,8 +12,8 @@ use Rattle.nv_queue.specs.Slots.{completion_place, put_as, with_completion}
 use Rattle.nv_blocks.proofs.ExecutionLaws.{executed_length, sent_length}
 use Rattle.nv_blocks.proofs.TurnLaws.{entry_ready}
 use Rattle.nv_blocks.specs.Effect.{Effect, execution, sent}
-use Rattle.nv_blocks.specs.Runs.{Answered, EveryCompletionIsPosted, IsPosted, Turn, World, after, answer_scene, put, turn_scene}
-use Rattle.nv_blocks.specs.Turn.{Outcome, Scene, answer_of, answered_by, completion_for, entry_in, next_entry, outcome_by}
+use Rattle.nv_blocks.specs.Runs.{EveryCompletionIsPosted, answer_scene, turn_scene}
+use Rattle.nv_blocks.specs.Turn.{Outcome, Scene, answer_of, answered_by, completion_for, entry_in, outcome_by}
 use Rattle.nv_blocks.specs.Turn.{outcome_of, scene_by, taken_as, taken_by}
 use Rattle.nv_blocks.specs.declared.answer.Told.{Told}
 use Rattle.nv_blocks.specs.declared.refusal.Refusal.{Refusal}

@@ -12,7 +12,7 @@ use Rattle.nv_queue.specs.Slots.{completion_place}
 use Rattle.nv_blocks.specs.Command.{block_count, first_block, opcode_by}
 use Rattle.nv_blocks.specs.Effect.{Effect, execution}
 use Rattle.nv_blocks.specs.History.{Change, Made, blocks_from, changes_of, host_places, newest}
-use Rattle.nv_blocks.specs.Turn.{Outcome, Scene, after_answer, after_turn, entry_in, scene, taken_in, taken_with}
+use Rattle.nv_blocks.specs.Turn.{Scene, after_answer, after_turn, entry_in, scene, taken_in, taken_with}
 use Rattle.nv_blocks.specs.declared.answer.Told.{Told}
 use Rattle.nv_blocks.specs.declared.command.Action.TheVariants.{Read}
 use Rattle.nv_blocks.specs.declared.command.Opcode.TheVariants.{OnBlocks}

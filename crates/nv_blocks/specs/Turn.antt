@@ -1,8 +1,7 @@
 -- What happens when one entry of a queue is taken.
-use Rattle.std.specs.Prelude.{ℕ, ◌==◌, ◌+◌, ◌-◌, ◌&&◌, false, List, [], if◌then◌else◌, length, nat_le, Bool}
+use Rattle.std.specs.Prelude.{ℕ, ◌==◌, ◌+◌, ◌-◌, ◌&&◌, false, List, if◌then◌else◌, length, nat_le, Bool}
 use Rattle.std.specs.Prelude.{Result, Ok, Err}
 use Rattle.nv_layout.specs.declared.cqe.Cqe.{Cqe}
-use Rattle.nv_layout.specs.declared.cqe.Status.{Status}
 use Rattle.nv_layout.specs.declared.sqe.Sqe.{Sqe}
 use Rattle.nv_queue.specs.Numbers.{distance, next, slot_of}
 use Rattle.nv_queue.specs.Rings.{FetchNumbers, PostNumbers, fetched_one, posted_one}
