@@ -56,7 +56,7 @@ namespace_of terms nsid = lent_as terms.namespace nsid
 
 -- ---- reserved bits
 
--- no bit of a dword, and all of them
+-- no bit of a dword
 abbrev pub no_bits : ℕ
 no_bits = 0
 

@@ -92,7 +92,7 @@ abbrev pub IsLent : Option Namespace → (ℕ → ℕ) → Type 0
 IsLent (Some namespace) block_sizes = namespace.block_size ≡ block_sizes namespace.nsid
 IsLent None block_sizes = Unit {0}
 
--- an event that may happen: a turn is lent data with the size of its blocks, which isn't 0
+-- an event that may happen: a turn is lent data with the size of its blocks, and new blocks have a byte or more
 abbrev pub MayHappen : Event → World → Type 0
 MayHappen (Turn cqid terms) w = IsLent terms.namespace w.block_sizes
 MayHappen (Answered cqid sqid told written) w = Unit {0}

@@ -38,7 +38,7 @@ pub record Outcome : Type 0 where
   pub stored : List ℕ
   pub bytes : List ℕ
 
--- what a completion says of success and of a refusal
+-- what a completion says of success
 abbrev pub success : Told
 success = record { dword0 = 0; status = record { sc = 0; sct = 0; crd = 0; more = false; dnr = false } }
 
