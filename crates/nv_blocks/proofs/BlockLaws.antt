@@ -1,6 +1,5 @@
 -- Ranges of blocks in a namespace's data.
-use Rattle.std.proofs.Common.{◌≡◌, ℕ, zero, suc, ◌+◌, ◌*◌, ◌/◌, ◌<◌, ◌≤◌, ◌&&◌, Bool, true, false, List, arith, refl, subst}
-use Rattle.std.proofs.Common.{length, inl, inr}
+use Rattle.std.proofs.Common.{ℕ, ◌+◌, ◌*◌, ◌/◌, ◌<◌, ◌≤◌, arith}
 use Rattle.std.proofs.Math.Nat.{mul-le-mul_left}
 
 -- the bytes of blocks that lie within the blocks of some bytes lie within these bytes

@@ -1,6 +1,6 @@
 -- Bytes that are compared part by part.
 use Rattle.std.proofs.Common.{◌≡◌, ◌∙◌, ◌↔◌, ℕ, ◌+◌, ◌<◌, ◌≤◌, Bool, true, false, IsTrue, ap, append_assoc, arith, drop, length}
-use Rattle.std.proofs.Common.{refl, subst, sym, take, List, [], ◌++◌, get_or, length-drop, length-take}
+use Rattle.std.proofs.Common.{refl, subst, sym, take, List, [], ◌++◌, get_or, length-drop}
 use Rattle.std.proofs.Common.{if◌then◌else◌, Ok, Err}
 use Rattle.std.proofs.Math.Seq.{take-add}
 use Rattle.std.proofs.lemmas.List.{drop-drop, drop_at, length-take-le, take_at}

@@ -1,12 +1,13 @@
 -- What a command that succeeds did, by the fields of its entry.
-use Rattle.std.proofs.Common.{◌≡◌, ◌∙◌, ◌==◌, if◌then◌else◌, nat_le, nat_lt, ℕ, zero, suc, ◌+◌, ◌*◌, ◌/◌, ◌<◌, ◌≤◌, ◌&&◌, Bool, true, false}
-use Rattle.std.proofs.Common.{ap, arith, length, refl, subst, sym, List, [], ◌∷◌, replicate, Option, Some, None, Result, Ok, Err}
+use Rattle.std.proofs.Common.{◌≡◌, ◌∙◌, ◌==◌, if◌then◌else◌, nat_lt, ℕ, ◌+◌, ◌*◌, ◌/◌, ◌<◌, ◌≤◌, ◌&&◌, Bool, true, false}
+use Rattle.std.proofs.Common.{ap, arith, length, refl, sym, List, replicate, Option, Some, None, Result, Ok, Err}
 use Rattle.std.proofs.Math.Nat.{mul-le-mul_left}
 use Rattle.std.proofs.lemmas.Bool.{leb-true, ne_eqb}
 use Rattle.std.specs.Str.{bytes_eq}
 use Rattle.nv_host.specs.Bytes.{bytes_at, with_bytes}
 use Rattle.nv_layout.specs.Steps.{◌>>=◌}
 use Rattle.nv_layout.specs.declared.sqe.Sqe.{Sqe}
+use Rattle.nv_prp.proofs.PlaceLaws.{length-written_at}
 use Rattle.nv_prp.specs.Place.{read_at, written_at}
 use Rattle.nv_prp.specs.Transfer.{PrpTransfer, first_fault, transfer, transfer_places}
 use Rattle.nv_prp.specs.declared.error.PrpError.{PrpError}
@@ -16,7 +17,8 @@ use Rattle.nv_blocks.specs.Blocks.{stored_in, zeroed}
 use Rattle.nv_blocks.specs.Command.{asked_of, block_count, command_of, data_set, deallocates, extent_of, extent_within}
 use Rattle.nv_blocks.specs.Command.{first_block, has_data, is_plain, is_within, length_of, lent_as, namespace_of, on_blocks}
 use Rattle.nv_blocks.specs.Command.{opcode_by, opcode_of, range_count, sets_reserved, unreserved}
-use Rattle.nv_blocks.specs.Effect.{Effect, acted, effect, effect_of, execution, places_of, places_unless, prp_refusal}
+use Rattle.nv_blocks.specs.Effect.{Effect, acted, effect, effect_of, execution, places_of, places_unless}
+use Rattle.nv_blocks.specs.Effect.{sent}
 use Rattle.nv_blocks.specs.History.{host_bytes, host_places}
 use Rattle.nv_blocks.specs.Ranges.{are_within, deallocated, managed}
 use Rattle.nv_blocks.specs.declared.command.Action.{Action}
@@ -26,7 +28,6 @@ use Rattle.nv_blocks.specs.declared.command.Command.TheVariants as command
 use Rattle.nv_blocks.specs.declared.command.Extent.{Extent}
 use Rattle.nv_blocks.specs.declared.command.Opcode.{Opcode}
 use Rattle.nv_blocks.specs.declared.command.Opcode.TheVariants.{Flush, OnBlocks, DatasetManagement}
-use Rattle.nv_blocks.specs.declared.refusal.Refusal.{Refusal}
 use Rattle.nv_blocks.specs.declared.refusal.Refusal.TheVariants.{CapacityExceeded, InvalidFieldInCommand, InvalidNamespaceOrFormat}
 use Rattle.nv_blocks.specs.declared.refusal.Refusal.TheVariants.{CompareFailure, LbaOutOfRange}
 use Rattle.nv_blocks.specs.declared.terms.Namespace.{Namespace}
@@ -240,3 +241,58 @@ executed terms page_size stored bytes e done is =
             (asked_of opcode namespace terms.limit size e) asked asks) found acts;
       },
     )
+
+-- ---- the length of the host's memory
+
+-- an action keeps it
+acted_length : (action : Action) (is_exhausted : Bool) (extent : Extent) (at stored bytes : List ℕ) (done : Effect)
+    → acted action is_exhausted extent at stored bytes ≡ Ok done → length done.bytes ≡ length bytes
+acted_length Read is_exhausted extent at stored bytes done is =
+    let same : effect stored (written_at bytes at (stored_in stored extent)) ≡ done = cc in
+    ap (λ d. length d.bytes) (sym same) ∙ length-written_at bytes at (stored_in stored extent)
+acted_length Write is_exhausted extent at stored bytes done is =
+    let whole = from_else is_exhausted CapacityExceeded
+    (Ok (effect (with_bytes stored extent.start (read_at bytes at)) bytes)) done is in
+    let same : effect (with_bytes stored extent.start (read_at bytes at)) bytes ≡ done = cc in
+    ap (λ d. length d.bytes) (sym same)
+acted_length Compare is_exhausted extent at stored bytes done is =
+    let same = (from_then (bytes_eq (read_at bytes at) (stored_in stored extent)) CompareFailure
+    (effect stored bytes) done is).1 in
+    ap (λ d. length d.bytes) (sym same)
+acted_length WriteZeroes is_exhausted extent at stored bytes done is =
+    let same : effect (zeroed stored extent) bytes ≡ done = cc in ap (λ d. length d.bytes) (sym same)
+acted_length Verify is_exhausted extent at stored bytes done is =
+    let same : effect stored bytes ≡ done = cc in ap (λ d. length d.bytes) (sym same)
+
+-- a command keeps it
+effect_length : (terms : Terms) (at stored bytes : List ℕ) (asked : Command) (done : Effect)
+    → effect_of terms at stored bytes asked ≡ Ok done → length done.bytes ≡ length bytes
+effect_length terms at stored bytes command.Flush done is =
+    let same : effect stored bytes ≡ done = cc in ap (λ d. length d.bytes) (sym same)
+effect_length terms at stored bytes (command.OnBlocks action extent) done is =
+    acted_length action terms.is_exhausted extent at stored bytes done is
+effect_length terms at stored bytes (command.DatasetManagement ranges block_size deallocates) done is =
+    let (new, left, ends) = from_ok (managed ranges block_size deallocates (read_at bytes at) stored)
+    (λ new. Ok (effect new bytes)) done is in
+    let same : effect new bytes ≡ done = cc in ap (λ d. length d.bytes) (sym same)
+
+-- an entry that succeeds keeps it
+pub executed_length : (terms : Terms) (page_size : ℕ) (stored bytes : List ℕ) (e : Sqe) (done : Effect)
+    → execution terms page_size stored bytes e ≡ Ok done → length done.bytes ≡ length bytes
+unfolding execution
+executed_length terms page_size stored bytes e done is =
+    let (asked, of, rest) = from_ok (command_of terms (length stored) e)
+    (λ asked. places_of page_size bytes e (length_of asked) >>= (λ at. effect_of terms at stored bytes asked)) done is in
+    let (at, found, acts) = from_ok (places_of page_size bytes e (length_of asked))
+    (λ at. effect_of terms at stored bytes asked) done rest in
+    effect_length terms at stored bytes asked done acts
+
+-- so does an answer whose data is sent
+pub sent_length : (page_size : ℕ) (e : Sqe) (written bytes new : List ℕ) → sent page_size e written bytes ≡ Ok new
+    → length new ≡ length bytes
+unfolding sent
+sent_length page_size e written bytes new is =
+    let (at, found, ends) = from_ok (places_of page_size bytes e (length written))
+    (λ at. Ok (written_at bytes at written)) new is in
+    let same : written_at bytes at written ≡ new = cc in
+    ap length (sym same) ∙ length-written_at bytes at written

@@ -1,6 +1,6 @@
 -- Blocks before and after changes.
-use Rattle.std.proofs.Common.{◌≡◌, ◌≢◌, ◌∙◌, ◌==◌, if◌then◌else◌, nat_le, nat_lt, ℕ, zero, suc, ◌+◌, ◌-◌, ◌*◌, ◌/◌, ◌<◌, ◌≤◌, ◌&&◌}
-use Rattle.std.proofs.Common.{Bool, true, false, ap, arith, inl, inr, length, refl, subst, sym, List, [], ◌∷◌, ◌++◌, replicate, take}
+use Rattle.std.proofs.Common.{◌≡◌, ◌≢◌, ◌∙◌, if◌then◌else◌, nat_le, nat_lt, ℕ, zero, suc, ◌+◌, ◌-◌, ◌*◌, ◌/◌, ◌<◌, ◌≤◌, ◌&&◌}
+use Rattle.std.proofs.Common.{Bool, true, false, ap, arith, inl, inr, length, refl, sym, List, ◌++◌, replicate, take}
 use Rattle.std.proofs.Math.Nat.{mul-le-mul_left}
 use Rattle.std.proofs.lemmas.Bool.{and_from, and_left, and_parts, and_right, cases_lt, eq-eqb, le-leb, le-ltb, leb-true, lt-leb, lt-ltb, ltb-true, ne_eqb}
 use Rattle.std.proofs.lemmas.List.{drop-replicate, length-replicate, take-replicate}
@@ -9,7 +9,7 @@ use Rattle.nv_host.proofs.BytesLaws.{length-with_bytes}
 use Rattle.nv_host.specs.Bytes.{bytes_at, with_bytes}
 use Rattle.nv_blocks.proofs.BlockLaws.{blocks_inside}
 use Rattle.nv_blocks.proofs.RangeLaws.{each_within}
-use Rattle.nv_blocks.specs.History.{Change, Cleared, Made, Written, changed, cleared_ranges, is_among, newest}
+use Rattle.nv_blocks.specs.History.{Change, Cleared, Written, changed, cleared_ranges, is_among, newest}
 use Rattle.nv_blocks.specs.Ranges.{are_within, deallocated, is_range_within, range_at}
 use Rattle.nv_blocks.specs.declared.terms.Namespace.{Namespace}
 

@@ -7,3 +7,4 @@ pub mod ExecutionLaws
 pub mod HistoryLaws
 pub mod RunLaws
 pub mod OrderLaws
+pub mod PostLaws

@@ -1,5 +1,5 @@
 -- Along every run the entries of a queue are completed once each and in order.
-use Rattle.std.proofs.Common.{◌≡◌, ◌≢◌, ◌∙◌, ◌==◌, if◌then◌else◌, ℕ, zero, suc, ◌+◌, ◌-◌, ◌<◌, ◌≤◌, Bool, true, false, ap, arith}
+use Rattle.std.proofs.Common.{◌≡◌, ◌∙◌, ◌==◌, if◌then◌else◌, ℕ, ◌+◌, ◌-◌, ◌<◌, Bool, ap, arith}
 use Rattle.std.proofs.Common.{inl, inr, length, length-append, refl, subst, sym, List, [], ◌∷◌, ◌++◌, get_or, Result, Ok, Err}
 use Rattle.std.proofs.lemmas.Bool.{cases_eq, cases_lt, eq-eqb, ne_eqb}
 use Rattle.std.proofs.lemmas.List.{get_or-append_right, get_or_append_left}
@@ -7,7 +7,7 @@ use Rattle.nv_layout.specs.declared.sqe.Sqe.{Sqe}
 use Rattle.nv_queue.proofs.KeptLaws.{kept_next, kept_zero, slot_kept}
 use Rattle.nv_queue.specs.Numbers.{kept_number, next, slot_of}
 use Rattle.nv_queue.specs.Rings.{FetchNumbers}
-use Rattle.nv_blocks.specs.Runs.{Answered, Between, EveryQueueIsInOrder, Event, IsCompletionOf, IsInOrder, KeepQueue, KeepsQueue}
+use Rattle.nv_blocks.specs.Runs.{Answered, Between, EveryQueueIsInOrder, Event, IsCompletionOf, KeepQueue, KeepsQueue}
 use Rattle.nv_blocks.specs.Runs.{NewData, Turn, World, after, answer_scene, as_list, completed, put, taken_from, turn_scene}
 use Rattle.nv_blocks.specs.Runs.{world_after}
 use Rattle.nv_blocks.specs.Turn.{Outcome, Scene, answer_of, entry_in, outcome_of, scene_by, taken_by}

@@ -1,11 +1,11 @@
 -- The places of an entry's data.
-use Rattle.std.proofs.Common.{◌≡◌, ◌∙◌, ◌==◌, if◌then◌else◌, ℕ, Bool, true, false, ap, arith, length, refl, sym, List, []}
-use Rattle.std.proofs.Common.{Option, None, Some, Result, Ok, Err}
+use Rattle.std.proofs.Common.{◌≡◌, ◌∙◌, ◌==◌, if◌then◌else◌, ℕ, false, ap, arith, length, sym, List, []}
+use Rattle.std.proofs.Common.{Option, Some, Ok, Err}
 use Rattle.std.proofs.lemmas.Bool.{eq-eqb}
 use Rattle.nv_layout.specs.declared.sqe.Sqe.{Sqe}
 use Rattle.nv_prp.proofs.FaultLaws.{none_from_legal}
 use Rattle.nv_prp.specs.Place.{LieIn, places}
-use Rattle.nv_prp.specs.Transfer.{IsLegal, PrpTransfer, first_fault, transfer, transfer_places}
+use Rattle.nv_prp.specs.Transfer.{IsLegal, first_fault, transfer, transfer_places}
 use Rattle.nv_prp.specs.declared.error.PrpError.{PrpError}
 use Rattle.nv_prp.specs.declared.spans.Span.{Span}
 use Rattle.nv_blocks.specs.Effect.{places_of, places_unless, prp_refusal}

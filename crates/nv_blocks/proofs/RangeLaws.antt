@@ -1,5 +1,5 @@
 -- The ranges of a list, one after another.
-use Rattle.std.proofs.Common.{◌≡◌, ◌∙◌, ℕ, zero, suc, ◌<◌, Bool, true, false, List, arith, ap, inl, inr}
+use Rattle.std.proofs.Common.{◌≡◌, ◌∙◌, ℕ, zero, suc, ◌<◌, true, false, List, arith, ap, inl, inr}
 use Rattle.std.proofs.lemmas.Bool.{and_left, and_parts, and_right, cases_lt}
 use Rattle.nv_blocks.specs.Ranges.{are_within, is_range_within, range_at}
 

@@ -1,30 +1,30 @@
 -- Along every run each block is what the newest change left, and a read gives that.
-use Rattle.std.proofs.Common.{◌≡◌, ◌≢◌, ◌∙◌, ◌==◌, if◌then◌else◌, ℕ, zero, suc, ◌+◌, ◌-◌, ◌*◌, ◌/◌, ◌<◌, ◌≤◌, ◌&&◌, Bool, true, false}
+use Rattle.std.proofs.Common.{◌≡◌, ◌≢◌, ◌∙◌, ◌==◌, if◌then◌else◌, ℕ, zero, suc, ◌+◌, ◌-◌, ◌*◌, ◌<◌, ◌≤◌, ◌&&◌, Bool, true, false}
 use Rattle.std.proofs.Common.{ap, arith, drop, inl, inr, length, refl, subst, sym, take, List, [], ◌∷◌, ◌++◌, replicate}
 use Rattle.std.proofs.Common.{Option, Some, None, Result, Ok, Err}
 use Rattle.std.proofs.Math.Seq.{take-add}
 use Rattle.std.proofs.lemmas.Bool.{cases_eq, eq-eqb, ne_eqb}
 use Rattle.std.proofs.lemmas.List.{drop-drop, length-replicate}
 use Rattle.nv_host.proofs.BytesLaws.{length-with_bytes}
-use Rattle.nv_host.specs.Bytes.{bytes_at, with_bytes}
+use Rattle.nv_host.specs.Bytes.{bytes_at}
 use Rattle.nv_layout.specs.declared.sqe.Sqe.{Sqe}
 use Rattle.nv_prp.proofs.PageLaws.{length_transfer_places}
 use Rattle.nv_prp.proofs.PlaceLaws.{length-read_at}
-use Rattle.nv_prp.specs.Place.{read_at, written_at}
+use Rattle.nv_prp.specs.Place.{written_at}
 use Rattle.nv_prp.specs.Transfer.{transfer}
 use Rattle.nv_blocks.proofs.CompareLaws.{no_bytes}
-use Rattle.nv_blocks.proofs.ExecutionLaws.{IsActed, IsDone, IsExecuted, executed, list_of, size_of, start_of}
+use Rattle.nv_blocks.proofs.ExecutionLaws.{IsDone, executed, list_of, size_of, start_of}
 use Rattle.nv_blocks.proofs.HistoryLaws.{block, ends_before, length-deallocated, ranges_cleared, ranges_of_another}
 use Rattle.nv_blocks.proofs.HistoryLaws.{written_changes, zeros_change, zeros_part}
 use Rattle.nv_blocks.specs.Command.{block_count, deallocates, first_block, opcode_by, range_count}
 use Rattle.nv_blocks.specs.Effect.{Effect, execution}
-use Rattle.nv_blocks.specs.History.{Change, Cleared, Made, Written, blocks_from, changed, changes_as, changes_by, changes_of}
+use Rattle.nv_blocks.specs.History.{Change, Cleared, Made, Written, blocks_from, changed, changes_as, changes_by}
 use Rattle.nv_blocks.specs.History.{cleared_ranges, host_bytes, host_places, if_done, is_among, newest}
-use Rattle.nv_blocks.specs.Ranges.{are_within, deallocated}
-use Rattle.nv_blocks.specs.Runs.{Answered, Between, EveryReadGivesTheNewest, Event, HasNoData, HoldsNewest, IsLent, MayAllHappen}
+use Rattle.nv_blocks.specs.Ranges.{deallocated}
+use Rattle.nv_blocks.specs.Runs.{Answered, Between, EveryReadGivesTheNewest, Event, HoldsNewest, IsLent, MayAllHappen}
 use Rattle.nv_blocks.specs.Runs.{MayHappen, NewData, ReadsNewest, Turn, World, after, changes_in, changes_next, given_back}
-use Rattle.nv_blocks.specs.Runs.{history, history_from, lent_of, put, turn_scene, with_queues, world_after}
-use Rattle.nv_blocks.specs.Turn.{Outcome, Scene, entry_in, outcome_by, outcome_of, scene_by}
+use Rattle.nv_blocks.specs.Runs.{history, history_from, lent_of, put, turn_scene, world_after}
+use Rattle.nv_blocks.specs.Turn.{entry_in, outcome_by, outcome_of, scene_by}
 use Rattle.nv_blocks.specs.declared.command.Action.TheVariants.{Read, Write, Compare, WriteZeroes, Verify}
 use Rattle.nv_blocks.specs.declared.command.Opcode.{Opcode}
 use Rattle.nv_blocks.specs.declared.command.Opcode.TheVariants.{Flush, OnBlocks, DatasetManagement}

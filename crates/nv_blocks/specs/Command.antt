@@ -1,6 +1,6 @@
 -- What an entry asks for, or why it is refused, before its data is looked for. The rules are in the
 -- order in which they are checked.
-use Rattle.std.specs.Prelude.{◌≡◌, ℕ, ◌==◌, ◌+◌, ◌*◌, ◌/◌, ◌%◌, ◌^◌, ◌<◌, ◌≤◌, ◌&&◌, ◌||◌, Bool, true, false}
+use Rattle.std.specs.Prelude.{ℕ, ◌==◌, ◌+◌, ◌*◌, ◌/◌, ◌%◌, ◌^◌, ◌&&◌, ◌||◌, Bool, true, false}
 use Rattle.std.specs.Prelude.{bit_and, if◌then◌else◌, nat_le, nat_lt, not, Option, Some, None, Result, Ok, Err}
 use Rattle.nv_layout.specs.Steps.{◌>>=◌}
 use Rattle.nv_layout.specs.declared.sqe.Sqe.{Sqe}
@@ -56,7 +56,7 @@ namespace_of terms nsid = lent_as terms.namespace nsid
 
 -- ---- reserved bits
 
--- no bit of a dword, and all of them
+-- no bit of a dword
 abbrev pub no_bits : ℕ
 no_bits = 0
 
@@ -177,22 +177,3 @@ abbrev pub length_of : Command → ℕ
 length_of command.Flush = 0
 length_of (command.OnBlocks action extent) = if has_data action then extent.len else 0
 length_of (command.DatasetManagement ranges block_size deallocates) = 16 * ranges
-
--- a command whose bytes lie within a namespace's data, and whose transfer is within the limit
-pub record AreInside (limit size : ℕ) (action : Action) (extent : Extent) : Type 0 where
-  pub some : 0 < extent.len
-  pub inside : extent.start + extent.len ≤ size
-  pub few : has_data action ≡ true → extent.len ≤ limit
-
--- a list of ranges within the limit
-pub record IsList (limit ranges block_size : ℕ) : Type 0 where
-  pub some : 0 < ranges
-  pub most : ranges ≤ 256
-  pub few : 16 * ranges ≤ limit
-  pub blocks : 0 < block_size
-
--- a command that lies within a namespace's data of this size, and within the limit
-abbrev pub IsWithin : ℕ → ℕ → Command → Type 0
-IsWithin limit size command.Flush = Unit {0}
-IsWithin limit size (command.OnBlocks action extent) = AreInside limit size action extent
-IsWithin limit size (command.DatasetManagement ranges block_size deallocates) = IsList limit ranges block_size

@@ -1,11 +1,11 @@
 -- What an entry does to a namespace's data and to the host's memory, or why it is refused.
-use Rattle.std.specs.Prelude.{ℕ, ◌==◌, Bool, true, false, List, [], if◌then◌else◌, length, Option, Some, None}
+use Rattle.std.specs.Prelude.{ℕ, ◌==◌, Bool, List, [], if◌then◌else◌, length, Option, Some, None}
 use Rattle.std.specs.Prelude.{Result, Ok, Err}
 use Rattle.std.specs.Str.{bytes_eq}
 use Rattle.nv_layout.specs.Steps.{◌>>=◌}
 use Rattle.nv_layout.specs.declared.sqe.Sqe.{Sqe}
 use Rattle.nv_prp.specs.Place.{read_at, written_at}
-use Rattle.nv_prp.specs.Transfer.{PrpTransfer, first_fault, transfer, transfer_places}
+use Rattle.nv_prp.specs.Transfer.{first_fault, transfer, transfer_places}
 use Rattle.nv_prp.specs.declared.error.PrpError.{PrpError}
 use Rattle.nv_prp.specs.declared.error.PrpError.TheVariants.{Offset, Outside}
 use Rattle.nv_blocks.specs.Blocks.{stored_in, with_stored, zeroed}

@@ -8,7 +8,6 @@ use Rattle.nv_prp.specs.Transfer.{transfer, transfer_places}
 use Rattle.nv_blocks.specs.Command.{block_count, deallocates, first_block, opcode_by, range_count}
 use Rattle.nv_blocks.specs.Effect.{Effect, execution}
 use Rattle.nv_blocks.specs.Ranges.{range_at}
-use Rattle.nv_blocks.specs.declared.command.Action.{Action}
 use Rattle.nv_blocks.specs.declared.command.Action.TheVariants.{Read, Write, Compare, WriteZeroes, Verify}
 use Rattle.nv_blocks.specs.declared.command.Opcode.{Opcode}
 use Rattle.nv_blocks.specs.declared.command.Opcode.TheVariants.{Flush, OnBlocks, DatasetManagement}

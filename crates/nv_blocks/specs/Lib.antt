@@ -6,3 +6,4 @@ pub mod Effect
 pub mod Turn
 pub mod History
 pub mod Runs
+pub mod inner

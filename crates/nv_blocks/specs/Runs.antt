@@ -2,14 +2,17 @@
 use Rattle.std.specs.Prelude.{◌≡◌, ℕ, ◌==◌, ◌+◌, ◌*◌, ◌<◌, ◌≤◌, if◌then◌else◌, List, [], ◌∷◌, ◌++◌, length}
 use Rattle.std.specs.Prelude.{Option, Some, None, replicate, slice_index_or, Result, Ok, Err}
 use Rattle.nv_host.specs.Bytes.{bytes_at}
+use Rattle.nv_layout.specs.Cqe.{bytes_of_cqe}
+use Rattle.nv_layout.specs.declared.cqe.Cqe.{Cqe}
 use Rattle.nv_layout.specs.declared.sqe.Sqe.{Sqe}
 use Rattle.nv_prp.specs.Place.{written_at}
 use Rattle.nv_queue.specs.Numbers.{kept_number, slot_of}
-use Rattle.nv_queue.specs.Rings.{FetchNumbers, PostNumbers}
+use Rattle.nv_queue.specs.Rings.{FetchNumbers, PostNumbers, posted_one}
+use Rattle.nv_queue.specs.Slots.{completion_place}
 use Rattle.nv_blocks.specs.Command.{block_count, first_block, opcode_by}
 use Rattle.nv_blocks.specs.Effect.{Effect, execution}
 use Rattle.nv_blocks.specs.History.{Change, Made, blocks_from, changes_of, host_places, newest}
-use Rattle.nv_blocks.specs.Turn.{Outcome, Scene, after_answer, after_turn, entry_in, scene, taken_in, taken_with}
+use Rattle.nv_blocks.specs.Turn.{Scene, after_answer, after_turn, entry_in, scene, taken_in, taken_with}
 use Rattle.nv_blocks.specs.declared.answer.Told.{Told}
 use Rattle.nv_blocks.specs.declared.command.Action.TheVariants.{Read}
 use Rattle.nv_blocks.specs.declared.command.Opcode.TheVariants.{OnBlocks}
@@ -89,7 +92,7 @@ abbrev pub IsLent : Option Namespace → (ℕ → ℕ) → Type 0
 IsLent (Some namespace) block_sizes = namespace.block_size ≡ block_sizes namespace.nsid
 IsLent None block_sizes = Unit {0}
 
--- an event that may happen: a turn is lent data with the size of its blocks, which isn't 0
+-- an event that may happen: a turn is lent data with the size of its blocks, and new blocks have a byte or more
 abbrev pub MayHappen : Event → World → Type 0
 MayHappen (Turn cqid terms) w = IsLent terms.namespace w.block_sizes
 MayHappen (Answered cqid sqid told written) w = Unit {0}
@@ -211,3 +214,18 @@ EveryQueueIsInOrder =
     (events : List Event) (w : World) (q : ℕ) → (w.submissions q).fetched ≡ 0
     → KeepQueue q events w
     → IsInOrder q (w.submissions q).depth 0 (completed q events w) ((world_after events w).submissions q)
+
+-- the next slot of a completion queue then holds this completion, and the queue is past that slot
+pub record IsPosted (old new : World) (cqid : ℕ) (completion : Cqe) : Type 0 where
+  pub slot : let ring = old.completions cqid in
+      bytes_at new.bytes (completion_place ring.base ring.depth ring.posted) 16 ≡ bytes_of_cqe completion
+  pub one : new.completions cqid ≡ posted_one (old.completions cqid)
+
+-- the completion of each entry that is taken is posted
+abbrev pub EveryCompletionIsPosted : Type 0
+EveryCompletionIsPosted =
+    (w : World) (cqid sqid : ℕ) (terms : Terms) (told : Told) (written : List ℕ) (taken : Taken)
+    → (taken_in terms w.page_size (turn_scene cqid terms w) ≡ Ok taken
+    → IsPosted w (after (Turn cqid terms) w) cqid taken.completion)
+    × (taken_with sqid w.page_size told written (answer_scene cqid sqid w) ≡ Ok taken
+    → IsPosted w (after (Answered cqid sqid told written) w) cqid taken.completion)

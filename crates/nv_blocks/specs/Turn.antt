@@ -1,8 +1,7 @@
 -- What happens when one entry of a queue is taken.
-use Rattle.std.specs.Prelude.{ℕ, ◌==◌, ◌+◌, ◌-◌, ◌&&◌, false, List, [], if◌then◌else◌, length, nat_le, Bool}
+use Rattle.std.specs.Prelude.{ℕ, ◌==◌, ◌+◌, ◌-◌, ◌&&◌, false, List, if◌then◌else◌, length, nat_le, Bool}
 use Rattle.std.specs.Prelude.{Result, Ok, Err}
 use Rattle.nv_layout.specs.declared.cqe.Cqe.{Cqe}
-use Rattle.nv_layout.specs.declared.cqe.Status.{Status}
 use Rattle.nv_layout.specs.declared.sqe.Sqe.{Sqe}
 use Rattle.nv_queue.specs.Numbers.{distance, next, slot_of}
 use Rattle.nv_queue.specs.Rings.{FetchNumbers, PostNumbers, fetched_one, posted_one}
@@ -39,7 +38,7 @@ pub record Outcome : Type 0 where
   pub stored : List ℕ
   pub bytes : List ℕ
 
--- what a completion says of success and of a refusal
+-- what a completion says of success
 abbrev pub success : Told
 success = record { dword0 = 0; status = record { sc = 0; sct = 0; crd = 0; more = false; dnr = false } }
 

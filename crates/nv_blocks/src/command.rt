@@ -1,7 +1,8 @@
 //! What entries ask for.
 
 ghost use Rattle.std.specs.Prelude.{◌≡◌, ◌+◌, ◌*◌, ◌<◌, ◌≤◌, ℕ, IfOk};
-ghost use Rattle.nv_blocks.specs.Command.{IsWithin, block_count, command_of, data_set, deallocates};
+ghost use Rattle.nv_blocks.specs.inner.Command.{IsWithin};
+ghost use Rattle.nv_blocks.specs.Command.{block_count, command_of, data_set, deallocates};
 ghost use Rattle.nv_blocks.specs.Command.{extent_within, first_block, has_data, is_within, length_of};
 ghost use Rattle.nv_blocks.specs.Command.{namespace_of, on_blocks, opcode_of, range_count, reserved_of};
 ghost use Rattle.nv_blocks.specs.Command.{sets_reserved};

@@ -1,7 +1,6 @@
-use Rattle.std.proofs.Common.{◌≡◌, ◌∙◌, ◌+◌, ◌-◌, ◌<◌, ap, arith, get_or, length, refl, subst, sym}
+use Rattle.std.proofs.Common.{◌∙◌, ◌<◌, ap, arith, get_or, length, sym}
 use Rattle.std.proofs.lemmas.Grind.{common_steps}
 use Rattle.nv_prp.proofs.CopyLaws.{lefts, none}
-use Rattle.nv_prp.specs.declared.spans.Span.{Span}
 use Rattle.nv_blocks.proofs.CompareLaws.{next_held, next_spans}
 use Rattle.nv_blocks.proofs.compare.are_held.Goals as goal
 

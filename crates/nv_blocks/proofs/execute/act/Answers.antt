@@ -1,4 +1,4 @@
-use Rattle.std.proofs.Common.{◌+◌, ◌-◌, ap, arith, drop, take}
+use Rattle.std.proofs.Common.{ap, arith, drop, take}
 use Rattle.nv_host.specs.Bytes.{bytes_at}
 use Rattle.nv_blocks.proofs.CompareLaws.{compared}
 use Rattle.nv_blocks.proofs.execute.act.Goals as goal

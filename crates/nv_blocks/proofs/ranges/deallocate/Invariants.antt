@@ -1,4 +1,4 @@
-use Rattle.std.proofs.Common.{◌≡◌, length}
+use Rattle.std.proofs.Common.{◌≡◌}
 use Rattle.nv_blocks.specs.Ranges.{deallocated}
 use Rattle.nv_blocks.proofs.ranges.deallocate.Given as goal
 
