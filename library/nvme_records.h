@@ -1,5 +1,5 @@
-/* The entries, records and numbers of the NVM Express 1.4 admin commands that the controllers of nvme_controller.h
- * carry out. This header needs no other, and can be used without the library.
+/* The entries, records and numbers of the NVM Express 1.4 commands that the library of nvme_controller.h carries out.
+ * This header needs no other, and can be used without the library.
  *
  * Each structure has the bytes of a table of the standard, with the standard's short names for its fields. Bytes that
  * are marked as reserved here have no meaning to these controllers: they ignore them in an entry, and report them as 0.
