@@ -76,13 +76,13 @@ IsDone DatasetManagement namespace page_size bytes e stored effect =
 -- ---- results of steps
 
 -- if two steps succeed, the first does, and then the second
-from_ok : {A B E : Type 0} (r : Result A E) (f : A → Result B E) (y : B) → (r >>= f) ≡ Ok y
+pub from_ok : {A B E : Type 0} (r : Result A E) (f : A → Result B E) (y : B) → (r >>= f) ≡ Ok y
     → (x : A) × (r ≡ Ok x) × (f x ≡ Ok y)
 from_ok (Ok x) f y is = (x, refl, is)
 from_ok (Err e) f y is = absurd (cc)
 
 -- a result is the later one if a test that would refuse doesn't
-from_else : {A E : Type 0} (b : Bool) (e : E) (r : Result A E) (y : A) → (if b then Err e else r) ≡ Ok y → r ≡ Ok y
+pub from_else : {A E : Type 0} (b : Bool) (e : E) (r : Result A E) (y : A) → (if b then Err e else r) ≡ Ok y → r ≡ Ok y
 from_else true e r y is = absurd (cc)
 from_else false e r y is = is
 
@@ -99,7 +99,7 @@ lent_is (Some one) nsid namespace is = ap Some (from_then (one.nsid == nsid) Inv
 lent_is None nsid namespace is = absurd (cc)
 
 -- an opcode that an entry has is that of its number
-opcode_is : (e : Sqe) (opcode : Opcode) → opcode_of e ≡ Ok opcode → opcode_by e.opcode ≡ Ok opcode
+pub opcode_is : (e : Sqe) (opcode : Opcode) → opcode_of e ≡ Ok opcode → opcode_by e.opcode ≡ Ok opcode
 opcode_is e opcode is =
     let (o, known, plain) = from_ok (opcode_by e.opcode) (λ o. if is_plain e then Ok o else Err InvalidFieldInCommand)
     opcode is in

@@ -8,3 +8,4 @@ pub mod HistoryLaws
 pub mod RunLaws
 pub mod OrderLaws
 pub mod PostLaws
+pub mod ZeroingLaws

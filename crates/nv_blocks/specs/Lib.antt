@@ -6,4 +6,5 @@ pub mod Effect
 pub mod Turn
 pub mod History
 pub mod Runs
+pub mod Zeroing
 pub mod inner

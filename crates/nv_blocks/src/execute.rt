@@ -28,7 +28,7 @@ fn prp_refusal(fault: PrpError) -> Refusal
 
 /// Finds where an entry's data lies, of which there may be none.
 #[tactic(auto, using(crate::proofs::PlaceLaws::found))]
-fn find_data<M: PagedMemory>(
+pub(crate) fn find_data<M: PagedMemory>(
     mem: &M,
     entry: &Sqe,
     len: usize,

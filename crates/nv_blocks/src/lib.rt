@@ -35,12 +35,15 @@ mod terms;
 #[cfg(test)]
 mod tests;
 mod turns;
+mod zeroing;
 
 pub use answer::{Answer, Told};
+pub use command::Extent;
 pub use execute::send;
 pub use refusal::Refusal;
 pub use terms::{Namespace, Terms};
 pub use turns::{Stop, Taken, complete, next_entry, turn};
+pub use zeroing::{Extents, find_zeroed, zeroing_is_execution};
 
 /// States the laws of this crate, for any turns of any queues over any namespaces, one after
 /// another, and whatever the host does between them: each block is what was last written to it, or

@@ -18,7 +18,7 @@ pub struct BlockRange {
 
 /// Returns a range of a list, each of which has 16 bytes.
 #[tactic(auto, unfolding(nv_layout::specs::Parts::number_at))]
-fn range_at(list: &[u8], index: u16) -> BlockRange
+pub(crate) fn range_at(list: &[u8], index: u16) -> BlockRange
     requires { 16 * index + 16 ≤ length list.now }
     ensures { result ≡ range_at list.now index }
 {
@@ -31,7 +31,7 @@ fn range_at(list: &[u8], index: u16) -> BlockRange
 
 /// Returns whether so many ranges of a list lie within a number of blocks.
 #[tactic(auto, using(crate::proofs::RangeLaws::one_outside))]
-fn are_within(list: &[u8], ranges: u16, blocks: u64) -> bool
+pub(crate) fn are_within(list: &[u8], ranges: u16, blocks: u64) -> bool
     requires { 16 * ranges ≤ length list.now }
     ensures { result ≡ are_within blocks list.now ranges }
 {
