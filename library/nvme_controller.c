@@ -45,6 +45,8 @@ int nvme_lent_complete(nvme_submission_queue *submissions, nvme_completion_queue
                        size_t size, uint32_t page_size, const nvme_answer *answer);
 int nvme_lent_turn(nvme_submission_queue *submissions, nvme_completion_queue *completions, uint8_t *memory,
                    size_t size, uint32_t page_size, uint8_t *data, size_t length, const struct terms *terms);
+int nvme_lent_zeroing(const uint8_t *entry, uint8_t *memory, size_t size, uint32_t page_size, const struct terms *terms,
+                      size_t length, nvme_range *ranges);
 size_t nvme_status_name(uint16_t status, uint8_t *text, size_t room);
 
 /* The status Data Transfer Error, with Do Not Retry. */
@@ -229,22 +231,28 @@ int nvme_queue_complete(nvme_submission_queue *submissions, nvme_completion_queu
                                                    &answer);
 }
 
+/* Returns what a turn is told of blocks, if there are any. */
+static struct terms terms_of(const nvme_blocks *blocks) {
+    return blocks == NULL ? (struct terms){0} : (struct terms){blocks->greatest_transfer, blocks->nsid,
+                                                               blocks->block_size, blocks->is_full != 0};
+}
+
 int nvme_queue_turn(nvme_submission_queue *submissions, nvme_completion_queue *completions, uint8_t *memory,
                     size_t pages, uint32_t page_size, const nvme_blocks *blocks) {
-    uint8_t *bytes = lent(memory, pages, page_size), *data = nothing;
-    struct terms terms = {0};
-    size_t length = 0;
-    if (bytes == NULL) {
-        return -1;
-    }
-    if (blocks != NULL) {
-        terms = (struct terms){blocks->greatest_transfer, blocks->nsid, blocks->block_size, blocks->is_full != 0};
-        if (blocks->data != NULL && blocks->length <= PTRDIFF_MAX) {
-            data = blocks->data;
-            length = blocks->length;
-        }
-    }
-    return nvme_lent_turn(submissions, completions, bytes, pages * page_size, page_size, data, length, &terms);
+    uint8_t *bytes = lent(memory, pages, page_size);
+    struct terms terms = terms_of(blocks);
+    int has_data = blocks != NULL && blocks->data != NULL && blocks->length <= PTRDIFF_MAX;
+    return bytes == NULL ? -1 : nvme_lent_turn(submissions, completions, bytes, pages * page_size, page_size,
+                                               has_data ? blocks->data : nothing, has_data ? blocks->length : 0,
+                                               &terms);
+}
+
+int nvme_blocks_zeroing(const nvme_blocks *blocks, const uint8_t entry[64], const uint8_t *memory, size_t pages,
+                        uint32_t page_size, nvme_range ranges[256]) {
+    uint8_t *bytes = lent(memory, pages, page_size);
+    struct terms terms = terms_of(blocks);
+    return bytes == NULL ? -1 : nvme_lent_zeroing(entry, bytes, pages * page_size, page_size, &terms,
+                                                  blocks == NULL ? 0 : blocks->length, ranges);
 }
 
 size_t nvme_status_text(uint16_t status, char *text, size_t room) {

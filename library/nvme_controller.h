@@ -244,6 +244,19 @@ int nvme_queue_complete(nvme_submission_queue *submissions, nvme_completion_queu
 int nvme_queue_turn(nvme_submission_queue *submissions, nvme_completion_queue *completions, uint8_t *memory,
                     size_t pages, uint32_t page_size, const nvme_blocks *blocks);
 
+/* A range of the bytes of blocks. */
+typedef struct {
+    uint64_t offset;
+    uint64_t length;
+} nvme_range;
+
+/* Sets the first of `ranges` to the bytes of the blocks that a turn with this entry would zero, by Write Zeroes or
+ * Dataset Management, and returns how many ranges these are. A program can clear them by other means, such as holes in
+ * a file, and then complete the entry with success (nvme_queue_complete). Returns -1 if the turn would refuse the
+ * entry, or the memory can't be lent. Nothing else changes, and the blocks' data isn't used. */
+int nvme_blocks_zeroing(const nvme_blocks *blocks, const uint8_t entry[64], const uint8_t *memory, size_t pages,
+                        uint32_t page_size, nvme_range ranges[256]);
+
 /* Copies the name of a status to `text`, cut to `room` bytes including its zero byte, and returns the length of the
  * name. `text` may be null if `room` is 0. The name is that of nvme-script's messages, such as `Invalid Field in
  * Command`; or `Success`; or `Unknown` for a status that no controller of this library has. The status is that of a

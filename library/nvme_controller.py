@@ -131,6 +131,10 @@ class Blocks(NamedTuple):
     is_full: bool = False
 
 
+class _Range(ctypes.Structure):
+    _fields_ = ('offset', ctypes.c_uint64), ('length', ctypes.c_uint64)
+
+
 def _by_pkg_config() -> Optional[str]:
     command = 'pkg-config', '--variable=libdir', 'nvme_controller'
     try:
@@ -192,7 +196,8 @@ def _library() -> ctypes.CDLL:
             ('completion_queue_waiting', u16, *queues[1:]),
             ('queue_next', ctypes.c_int, *queues, *lent, ctypes.c_char_p),
             ('queue_complete', ctypes.c_int, *queues, *lent, Answer),
-            ('queue_turn', ctypes.c_int, *queues, *lent, ctypes.POINTER(_Blocks))]:
+            ('queue_turn', ctypes.c_int, *queues, *lent, ctypes.POINTER(_Blocks)),
+            ('blocks_zeroing', ctypes.c_int, ctypes.POINTER(_Blocks), ctypes.c_char_p, *lent, ctypes.POINTER(_Range))]:
         call = getattr(library, f'nvme_{name}')
         call.restype, call.argtypes = result, arguments
     return library
@@ -285,14 +290,27 @@ def queue_turn(submissions: SubmissionQueue, completions: CompletionQueue, memor
                blocks: Optional[Blocks] = None, page_size: int = 4096) -> Optional[int]:
     """Takes that entry, performs its command on the blocks, and posts its completion. Returns its status, or None if
     no entry was taken."""
-    lent, given = _Lent(memory, page_size), None
-    if blocks is not None:
-        data = _buffer(blocks.data)
-        given = _Blocks(ctypes.addressof(data), len(data), _number('NSID', blocks.nsid, 32),
-                        _number('block size', blocks.block_size, 32),
-                        _number('greatest transfer', blocks.greatest_transfer, 64), blocks.is_full)
-    status = _calls().nvme_queue_turn(submissions, completions, *lent.arguments, given)
+    lent = _Lent(memory, page_size)
+    status = _calls().nvme_queue_turn(submissions, completions, *lent.arguments, blocks and _given(blocks))
     return None if status < 0 else status
+
+
+def _given(blocks: Blocks) -> _Blocks:
+    data = _buffer(blocks.data)
+    given = _Blocks(ctypes.addressof(data), len(data), _number('NSID', blocks.nsid, 32),
+                    _number('block size', blocks.block_size, 32),
+                    _number('greatest transfer', blocks.greatest_transfer, 64), blocks.is_full)
+    given.kept = data  # (as long as the address is used)
+    return given
+
+
+def blocks_zeroing(blocks: Blocks, entry: bytes, memory: bytearray,
+                   page_size: int = 4096) -> Optional[List[Tuple[int, int]]]:
+    """Returns the offsets and lengths of the bytes that a turn with this entry would zero, or None if it would refuse
+    the entry."""
+    lent, ranges = _Lent(memory, page_size), (_Range * 256)()
+    count = _calls().nvme_blocks_zeroing(_given(blocks), _entry(entry), *lent.arguments, ranges)
+    return None if count < 0 else [(each.offset, each.length) for each in ranges[:count]]
 
 
 class Machine:

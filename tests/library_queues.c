@@ -341,6 +341,38 @@ static void commands(void) {
     CHECK(memcmp(before, blocks.data, BLOCKS * BLOCK) == 0);
 }
 
+/* What a turn would zero: the blocks of Write Zeroes, each range of Dataset Management, and nothing of other commands
+ * or without the bit for it. A turn that would be refused has no answer. Nothing changes. */
+static void zeroing(void) {
+    nvme_range ranges[256];
+    struct nvme_submission_entry entry = io(NVME_IO_WRITE_ZEROES, 2, 3);
+    const uint8_t *bytes = (const uint8_t *)&entry;
+    make_queues();
+    blocks.data = NULL;
+    for (uint32_t at = 0; at < 256; at++) {
+        uint32_t range[4] = {0, at % 4, at % 5, 0};
+        memcpy(memory + DATA + 16 * at, range, sizeof range);
+    }
+    memcpy(before, memory, SIZE);
+    CHECK(nvme_blocks_zeroing(&blocks, bytes, memory, PAGES, PAGE, ranges) == 1);
+    CHECK(ranges[0].offset == 2 * BLOCK && ranges[0].length == 3 * BLOCK);
+    entry = io(NVME_IO_WRITE_ZEROES, 6, 3);
+    CHECK(nvme_blocks_zeroing(&blocks, bytes, memory, PAGES, PAGE, ranges) == -1);
+    entry = io(NVME_IO_READ, 6, 2);
+    CHECK(nvme_blocks_zeroing(&blocks, bytes, memory, PAGES, PAGE, ranges) == 0);
+    entry = io(NVME_IO_DATASET_MANAGEMENT, 255, 1);
+    CHECK(nvme_blocks_zeroing(&blocks, bytes, memory, PAGES, PAGE, ranges) == 0);
+    entry.cdw11 = 4;
+    CHECK(nvme_blocks_zeroing(&blocks, bytes, memory, PAGES, PAGE, ranges) == 256);
+    for (uint32_t at = 0; at < 256; at++) {
+        CHECK(ranges[at].offset == at % 5 * BLOCK && ranges[at].length == at % 4 * BLOCK);
+    }
+    CHECK(nvme_blocks_zeroing(NULL, bytes, memory, PAGES, PAGE, ranges) == -1);
+    CHECK(nvme_blocks_zeroing(&blocks, bytes, memory, 1, PAGE, ranges) == -1);
+    CHECK(nvme_blocks_zeroing(&blocks, bytes, memory, PAGES, 1, ranges) == -1);
+    CHECK(memcmp(before, memory, SIZE) == 0);
+}
+
 /* The next entry and its answer; queues that are empty, full or outside the memory; and numbers that no queue has. */
 static void no_turns(void) {
     uint8_t entry[64] = "same", same[64] = "same";
@@ -405,6 +437,7 @@ int main(void) {
     asked();
     doorbells();
     commands();
+    zeroing();
     no_turns();
     printf("%u checks, %u failed\n", checks, failures);
     return failures != 0;

@@ -244,6 +244,9 @@ assert nvme.queue_turn(submissions, completions, memory, blocks) == 0x4080
 assert nvme.queue_complete(submissions, completions, memory, nvme.Answer(status=2)) and completions.waiting() == 3
 assert completions.head(3) and not completions.head(1) and completions.waiting() == 0
 assert not nvme.queue_complete(submissions, completions, memory, nvme.Answer())
+assert nvme.blocks_zeroing(blocks, entry(8, 9, 1, 0, 2), memory) == [(1024, 512)]
+assert nvme.blocks_zeroing(blocks, entry(8, 9, 1, 0, 4), memory) is None
+assert nvme.blocks_zeroing(blocks, entry(2, 9, 1, 0x4000, 2), memory) == []
 assert nvme.entry_write(entry(6, 1, prp1=0x6000), memory, b'data') == 0 and memory[0x6000:0x6004] == b'data'
 assert nvme.entry_write(entry(6, 1, prp1=1 << 20), memory, b'data') == 0x4004
 outside = nvme.SubmissionQueue(1, 1 << 30, 4)

@@ -7,4 +7,5 @@ pub mod Identify
 pub mod Open
 pub mod Queues
 pub mod StatusName
+pub mod Zeroing
 pub mod inner

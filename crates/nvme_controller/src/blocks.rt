@@ -51,7 +51,7 @@ impl LentBlocks {
     }
 
     /// Returns the terms of a turn of a submission queue.
-    fn terms(&self, sqid: u16) -> Terms
+    pub(crate) fn terms(&self, sqid: u16) -> Terms
         ensures { AreTerms self.now sqid result }
     {
         Terms {

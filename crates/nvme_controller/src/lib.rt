@@ -16,8 +16,10 @@ mod identify;
 mod parts;
 mod queues;
 mod status;
+mod zeroing;
 
 pub use blocks::LentBlocks;
 pub use caller::Answer;
 pub use handle::Handle;
 pub use queues::{CompletionQueue, SubmissionQueue};
+pub use zeroing::ByteRange;
