@@ -1,8 +1,7 @@
 -- What a command zeroes is all that it does, if it only zeroes.
-use Rattle.std.proofs.Common.{◌≡◌, ◌∙◌, ◌⊎◌, ◌/◌, ◌*◌, ◌+◌, ◌<◌, ◌&&◌, if◌then◌else◌, nat_lt, ℕ, zero, suc, Bool}
+use Rattle.std.proofs.Common.{◌≡◌, ◌∙◌, ◌⊎◌, ◌/◌, ◌*◌, ◌+◌, ◌&&◌, if◌then◌else◌, nat_lt, ℕ, zero, suc, Bool}
 use Rattle.std.proofs.Common.{true, false, ap, inl, inr}
 use Rattle.std.proofs.Common.{length, length-append, refl, subst, sym, List, [], ◌∷◌, ◌++◌, Result, Ok, Err, arith}
-use Rattle.std.proofs.Common.{add-one}
 use Rattle.nv_layout.specs.Steps.{◌>>=◌}
 use Rattle.nv_layout.specs.declared.sqe.Sqe.{Sqe}
 use Rattle.nv_prp.specs.Place.{read_at}

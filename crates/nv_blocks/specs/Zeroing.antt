@@ -1,5 +1,5 @@
 -- What an entry zeroes, for a caller that clears data by other means than zeros.
-use Rattle.std.specs.Prelude.{◌≡◌, ◌⊎◌, ℕ, zero, suc, ◌*◌, ◌/◌, Bool, if◌then◌else◌, length, List, [], ◌∷◌, ◌++◌}
+use Rattle.std.specs.Prelude.{◌≡◌, ◌⊎◌, ℕ, zero, suc, ◌/◌, Bool, if◌then◌else◌, length, List, [], ◌∷◌, ◌++◌}
 use Rattle.std.specs.Prelude.{Result, Ok, Err}
 use Rattle.nv_layout.specs.Steps.{◌>>=◌}
 use Rattle.nv_layout.specs.declared.sqe.Sqe.{Sqe}
@@ -13,8 +13,7 @@ use Rattle.nv_blocks.specs.declared.command.Action.TheVariants.{Read, Write, Com
 use Rattle.nv_blocks.specs.declared.command.Command.{Command}
 use Rattle.nv_blocks.specs.declared.command.Command.TheVariants as command
 use Rattle.nv_blocks.specs.declared.command.Extent.{Extent}
-use Rattle.nv_blocks.specs.declared.command.Opcode.{Opcode}
-use Rattle.nv_blocks.specs.declared.command.Opcode.TheVariants.{Flush, OnBlocks, DatasetManagement}
+use Rattle.nv_blocks.specs.declared.command.Opcode.TheVariants.{OnBlocks, DatasetManagement}
 use Rattle.nv_blocks.specs.declared.refusal.Refusal.{Refusal}
 use Rattle.nv_blocks.specs.declared.refusal.Refusal.TheVariants.{LbaOutOfRange}
 use Rattle.nv_blocks.specs.declared.terms.Terms.{Terms}
