@@ -1,5 +1,6 @@
 -- Bytes that are compared part by part.
-use Rattle.std.proofs.Common.{◌≡◌, ◌∙◌, ◌↔◌, ℕ, ◌+◌, ◌<◌, ◌≤◌, Bool, true, false, IsTrue, ap, append_assoc, arith, drop, length}
+use Rattle.std.proofs.Common.{◌≡◌, ◌∙◌, ◌↔◌, ℕ, ◌+◌, ◌<◌, ◌≤◌, Bool, true, false, IsTrue, ap, append_assoc, arith}
+use Rattle.std.proofs.Common.{drop, length}
 use Rattle.std.proofs.Common.{refl, subst, sym, take, List, [], ◌++◌, get_or, length-drop}
 use Rattle.std.proofs.Common.{if◌then◌else◌, Ok, Err}
 use Rattle.std.proofs.Math.Seq.{take-add}
@@ -35,7 +36,8 @@ pub more_held : (m xs : List ℕ) (a i k n : ℕ) → i + k ≤ length xs → n 
     → bytes_at m a (i + k) ≡ take (i + k) xs
 unfolding bytes_at
 more_held m xs a i k n within same before here =
-    let chunk : length (take n (drop i xs)) ≡ k = ap (λ j. length (take j (drop i xs))) same ∙ length-chunk xs i k within in
+    let chunk : length (take n (drop i xs)) ≡ k = ap (λ j. length (take j (drop i xs))) same
+    ∙ length-chunk xs i k within in
     cc (take-add i k (drop a m), take-add i k xs, drop-drop i a m)
 
 -- if all bytes are those of the memory, the n from i on are
@@ -60,7 +62,8 @@ span_held m xs spans i at n inside below left same len all =
     let rest = read_at m (places (drop (i + 1) spans)) in
     let here = bytes_at m s.address s.len in
     let within : at + n ≤ length xs = omega (arith, count_left spans i below) in
-    let size : length here ≡ n = length-bytes_at m s.address s.len (next_inside (length m) spans i inside below) ∙ sym len in
+    let size : length here ≡ n = length-bytes_at m s.address s.len (next_inside (length m) spans i inside below)
+    ∙ sym len in
     let whole : take at xs ++ (here ++ rest) ≡ xs =
     ap (λ l. take at xs ++ l) (sym (read_left m spans i inside below)) ∙ same ∙ all in
     ap (bytes_at m s.address) (length-chunk xs at n within ∙ len)
@@ -96,7 +99,8 @@ pub next_held : (m xs : List ℕ) (spans : List Span) (s : Span) (i at n : ℕ) 
     → read_at m (places spans) ≡ xs
     → bytes_at m s.address (length (take n (drop at xs))) ≡ take n (drop at xs)
 next_held m xs spans s i at n is inside below left same len all =
-    let P : Span → Type 0 = λ x. n ≡ x.len → bytes_at m x.address (length (take n (drop at xs))) ≡ take n (drop at xs) in
+    let P : Span → Type 0 = λ x. n ≡ x.len
+    → bytes_at m x.address (length (take n (drop at xs))) ≡ take n (drop at xs) in
     subst P (sym is) (λ equal. span_held m xs spans i at n inside below left same equal all) len
 
 -- what holds of the bytes and the spans so far also holds with the next span

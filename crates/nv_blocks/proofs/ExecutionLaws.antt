@@ -1,5 +1,6 @@
 -- What a command that succeeds did, by the fields of its entry.
-use Rattle.std.proofs.Common.{◌≡◌, ◌∙◌, ◌==◌, if◌then◌else◌, nat_lt, ℕ, ◌+◌, ◌*◌, ◌/◌, ◌<◌, ◌≤◌, ◌&&◌, Bool, true, false}
+use Rattle.std.proofs.Common.{◌≡◌, ◌∙◌, ◌==◌, if◌then◌else◌, nat_lt, ℕ, ◌+◌, ◌*◌, ◌/◌, ◌<◌, ◌≤◌, ◌&&◌, Bool, true}
+use Rattle.std.proofs.Common.{false}
 use Rattle.std.proofs.Common.{ap, arith, length, refl, sym, List, replicate, Option, Some, None, Result, Ok, Err}
 use Rattle.std.proofs.Math.Nat.{mul-le-mul_left}
 use Rattle.std.proofs.lemmas.Bool.{leb-true, ne_eqb}
@@ -15,7 +16,8 @@ use Rattle.nv_blocks.proofs.BlockLaws.{blocks_inside}
 use Rattle.nv_blocks.proofs.PlaceLaws.{some_places}
 use Rattle.nv_blocks.specs.Blocks.{stored_in, zeroed}
 use Rattle.nv_blocks.specs.Command.{asked_of, block_count, command_of, data_set, deallocates, extent_of, extent_within}
-use Rattle.nv_blocks.specs.Command.{first_block, has_data, is_plain, is_within, length_of, lent_as, namespace_of, on_blocks}
+use Rattle.nv_blocks.specs.Command.{first_block, has_data, is_plain, is_within, length_of, lent_as, namespace_of}
+use Rattle.nv_blocks.specs.Command.{on_blocks}
 use Rattle.nv_blocks.specs.Command.{opcode_by, opcode_of, range_count, sets_reserved, unreserved}
 use Rattle.nv_blocks.specs.Effect.{Effect, acted, effect, effect_of, execution, places_of, places_unless}
 use Rattle.nv_blocks.specs.Effect.{sent}
@@ -28,7 +30,8 @@ use Rattle.nv_blocks.specs.declared.command.Command.TheVariants as command
 use Rattle.nv_blocks.specs.declared.command.Extent.{Extent}
 use Rattle.nv_blocks.specs.declared.command.Opcode.{Opcode}
 use Rattle.nv_blocks.specs.declared.command.Opcode.TheVariants.{Flush, OnBlocks, DatasetManagement}
-use Rattle.nv_blocks.specs.declared.refusal.Refusal.TheVariants.{CapacityExceeded, InvalidFieldInCommand, InvalidNamespaceOrFormat}
+use Rattle.nv_blocks.specs.declared.refusal.Refusal.TheVariants.{CapacityExceeded, InvalidFieldInCommand}
+use Rattle.nv_blocks.specs.declared.refusal.Refusal.TheVariants.{InvalidNamespaceOrFormat}
 use Rattle.nv_blocks.specs.declared.refusal.Refusal.TheVariants.{CompareFailure, LbaOutOfRange}
 use Rattle.nv_blocks.specs.declared.terms.Namespace.{Namespace}
 use Rattle.nv_blocks.specs.declared.terms.Terms.{Terms}
@@ -95,7 +98,8 @@ from_then false e x y is = absurd (cc)
 
 -- a namespace that an entry finds is the one that is lent
 lent_is : (o : Option Namespace) (nsid : ℕ) (namespace : Namespace) → lent_as o nsid ≡ Ok namespace → o ≡ Some namespace
-lent_is (Some one) nsid namespace is = ap Some (from_then (one.nsid == nsid) InvalidNamespaceOrFormat one namespace is).1
+lent_is (Some one) nsid namespace is =
+    ap Some (from_then (one.nsid == nsid) InvalidNamespaceOrFormat one namespace is).1
 lent_is None nsid namespace is = absurd (cc)
 
 -- an opcode that an entry has is that of its number
@@ -155,7 +159,8 @@ acted_is Compare namespace is_exhausted page_size bytes e stored at done found i
     (effect stored bytes) done is).1 in
     sym (ap (λ d. d.stored) same)
 acted_is WriteZeroes namespace is_exhausted page_size bytes e stored at done found is =
-    let same : effect (zeroed stored (extent_of namespace.block_size (first_block e) (block_count e))) bytes ≡ done = cc in
+    let same : effect (zeroed stored (extent_of namespace.block_size (first_block e) (block_count e))) bytes
+    ≡ done = cc in
     sym (ap (λ d. d.stored) same)
 acted_is Verify namespace is_exhausted page_size bytes e stored at done found is =
     let same : effect stored bytes ≡ done = cc in sym (ap (λ d. d.stored) same)
@@ -181,7 +186,8 @@ asked_is (OnBlocks action) namespace terms page_size bytes e stored at asked don
     >>= (λ one. Ok (command.OnBlocks action one))) asked asks in
     let (one, within, known) = from_ok (extent_within (length stored) size (first_block e) (block_count e))
     (λ one. Ok (command.OnBlocks action one)) asked limited in
-    let both = from_then (is_within (length stored / size) (first_block e) (block_count e)) LbaOutOfRange extent one within in
+    let both = from_then (is_within (length stored / size) (first_block e) (block_count e))
+    LbaOutOfRange extent one within in
     let same : command.OnBlocks action extent ≡ asked =
     (let given : command.OnBlocks action one ≡ asked = cc in ap (command.OnBlocks action) both.1 ∙ given) in (
       blocks_inside (length stored) size (first_block e) (block_count e) namespace.some_bytes
@@ -223,7 +229,8 @@ unfolding execution command_of
 executed terms page_size stored bytes e done is =
     let size = length stored in
     let (asked, of, rest) = from_ok (command_of terms size e)
-    (λ asked. places_of page_size bytes e (length_of asked) >>= (λ at. effect_of terms at stored bytes asked)) done is in
+    (λ asked. places_of page_size bytes e (length_of asked)
+    >>= (λ at. effect_of terms at stored bytes asked)) done is in
     let (at, found, acts) = from_ok (places_of page_size bytes e (length_of asked))
     (λ at. effect_of terms at stored bytes asked) done rest in
     let (opcode, known, more) = from_ok (opcode_of e)
@@ -282,7 +289,8 @@ pub executed_length : (terms : Terms) (page_size : ℕ) (stored bytes : List ℕ
 unfolding execution
 executed_length terms page_size stored bytes e done is =
     let (asked, of, rest) = from_ok (command_of terms (length stored) e)
-    (λ asked. places_of page_size bytes e (length_of asked) >>= (λ at. effect_of terms at stored bytes asked)) done is in
+    (λ asked. places_of page_size bytes e (length_of asked)
+    >>= (λ at. effect_of terms at stored bytes asked)) done is in
     let (at, found, acts) = from_ok (places_of page_size bytes e (length_of asked))
     (λ at. effect_of terms at stored bytes asked) done rest in
     effect_length terms at stored bytes asked done acts

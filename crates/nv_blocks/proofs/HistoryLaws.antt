@@ -1,8 +1,10 @@
 -- Blocks before and after changes.
-use Rattle.std.proofs.Common.{◌≡◌, ◌≢◌, ◌∙◌, if◌then◌else◌, nat_le, nat_lt, ℕ, zero, suc, ◌+◌, ◌-◌, ◌*◌, ◌/◌, ◌<◌, ◌≤◌, ◌&&◌}
+use Rattle.std.proofs.Common.{◌≡◌, ◌≢◌, ◌∙◌, if◌then◌else◌, nat_le, nat_lt, ℕ, zero, suc, ◌+◌, ◌-◌, ◌*◌, ◌/◌, ◌<◌}
+use Rattle.std.proofs.Common.{◌≤◌, ◌&&◌}
 use Rattle.std.proofs.Common.{Bool, true, false, ap, arith, inl, inr, length, refl, sym, List, ◌++◌, replicate, take}
 use Rattle.std.proofs.Math.Nat.{mul-le-mul_left}
-use Rattle.std.proofs.lemmas.Bool.{and_from, and_left, and_parts, and_right, cases_lt, eq-eqb, le-leb, le-ltb, leb-true, lt-leb, lt-ltb, ltb-true, ne_eqb}
+use Rattle.std.proofs.lemmas.Bool.{and_from, and_left, and_parts, and_right, cases_lt, eq-eqb, le-leb, le-ltb}
+use Rattle.std.proofs.lemmas.Bool.{leb-true, lt-leb, lt-ltb, ltb-true, ne_eqb}
 use Rattle.std.proofs.lemmas.List.{drop-replicate, length-replicate, take-replicate}
 use Rattle.nv_host.proofs.BytesLaws.{bytes_at-bytes_at, bytes_at-with_after, bytes_at-with_before, bytes_at-with_same}
 use Rattle.nv_host.proofs.BytesLaws.{length-with_bytes}
@@ -61,7 +63,8 @@ block_written stored written size first count b len inside =
             ∙ sym (ap choice (and_from (nat_le first b) (nat_lt b (first + count)) (le-leb first b from)
             (lt-ltb b (first + count) below)))
         | inr past ↦
-            bytes_at-with_after stored (first * size) written (b * size) size (omega (arith, mul-le-mul_left size past, len)) all
+            bytes_at-with_after stored (first * size) written (b * size) size
+            (omega (arith, mul-le-mul_left size past, len)) all
             ∙ sym (ap choice (and_right (nat_le first b) (nat_lt b (first + count)) (le-ltb b (first + count) past)))
       ]
     ]

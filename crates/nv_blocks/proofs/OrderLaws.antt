@@ -1,6 +1,7 @@
 -- Along every run the entries of a queue are completed once each and in order.
 use Rattle.std.proofs.Common.{◌≡◌, ◌∙◌, ◌==◌, if◌then◌else◌, ℕ, ◌+◌, ◌-◌, ◌<◌, Bool, ap, arith}
-use Rattle.std.proofs.Common.{inl, inr, length, length-append, refl, subst, sym, List, [], ◌∷◌, ◌++◌, get_or, Result, Ok, Err}
+use Rattle.std.proofs.Common.{inl, inr, length, length-append, refl, subst, sym, List, [], ◌∷◌, ◌++◌, get_or}
+use Rattle.std.proofs.Common.{Result, Ok, Err}
 use Rattle.std.proofs.lemmas.Bool.{cases_eq, cases_lt, eq-eqb, ne_eqb}
 use Rattle.std.proofs.lemmas.List.{get_or-append_right, get_or_append_left}
 use Rattle.nv_layout.specs.declared.sqe.Sqe.{Sqe}
@@ -8,7 +9,8 @@ use Rattle.nv_queue.proofs.KeptLaws.{kept_next, kept_zero, slot_kept}
 use Rattle.nv_queue.specs.Numbers.{kept_number, next, slot_of}
 use Rattle.nv_queue.specs.Rings.{FetchNumbers}
 use Rattle.nv_blocks.specs.Runs.{Answered, Between, EveryQueueIsInOrder, Event, IsCompletionOf, KeepQueue, KeepsQueue}
-use Rattle.nv_blocks.specs.Runs.{NewData, Turn, World, after, answer_scene, as_list, completed, put, taken_from, turn_scene}
+use Rattle.nv_blocks.specs.Runs.{NewData, Turn, World, after, answer_scene, as_list, completed, put, taken_from}
+use Rattle.nv_blocks.specs.Runs.{turn_scene}
 use Rattle.nv_blocks.specs.Runs.{world_after}
 use Rattle.nv_blocks.specs.Turn.{Outcome, Scene, answer_of, entry_in, outcome_of, scene_by, taken_by}
 use Rattle.nv_blocks.specs.declared.turns.Stop.{Stop}
@@ -90,7 +92,8 @@ taken_or_not found sqid q depth n outcome x submissions own at = elim (cases_eq 
   | inl same ↦
       let P : Bool → Type 0 = λ t. Follows q depth n (if t then as_list (taken_by found sqid outcome x) else [])
       (if t then (scene_by found sqid outcome x).fetch else submissions q) in
-      let Q : ℕ → Type 0 = λ k. Follows q depth n (as_list (taken_by found k outcome x)) (scene_by found k outcome x).fetch in
+      let Q : ℕ → Type 0 = λ k. Follows q depth n (as_list (taken_by found k outcome x))
+      (scene_by found k outcome x).fetch in
       let here : IsAt depth n x.fetch = subst (IsAt depth n) (sym (own ∙ ap submissions same)) at in
       subst P (sym (eq-eqb sqid q same)) (subst Q (sym same) (taken_follows found q depth n outcome x here))
   | inr other ↦
@@ -104,10 +107,12 @@ event_follows : (event : Event) (w : World) (q depth n : ℕ) → KeepsQueue q e
     → Follows q depth n (taken_from q event w) ((after event w).submissions q)
 event_follows (Turn cqid terms) w q depth n keeps at =
     let x = turn_scene cqid terms w in
-    taken_or_not (entry_in x) terms.sqid q depth n (outcome_of terms w.page_size x.stored x.bytes) x w.submissions refl at
+    taken_or_not (entry_in x) terms.sqid q depth n
+    (outcome_of terms w.page_size x.stored x.bytes) x w.submissions refl at
 event_follows (Answered cqid sqid told written) w q depth n keeps at =
     let x = answer_scene cqid sqid w in
-    taken_or_not (entry_in x) sqid q depth n (answer_of w.page_size told written x.stored x.bytes) x w.submissions refl at
+    taken_or_not (entry_in x) sqid q depth n
+    (answer_of w.page_size told written x.stored x.bytes) x w.submissions refl at
 event_follows (NewData nsid size blocks) w q depth n keeps at = none_follow q depth n (w.submissions q) at
 event_follows (Between bytes submissions completions) w q depth n keeps at =
     none_follow q depth n (submissions q)

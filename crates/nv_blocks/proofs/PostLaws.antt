@@ -28,7 +28,8 @@ outcome_length terms page_size stored bytes e (Ok done) is = executed_length ter
 outcome_length terms page_size stored bytes e (Err refusal) is = refl
 
 -- so does the answer of a caller
-answer_length : (page_size : ℕ) (told : Told) (written stored bytes : List ℕ) (e : Sqe) (found : Result (List ℕ) Refusal)
+answer_length : (page_size : ℕ) (told : Told) (written stored bytes : List ℕ) (e : Sqe)
+    (found : Result (List ℕ) Refusal)
     → sent page_size e written bytes ≡ found → length (answered_by found told stored bytes).bytes ≡ length bytes
 answer_length page_size told written stored bytes e (Ok new) is = sent_length page_size e written bytes new is
 answer_length page_size told written stored bytes e (Err refusal) is = refl

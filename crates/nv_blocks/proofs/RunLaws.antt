@@ -1,5 +1,6 @@
 -- Along every run each block is what the newest change left, and a read gives that.
-use Rattle.std.proofs.Common.{◌≡◌, ◌≢◌, ◌∙◌, ◌==◌, if◌then◌else◌, ℕ, zero, suc, ◌+◌, ◌-◌, ◌*◌, ◌<◌, ◌≤◌, ◌&&◌, Bool, true, false}
+use Rattle.std.proofs.Common.{◌≡◌, ◌≢◌, ◌∙◌, ◌==◌, if◌then◌else◌, ℕ, zero, suc, ◌+◌, ◌-◌, ◌*◌, ◌<◌, ◌≤◌, ◌&&◌, Bool}
+use Rattle.std.proofs.Common.{true, false}
 use Rattle.std.proofs.Common.{ap, arith, drop, inl, inr, length, refl, subst, sym, take, List, [], ◌∷◌, ◌++◌, replicate}
 use Rattle.std.proofs.Common.{Option, Some, None, Result, Ok, Err}
 use Rattle.std.proofs.Math.Seq.{take-add}
@@ -22,7 +23,8 @@ use Rattle.nv_blocks.specs.History.{Change, Cleared, Made, Written, blocks_from,
 use Rattle.nv_blocks.specs.History.{cleared_ranges, host_bytes, host_places, if_done, is_among, newest}
 use Rattle.nv_blocks.specs.Ranges.{deallocated}
 use Rattle.nv_blocks.specs.Runs.{Answered, Between, EveryReadGivesTheNewest, Event, HoldsNewest, IsLent, MayAllHappen}
-use Rattle.nv_blocks.specs.Runs.{MayHappen, NewData, ReadsNewest, Turn, World, after, changes_in, changes_next, given_back}
+use Rattle.nv_blocks.specs.Runs.{MayHappen, NewData, ReadsNewest, Turn, World, after, changes_in, changes_next}
+use Rattle.nv_blocks.specs.Runs.{given_back}
 use Rattle.nv_blocks.specs.Runs.{history, history_from, lent_of, put, turn_scene, world_after}
 use Rattle.nv_blocks.specs.Turn.{entry_in, outcome_by, outcome_of, scene_by}
 use Rattle.nv_blocks.specs.declared.command.Action.TheVariants.{Read, Write, Compare, WriteZeroes, Verify}
@@ -42,7 +44,8 @@ Holds changes stored sizes =
 -- ---- the data of a transfer
 
 -- the host's memory has so many bytes at an entry's places
-length-host_bytes : (page_size : ℕ) (bytes : List ℕ) (e : Sqe) (len : ℕ) → length (host_bytes page_size bytes e len) ≡ len
+length-host_bytes : (page_size : ℕ) (bytes : List ℕ) (e : Sqe) (len : ℕ)
+    → length (host_bytes page_size bytes e len) ≡ len
 length-host_bytes page_size bytes e len =
     length-read_at bytes (host_places page_size bytes e len)
     ∙ length_transfer_places (transfer page_size bytes e.prp1 e.prp2 len)
@@ -162,7 +165,8 @@ given_back_same (Some namespace) stored n = elim (cases_eq namespace.nsid n) [
 same_holds : (changes : List Change) (old new : ℕ → List ℕ) (sizes : ℕ → ℕ) → ((n : ℕ) → new n ≡ old n)
     → Holds changes old sizes → Holds changes new sizes
 same_holds changes old new sizes same holds n b =
-    let P : List ℕ → Type 0 = λ l. (b + 1) * sizes n ≤ length l → bytes_at l (b * sizes n) (sizes n) ≡ newest changes n b in
+    let P : List ℕ → Type 0 = λ l. (b + 1) * sizes n ≤ length l
+    → bytes_at l (b * sizes n) (sizes n) ≡ newest changes n b in
     subst P (sym (same n)) (holds n b)
 
 -- ---- one event
@@ -243,7 +247,8 @@ new_holds : (nsid size blocks : ℕ) (older : List Change) (w : World) → Holds
 new_holds nsid size blocks older w holds n b = by_test (nsid == n)
   where
     by_test : (t : Bool)
-        → (b + 1) * (if t then size else w.block_sizes n) ≤ length (if t then replicate (blocks * size) 0 else w.stored n)
+        → (b + 1) * (if t then size else w.block_sizes n) ≤ length (if t then replicate (blocks * size) 0
+        else w.stored n)
         → bytes_at (if t then replicate (blocks * size) 0 else w.stored n)
         (b * (if t then size else w.block_sizes n)) (if t then size else w.block_sizes n)
         ≡ (if t then replicate size 0 else newest older n b)

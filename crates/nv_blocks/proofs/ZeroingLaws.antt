@@ -1,13 +1,16 @@
 -- What a command zeroes is all that it does, if it only zeroes.
-use Rattle.std.proofs.Common.{◌≡◌, ◌∙◌, ◌⊎◌, ◌/◌, ◌*◌, ◌+◌, ◌<◌, ◌&&◌, if◌then◌else◌, nat_lt, ℕ, zero, suc, Bool, true, false, ap, inl, inr}
-use Rattle.std.proofs.Common.{length, length-append, refl, subst, sym, List, [], ◌∷◌, ◌++◌, Result, Ok, Err, arith, add-one}
+use Rattle.std.proofs.Common.{◌≡◌, ◌∙◌, ◌⊎◌, ◌/◌, ◌*◌, ◌+◌, ◌&&◌, if◌then◌else◌, nat_lt, ℕ, zero, suc, Bool}
+use Rattle.std.proofs.Common.{true, false, ap, inl, inr}
+use Rattle.std.proofs.Common.{length, length-append, refl, subst, sym, List, [], ◌∷◌, ◌++◌, Result, Ok, Err, arith}
 use Rattle.nv_layout.specs.Steps.{◌>>=◌}
 use Rattle.nv_layout.specs.declared.sqe.Sqe.{Sqe}
 use Rattle.nv_prp.specs.Place.{read_at}
 use Rattle.nv_blocks.proofs.ExecutionLaws.{from_else, from_ok, opcode_is}
 use Rattle.nv_blocks.specs.Blocks.{zeroed}
-use Rattle.nv_blocks.specs.Command.{asked_of, block_count, command_of, data_set, deallocates, extent_of, extent_within, first_block}
-use Rattle.nv_blocks.specs.Command.{has_data, length_of, namespace_of, on_blocks, opcode_by, opcode_of, range_count, sets_reserved}
+use Rattle.nv_blocks.specs.Command.{asked_of, block_count, command_of, data_set, deallocates, extent_of}
+use Rattle.nv_blocks.specs.Command.{extent_within, first_block}
+use Rattle.nv_blocks.specs.Command.{has_data, length_of, namespace_of, on_blocks, opcode_by, opcode_of, range_count}
+use Rattle.nv_blocks.specs.Command.{sets_reserved}
 use Rattle.nv_blocks.specs.Command.{unreserved}
 use Rattle.nv_blocks.specs.Effect.{Effect, effect, effect_of, execution, places_of}
 use Rattle.nv_blocks.specs.Ranges.{are_within, deallocated, managed, range_at}
@@ -58,7 +61,8 @@ ranges_zero n size deallocates list stored bytes = by_tests (are_within (length 
     by_tests : (within deallocates : Bool)
         → ((if within then Ok (if deallocates then deallocated size list stored n else stored) else Err LbaOutOfRange)
         >>= (λ new. Ok (effect new bytes)))
-        ≡ effect_by (if within then Ok (if deallocates then listed size list n else []) else Err LbaOutOfRange) stored bytes
+        ≡ effect_by (if within then Ok (if deallocates then listed size list n else [])
+        else Err LbaOutOfRange) stored bytes
     by_tests false deallocates = refl
     by_tests true false = refl
     by_tests true true = ap (λ l. Ok (effect l bytes)) (sym (all_zeroed-listed size list stored n))
@@ -94,7 +98,8 @@ asks_only opcode namespace limit size e asked kind asks =
     elim kind [
       | inl is ↦
           let given = ap (λ (o : Opcode). asked_of o namespace limit size e) (sym is) ∙ asks in
-          let limited = from_else (has_data WriteZeroes && nat_lt limit (block_count e * block_size)) InvalidFieldInCommand
+          let limited = from_else (has_data WriteZeroes && nat_lt limit (block_count e * block_size))
+          InvalidFieldInCommand
           (extent_within size block_size (first_block e) (block_count e)
           >>= (λ one. Ok (command.OnBlocks WriteZeroes one))) asked given in
           let (one, within, known) = from_ok (extent_within size block_size (first_block e) (block_count e))
@@ -152,7 +157,8 @@ unfolding execution zeroing
 every_zeroing terms page_size stored bytes e kind =
     let size = length stored in
     let found : Command → Result (List ℕ) Refusal = λ asked. places_of page_size bytes e (length_of asked) in
-    let zeroes : Command → List ℕ → Result (List Extent) Refusal = λ asked at. zeroed_in size asked (read_at bytes at) in
+    let zeroes : Command → List ℕ → Result (List Extent) Refusal =
+    λ asked at. zeroed_in size asked (read_at bytes at) in
     let whole : Command → Result Effect Refusal = λ asked.
     found asked >>= (λ at. effect_by (zeroes asked at) stored bytes) in
     same_steps (command_of terms size e)

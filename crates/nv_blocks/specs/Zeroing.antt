@@ -1,5 +1,6 @@
 -- What an entry zeroes, for a caller that clears data by other means than zeros.
-use Rattle.std.specs.Prelude.{◌≡◌, ◌⊎◌, ℕ, zero, suc, ◌*◌, ◌/◌, Bool, if◌then◌else◌, length, List, [], ◌∷◌, ◌++◌, Result, Ok, Err}
+use Rattle.std.specs.Prelude.{◌≡◌, ◌⊎◌, ℕ, zero, suc, ◌/◌, Bool, if◌then◌else◌, length, List, [], ◌∷◌, ◌++◌}
+use Rattle.std.specs.Prelude.{Result, Ok, Err}
 use Rattle.nv_layout.specs.Steps.{◌>>=◌}
 use Rattle.nv_layout.specs.declared.sqe.Sqe.{Sqe}
 use Rattle.nv_prp.specs.Place.{read_at}
@@ -12,8 +13,7 @@ use Rattle.nv_blocks.specs.declared.command.Action.TheVariants.{Read, Write, Com
 use Rattle.nv_blocks.specs.declared.command.Command.{Command}
 use Rattle.nv_blocks.specs.declared.command.Command.TheVariants as command
 use Rattle.nv_blocks.specs.declared.command.Extent.{Extent}
-use Rattle.nv_blocks.specs.declared.command.Opcode.{Opcode}
-use Rattle.nv_blocks.specs.declared.command.Opcode.TheVariants.{Flush, OnBlocks, DatasetManagement}
+use Rattle.nv_blocks.specs.declared.command.Opcode.TheVariants.{OnBlocks, DatasetManagement}
 use Rattle.nv_blocks.specs.declared.refusal.Refusal.{Refusal}
 use Rattle.nv_blocks.specs.declared.refusal.Refusal.TheVariants.{LbaOutOfRange}
 use Rattle.nv_blocks.specs.declared.terms.Terms.{Terms}
@@ -71,4 +71,5 @@ abbrev pub ZeroingIsExecution : Type 0
 ZeroingIsExecution =
     (terms : Terms) (page_size : ℕ) (stored bytes : List ℕ) (e : Sqe)
     → (opcode_by e.opcode ≡ Ok (OnBlocks WriteZeroes)) ⊎ (opcode_by e.opcode ≡ Ok DatasetManagement)
-    → execution terms page_size stored bytes e ≡ effect_by (zeroing terms page_size (length stored) bytes e) stored bytes
+    → execution terms page_size stored bytes e
+    ≡ effect_by (zeroing terms page_size (length stored) bytes e) stored bytes
