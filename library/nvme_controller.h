@@ -24,10 +24,13 @@
  * nothing, and a turn returns 0. But a machine that is not null must have been opened and not closed, and each other
  * pointer must point to the memory that the call describes.
  *
- * What drivers will miss: the controllers have admin queues and no I/O queues. They refuse each command that
- * nvme_records.h doesn't name with Invalid Command Opcode, such as Create I/O Submission Queue, Abort and Asynchronous
- * Event Request. They raise no interrupt: after a turn, look at the phase tag of the next completion. A shutdown
- * notification (CC.SHN) has no effect, and the shutdown status (CSTS.SHST) stays 0. */
+ * What drivers will miss: by themselves, the controllers have admin queues alone, and refuse each command that
+ * nvme_records.h doesn't name NVME_OPCODE_... with Invalid Command Opcode. A program can give them the rest: it sees
+ * each entry of an admin queue before the controller takes it (`nvme_machine_next`), and completes those that the
+ * controller lacks, such as Create I/O Submission Queue. It keeps the I/O queues, and lends them the blocks of
+ * namespaces (`nvme_queue_turn`). Nothing raises an interrupt: look at how many completions wait
+ * (`nvme_completion_queue_waiting`), or at phase tags. A shutdown notification (CC.SHN) has no effect, and the shutdown
+ * status (CSTS.SHST) stays 0. */
 #ifndef NVME_CONTROLLER_H
 #define NVME_CONTROLLER_H
 
@@ -125,6 +128,134 @@ void nvme_machine_counts(const nvme_machine *machine, uint16_t ctrl, uint64_t *r
 /* Copies the entry of a controller's error log at an index, counted from the newest, to `entry`. Returns 1, or 0 if
  * there is no such entry; then `entry` doesn't change. */
 int nvme_machine_log_entry(const nvme_machine *machine, uint16_t ctrl, size_t index, uint8_t entry[64]);
+
+/* Copies the data that Identify returns for the controller to `data`, and returns 1, or 0 if there is no such
+ * controller; then `data` is unchanged. Nothing else changes, and the controller counts no command. */
+int nvme_machine_identify(const nvme_machine *machine, uint16_t ctrl, uint8_t data[4096]);
+
+/* Does the same with the data that Identify returns for a namespace, which is zeros if there is no such namespace or,
+ * with `is_active`, none that is attached to the controller. Returns 0 for an NSID that no namespace can have. */
+int nvme_machine_namespace(const nvme_machine *machine, uint16_t ctrl, uint32_t nsid, int is_active,
+                           uint8_t data[4096]);
+
+/* ---- Entries of an admin queue that the program answers. For these, memory is lent as for a turn. */
+
+/* What a completion says. (`cid` counts only for nvme_machine_post; the others take it from the entry.) */
+typedef struct {
+    uint32_t dword0;                 /* command specific */
+    uint16_t cid;                    /* command identifier */
+    uint16_t status;                 /* without the phase tag */
+} nvme_answer;
+
+/* Copies the entry that a turn of the controller over this memory would take next to `entry`, and returns 1. (Bytes of
+ * the entry that are reserved are 0.) Returns 0, and leaves `entry` unchanged, if a turn would take none: no entry
+ * waits, the completion queue is full, the controller isn't ready or has a fatal status, or a slot lies outside the
+ * memory. Nothing else changes. */
+int nvme_machine_next(const nvme_machine *machine, uint16_t ctrl, const uint8_t *memory, size_t pages,
+                      uint32_t page_size, uint8_t entry[64]);
+
+/* Takes that entry and posts its completion with this answer, which has the entry's identifier, the head past it and
+ * the phase tag that is due. Returns 1, or 0 if there is no such entry, and then nothing changes. The controller
+ * doesn't see the entry: the subsystem, its logs and its counts stay as they are. Of the memory, only the completion's
+ * slot changes. */
+int nvme_machine_complete(nvme_machine *machine, uint16_t ctrl, uint8_t *memory, size_t pages, uint32_t page_size,
+                          nvme_answer answer);
+
+/* Takes that entry without a completion, which the program then owes, copies it to `entry`, and returns 1; or returns 0
+ * as nvme_machine_next does. */
+int nvme_machine_fetch(nvme_machine *machine, uint16_t ctrl, const uint8_t *memory, size_t pages, uint32_t page_size,
+                       uint8_t entry[64]);
+
+/* Posts a completion that the program owes. Returns 1, or 0 if the completion queue is full or can't be used, and then
+ * nothing changes. */
+int nvme_machine_post(nvme_machine *machine, uint16_t ctrl, uint8_t *memory, size_t pages, uint32_t page_size,
+                      nvme_answer answer);
+
+/* Writes bytes to where the data pointer of an entry says, as a controller writes the data of a reply, and returns 0.
+ * For a pointer that isn't valid, more than 1,048,576 bytes, or memory that can't be lent, nothing is written, and the
+ * status is returned with which to complete the entry: PRP Offset Invalid or Data Transfer Error, with Do Not Retry. */
+uint16_t nvme_entry_write(const uint8_t entry[64], uint8_t *memory, size_t pages, uint32_t page_size,
+                          const uint8_t *data, size_t length);
+
+/* ---- I/O queues, which are values that the program keeps. A queue can be copied. */
+
+/* A submission queue. Its entries are counted from 0, modulo twice the depth. Number n lies in slot n modulo the
+ * depth. */
+typedef struct {
+    uint64_t base;                   /* the address of its first slot */
+    uint16_t depth;                  /* how many slots it has, from 2 to 4,096 */
+    uint16_t sqid;                   /* its identifier, which its completions have */
+    uint16_t fetched;                /* the number of the next entry to take */
+    uint16_t rung;                   /* the number up to which entries wait, which the tail doorbell set */
+} nvme_submission_queue;
+
+/* A completion queue, of one or more submission queues. Its completions are counted likewise. Those below the depth
+ * have phase tag 1, and the others 0. */
+typedef struct {
+    uint64_t base;
+    uint16_t depth;
+    uint16_t posted;                 /* the number of the next completion */
+    uint16_t told;                   /* the number below which all were collected, which the head doorbell set */
+    uint16_t reserved;               /* not used */
+} nvme_completion_queue;
+
+/* Makes an empty queue of `depth` slots at the address `base`, which need not lie in the memory. Returns 1, or 0 for
+ * another depth than 2 to 4,096, and then the queue doesn't change. */
+int nvme_submission_queue_make(nvme_submission_queue *queue, uint16_t sqid, uint64_t base, uint32_t depth);
+int nvme_completion_queue_make(nvme_completion_queue *queue, uint64_t base, uint32_t depth);
+
+/* Performs a write of the tail doorbell or the head doorbell, and returns 1. A value that the queue can't have is
+ * ignored, and 0 returned: a tail that names no slot, or a head to which freeing posted slots doesn't lead. */
+int nvme_submission_queue_tail(nvme_submission_queue *queue, uint32_t tail);
+int nvme_completion_queue_head(nvme_completion_queue *queue, uint32_t head);
+
+/* Returns how many entries wait to be taken. */
+uint16_t nvme_submission_queue_waiting(const nvme_submission_queue *queue);
+
+/* Returns how many completions wait to be collected. The queue is full if these are `depth - 1`. */
+uint16_t nvme_completion_queue_waiting(const nvme_completion_queue *queue);
+
+/* The blocks of a namespace, which are lent for a turn. */
+typedef struct {
+    uint8_t *data;                   /* the blocks one after another, none of them in the host's memory */
+    size_t length;                   /* in bytes; what is left after whole blocks isn't used */
+    uint32_t nsid;                   /* from 1 to FFFFFFFEh */
+    uint32_t block_size;             /* bytes of a block, with its metadata if that is part of it */
+    uint64_t greatest_transfer;      /* how many bytes a command may transfer, of which 1,048,576 count */
+    int is_full;                     /* whether a Write gets Capacity Exceeded */
+} nvme_blocks;
+
+/* Copies the entry that a turn of these queues would take next to `entry`, and returns 1. Returns 0 if no entry waits
+ * or the completion queue is full, and -1 if the memory lacks a slot or can't be lent, or if a queue's numbers are
+ * those of none; then `entry` is unchanged. Nothing else changes. */
+int nvme_queue_next(const nvme_submission_queue *submissions, const nvme_completion_queue *completions,
+                    const uint8_t *memory, size_t pages, uint32_t page_size, uint8_t entry[64]);
+
+/* Takes that entry and posts its completion with this answer. Returns what nvme_queue_next does. If that isn't 1,
+ * nothing changes. */
+int nvme_queue_complete(nvme_submission_queue *submissions, nvme_completion_queue *completions, uint8_t *memory,
+                        size_t pages, uint32_t page_size, nvme_answer answer);
+
+/* Takes that entry, performs its command on the blocks, and posts its completion. Returns the status of the completion,
+ * or -1 if no entry was taken, and then nothing changes. Without blocks (null), or with an entry of another NSID, each
+ * command gets Invalid Namespace or Format. So look at the NSID by nvme_queue_next, and lend that namespace if it is
+ * attached to the controller. The commands are those that nvme_records.h names NVME_IO_... Only the bytes of the blocks
+ * that the entry names, of the data that it asks for, and of the completion's slot may change, in this order. */
+int nvme_queue_turn(nvme_submission_queue *submissions, nvme_completion_queue *completions, uint8_t *memory,
+                    size_t pages, uint32_t page_size, const nvme_blocks *blocks);
+
+/* A range of the bytes of blocks. */
+typedef struct {
+    uint64_t offset;
+    uint64_t length;
+} nvme_range;
+
+/* Sets the first of `ranges` to the bytes of the blocks that a turn with this entry would zero, by Write Zeroes or
+ * Dataset Management, and returns how many ranges these are. A program can clear them by other means, such as holes in
+ * a file, and then complete the entry with success (nvme_queue_complete). Returns -1 if the turn would refuse the
+ * entry, or the memory can't be lent. Nothing else changes, and the blocks' data isn't used. */
+int nvme_blocks_zeroing(const nvme_blocks *blocks, const uint8_t entry[64], const uint8_t *memory, size_t pages,
+                        uint32_t page_size, nvme_range ranges[256]);
 
 /* Copies the name of a status to `text`, cut to `room` bytes including its zero byte, and returns the length of the
  * name. `text` may be null if `room` is 0. The name is that of nvme-script's messages, such as `Invalid Field in

@@ -24,7 +24,7 @@ import os
 import pathlib
 import struct
 import subprocess
-from typing import List, NamedTuple, NoReturn, Optional, Tuple
+from typing import Callable, List, NamedTuple, NoReturn, Optional, Tuple
 
 CAP, VS, CC, CSTS, AQA, ASQ, ACQ = 0x00, 0x08, 0x14, 0x1c, 0x24, 0x28, 0x30
 TAIL_DOORBELL, HEAD_DOORBELL = 0x1000, 0x1004
@@ -64,6 +64,77 @@ class ErrorEntry(NamedTuple):
         return cls(count, sqid, cid, word >> 1, *others)
 
 
+class Answer(ctypes.Structure):
+    """What a completion says: `dword0`, the `status`, and for Machine.post the `cid`."""
+
+    _fields_ = ('dword0', ctypes.c_uint32), ('cid', ctypes.c_uint16), ('status', ctypes.c_uint16)
+
+    def __init__(self, status: int = 0, dword0: int = 0, cid: int = 0) -> None:
+        super().__init__(_number('dword 0', dword0, 32), _number('command identifier', cid, 16),
+                         _number('status', status, 15))
+
+
+class SubmissionQueue(ctypes.Structure):
+    """An I/O submission queue, as its controller has it. A copy is another queue."""
+
+    _fields_ = (('base', ctypes.c_uint64), ('depth', ctypes.c_uint16), ('sqid', ctypes.c_uint16),
+                ('fetched', ctypes.c_uint16), ('rung', ctypes.c_uint16))
+
+    def __init__(self, sqid: int, base: int, depth: int) -> None:
+        super().__init__()
+        sqid, base = _number('queue identifier', sqid, 16), _number('address', base, 64)
+        if not _calls().nvme_submission_queue_make(self, sqid, base, _number('depth', depth, 32)):
+            raise ValueError('a queue has from 2 to 4096 slots')
+
+    def tail(self, value: int) -> bool:
+        """Writes the tail doorbell, and returns whether the queue took the value."""
+        return bool(_calls().nvme_submission_queue_tail(self, _number('tail', value, 32)))
+
+    def waiting(self) -> int:
+        """Returns how many entries wait to be taken."""
+        return _calls().nvme_submission_queue_waiting(self)
+
+
+class CompletionQueue(ctypes.Structure):
+    """An I/O completion queue, as its controller has it. A copy is another queue."""
+
+    _fields_ = (('base', ctypes.c_uint64), ('depth', ctypes.c_uint16), ('posted', ctypes.c_uint16),
+                ('told', ctypes.c_uint16), ('reserved', ctypes.c_uint16))
+
+    def __init__(self, base: int, depth: int) -> None:
+        super().__init__()
+        base, depth = _number('address', base, 64), _number('depth', depth, 32)
+        if not _calls().nvme_completion_queue_make(self, base, depth):
+            raise ValueError('a queue has from 2 to 4096 slots')
+
+    def head(self, value: int) -> bool:
+        """Writes the head doorbell, and returns whether the queue took the value."""
+        return bool(_calls().nvme_completion_queue_head(self, _number('head', value, 32)))
+
+    def waiting(self) -> int:
+        """Returns how many completions wait to be collected."""
+        return _calls().nvme_completion_queue_waiting(self)
+
+
+class _Blocks(ctypes.Structure):
+    _fields_ = (('data', ctypes.c_void_p), ('length', ctypes.c_size_t), ('nsid', ctypes.c_uint32),
+                ('block_size', ctypes.c_uint32), ('greatest_transfer', ctypes.c_uint64), ('is_full', ctypes.c_int))
+
+
+class Blocks(NamedTuple):
+    """The blocks of a namespace, in a bytearray or another writable buffer that isn't the host's memory."""
+
+    data: bytearray
+    nsid: int
+    block_size: int
+    greatest_transfer: int = 1 << 20
+    is_full: bool = False
+
+
+class _Range(ctypes.Structure):
+    _fields_ = ('offset', ctypes.c_uint64), ('length', ctypes.c_uint64)
+
+
 def _by_pkg_config() -> Optional[str]:
     command = 'pkg-config', '--variable=libdir', 'nvme_controller'
     try:
@@ -95,6 +166,7 @@ def _library() -> ctypes.CDLL:
     """Loads the library, and declares its calls."""
     library = _load()
     machine, u16, u32, u64, size = (ctypes.c_void_p, ctypes.c_uint16, ctypes.c_uint32, ctypes.c_uint64, ctypes.c_size_t)
+    lent, queues = (ctypes.c_void_p, size, u32), (ctypes.POINTER(SubmissionQueue), ctypes.POINTER(CompletionQueue))
     for name, result, *arguments in [
             ('controller_version', ctypes.c_char_p),
             ('status_text', size, u16, ctypes.c_char_p, size),
@@ -108,7 +180,24 @@ def _library() -> ctypes.CDLL:
             ('machine_write64', None, machine, u16, u32, u64),
             ('machine_turn', u16, machine, u16, ctypes.c_void_p, size, u32, u16),
             ('machine_counts', None, machine, u16, *[ctypes.POINTER(u64)] * 2),
-            ('machine_log_entry', ctypes.c_int, machine, u16, size, ctypes.c_char_p)]:
+            ('machine_log_entry', ctypes.c_int, machine, u16, size, ctypes.c_char_p),
+            ('machine_identify', ctypes.c_int, machine, u16, ctypes.c_char_p),
+            ('machine_namespace', ctypes.c_int, machine, u16, u32, ctypes.c_int, ctypes.c_char_p),
+            ('machine_next', ctypes.c_int, machine, u16, *lent, ctypes.c_char_p),
+            ('machine_fetch', ctypes.c_int, machine, u16, *lent, ctypes.c_char_p),
+            ('machine_complete', ctypes.c_int, machine, u16, *lent, Answer),
+            ('machine_post', ctypes.c_int, machine, u16, *lent, Answer),
+            ('entry_write', u16, ctypes.c_char_p, *lent, ctypes.c_char_p, size),
+            ('submission_queue_make', ctypes.c_int, *queues[:1], u16, u64, u32),
+            ('completion_queue_make', ctypes.c_int, *queues[1:], u64, u32),
+            ('submission_queue_tail', ctypes.c_int, *queues[:1], u32),
+            ('completion_queue_head', ctypes.c_int, *queues[1:], u32),
+            ('submission_queue_waiting', u16, *queues[:1]),
+            ('completion_queue_waiting', u16, *queues[1:]),
+            ('queue_next', ctypes.c_int, *queues, *lent, ctypes.c_char_p),
+            ('queue_complete', ctypes.c_int, *queues, *lent, Answer),
+            ('queue_turn', ctypes.c_int, *queues, *lent, ctypes.POINTER(_Blocks)),
+            ('blocks_zeroing', ctypes.c_int, ctypes.POINTER(_Blocks), ctypes.c_char_p, *lent, ctypes.POINTER(_Range))]:
         call = getattr(library, f'nvme_{name}')
         call.restype, call.argtypes = result, arguments
     return library
@@ -143,6 +232,85 @@ def status_text(status: int) -> str:
     text = ctypes.create_string_buffer(64)
     _calls().nvme_status_text(_number('status', status, 16), text, len(text))
     return text.value.decode()
+
+
+def _buffer(buffer: bytearray) -> ctypes.Array[ctypes.c_uint8]:
+    view = memoryview(buffer).cast('B')
+    return (ctypes.c_uint8 * len(view)).from_buffer(view)
+
+
+class _Lent:
+    """Memory while it is lent to a call: `arguments` has its address, how many pages it has, and their size."""
+
+    def __init__(self, memory: bytearray, page_size: int) -> None:
+        page_size = _number('page size', page_size, 32)
+        self._bytes = _buffer(memory)
+        pages, rest = divmod(len(self._bytes), page_size) if page_size else (0, len(self._bytes))
+        if rest:
+            raise ValueError('the memory has no whole number of pages')
+        self.arguments = ctypes.addressof(self._bytes), pages, page_size
+
+
+def _entry(data: bytes) -> bytes:
+    entry = bytes(memoryview(data))
+    if len(entry) != 64:
+        raise ValueError('an entry has 64 bytes')
+    return entry
+
+
+def entry_write(entry: bytes, memory: bytearray, data: bytes, page_size: int = 4096) -> int:
+    """Writes bytes to where the data pointer of an entry says, and returns 0, or the status with which to complete
+    the entry."""
+    lent, data = _Lent(memory, page_size), bytes(memoryview(data))
+    return _calls().nvme_entry_write(_entry(entry), *lent.arguments, data, len(data))
+
+
+def queue_next(submissions: SubmissionQueue, completions: CompletionQueue, memory: bytearray,
+               page_size: int = 4096) -> Optional[bytes]:
+    """Returns the entry that a turn of these queues would take next, or None. Queues that the memory doesn't hold
+    are a ValueError."""
+    lent, entry = _Lent(memory, page_size), ctypes.create_string_buffer(64)
+    return entry.raw if _taken(_calls().nvme_queue_next(submissions, completions, *lent.arguments, entry)) else None
+
+
+def queue_complete(submissions: SubmissionQueue, completions: CompletionQueue, memory: bytearray, answer: Answer,
+                   page_size: int = 4096) -> bool:
+    """Takes that entry and posts its completion. Returns whether there was one."""
+    lent = _Lent(memory, page_size)
+    return _taken(_calls().nvme_queue_complete(submissions, completions, *lent.arguments, answer))
+
+
+def _taken(result: int) -> bool:
+    if result < 0:
+        raise ValueError('the memory does not hold the queues')
+    return bool(result)
+
+
+def queue_turn(submissions: SubmissionQueue, completions: CompletionQueue, memory: bytearray,
+               blocks: Optional[Blocks] = None, page_size: int = 4096) -> Optional[int]:
+    """Takes that entry, performs its command on the blocks, and posts its completion. Returns its status, or None if
+    no entry was taken."""
+    lent = _Lent(memory, page_size)
+    status = _calls().nvme_queue_turn(submissions, completions, *lent.arguments, blocks and _given(blocks))
+    return None if status < 0 else status
+
+
+def _given(blocks: Blocks) -> _Blocks:
+    data = _buffer(blocks.data)
+    given = _Blocks(ctypes.addressof(data), len(data), _number('NSID', blocks.nsid, 32),
+                    _number('block size', blocks.block_size, 32),
+                    _number('greatest transfer', blocks.greatest_transfer, 64), blocks.is_full)
+    given.kept = data  # (as long as the address is used)
+    return given
+
+
+def blocks_zeroing(blocks: Blocks, entry: bytes, memory: bytearray,
+                   page_size: int = 4096) -> Optional[List[Tuple[int, int]]]:
+    """Returns the offsets and lengths of the bytes that a turn with this entry would zero, or None if it would refuse
+    the entry."""
+    lent, ranges = _Lent(memory, page_size), (_Range * 256)()
+    count = _calls().nvme_blocks_zeroing(_given(blocks), _entry(entry), *lent.arguments, ranges)
+    return None if count < 0 else [(each.offset, each.length) for each in ranges[:count]]
 
 
 class Machine:
@@ -211,14 +379,40 @@ class Machine:
     def turn(self, ctrl: int, memory: bytearray, page_size: int = 4096, most: int = 0xffff) -> int:
         """Lets a controller take entries, over a bytearray or another writable buffer of whole pages, and returns how
         many it took."""
-        ctrl, most = _number('controller', ctrl, 16), _number('most', most, 16)
-        page_size = _number('page size', page_size, 32)
-        view = memoryview(memory).cast('B')
-        pages, rest = divmod(len(view), page_size) if page_size else (0, len(view))
-        if rest:
-            raise ValueError('the memory has no whole number of pages')
-        lent = (ctypes.c_uint8 * len(view)).from_buffer(view)
-        return self._library.nvme_machine_turn(self._open(), ctrl, ctypes.addressof(lent), pages, page_size, most)
+        ctrl, most, lent = _number('controller', ctrl, 16), _number('most', most, 16), _Lent(memory, page_size)
+        return self._library.nvme_machine_turn(self._open(), ctrl, *lent.arguments, most)
+
+    def _asked(self, call: Callable[..., int], ctrl: int, size: int, *arguments: object) -> Optional[bytes]:
+        data = ctypes.create_string_buffer(size)
+        return data.raw if call(self._open(), _number('controller', ctrl, 16), *arguments, data) else None
+
+    def next(self, ctrl: int, memory: bytearray, page_size: int = 4096) -> Optional[bytes]:
+        """Returns the entry that a turn of the controller would take next, or None."""
+        lent = _Lent(memory, page_size)
+        return self._asked(self._library.nvme_machine_next, ctrl, 64, *lent.arguments)
+
+    def fetch(self, ctrl: int, memory: bytearray, page_size: int = 4096) -> Optional[bytes]:
+        """Takes that entry without a completion, which is owed to it, and returns it."""
+        lent = _Lent(memory, page_size)
+        return self._asked(self._library.nvme_machine_fetch, ctrl, 64, *lent.arguments)
+
+    def complete(self, ctrl: int, memory: bytearray, answer: Answer, page_size: int = 4096) -> bool:
+        """Takes that entry in place of the controller, and posts its completion. Returns whether there was one."""
+        lent, ctrl = _Lent(memory, page_size), _number('controller', ctrl, 16)
+        return bool(self._library.nvme_machine_complete(self._open(), ctrl, *lent.arguments, answer))
+
+    def post(self, ctrl: int, memory: bytearray, answer: Answer, page_size: int = 4096) -> bool:
+        """Posts the completion of an entry that was taken without one. Returns whether it had a free slot."""
+        lent, ctrl = _Lent(memory, page_size), _number('controller', ctrl, 16)
+        return bool(self._library.nvme_machine_post(self._open(), ctrl, *lent.arguments, answer))
+
+    def identify(self, ctrl: int) -> Optional[bytes]:
+        """Returns what Identify returns for a controller, or None if there is no such controller."""
+        return self._asked(self._library.nvme_machine_identify, ctrl, 4096)
+
+    def namespace(self, ctrl: int, nsid: int, is_active: bool = False) -> Optional[bytes]:
+        """Returns what Identify returns for a namespace, or for one that is attached to the controller."""
+        return self._asked(self._library.nvme_machine_namespace, ctrl, 4096, _number('NSID', nsid, 32), is_active)
 
     def counts(self, ctrl: int) -> Tuple[int, int]:
         """Returns how many commands a controller refused, and how many it took."""

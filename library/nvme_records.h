@@ -1,5 +1,5 @@
-/* The entries, records and numbers of the NVM Express 1.4 admin commands that the controllers of nvme_controller.h
- * carry out. This header needs no other, and can be used without the library.
+/* The entries, records and numbers of the NVM Express 1.4 commands that the library of nvme_controller.h carries out.
+ * This header needs no other, and can be used without the library.
  *
  * Each structure has the bytes of a table of the standard, with the standard's short names for its fields. Bytes that
  * are marked as reserved here have no meaning to these controllers: they ignore them in an entry, and report them as 0.
@@ -34,6 +34,25 @@ enum {
     NVME_OPCODE_NAMESPACE_MANAGEMENT = 0x0d,
     NVME_OPCODE_NAMESPACE_ATTACHMENT = 0x15,
     NVME_OPCODE_FORMAT_NVM = 0x80
+};
+
+/* Opcodes of I/O commands, which nvme_queue_turn performs. All others are refused in the same way. */
+enum {
+    NVME_IO_FLUSH = 0x00,
+    NVME_IO_WRITE = 0x01,
+    NVME_IO_READ = 0x02,
+    NVME_IO_COMPARE = 0x05,
+    NVME_IO_WRITE_ZEROES = 0x08,
+    NVME_IO_DATASET_MANAGEMENT = 0x09,
+    NVME_IO_VERIFY = 0x0c
+};
+
+/* Opcodes of admin commands for I/O queues, which a program completes in a controller's place. */
+enum {
+    NVME_QUEUE_DELETE_SUBMISSION = 0x00,
+    NVME_QUEUE_CREATE_SUBMISSION = 0x01,
+    NVME_QUEUE_DELETE_COMPLETION = 0x04,
+    NVME_QUEUE_CREATE_COMPLETION = 0x05
 };
 
 /* What Identify returns, in bits 7:0 of its dword 10 (CNS). */
@@ -83,6 +102,8 @@ enum {
     NVME_STATUS_DATA_TRANSFER_ERROR = 0x004,
     NVME_STATUS_INVALID_NAMESPACE_OR_FORMAT = 0x00b,
     NVME_STATUS_PRP_OFFSET_INVALID = 0x013,
+    NVME_STATUS_LBA_OUT_OF_RANGE = 0x080,
+    NVME_STATUS_CAPACITY_EXCEEDED = 0x081,
     NVME_STATUS_INVALID_LOG_PAGE = 0x109,
     NVME_STATUS_INVALID_FORMAT = 0x10a,
     NVME_STATUS_FEATURE_IDENTIFIER_NOT_SAVEABLE = 0x10d,
@@ -94,7 +115,8 @@ enum {
     NVME_STATUS_NAMESPACE_IS_PRIVATE = 0x119,
     NVME_STATUS_NAMESPACE_NOT_ATTACHED = 0x11a,
     NVME_STATUS_THIN_PROVISIONING_NOT_SUPPORTED = 0x11b,
-    NVME_STATUS_CONTROLLER_LIST_INVALID = 0x11c
+    NVME_STATUS_CONTROLLER_LIST_INVALID = 0x11c,
+    NVME_STATUS_COMPARE_FAILURE = 0x285
 };
 
 /* The other bits of a status: More and Do Not Retry. */

@@ -48,10 +48,11 @@ class Library(Case):
         return made
 
     def test_what_callers_get_wrong(self):
-        made = self.compile(TOP / 'tests/library.c', '-D_DEFAULT_SOURCE', *WRAPPED)
-        ended = run(made)
-        self.assertEqual((ended.status, ended.err), (0, b''), ended)
-        self.assertRegex(ended.out, rb'\A\d{4,} checks, 0 failed\n\Z', ended)
+        for source, options in ('library.c', WRAPPED), ('library_queues.c', ()):
+            with self.subTest(source):
+                ended = run(self.compile(TOP / 'tests' / source, '-D_DEFAULT_SOURCE', *options))
+                self.assertEqual((ended.status, ended.err), (0, b''), ended)
+                self.assertRegex(ended.out, rb'\A\d{4,} checks, 0 failed\n\Z', ended)
 
     def symbols(self, file, *options):
         """Returns the names of the symbols in a file that other files can use."""
@@ -87,7 +88,10 @@ int main(void) {
 }
 """)
         memory = pathlib.Path(run('rt', 'doc').out.decode().strip()).parent / 'c/liblibc_c.a'
-        other = TOP / 'crates/nvme_controller/out/libnvme_controller.a'
+        # (the proved calls themselves, without those that have the names of the header's)
+        other = self.folder / 'libother.a'
+        self.ends(run('objcopy', '--wildcard', '--localize-symbol=nvme_*_queue_*',
+                      TOP / 'crates/nvme_controller/out/libnvme_controller.a', other), 0, b'', b'')
         whole = '-Wl,--whole-archive', other, memory, self.library / 'libnvme_controller.a', '-Wl,--no-whole-archive'
         made = self.folder / 'program'
         self.ends(run('cc', '-I', self.library, '-o', made, source, *whole), 0, b'', b'')
@@ -122,7 +126,7 @@ int main(void) {
 
     def test_names_of_statuses(self):
         found = re.findall(r'NVME_STATUS_(\w+) = (0x\w{3})\b', (TOP / 'library/nvme_records.h').read_text())
-        self.assertEqual(len(found), 18)
+        self.assertEqual(len(found), 21)
         use = ('import json, nvme_controller as nvme; '
                'print(json.dumps([nvme.status_text(status) for status in range(0x10000)]))')
         ended = self.python('-c', use)
@@ -142,6 +146,10 @@ int main(void) {
             with self.subTest(words):
                 ended = run(*words, env={'PYTHONPATH': self.library, 'PYTHONDONTWRITEBYTECODE': '1'})
                 self.ends(ended, 0, wanted.out, wanted.err[len('line 5: '):])
+
+    def test_blocks(self):
+        wanted = (b'write: Success, 1 completion waits\nread: Success, 1 completion waits\none block\n')
+        self.ends(run(self.compile(TOP / 'examples/c/blocks.c')), 0, wanted, b'')
 
     def test_texts_of_faults(self):
         made = self.compile(TOP / 'examples/c/bench.c')
@@ -199,6 +207,68 @@ except ValueError:
     print('done')
 """)
         self.ends(self.python(source), 0, b'done\n', b'')
+
+    def test_python_queues(self):
+        """An entry that is completed, one that is held, and I/O queues, with what a caller gets wrong."""
+        source = self.file('queues.py', b"""
+import struct
+import nvme_controller as nvme
+
+def entry(opcode, cid, nsid=0, prp1=0, cdw10=0):
+    return struct.pack('<BxHI16xQ8xI20x', opcode, cid, nsid, prp1, cdw10)
+
+memory, data = bytearray(16 * 4096), bytearray(4 * 512)
+with nvme.Machine() as machine:
+    machine.write32(0, nvme.AQA, 0x00030003)
+    machine.write64(0, nvme.ACQ, 0x1000)
+    machine.write32(0, nvme.CC, 0x00460001)
+    memory[:128] = entry(0x0c, 7) + entry(0x05, 8)
+    assert machine.next(0, memory) is None
+    machine.write32(0, nvme.TAIL_DOORBELL, 2)
+    assert machine.next(0, memory) == memory[:64] == machine.fetch(0, memory)
+    assert machine.complete(0, memory, nvme.Answer(status=0x4101)) and machine.next(0, memory) is None
+    assert machine.post(0, memory, nvme.Answer(cid=7, dword0=3)) and machine.counts(0) == (0, 0)
+    assert memory[0x1000:0x1020] == struct.pack(
+        '<IIHHHHIIHHHH', 0, 0, 2, 0, 8, 0x4101 << 1 | 1, 3, 0, 2, 0, 7, 1)
+    assert machine.identify(0)[4:6] == b'S0' and machine.identify(2) is None
+    assert machine.namespace(0, 1) == machine.namespace(0, 1, True) and machine.namespace(0, 0) is None
+submissions, completions = nvme.SubmissionQueue(1, 0x2000, 4), nvme.CompletionQueue(0x3000, 4)
+blocks = nvme.Blocks(data, 1, 512)
+assert nvme.queue_next(submissions, completions, memory) is None
+assert nvme.queue_turn(submissions, completions, memory, blocks) is None
+memory[0x4000:0x4200] = b'b' * 512
+memory[0x2000:0x20c0] = entry(1, 1, 1, 0x4000, 3) + entry(2, 2, 1, 0x5000, 4) + entry(0, 3, 1)
+assert submissions.tail(3) and not submissions.tail(4) and submissions.waiting() == 3
+assert nvme.queue_next(submissions, completions, memory) == entry(1, 1, 1, 0x4000, 3)
+assert nvme.queue_turn(submissions, completions, memory, blocks) == 0 and data == bytes(1536) + b'b' * 512
+assert nvme.queue_turn(submissions, completions, memory, blocks) == 0x4080
+assert nvme.queue_complete(submissions, completions, memory, nvme.Answer(status=2)) and completions.waiting() == 3
+assert completions.head(3) and not completions.head(1) and completions.waiting() == 0
+assert not nvme.queue_complete(submissions, completions, memory, nvme.Answer())
+assert nvme.blocks_zeroing(blocks, entry(8, 9, 1, 0, 2), memory) == [(1024, 512)]
+assert nvme.blocks_zeroing(blocks, entry(8, 9, 1, 0, 4), memory) is None
+assert nvme.blocks_zeroing(blocks, entry(2, 9, 1, 0x4000, 2), memory) == []
+assert nvme.entry_write(entry(6, 1, prp1=0x6000), memory, b'data') == 0 and memory[0x6000:0x6004] == b'data'
+assert nvme.entry_write(entry(6, 1, prp1=1 << 20), memory, b'data') == 0x4004
+outside = nvme.SubmissionQueue(1, 1 << 30, 4)
+outside.tail(1)
+wide, refused = 1 << 64, 0
+for call, *arguments in [
+        (nvme.SubmissionQueue, 1, 0, 1), (nvme.SubmissionQueue, 0x10000, 0, 4), (nvme.SubmissionQueue, 1, wide, 4),
+        (nvme.CompletionQueue, 0, 4097), (nvme.CompletionQueue, -1, 4), (submissions.tail, 1 << 32),
+        (completions.head, -1), (nvme.Answer, 0x8000), (nvme.Answer, 0, 1 << 32), (nvme.Answer, 0, 0, 0x10000),
+        (nvme.queue_next, outside, completions, memory), (nvme.queue_next, submissions, completions, memory, 4095),
+        (nvme.queue_complete, outside, completions, memory, nvme.Answer()), (nvme.entry_write, b'', memory, b''),
+        (nvme.queue_turn, submissions, completions, memory, nvme.Blocks(data, -1, 512)),
+        (nvme.queue_turn, submissions, completions, memory, nvme.Blocks(data, 1, 512, wide))]:
+    try:
+        print('taken', call, arguments, call(*arguments))
+    except ValueError:
+        refused += 1
+assert nvme.queue_turn(outside, completions, memory, blocks) is None
+print(refused)
+""")
+        self.ends(self.python(source), 0, b'16\n', b'')
 
     def test_python_refuses(self):
         """Numbers that a C type can't hold, and copies of a machine."""
@@ -264,7 +334,8 @@ print('done')
         source = self.file('hints.py', b"""
 import inspect, typing
 import nvme_controller as nvme
-for owner in nvme, nvme.Machine, nvme.Fault, nvme.ErrorEntry:
+owners = nvme.Machine, nvme.Fault, nvme.ErrorEntry, nvme.Answer, nvme.SubmissionQueue, nvme.CompletionQueue
+for owner in (nvme, *owners):
     for name, call in inspect.getmembers(owner, inspect.isroutine):
         if getattr(call, '__module__', None) == 'nvme_controller':
             hints = typing.get_type_hints(call)

@@ -52,7 +52,7 @@ pub(crate) fn find_data<M: PagedMemory>(
 
 /// Sends bytes to where an entry's data lies, if there are any.
 #[tactic(auto, unfolding(crate::specs::Effect::sent))]
-pub(crate) fn send<M: PagedMemory>(mem: &mut M, entry: &Sqe, bytes: &[u8]) -> Result<(), Refusal>
+pub fn send<M: PagedMemory>(mem: &mut M, entry: &Sqe, bytes: &[u8]) -> Result<(), Refusal>
     requires { length bytes.now ≤ most_bytes }
     ensures sent { let found = sent (M.page_len mem.old) entry.now bytes.now (M.bytes mem.old) in
         MatchResult result (λ _. found ≡ Ok (M.bytes mem.new)) (λ refusal. found ≡ Err refusal) }

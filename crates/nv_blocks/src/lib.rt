@@ -39,6 +39,7 @@ mod zeroing;
 
 pub use answer::{Answer, Told};
 pub use command::Extent;
+pub use execute::send;
 pub use refusal::Refusal;
 pub use terms::{Namespace, Terms};
 pub use turns::{Stop, Taken, complete, next_entry, turn};

@@ -46,7 +46,8 @@ impl Extents {
 
     /// Returns the extents in order.
     pub fn as_slice(&self) -> &[Extent]
-        ensures { result.now ≡ self.now }
+        ensures value { result.now ≡ self.now }
+        ensures few { length result.now ≤ 256 }
     {
         &self.extents[..self.count]
     }

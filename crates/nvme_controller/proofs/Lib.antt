@@ -3,3 +3,4 @@ pub mod CountLaws
 pub mod LogLaws
 pub mod OpenLaws
 pub mod TextLaws
+pub mod ZeroingLaws

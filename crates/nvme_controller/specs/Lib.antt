@@ -1,8 +1,11 @@
+pub mod Blocks
 pub mod Caller
 pub mod Calls
 pub mod FaultText
 pub mod Held
+pub mod Identify
 pub mod Open
 pub mod Queues
 pub mod StatusName
+pub mod Zeroing
 pub mod inner

@@ -1,2 +1,3 @@
 -- What no public contract reaches.
 pub mod FaultText
+pub mod Zeroing

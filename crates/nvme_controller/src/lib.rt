@@ -6,14 +6,20 @@
 //! `library/nvme_controller.h` declares the calls for a program in C.
 #![tactic(auto)]
 
+mod blocks;
 mod caller;
 mod calls;
+mod data;
 mod fault;
 mod handle;
+mod identify;
 mod parts;
 mod queues;
 mod status;
+mod zeroing;
 
+pub use blocks::LentBlocks;
 pub use caller::Answer;
 pub use handle::Handle;
 pub use queues::{CompletionQueue, SubmissionQueue};
+pub use zeroing::ByteRange;

@@ -13,10 +13,12 @@ use nv_layout::Status;
 fn name(status: Status) -> &'static str
     ensures { result.now ≡ status_name status }
 {
-    if status.sct == 0 && status.sc == 0 {
-        "Success"
-    } else {
-        StatusCode::name_of(status)
+    match (status.sct, status.sc) {
+        (0, 0x00) => "Success",
+        (0, 0x80) => "LBA Out of Range",
+        (0, 0x81) => "Capacity Exceeded",
+        (2, 0x85) => "Compare Failure",
+        _ => StatusCode::name_of(status),
     }
 }
 
