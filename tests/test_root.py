@@ -58,7 +58,8 @@ class Root(ModelCase):
             with self.subTest(options):
                 words = [f'{name}={value}' for name, value in given.items()]
                 ended = self.ended('env -i "$@" sudo $options env -0', *words, env={'options': options})
-                found = dict(line.split('=', 1) for line in ended.out.decode().split('\0')[:-1])
+                lines = [line for line in ended.out.decode().split('\0')[:-1] if not line.startswith('__LLVM')]
+                found = dict(line.split('=', 1) for line in lines)
                 # (what the sandbox needs, and what a shell sets)
                 for name in 'LD_PRELOAD', 'BLKID_FILE', 'SYSTEMD_DEVICE_VERIFY_SYSFS', 'PWD', 'OLDPWD', 'SHLVL', '_':
                     found.pop(name, None)
