@@ -142,11 +142,13 @@ class Ends(Machine):
             running.process.send_signal(getattr(signal, number))
             running.comes(f'{number} False\n'.encode())
         self.assertEqual(running.end().status, 0)
+        self.leaves_no_process()
         for number in signal.SIGTERM, signal.SIGINT, signal.SIGUSR1:
             running = Running(*self.command('true'), env={**self.env, 'MACHINE': 'is_silent'})
             self.started(b'python')
             running.process.send_signal(number)
             self.ends(running.end(), 128 + number, b'')
+            self.leaves_no_process()
 
     def test_stops(self):
         # (in a group that no shell could have continue, a stop has no effect)
@@ -156,6 +158,7 @@ class Ends(Machine):
     def test_unread(self):
         ours, theirs = socket.socketpair()
         self.addCleanup(ours.close)
+        ours.settimeout(100)
         env = environment({**self.env, 'MACHINE': 'writes'})
         with subprocess.Popen(self.command('true'), stdin=theirs, stdout=subprocess.PIPE, env=env) as process:
             theirs.close()
