@@ -89,7 +89,9 @@ DATA = '''
 for address in $(grep -l 0x010802 /sys/bus/pci/devices/*/class); do
     basename "${address%/class}" > /sys/bus/pci/drivers/nvme/bind
 done
-disk() { for name in $(cd /dev && echo nvme*n*); do grep -q '^2048$' "/sys/block/$name/size" && echo "/dev/$name"; done; }
+disk() {
+    for name in $(cd /dev && echo nvme*n*); do grep -q '^2048$' "/sys/block/$name/size" && echo "/dev/$name"; done
+}
 for second in $(seq 600); do [ -z "$(disk)" ] || break; sleep 1; done
 disk=$(disk)
 if [ "$(dd if="$disk" bs=4 count=1)" = full ]; then
