@@ -5,12 +5,12 @@ import struct
 
 from tests.as_client import RESET
 from tests.blocks import (
-    ABORT, DELETE_COMPLETIONS, DELETE_SUBMISSIONS, FLUSH, FORMAT, GET_FEATURES, GET_LOG, INVALID_DELETION,
+    ABORT, ATTACH, DELETE_COMPLETIONS, DELETE_SUBMISSIONS, FLUSH, FORMAT, GET_FEATURES, GET_LOG, INVALID_DELETION,
     INVALID_FIELD, INVALID_NAMESPACE, INVALID_QUEUE, INVALID_SIZE, INVALID_VECTOR, MANAGE, NOT_OF_NAMESPACE,
     NOT_SAVEABLE, NO_COMPLETION_QUEUE, READ, REQUEST_EVENT, SEQUENCE_ERROR, SET_FEATURES, TOO_MANY_REQUESTS, Blocks,
     block_entry)
 from tests.driver import (
-    CC, CSTS, ENABLED, HEAD, IDENTIFY, INVALID_OFFSET, NOWHERE, PAGE, TRANSFER_ERROR, counter, is_raised)
+    CC, CSTS, ENABLED, HEAD, IDENTIFY, INVALID_OFFSET, NOWHERE, PAGE, TAIL, TRANSFER_ERROR, counter, is_raised)
 from tests.served import EVERY, GIBIBYTE
 
 
@@ -285,6 +285,18 @@ class Commands(Blocks):
         self.assertEqual(event(second) or event(second), None)
         late = request(second)
         self.assertEqual(event(second), (late, 0x0004_0002, 0))
+        # (also at a controller that was looked at before the one whose command it was)
+        bell = first.counters()[1]
+        self.assertEqual(first.status_of(SET_FEATURES, dword10=0xb, dword11=0x100), 0)
+        self.assertEqual(log(first), [2])
+        held = request(first)
+        self.sleeps()
+        is_raised(bell)
+        second.at(2 * PAGE, 4)[:] = struct.pack('<2H', 1, 0)
+        second.put(ATTACH, 2 * PAGE, nsid=1, dword10=1, rings=False)
+        second.set_register(TAIL, second.tail)
+        self.assertTrue(is_raised(bell, 5))
+        self.assertEqual((second.take(), event(first)), (0, (held, 0x0004_0002, 0)))
         # after a reset, nothing is left of requests and changes
         request(first)
         first.enable()
