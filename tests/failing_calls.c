@@ -42,18 +42,22 @@ static int fails(const char *name) {
 }
 
 /* (every argument is a number or an address, and no function has more) */
-#define FAILS(name, result)                                                                                            \
-    long of_##name(long, long, long, long, long, long, long) __asm__(#name);                                           \
-    long of_##name(long a, long b, long c, long d, long e, long f, long g) {                                           \
+#define FAILS_AS(symbol, name, result)                                                                                 \
+    long of_##symbol(long, long, long, long, long, long, long) __asm__(#symbol);                                       \
+    long of_##symbol(long a, long b, long c, long d, long e, long f, long g) {                                         \
         static long (*next)(long, long, long, long, long, long, long);                                                 \
         if (!next)                                                                                                     \
-            next = (__typeof__(next))dlsym(RTLD_NEXT, #name);                                                          \
+            next = (__typeof__(next))dlsym(RTLD_NEXT, #symbol);                                                        \
         return fails(#name) ? result : next(a, b, c, d, e, f, g);                                                      \
     }
+#define FAILS(name, result) FAILS_AS(name, name, result)
 
+/* (what the compiler calls in the place of a function whose room it knows) */
+FAILS_AS(__asprintf_chk, asprintf, -1)
+FAILS_AS(__read_chk, read, -1)
+FAILS_AS(__readlink_chk, readlink, -1)
 FAILS(access, -1)
 FAILS(asprintf, -1)
-FAILS(bind, -1)
 FAILS(chdir, -1)
 FAILS(dup, -1)
 FAILS(dup2, -1)
