@@ -288,6 +288,8 @@ static void see_accepted(const struct command *command) {
         clear_formatted(function, dword(command, 1));
     else if (opcode == OPCODE_MANAGEMENT || opcode == OPCODE_ATTACHMENT)
         look_at_namespaces(function->subsystem, AFTER_COMMAND);
+    // (other functions may have something to do, although they were looked at already)
+    function->has_more |= opcode == OPCODE_FORMAT || opcode == OPCODE_MANAGEMENT || opcode == OPCODE_ATTACHMENT;
 }
 
 /* ---- the admin queue */

@@ -351,13 +351,15 @@ int main(int count, char **arguments) {
         arguments = take_words(&count);
     else {
         int is_qemu = count > 1 && (strcmp(arguments[1], "--qemu") == 0 || strcmp(arguments[1], "--vfio-user") == 0);
-        if (!is_qemu)
+        int is_vm = count > 1 && strcmp(arguments[1], "--vm") == 0;
+        if (!is_qemu && !is_vm)
             check_streams();
-        hold_streams();
+        if (!is_vm)
+            hold_streams();
         if (is_qemu && count == 3 && strcmp(arguments[2], "--help") == 0)
             exit(fputs(qemu_usage, stdout) >= 0 && fflush(stdout) == 0 ? 0 : FAILED);
-        if (is_qemu) {
-            find_parts("qemu");
+        if (is_qemu || is_vm) {
+            find_parts(is_vm ? "vm.sh" : "qemu");
             must(execv(program_path, arguments), program_path);
         }
         must(close_range(STDERR_FILENO + 1, ~0U, CLOSE_RANGE_CLOEXEC), "close_range");

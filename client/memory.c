@@ -138,8 +138,8 @@ int drop_sections(struct function *function, uint64_t address, uint64_t size) {
     return size > 0 && to == end ? ENOENT : 0;
 }
 
-/* Lends a function's memory for calls of the library about an entry and the slot of its completion, or nothing if one of
-   them isn't in memory. Of the pages of former calls, theirs are kept, and the latest ones. */
+/* Lends a function's memory for calls of the library about an entry and the slot of its completion, or nothing if one
+   of them isn't in memory. Of the pages of former calls, theirs are kept, and the latest ones. */
 unsigned char *lend(const struct function *function, uint64_t entry, uint64_t slot) {
     unsigned kept = 0, surplus = page_count > MOST_KEPT ? page_count - MOST_KEPT : 0, count;
     entry -= entry % SMALL_PAGE;

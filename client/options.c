@@ -103,6 +103,7 @@ static const struct row rows[] = {
     {"pace", "N", "let a controller do N commands in a turn", .number = &geometry[PACE], .range = "1 to 4096"},
     {"qemu", NULL, "as the first option, run QEMU with the controllers; see --qemu --help", .set = NULL},
     {"vfio-user", NULL, "as the first option, serve them to virtual machines; see --qemu --help", .set = NULL},
+    {"vm", NULL, "as the first option, run COMMAND on a kernel in a virtual machine; see --vm --help", .set = NULL},
     {"build", NULL, "as the only argument, in a clone of the repository: prove and build the device", .set = NULL},
     {"help", NULL, "show this help and the version", .set = show_help},
     {"version", NULL, "show the version", .set = show_version}};
@@ -111,6 +112,7 @@ enum { ROWS = sizeof rows / sizeof *rows, COLUMN = 23 };
 static const char *show_help(const char *nothing) {
     (void)nothing;
     fputs("usage: nvme-model [OPTION..] [--] COMMAND [ARGUMENT..]\n"
+          "       nvme-model --vm [OPTION..] [--] COMMAND [ARGUMENT..]\n"
           "       nvme-model --qemu [OPTION..] [-- QEMU-OPTION..]\n"
           "       nvme-model --vfio-user --socket PATH [OPTION..]\n"
           "Run COMMAND with the NVMe devices of a model as /dev/nvme0, /dev/nvme0n1 and so on.\n\n",

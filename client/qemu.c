@@ -167,12 +167,16 @@ static nvme_machine *open_machine(const char *path) {
 static void make_functions(const char *path, unsigned place, const struct protocol *protocol) {
     nvme_machine *machine = open_machine(path);
     struct subsystem *subsystem = subsystems + place;
-    *subsystem = (struct subsystem){machine, place, functions + function_count, nvme_machine_controllers(machine), {{0}}};
+    subsystem->machine = machine;
+    subsystem->number = place;
+    subsystem->functions = functions + function_count;
+    subsystem->count = nvme_machine_controllers(machine);
     for (uint16_t number = 0; number < subsystem->count; number++, function_count++) {
         if (function_count == MOST_FUNCTIONS)
             errx(FAILED, "there are more than %d controllers", MOST_FUNCTIONS);
-        functions[function_count] = (struct function){protocol, subsystem, machine, number, .socket = -1, .listener = -1,
-            .to_receiver = -1, .pin = -1, .bell = -1, .unmask = -1, .files.at = {[0 ... MOST_FILES - 1] = -1}};
+        functions[function_count] = (struct function){protocol, subsystem, machine, number, .socket = -1,
+            .listener = -1, .to_receiver = -1, .pin = -1, .bell = -1, .unmask = -1,
+            .files.at = {[0 ... MOST_FILES - 1] = -1}};
         nvme_machine_identify(machine, number, functions[function_count].identity);
     }
     look_at_namespaces(subsystem, AT_START);

@@ -23,7 +23,8 @@ Run COMMAND as root in a virtual machine with the NVMe devices of a model. Its f
 it changes is gone at its end.
 
   --subsystem FILE    use the subsystem of FILE; repeat it for several subsystems
-  --data-limit SIZE   limit the memory for data of namespaces
+  --data FOLDER       keep the data of namespaces in files of FOLDER
+  --data-limit SIZE   limit the data of namespaces
   --memory SIZE       give the machine this memory, such as 512M (default: 1G)
   --cpus N            give it N processors (default: 2)
   --kernel FILE       boot this kernel (default: the newest one of /boot that has its modules)

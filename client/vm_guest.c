@@ -112,7 +112,8 @@ static void make_root(void) {
         refuse("its streams");
     if (system(script) != 0)
         end_machine();
-    sethostname(name, strlen(name));
+    if (sethostname(name, strlen(name)) < 0)
+        refuse("its name");
     if (chdir(here) < 0)
         refuse("the current folder");
 }

@@ -149,8 +149,8 @@ int set_zeros(struct volume *volume, const nvme_range *part) {
     return 1;
 }
 
-/* Lends the data for a turn. If it only reads this part, and that isn't all there, a copy of the part is lent, because a
-   file in memory would take more of it. */
+/* Lends the data for a turn. If it only reads this part, and that isn't all there, a copy of the part is lent, because
+   a file in memory would take more of it. */
 unsigned char *begin_use(struct volume *volume, const nvme_range *part) {
     int how = MAP_PRIVATE | MAP_ANONYMOUS | MAP_NORESERVE;
     in_use = volume;

@@ -6,6 +6,7 @@ import os
 import signal
 import struct
 import sys
+import threading
 import time
 
 INPUT, OUTPUT, ERRORS, TERMINAL, MESSAGES = range(201, 206)
@@ -140,9 +141,10 @@ def stops():
 
 
 def writes():
-    """Writes until nobody reads, and reads no input."""
+    """Writes until nobody reads, and drops its input."""
     tell(BEGUN)
     tell(UNREAD, INPUT - 201)
+    threading.Thread(target=lambda: [*frames()], daemon=True).start()
     os.set_blocking(MESSAGES, False)
     message = b''
     while message != struct.pack('<II', UNREAD, OUTPUT - 201):

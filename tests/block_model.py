@@ -1,15 +1,17 @@
-"""A plain model of I/O queues, for tests of ./nvme-model --vfio-user: what entries do to a guest's memory and to the data
-of namespaces, by the rules of the standard, one entry after the other. It is told what a host does."""
+"""A plain model of I/O queues, for tests of ./nvme-model --vfio-user: what entries do to a guest's memory and to the
+data of namespaces, by the rules of the standard, one entry after the other. It is told what a host does."""
 
 import struct
 
 from tests.blocks import (
-    COMPARE, DATASET, DIFFERS, FLUSH, INVALID_FIELD, INVALID_NAMESPACE, INVALID_OPCODE, OUT_OF_RANGE, READ, VERIFY, WRITE,
-    WRITE_ZEROES)
+    COMPARE, DATASET, DIFFERS, FLUSH, INVALID_FIELD, INVALID_NAMESPACE, INVALID_OPCODE, OUT_OF_RANGE, READ, VERIFY,
+    WRITE, WRITE_ZEROES)
 from tests.driver import INVALID_OFFSET, PAGE, TRANSFER_ERROR
 
 REACHED = 128 << 30
-RESERVED = {FLUSH: (2 ** 32 - 1,) * 6, WRITE: (0, 0, 0x030f_0000, 0xff00, 0, 0), READ: (0, 0, 0x03ff_0000, 0xffff_ff00, 0, 0),
+# The reserved bits of the dwords 10 to 15.
+RESERVED = {FLUSH: (2 ** 32 - 1,) * 6, WRITE: (0, 0, 0x030f_0000, 0xff00, 0, 0),
+            READ: (0, 0, 0x03ff_0000, 0xffff_ff00, 0, 0),
             COMPARE: (0, 0, 0x03ff_0000, 2 ** 32 - 1, 0, 0), WRITE_ZEROES: (0, 0, 0x01ff_0000, 2 ** 32 - 1, 0, 0),
             VERIFY: (0, 0, 0x03ff_0000, 2 ** 32 - 1, 0, 0),
             DATASET: (0xffff_ff00, 0xffff_fff8, *(2 ** 32 - 1,) * 4)}
@@ -146,5 +148,7 @@ class Model:
 
     def ring_head(self, number, value):
         queue = self.completions.get(number)
-        if queue and value < queue.depth and (value - queue.doorbell) % queue.depth <= (queue.next - queue.doorbell) % queue.depth:
+        if not queue or value >= queue.depth:
+            return
+        if (value - queue.doorbell) % queue.depth <= (queue.next - queue.doorbell) % queue.depth:
             queue.doorbell = value

@@ -1,9 +1,11 @@
-"""I/O queues of a guest of tests/as_client.py, with a driver that puts entries into them and takes their completions."""
+"""I/O queues of a guest of tests/as_client.py, with a driver that puts entries into them and takes their completions,
+and what tests of them share."""
 
 import struct
 
 from tests.as_client import Guest
-from tests.driver import PAGE
+from tests.driver import COMMAND, MASTER, PAGE
+from tests.served import Served
 
 DELETE_SUBMISSIONS, CREATE_SUBMISSIONS, GET_LOG, DELETE_COMPLETIONS, CREATE_COMPLETIONS, ABORT = 0, 1, 2, 4, 5, 8
 SET_FEATURES, GET_FEATURES, REQUEST_EVENT, MANAGE, ATTACH, FORMAT = 9, 0xa, 0xc, 0xd, 0x15, 0x80
@@ -33,7 +35,8 @@ class Drive(Guest):
         return struct.unpack('<I', self.at(place, 4))[0]
 
     def create_completions(self, number, ring, depth=16, flags=3, vector=0):
-        status = self.status_of(CREATE_COMPLETIONS, ring, dword10=number | depth - 1 << 16, dword11=flags | vector << 16)
+        status = self.status_of(CREATE_COMPLETIONS, ring, dword10=number | depth - 1 << 16,
+                                dword11=flags | vector << 16)
         if status == 0:
             self.completions[number] = [ring, depth, 0, 1]
         return status
@@ -110,3 +113,29 @@ class Drive(Guest):
 def block_entry(opcode, nsid, first=0, count=1, prp1=0, prp2=0, flags=0, dword12=0, dword13=0, identifier=77):
     return struct.pack('<BBHIQQQQQIIII', opcode, flags, identifier, nsid, 0, 0, prp1, prp2, first,
                        (count - 1 & 0xffff) | dword12, dword13, 0, 0)
+
+
+class Blocks(Served):
+    def drive(self, ctrl=0, pairs=1, **more):
+        """Returns a guest with I/O queues whose rings begin at page 4."""
+        drive = Drive(f'{self.path}{ctrl}', ctrl=ctrl, **more)
+        self.addCleanup(drive.close)
+        self.begin(drive, pairs)
+        return drive
+
+    def begin(self, drive, pairs=1):
+        drive.set_config(COMMAND, MASTER, 2)
+        drive.enable()
+        for number in range(1, pairs + 1):
+            drive.create_pair(number, ((2 + 2 * number) * PAGE, (3 + 2 * number) * PAGE))
+
+    def create(self, drive, blocks, flbas=0):
+        """Creates a namespace, attaches it to its creator, and returns its NSID."""
+        drive.at(2 * PAGE, PAGE)[:] = struct.pack('<QQ10xBxxBB', blocks, blocks, flbas, 0, 1).ljust(PAGE, b'\0')
+        nsid = drive.dword0_of(MANAGE, 2 * PAGE)
+        self.assertEqual(self.attach(drive, nsid, [drive.ctrl]), 0)
+        return nsid
+
+    def attach(self, drive, nsid, ctrls, detach=0):
+        drive.at(2 * PAGE, PAGE)[:] = struct.pack(f'<{len(ctrls) + 1}H', len(ctrls), *ctrls).ljust(PAGE, b'\0')
+        return drive.status_of(ATTACH, 2 * PAGE, nsid=nsid, dword10=detach)

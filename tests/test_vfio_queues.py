@@ -13,7 +13,7 @@ from tests.driver import COMMAND, CSTS, MASTER, NOWHERE, PAGE
 from tests.served import EVERY, Served
 from tests.support import DEMO, until
 
-SEEDS, STEPS = range(int(os.environ.get("NVME_TEST_SEEDS", 8))), int(os.environ.get('NVME_TEST_STEPS', 300))
+SEEDS, STEPS = range(8), int(os.environ.get('NVME_TEST_STEPS', 300))
 PAGES = 64
 OPCODES = READ, READ, READ, WRITE, WRITE, WRITE, COMPARE, WRITE_ZEROES, DATASET, VERIFY, FLUSH
 # The namespaces that are active: their NSIDs, blocks, and the sizes of blocks.
@@ -45,8 +45,8 @@ def entry(lot, identifier):
         dwords = [0] * 6
     if lot.random() < 0.05:
         dwords[lot.randrange(6)] ^= 1 << lot.randrange(32)
-    return struct.pack('<BBHIQQQQ6I', opcode, flags, identifier % 2 ** 16, nsid, lot.getrandbits(64), lot.getrandbits(64),
-                       place(lot), place(lot), *dwords)
+    return struct.pack('<BBHIQQQQ6I', opcode, flags, identifier % 2 ** 16, nsid, lot.getrandbits(64),
+                       lot.getrandbits(64), place(lot), place(lot), *dwords)
 
 
 class Random(Served):
@@ -127,7 +127,7 @@ class Random(Served):
                 data, size = model.data[lot.choice(NAMESPACES)[0]]
                 self.fill(drive, place(lot), bytes(data[:8 * size]))
         to = queue.completions
-        head = lot.choice((model.completions[to].next, model.completions[to].next, lot.randrange(70), lot.getrandbits(32)))
+        head = lot.choice((*[model.completions[to].next] * 2, lot.randrange(70), lot.getrandbits(32)))
         drive.set_register(0x1004 + 8 * to, head)
         model.ring_head(to, head)
         self.run_all()
@@ -142,7 +142,7 @@ class Random(Served):
             pass
 
     def run_all(self):
-        """Lets the model take the entries that waited for room. (Each submission queue has its own completion queue.)"""
+        """Lets the model take entries that waited for room. (Each submission queue has its own completion queue.)"""
         for number in self.model.submissions:
             while self.model.take(number):
                 pass

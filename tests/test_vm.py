@@ -20,11 +20,32 @@ import unittest
 from tests.modelled import CLIENT, WARNINGS
 from tests.support import (LIMIT, TOP, USERS, Case, Running, end_all, environment, left_running, process_folder,
                            processes, run, until)
-from tests.test_qemu import kernel
+from tests.test_qemu import kernel, program
 
 SHORT = '-DMOST_START=3', '-DMOST_SILENCE=3', '-DMOST_END=2', '-DPERIOD=1'
 NEEDED = 'virtio_pci', 'virtio_console', '9pnet_virtio', '9p', 'overlay', 'nvme'
 MIB = 1 << 20
+# A drive with a namespace for a file system.
+DRIVE = b'''version = 1
+nn = 4
+tnvmcap = 134217728
+
+[[format]]
+lbads = 9
+
+[[controller]]
+cntlid = 0
+sn = "S0"
+mn = "Demo Controller"
+fr = "1.0"
+elpe = 3
+
+[[namespace]]
+nsid = 1
+bytes = 67108864
+format = 0
+controllers = [0]
+'''
 SILENT = b'nvme-model: the machine has ended without a word, as by a kill, or by too little memory\n'
 # A stand-in for QEMU, and one for the server and its machine.
 QEMU = '#!/bin/sh\ncase $* in *kvm*) exit 1 ;; *) echo vfio-user-pci ;; esac\n'
@@ -35,7 +56,7 @@ MACHINE = f'#!/bin/sh\nexec {PYTHON} {TOP}/tests/as_machine.py\n'
 
 @functools.lru_cache(maxsize=None)
 def parts(server, *options):
-    """Returns the folder of the programs, with a script in the server's place."""
+    """Returns the folder of the programs, with the server, or the text of a script in its place."""
     folder = pathlib.Path(tempfile.mkdtemp(dir=process_folder()))
     folder.chmod(0o755)
     files = [CLIENT / 'vm_streams.c', '-pthread', *WARNINGS]
@@ -44,7 +65,10 @@ def parts(server, *options):
     subprocess.run(['cc', '-O1', '-static', '-o', *guest, *files], check=True)
     for name in 'vm.sh', 'vm_guest.sh':
         shutil.copy(CLIENT / name, folder)
-    (folder / 'qemu').write_text(server)
+    if isinstance(server, str):
+        (folder / 'qemu').write_text(server)
+    else:
+        shutil.copy(server, folder / 'qemu')
     (folder / 'qemu').chmod(0o755)
     return folder
 
@@ -142,11 +166,13 @@ class Ends(Machine):
             running.process.send_signal(getattr(signal, number))
             running.comes(f'{number} False\n'.encode())
         self.assertEqual(running.end().status, 0)
+        self.leaves_no_process()
         for number in signal.SIGTERM, signal.SIGINT, signal.SIGUSR1:
             running = Running(*self.command('true'), env={**self.env, 'MACHINE': 'is_silent'})
             self.started(b'python')
             running.process.send_signal(number)
             self.ends(running.end(), 128 + number, b'')
+            self.leaves_no_process()
 
     def test_stops(self):
         # (in a group that no shell could have continue, a stop has no effect)
@@ -156,6 +182,7 @@ class Ends(Machine):
     def test_unread(self):
         ours, theirs = socket.socketpair()
         self.addCleanup(ours.close)
+        ours.settimeout(100)
         env = environment({**self.env, 'MACHINE': 'writes'})
         with subprocess.Popen(self.command('true'), stdin=theirs, stdout=subprocess.PIPE, env=env) as process:
             theirs.close()
@@ -249,7 +276,8 @@ class Boot(Case):
         if why_not():
             self.skipTest(why_not())
         self.folder.chmod(0o755)
-        self.parts = parts((TOP / 'tests/own_drives.sh').read_text())
+        self.parts = parts(program())
+        self.drive = self.file('drive.toml', DRIVE)
         self.shared = self.folder / 'shared, with a comma'
         self.shared.mkdir()
         self.shared.chmod(0o777)
@@ -268,7 +296,7 @@ class Boot(Case):
         self.output = os.open(self.folder / 'out', os.O_RDONLY | os.O_NONBLOCK)
         found, modules = kernel()
         words = [self.parts / 'vm.sh', '--no-kvm', '--kernel', found, '--modules', modules, '--share', self.shared,
-                 'sh', TOP / 'tests/vm_boot.sh', self.data, self.shared, 'a  b']
+                 '--subsystem', self.drive, 'sh', TOP / 'tests/vm_boot.sh', self.data, self.shared, 'a  b']
         env = {'PS1': 'outside: ', 'TERM': 'dumb', 'HOME': '/none', 'VARIABLE': 'a  value', 'TMPDIR': '/none',
                'machine': '\n'.join(map(str, words)), 'IFS': '\n'}
         self.shell = Running(*USERS[-1], 'bash', '--norc', '--noprofile', '-i', terminal=True, env=env, cwd=self.here)

@@ -30,7 +30,7 @@ over=
 echo signals
 until [ "$over" ]; do sleep 0.1; done
 
-test -e /dev/disk/by-id/nvme-QEMU_NVMe_Ctrl_S0 && echo udev
+test -e /dev/disk/by-id/nvme-Demo_Controller_S0 && echo udev
 sh examples/mounted.sh
 modprobe loop && grep -c '^loop ' /proc/modules
 for folder in proc sys dev run; do mount | grep -c " on /$folder "; done
