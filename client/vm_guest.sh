@@ -1,3 +1,4 @@
+#!/bin/sh
 # Run by process 1 of the machine of `nvme-model --vm`, in its root folder, before the command: what the options ask
 # for, and udev. The last line on the console says why it fails. $settings has a line each for the folder of modules, a
 # network, and shared folders.

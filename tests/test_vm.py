@@ -29,6 +29,7 @@ MIB = 1 << 20
 DRIVE = b'''version = 1
 nn = 4
 tnvmcap = 134217728
+subnqn = "nqn.2014-08.org.example:drive"
 
 [[format]]
 lbads = 9

@@ -83,7 +83,8 @@ class Hung(WaitingCase):
     def test_writers(self):
         # the server makes calls that are answered before it answers, while four writers make files
         script = ('for k in 1 2 3 4; do (for i in $(seq 25); do echo x > "$1/w$k-$i" || echo failed; done) & done; '
-                  'wait; for k in 1 2 3 4; do test -e "$1/w$k-25" || echo missing; done; echo go')
+                  'wait; for k in 1 2 3 4; do test -e "$1/w$k-25" && echo more >> "$1/w$k-25" || echo missing; done; '
+                  'echo go')
         for way in ways():
             with self.subTest(way=way):
                 out = self.ends_by_signal(self.mounted(script, 'sleep 1000', way))
