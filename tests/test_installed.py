@@ -82,7 +82,7 @@ class Installed(Case):
         self.ends(ended, 0, b'S1                  \n', b'')
         words = re.search(r"`\./nvme-model (sh -c 'ls .*?)`", (TOP / 'docs/SUPPORT.md').read_text())[1]
         ended = run(self.prefix / 'bin/nvme-model', *shlex.split(words))
-        self.ends(ended, 0, b'/dev/nvme0\n/dev/nvme0n1\n/dev/nvme0n3\n/dev/nvme1\n', b'')
+        self.ends(ended, 0, b'/dev/nvme0\n/dev/nvme0n1\n/dev/nvme0n2\n/dev/nvme1\n', b'')
 
     def test_library(self):
         library()

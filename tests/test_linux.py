@@ -110,7 +110,7 @@ class Written(UserCase):
                  '            if error.errno not in (errno.EACCES, errno.EROFS, errno.ETXTBSY, errno.ENOENT):\n'
                  '                others.add((name, error))\n'
                  'print(count > 800, others)')
-        for place, ended in enumerate(self.as_users(f"HOME=$(mktemp -d); TRIES='{tries}'; {script}")):
+        for place, ended in enumerate(self.as_users(f"HOME=$(mktemp -d -p /dev/shm); TRIES='{tries}'; {script}")):
             self.ends(ended, 0, b'True set()\n', b'')
 
     def test_reset_and_rescan(self):

@@ -452,7 +452,8 @@ class Tools(ModelCase):
     def test_examples(self):
         for output in sorted((TOP / 'examples').glob('*.txt')):
             script, subsystem = output.with_suffix('.sh'), output.with_suffix('.toml')
-            if script.exists() and not subsystem.exists():
+            # (tests/test_vm.py runs the one that needs a kernel)
+            if script.exists() and not subsystem.exists() and '--vm' not in script.read_text():
                 with self.subTest(script.name):
                     self.ends(self.model('sh', script), 0, output.read_bytes(), b'')
 
