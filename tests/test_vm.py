@@ -279,6 +279,9 @@ class Boot(Case):
         self.folder.chmod(0o755)
         self.parts = parts(program())
         self.drive = self.file('drive.toml', DRIVE)
+        self.temporary = self.folder / 'temporary'
+        self.temporary.mkdir()
+        self.temporary.chmod(0o777)
         self.shared = self.folder / 'shared, with a comma'
         self.shared.mkdir()
         self.shared.chmod(0o777)
@@ -298,7 +301,7 @@ class Boot(Case):
         found, modules = kernel()
         words = [self.parts / 'vm.sh', '--no-kvm', '--kernel', found, '--modules', modules, '--share', self.shared,
                  '--subsystem', self.drive, 'sh', TOP / 'tests/vm_boot.sh', self.data, self.shared, 'a  b']
-        env = {'PS1': 'outside: ', 'TERM': 'dumb', 'HOME': '/none', 'VARIABLE': 'a  value', 'TMPDIR': '/none',
+        env = {'PS1': 'outside: ', 'TERM': 'dumb', 'HOME': '/none', 'VARIABLE': 'a  value', 'TMPDIR': self.temporary,
                'machine': '\n'.join(map(str, words)), 'IFS': '\n'}
         self.shell = Running(*USERS[-1], 'bash', '--norc', '--noprofile', '-i', terminal=True, env=env, cwd=self.here)
         self.addCleanup(self.shell.process.wait)
@@ -340,6 +343,7 @@ class Boot(Case):
         self.assertEqual(sorted(path.name for path in self.shared.iterdir()), ['moved', 'new', 'yes'])
         self.assertEqual((self.shared / 'yes').read_bytes(), b'141\n')
         self.assertFalse(os.path.exists('/at the root'))
+        self.assertEqual([*self.temporary.iterdir()], [])
 
     def streams(self):
         data = self.data.read_bytes()
