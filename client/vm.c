@@ -13,10 +13,10 @@
 #include <sys/utsname.h>
 #include <time.h>
 
-/* How many seconds a machine may be silent: while it starts, which a busy machine emulates slowly, later, and at the
-   end; and after how many it is asked whether it lives. */
+/* How many seconds a machine may be silent: while it starts, which a busy machine emulates slowly, or by KVM, later, and
+   at the end; and after how many it is asked whether it lives. */
 #ifndef MOST_START
-enum { MOST_START = 900, MOST_SILENCE = 300, MOST_END = 60, PERIOD = 10 };
+enum { MOST_START = 900, MOST_BY_KVM = 60, MOST_SILENCE = 300, MOST_END = 60, PERIOD = 10 };
 #endif
 enum { MOST_WORDS = 1000 };
 
@@ -320,10 +320,10 @@ static time_t now(void) {
 }
 
 /* Serves the machine until the command has ended, and returns its status. */
-static int serve(void) {
+static int serve(int has_kvm) {
     struct message message;
-    time_t asked = 0;
-    for (time_t heard = now(); now() - heard <= (has_begun ? MOST_SILENCE : MOST_START);) {
+    time_t asked = 0, most_start = has_kvm ? MOST_BY_KVM : MOST_START;
+    for (time_t heard = now(); now() - heard <= (has_begun ? MOST_SILENCE : most_start);) {
         struct pollfd awaited[] = {{signals, POLLIN, 0}, {said, POLLIN, 0}, {ports[MESSAGES], POLLIN, 0}};
         poll(awaited, 3, PERIOD * 1000);
         if (has_begun && now() - asked >= PERIOD) {
@@ -347,7 +347,7 @@ static int serve(void) {
         else if (message.kind == UNREAD)
             input.is_unread = 1;
     }
-    errx(FAILED, "the machine doesn't answer");
+    errx(FAILED, "the machine doesn't answer%s", has_kvm && !has_begun ? ": --no-kvm may help" : "");
 }
 
 /* Has signals be read, except for those that would end this process but are ignored. */
@@ -379,9 +379,10 @@ int main(int count, char **arguments) {
         errx(FAILED, "see nvme-model --vm --help");
     *strrchr(folder, '/') = '\0';
     look_at_streams();
+    int has_kvm = strstr(arguments[1], "\n-accel\nkvm\n") != NULL;
     int first_files = make_first_files(arguments + 4, arguments[2], arguments[3]);
     watch_signals();
     atexit(end_all);
     start_machine(arguments[1], first_files);
-    return serve();
+    return serve(has_kvm);
 }

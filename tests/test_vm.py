@@ -22,7 +22,7 @@ from tests.support import (LIMIT, TOP, USERS, Case, Running, end_all, environmen
                            processes, run, until)
 from tests.test_qemu import kernel, program
 
-SHORT = '-DMOST_START=3', '-DMOST_SILENCE=3', '-DMOST_END=2', '-DPERIOD=1'
+SHORT = '-DMOST_START=3', '-DMOST_BY_KVM=3', '-DMOST_SILENCE=3', '-DMOST_END=2', '-DPERIOD=1'
 NEEDED = 'virtio_pci', 'virtio_console', '9pnet_virtio', '9p', 'overlay', 'nvme'
 MIB = 1 << 20
 # A drive with a namespace for a file system.
@@ -142,6 +142,11 @@ class Ends(Machine):
         for name in 'is_silent', 'falls_silent':
             with self.subTest(name):
                 self.fails(self.machine(name, options=SHORT), "the machine doesn't answer")
+        if os.access('/dev/kvm', os.W_OK):
+            self.file('qemu-system-x86_64', b'#!/bin/sh\necho vfio-user-pci\n').chmod(0o755)
+            with_kvm = {**self.env, 'PATH': f'{self.folder}:{self.env["PATH"]}'}
+            ended = run(*self.command('true', options=SHORT), env={**with_kvm, 'MACHINE': 'is_silent'})
+            self.ends(ended, 72, b'', b"nvme-model: the machine doesn't answer: --no-kvm may help\n")
         self.ends(self.machine('lives', options=SHORT), 0, b'', b'')
         self.ends(self.machine('stays', options=SHORT), 3, b'', b'')
 
