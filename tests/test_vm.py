@@ -7,6 +7,7 @@ import fcntl
 import functools
 import os
 import pathlib
+import select
 import shutil
 import signal
 import socket
@@ -315,6 +316,8 @@ class Boot(Case):
         self.shell.comes(b'outside: ')
         self.shell.say(b"umask 027; IFS='\n'; $machine < ../in > ../out\n")
         self.input = os.open(self.folder / 'in', os.O_WRONLY)
+        # (a pipe that the shell hasn't opened yet seems to have ended)
+        select.select([self.output], [], [], LIMIT)
         os.set_blocking(self.output, True)
 
     def size(self, rows, columns):
