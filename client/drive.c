@@ -33,7 +33,7 @@ static uint32_t dword(const struct command *command, unsigned number) {
 /* ---- queues */
 
 /* Returns where the depth of the queue is that a command names, or NULL if it can't be one. */
-static uint16_t *depth_of(const struct command *command) {
+static const uint16_t *depth_of(const struct command *command) {
     struct drive *drive = &command->function->drive;
     uint32_t id = dword(command, 10) & 0xffff;
     int is_completions = command->entry[0] >= DELETE_COMPLETIONS;
@@ -49,7 +49,8 @@ static int create_queue(struct command *command) {
     uint32_t id = dword(command, 10) & 0xffff, last_slot = dword(command, 10) >> 16, how = dword(command, 11);
     uint32_t other = how >> 16, has_completions = other <= MOST_QUEUES && drive->completions[other].queue.depth > 0;
     int is_submissions = command->entry[0] == CREATE_SUBMISSIONS;
-    if (!depth_of(command) || *depth_of(command) > 0)
+    const uint16_t *depth = depth_of(command);
+    if (!depth || *depth > 0)
         return INVALID_QUEUE;
     if (last_slot == 0 || last_slot > (read_register(command->function, NVME_CAP) & 0xffff))
         return INVALID_SIZE;
@@ -74,7 +75,8 @@ static int create_queue(struct command *command) {
 static int delete_queue(struct command *command) {
     struct drive *drive = &command->function->drive;
     uint32_t id = dword(command, 10) & 0xffff;
-    if (!depth_of(command) || *depth_of(command) == 0)
+    const uint16_t *depth = depth_of(command);
+    if (!depth || *depth == 0)
         return INVALID_QUEUE;
     if (command->entry[0] == DELETE_SUBMISSIONS) {
         drive->submissions[id] = (struct submissions){0};
