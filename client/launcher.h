@@ -406,7 +406,6 @@ int supply(struct device *device, const struct request_header *request, void *da
 
 /* ---- sandbox.c: the sandbox */
 
-#define MODEL_FOLDER "/sys/fs/model" /* the place of these programs */
 #define SETTINGS MODEL_FOLDER "/settings" /* what the command's /proc has besides its processes */
 #define INSIDE "--inside" /* the launcher's word there */
 

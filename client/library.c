@@ -8,7 +8,6 @@
 #include <dlfcn.h>
 #include <errno.h>
 #include <fcntl.h>
-#include <limits.h>
 #include <linux/fs.h>
 #include <spawn.h>
 #include <stdarg.h>
@@ -39,37 +38,27 @@ __asm__(".irp name, stat, lstat, fstat, fstatat, __xstat, __lxstat, __fxstat, __
         "pread, pwrite, pwritev, lseek, fallocate\n"
         ".globl \\name\\()64\n.type \\name\\()64, @function\n.set \\name\\()64, \\name\n.endr");
 
-static char library[PATH_MAX]; /* this library's own path */
-static struct stat dev;        /* of /dev, where nodes are files */
+static struct stat dev; /* of /dev, where nodes are files */
 
-__attribute__((constructor)) static void begin(void) {
-    Dl_info info;
-    if (dladdr(&dev, &info) && info.dli_fname && strlen(info.dli_fname) < sizeof library)
-        strcpy(library, info.dli_fname);
-    NEXT(fstatat)(AT_FDCWD, "/dev", &dev, 0);
-}
+__attribute__((constructor)) static void begin(void) { NEXT(fstatat)(AT_FDCWD, "/dev", &dev, 0); }
 
 static int fails_by(int number) {
     errno = number;
     return -1;
 }
 
-/* ---- which files are nodes: each of these returns 1, 0, or -1 with ENXIO if the node's device is gone */
-
-static int ask(int file, struct node *node) {
+/* Returns whether a file is a node, or -1 with ENXIO if the node's device is gone. (It is in /dev, or has no name any
+   more.) */
+static int is_node(int file, const struct stat *about, struct node *node) {
     int before = errno, result;
+    if (!S_ISREG(about->st_mode) || (about->st_dev != dev.st_dev && about->st_nlink != 0))
+        return 0;
     while ((result = NEXT(ioctl)(file, NODE_REQUEST, node)) < 0 && errno == EINTR)
         continue;
     if (result < 0 && errno == ENXIO)
         return -1;
     errno = before;
     return result == 0;
-}
-
-/* (a file in /dev, or one that has no name any more) */
-static int is_node(int file, const struct stat *about, struct node *node) {
-    int may_be = S_ISREG(about->st_mode) && (about->st_dev == dev.st_dev || about->st_nlink == 0);
-    return may_be ? ask(file, node) : 0;
 }
 
 /* A shell gives its terminal back to the group that had it, even to one outside of the sandbox, which has no number. */
@@ -80,25 +69,22 @@ PUBLIC int tcsetpgrp(int file, pid_t group) {
 
 /* ---- calls that describe a file */
 
-/* Describes a node, and returns what the call returns: `found` is 1 if there is one, and else its result. */
-static int describe(int found, const struct node *node, struct stat *about) {
+/* Describes a file as the device for which it stands, if it is a node, and returns what the call returns. */
+static int describe(int file, struct stat *about) {
+    struct node node;
+    int found = is_node(file, about, &node);
     if (found <= 0)
         return found;
-    about->st_mode = (about->st_mode & 07777 & ~READ_ONLY) | (node->kind == 'b' ? S_IFBLK : S_IFCHR);
-    about->st_rdev = makedev(major_of(node->kind), minor_of(node->kind, node->controller, node->number));
+    about->st_mode = (about->st_mode & 07777 & ~READ_ONLY) | (node.kind == 'b' ? S_IFBLK : S_IFCHR);
+    about->st_rdev = makedev(major_of(node.kind), minor_of(node.kind, node.controller, node.number));
     about->st_size = about->st_blocks = 0;
     about->st_nlink = 1;
     return 0;
 }
 
-PUBLIC int fstat(int file, struct stat *about) {
-    struct node node;
-    int result = NEXT(fstat)(file, about);
-    return result < 0 ? result : describe(is_node(file, about, &node), &node, about);
-}
+PUBLIC int fstat(int file, struct stat *about) { return NEXT(fstat)(file, about) < 0 ? -1 : describe(file, about); }
 
 NAMED int describe_place(int directory, const char *path, struct stat *about, int flags) {
-    struct node node;
     if (flags & AT_EMPTY_PATH && (!path || !*path) && directory != AT_FDCWD)
         return fstat(directory, about);
     int result = NEXT(fstatat)(directory, path, about, flags), follows = flags & AT_SYMLINK_NOFOLLOW ? O_NOFOLLOW : 0;
@@ -107,9 +93,10 @@ NAMED int describe_place(int directory, const char *path, struct stat *about, in
     if (result < 0 || !S_ISREG(about->st_mode) || about->st_dev != dev.st_dev)
         return result;
     int file = NEXT(openat)(directory, path, O_PATH | O_CLOEXEC | follows);
-    result = file < 0 ? -1 : describe(is_node(file, about, &node), &node, about);
-    if (file >= 0)
-        close(file);
+    if (file < 0)
+        return -1;
+    result = describe(file, about);
+    close(file);
     return result;
 }
 SAME(fstatat, describe_place);
@@ -124,13 +111,12 @@ PUBLIC int statx(int directory, const char *path, int flags, unsigned mask, stru
         return result;
     if (fstatat(directory, path, &basic, flags & (AT_EMPTY_PATH | AT_SYMLINK_NOFOLLOW)) < 0)
         return -1;
-    if (!S_ISBLK(basic.st_mode) && !S_ISCHR(basic.st_mode))
-        return 0;
     about->stx_mode = (uint16_t)basic.st_mode;
     about->stx_rdev_major = major(basic.st_rdev);
     about->stx_rdev_minor = minor(basic.st_rdev);
-    about->stx_size = about->stx_blocks = 0;
-    about->stx_nlink = 1;
+    about->stx_size = (uint64_t)basic.st_size;
+    about->stx_blocks = (uint64_t)basic.st_blocks;
+    about->stx_nlink = (uint32_t)basic.st_nlink;
     return 0;
 }
 
@@ -181,13 +167,6 @@ static int is_aligned(int file, const struct iovec *pieces, int count, off_t fro
     return bits % block == 0;
 }
 
-static size_t length_of(const struct iovec *pieces, int count) {
-    size_t length = 0;
-    for (; count > 0; pieces++, count--)
-        length += pieces->iov_len;
-    return length;
-}
-
 /* Writes to a node what is before its end: all pieces, or a part of the first one, because a write may be short. (The
    place -1 is the offset. If F_SETFL has set O_APPEND, the kernel would write past the end.) */
 static ssize_t write_node(int kind, int file, const struct stat *about, const struct iovec *pieces, int count, off_t at,
@@ -205,7 +184,9 @@ static ssize_t write_node(int kind, int file, const struct stat *about, const st
         pieces++, count--;
     off_t from = how & O_APPEND ? about->st_size : at < 0 ? NEXT(lseek)(file, 0, SEEK_CUR) : at;
     off_t room = about->st_size - from;
-    size_t length = length_of(pieces, count);
+    size_t length = 0;
+    for (int place = 0; place < count; place++)
+        length += pieces[place].iov_len;
     if (length > 0 && room <= 0)
         return fails_by(ENOSPC);
     if (length > 0 && how & O_DIRECT && !is_aligned(file, pieces, count, from))
@@ -259,11 +240,9 @@ PUBLIC off_t lseek(int file, off_t by, int from) {
     int kind = by > 0 || from != SEEK_SET ? kind_of(file, &about) : 0;
     if (kind == 'c' || kind == 'g')
         return fails_by(ESPIPE);
-    if (kind == 'b' && (by > 0 || from > SEEK_END)) {
-        off_t start = from == SEEK_CUR ? NEXT(lseek)(file, 0, SEEK_CUR) : from == SEEK_END ? about.st_size : 0;
-        if (from > SEEK_END || by > about.st_size - start)
-            return fails_by(EINVAL);
-    }
+    off_t start = kind != 'b' || from == SEEK_SET ? 0 : from == SEEK_CUR ? NEXT(lseek)(file, 0, from) : about.st_size;
+    if (kind == 'b' && (from > SEEK_END || (by > 0 && by > about.st_size - start)))
+        return fails_by(EINVAL);
     return NEXT(lseek)(file, by, from);
 }
 
@@ -314,26 +293,22 @@ SAME(ioctl, answer);
    is on the stack, so a child that shares its parent's memory doesn't change that memory. */
 
 #define PRELOAD "LD_PRELOAD="
+#define LIBRARY MODEL_FOLDER "/library.so"
 
-static const char *value_of(char *const *environment) {
-    for (; environment && *environment; environment++)
-        if (strncmp(*environment, PRELOAD, strlen(PRELOAD)) == 0)
-            return *environment + strlen(PRELOAD);
-    return "";
-}
-
-static size_t count_of(char *const *texts) {
+/* Counts the variables of an environment, and finds what it has preloaded. */
+static size_t count_of(char *const *environment, const char **preloaded) {
     size_t count = 0;
-    while (texts && texts[count])
-        count++;
+    *preloaded = "";
+    for (; environment && environment[count]; count++)
+        if (strncmp(environment[count], PRELOAD, strlen(PRELOAD)) == 0)
+            *preloaded = environment[count] + strlen(PRELOAD);
     return count;
 }
 
 /* Copies an environment, with the library before all other preloaded libraries. */
-static void keep(char *const *from, char **kept, char *preload) {
-    const char *before = value_of(from);
-    int is_there = !library[0] || strstr(before, library);
-    sprintf(preload, PRELOAD "%s%s%s", is_there ? "" : library, is_there || !*before ? "" : ":", before);
+static void keep(char *const *from, const char *before, char **kept, char *preload) {
+    int is_there = strstr(before, LIBRARY) != NULL;
+    sprintf(preload, PRELOAD "%s%s%s", is_there ? "" : LIBRARY, is_there || !*before ? "" : ":", before);
     for (; from && *from; from++)
         if (strncmp(*from, PRELOAD, strlen(PRELOAD)) != 0)
             *kept++ = *from;
@@ -342,8 +317,9 @@ static void keep(char *const *from, char **kept, char *preload) {
 }
 
 #define KEEP(kept, from) \
-    char *kept[count_of(from) + 2], preload[sizeof PRELOAD + sizeof library + strlen(value_of(from))]; \
-    keep(from, kept, preload)
+    const char *before; \
+    char *kept[count_of(from, &before) + 2], preload[sizeof PRELOAD + sizeof LIBRARY + strlen(before)]; \
+    keep(from, before, kept, preload)
 
 /* A call that goes to the C library with an environment that is kept. */
 #define KEEPS(name, parameters, ...) \
@@ -392,7 +368,7 @@ TAKES(execle, execve, va_arg(rest, char *const *))
 /* (programs that these calls run have the environment of this process) */
 static void keep_here(void) {
     KEEP(kept, environ);
-    setenv("LD_PRELOAD", value_of(kept), 1);
+    setenv("LD_PRELOAD", preload + strlen(PRELOAD), 1);
 }
 
 PUBLIC int system(const char *line) { return keep_here(), NEXT(system)(line); }

@@ -10,6 +10,9 @@
 #include <string.h>
 #include <sys/ioctl.h>
 
+/* The folder of these programs in the sandbox. */
+#define MODEL_FOLDER "/sys/fs/model"
+
 enum { ENTRY_BYTES = 64, IDENTIFY_BYTES = 4096, MOST_DATA = 1 << 20 };
 
 /* The greatest NSID of a subsystem, and the NSID that stands for all namespaces. */
