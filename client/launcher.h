@@ -138,8 +138,10 @@ struct volume {
     uint64_t blocks;
     unsigned number;  /* by which its nodes are named, or 0 */
     int is_read_only; /* whether an ioctl has set that its block devices can't be written */
-    int file;         /* the data, as its device's keeper has it open, or 0 */
-    ino_t inode;      /* of this file */
+    /* the files of its block devices, with the data, and of its generic nodes, as its device's keeper has them open, or
+       0 */
+    int file, generic;
+    ino_t inode, generic_inode;
 };
 
 /* Makes the nodes of all controllers. */
@@ -157,7 +159,8 @@ int watch_nodes(void);
 /* Restores the lengths of the nodes that were written. */
 void repair_files(const struct device *device);
 
-/* Returns whether a name is that of a node, which may have been removed, and stores the node. */
+/* Returns whether a name is that of a node, which is there or has been removed, and stores the node. */
+enum { NO_NODE, IS_NODE, WAS_NODE };
 int read_name(const char *name, struct node *node);
 
 /* Finds the namespace that a node's number names, and returns whether its controller shows it. */
@@ -189,12 +192,9 @@ int serve_keeper(struct device *device, const struct request_header *request);
 
 /* ---- sysfs.c: the model's /sys */
 
-enum part { TOP, SUBSYSTEM, FUNCTION, CONTROLLER, HEALTH, BLOCK, GENERIC, PARTS };
+enum part { TOP, SUBSYSTEM, BUS, FUNCTION, CONTROLLER, HEALTH, BLOCK, GENERIC, PARTS };
 
 extern unsigned char identities[MOST_CONTROLLERS][IDENTIFY_BYTES]; /* what Identify says of each controller */
-
-/* Puts the files that are there at first. */
-void begin_sys(void);
 
 /* Shows a part of a controller or of one of its namespaces. */
 void show(enum part part, unsigned controller, uint32_t nsid);

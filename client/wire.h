@@ -48,7 +48,7 @@ static_assert(sizeof(struct answer_header) == 12, "an answer's header has 12 byt
 /* A node: a controller ('c'), a generic node of a namespace ('g') or its block device ('b'), which have the number of
    their name. */
 struct node {
-    char kind, name[23];
+    char kind;
     unsigned controller, number, nsid;
 };
 

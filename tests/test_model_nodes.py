@@ -52,8 +52,8 @@ SHOWN = {
         b'0001:00:00.0\n0001:01:00.0\nmodule\n1024\nN\n'),
     'identifiers, memory space and bus master, the class, and one base address, of 64 bits': (
         'cd /sys/bus/pci/devices/0001:01:00.0; od -A n -v -t x4 -w16 config; wc -l < resource; head -n 2 resource',
-        b' 00000000 00000406 01080200 00000000\n fe002004 %b\n 00000000 %b\n 00000000 %b\n13\n'
-        b'0x00000000fe002000 0x00000000fe003fff 0x0000000000140204\n'
+        b' 00000000 00000406 01080200 00000000\n f0010004 %b\n 00000000 %b\n 00000000 %b\n13\n'
+        b'0x00000000f0010000 0x00000000f0011fff 0x0000000000140204\n'
         b'0x0000000000000000 0x0000000000000000 0x0000000000000000\n' % (3 * (b'00000000 00000000 00000000',))),
     'what lspci makes of them': (
         'lspci -n; lspci -v -s 0001:01:00.0 2> /dev/null | grep -o -e size=8K -e "in use.*"',
