@@ -39,8 +39,9 @@ int find_node(struct call *call) {
         return 0;
     call->is_writable = (how.st_mode & S_IWUSR) != 0;
     call->is_path = (how.st_mode & (S_IRUSR | S_IWUSR)) == 0;
-    call->is_gone = about.stx_nlink == 0 && !(about.stx_mode & 0777);
-    return read_name(name + strlen("/dev/"), &call->node);
+    int found = read_name(name + strlen("/dev/"), &call->node);
+    call->is_gone = found == WAS_NODE;
+    return found;
 }
 
 /* ---- ioctls of nodes */

@@ -161,14 +161,8 @@ static void make_data(struct volume *volume) {
     volume->is_read_only = 0;
 }
 
-/* Takes all permissions from a file that has gone, as on Linux. (The kernel gives a lease to its owner.) */
-static void close_to_all(int file) {
-    if (fchmod(file, 0) < 0 || (geteuid() == 0 && fchown(file, 0, (gid_t)-1) < 0))
-        cannot("/dev");
-}
-
 /* Leaves the files of a namespace without nodes, and moves its data to another one, because a file that lost all of its
-   names gets none again. Who has the old one open finds its end at once. */
+   names gets none again. Who has the old one open finds its end at once. (The kernel gives a lease to an owner.) */
 static void leave_files(unsigned controller, uint32_t nsid) {
     struct volume *volume = volume_at(controller, nsid), *left = &gone[volume->number];
     subsystem_of(controller)->named[volume->number] = 0;
@@ -180,8 +174,8 @@ static void leave_files(unsigned controller, uint32_t nsid) {
         move_data(left->file, volume->file);
     }
     set_length(left, 0);
-    close_to_all(left->file);
-    close_to_all(left->generic);
+    if (geteuid() == 0 && (fchown(left->file, 0, (gid_t)-1) < 0 || fchown(left->generic, 0, (gid_t)-1) < 0))
+        cannot("/dev");
 }
 
 /* ---- nodes */

@@ -4,9 +4,10 @@ another user."""
 
 import re
 import shutil
+import unittest
 
 from tests.modelled import CUT, DELAYING, GREW, ModelCase, do_helpers
-from tests.support import USERS, run
+from tests.support import IS_ROOT, USERS, run
 
 # An attempt of a Python script, which prints what a call gives or the name of its error.
 TOLD = ('import fcntl, struct\n'
@@ -90,6 +91,24 @@ class Names(EachUser):
         for user in USERS:
             ended = run(*user, *self.command('python3', '-c', 'import errno, glob, os\n' + script))
             self.ends(ended, 0, b"{'ENODEV'} True\n['/dev/nvme0n1', '/dev/nvme0n2']\n", b'')
+
+    @unittest.skipUnless(IS_ROOT, 'root alone can change the owner of a node')
+    def test_number_of_nodes_with_another_owner(self):
+        self.ends(self.shell(SEE + 'chown 1234 /dev/ng0n2 /dev/nvme0n2; d 3; a 3; ls /dev/nvme0n*'), 0,
+                  b'/dev/nvme0n1\n/dev/nvme0n2\n', b'')
+
+    def test_detached_from_one_of_two_controllers(self):
+        # what a process has open of that controller's nodes is gone, and the other controller's stay
+        script = (TOLD + 'import subprocess\n'
+                  'def change(what, controller):\n'
+                  '    subprocess.run(["nvme", f"{what}-ns", "/dev/nvme0", "-n", "1", "-c", controller], '
+                  'stdout=subprocess.DEVNULL)\n'
+                  'change("attach", "1")\n'
+                  'files = [os.open(f"/dev/{name}", os.O_RDWR) for name in ("ng0n1", "nvme0n1", "ng1n1", "nvme1n1")]\n'
+                  'change("detach", "0")\nprint(*(told(fcntl.ioctl, file, 0x4e40) for file in files))\n')
+        for user in USERS:
+            ended = run(*user, *self.command('python3', '-c', 'import errno, os\n' + script))
+            self.ends(ended, 0, b'ENODEV ENODEV 1 1\n', b'')
 
     def test_order_within_a_scan(self):
         # one that comes has its number before one with a higher NSID goes, and after those with a lower one went
