@@ -133,8 +133,7 @@ int carry_out(struct request_header *header, void *data, struct answer_header *a
 
 /* A namespace, as the launcher knows it. */
 struct volume {
-    enum { UNKNOWN, KNOWN } state; /* whether it is known how long it is */
-    unsigned power;                /* a block has two to this power bytes */
+    unsigned power; /* a block has two to this power bytes; 0 as long as this isn't known */
     uint64_t blocks;
     unsigned number;  /* by which its nodes are named, or 0 */
     int is_read_only; /* whether an ioctl has set that its block devices can't be written */

@@ -156,22 +156,13 @@ static int kind_of(int file, struct stat *about) {
     return found > 0 ? node.kind : found;
 }
 
-/* Whether Linux takes a direct write of these pieces, whose memory is at multiples of 4. */
-static int is_aligned(int file, const struct iovec *pieces, int count, off_t from) {
-    unsigned block;
-    if (NEXT(ioctl)(file, BLKSSZGET, &block) < 0)
-        return 1;
-    size_t bits = (size_t)from;
-    for (; count > 0; pieces++, count--)
-        bits |= pieces->iov_len | ((uintptr_t)pieces->iov_base % 4);
-    return bits % block == 0;
-}
-
 /* Writes to a node what is before its end: all pieces, or a part of the first one, because a write may be short. (The
-   place -1 is the offset. If F_SETFL has set O_APPEND, the kernel would write past the end.) */
+   place -1 is the offset. If F_SETFL has set O_APPEND, the kernel would write past the end. Linux takes direct writes
+   of whole blocks, whose memory is at multiples of 4.) */
 static ssize_t write_node(int kind, int file, const struct stat *about, const struct iovec *pieces, int count, off_t at,
                           int flags) {
     int how = fcntl(file, F_GETFL);
+    unsigned block;
     if (kind < 0)
         return -1;
     /* (that of a character device is open for reading, and at the greatest offset if it was opened for writing) */
@@ -184,12 +175,14 @@ static ssize_t write_node(int kind, int file, const struct stat *about, const st
         pieces++, count--;
     off_t from = how & O_APPEND ? about->st_size : at < 0 ? NEXT(lseek)(file, 0, SEEK_CUR) : at;
     off_t room = about->st_size - from;
-    size_t length = 0;
-    for (int place = 0; place < count; place++)
+    size_t length = 0, bits = (size_t)from;
+    for (int place = 0; place < count; place++) {
         length += pieces[place].iov_len;
+        bits |= pieces[place].iov_len | (uintptr_t)pieces[place].iov_base % 4;
+    }
     if (length > 0 && room <= 0)
         return fails_by(ENOSPC);
-    if (length > 0 && how & O_DIRECT && !is_aligned(file, pieces, count, from))
+    if (length > 0 && how & O_DIRECT && NEXT(ioctl)(file, BLKSSZGET, &block) == 0 && bits % block)
         return fails_by(EINVAL);
     struct iovec piece = *pieces;
     if (length <= (size_t)room)
@@ -259,17 +252,17 @@ PUBLIC off_t lseek(int file, off_t by, int from) {
 SYNCS(fsync)
 SYNCS(fdatasync)
 
-/* It allocates nothing, and its zeros are holes of its file. (The launcher answers posix_fallocate.) */
+/* It allocates nothing, and the launcher makes the zeros. (It also answers posix_fallocate.) */
 PUBLIC int fallocate(int file, int mode, off_t from, off_t size) {
     const int punched = FALLOC_FL_PUNCH_HOLE | FALLOC_FL_KEEP_SIZE, kept = mode & FALLOC_FL_KEEP_SIZE;
     struct stat about;
     if (kind_of(file, &about) != 'b' || from < 0 || size <= 0)
         return NEXT(fallocate)(file, mode, from, size);
-    if (from >= about.st_size || (!kept && size > about.st_size - from) || !is_aligned(file, NULL, 0, from | size))
-        return fails_by(EINVAL);
     if (mode != punched && mode != (FALLOC_FL_ZERO_RANGE | kept))
         return fails_by(EOPNOTSUPP);
-    return NEXT(fallocate)(file, punched, from, size);
+    if (kept && size > about.st_size - from)
+        size = about.st_size - from;
+    return ioctl(file, BLKZEROOUT, (const uint64_t[]){(uint64_t)from, (uint64_t)size});
 }
 
 /* The launcher answers the ioctls of nodes (calls.c). If a signal came before it took one, nothing was done. Linux

@@ -39,9 +39,8 @@ int is_shown(unsigned controller, uint32_t nsid) { return shown[controller][nsid
 /* (it may change meanwhile) */
 int read_volume(const struct node *node, struct volume *volume) {
     const struct volume *now = volume_of(node);
-    int was_known = __atomic_load_n(&now->state, __ATOMIC_SEQ_CST) == KNOWN;
     *volume = *now;
-    return was_known && __atomic_load_n(&now->state, __ATOMIC_SEQ_CST) == KNOWN;
+    return volume->power != 0 && __atomic_load_n(&now->power, __ATOMIC_SEQ_CST) == volume->power;
 }
 
 /* ---- names */
@@ -169,7 +168,7 @@ static void leave_files(unsigned controller, uint32_t nsid) {
     *left = *volume;
     volume->file = volume->generic = 0;
     volume->number = 0;
-    if (volume->state == KNOWN) {
+    if (volume->power != 0) {
         make_data(volume);
         move_data(left->file, volume->file);
     }
@@ -254,15 +253,14 @@ int identify(unsigned controller, uint32_t nsid, uint32_t cns, void *data) {
 static void measure(unsigned controller, uint32_t nsid) {
     unsigned char data[IDENTIFY_BYTES];
     struct volume *volume = volume_at(controller, nsid);
-    if (volume->state == KNOWN || identify(controller, nsid, CNS_NAMESPACE, data) < 0)
+    if (volume->power != 0 || identify(controller, nsid, CNS_NAMESPACE, data) < 0)
         return;
     const unsigned char *format = data + 128 + 4 * (data[26] & 15);
     /* (as on Linux, a block device has no data between which there is metadata) */
     int is_mixed = data[26] & 16 && number_at(format, 2) != 0;
     volume->blocks = is_mixed ? 0 : number_at(data, 8);
-    volume->power = format[2];
-    if (volume->power >= 9 && volume->power < 32)
-        __atomic_store_n(&volume->state, KNOWN, __ATOMIC_SEQ_CST);
+    if (format[2] >= 9 && format[2] < 32)
+        __atomic_store_n(&volume->power, format[2], __ATOMIC_SEQ_CST);
 }
 
 int list_active(unsigned controller, unsigned char is_active[MOST_NSID + 1]) {
@@ -280,10 +278,10 @@ static void come(unsigned controller, uint32_t nsid) {
     const struct device *device = device_of(controller);
     const struct volume *volume = volume_at(controller, nsid);
     for (unsigned at = device->first; at < device->first + device->count; at++)
-        if (volume->state != KNOWN && is_shown(at, nsid))
+        if (volume->power == 0 && is_shown(at, nsid))
             hide_namespace(at, nsid);
     measure(controller, nsid);
-    if (volume->state == KNOWN)
+    if (volume->power != 0)
         take_number(controller, nsid);
 }
 
@@ -320,7 +318,7 @@ static void scan(unsigned first, unsigned count) {
 static void forget_namespace(unsigned controller, uint32_t nsid) {
     struct volume *volume = volume_at(controller, nsid);
     set_length(volume, 0);
-    volume->state = UNKNOWN;
+    volume->power = 0;
     if (volume->number == 0 && volume->file > 0) {
         close(volume->file);
         volume->file = 0;
@@ -345,12 +343,12 @@ static void show_anew(unsigned controller, uint32_t nsid) {
 /* Clears the data of a formatted namespace, and makes it as long as the new format requires. */
 static void clear_namespace(unsigned controller, uint32_t nsid) {
     struct volume *volume = volume_at(controller, nsid);
-    if (volume->state != KNOWN)
+    if (volume->power == 0)
         return;
-    __atomic_store_n(&volume->state, UNKNOWN, __ATOMIC_SEQ_CST);
+    __atomic_store_n(&volume->power, 0, __ATOMIC_SEQ_CST);
     set_length(volume, 0);
     measure(controller, nsid);
-    if (volume->state != KNOWN)
+    if (volume->power == 0)
         return;
     set_length(volume, length_of(volume));
     show_anew(controller, nsid);
@@ -417,7 +415,7 @@ static void repair(const struct device *device, uint32_t nsid) {
     const struct volume *volume = volume_at(device->first, nsid);
     unsigned controller = device->first;
     struct stat about;
-    if (volume->state != KNOWN || volume->file <= 0 || fstat(volume->file, &about) < 0 ||
+    if (volume->power == 0 || volume->file <= 0 || fstat(volume->file, &about) < 0 ||
         about.st_size == length_of(volume))
         return;
     while (!is_shown(controller, nsid) && controller < device->first + device->count - 1)

@@ -137,7 +137,7 @@ static void set_values(enum part part, unsigned number, uint32_t nsid) {
     set("nsid_hex", "%08x", nsid);
     set("major", "%u", major_of(kind));
     set("minor", "%u", minor_of(kind, number, volume->number));
-    if (volume->state == KNOWN) {
+    if (volume->power != 0) {
         set("size", "%ju", volume->blocks << (volume->power - 9));
         set("block", "%u", 1U << volume->power);
         set("ro", "%d", volume->is_read_only);
