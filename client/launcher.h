@@ -19,6 +19,18 @@ enum { MOST_DEVICES = 32, MOST_CONTROLLERS = 256 };
 /* The geometry of the devices' drivers. */
 enum { DEPTH, PAGE_SIZE, WINDOW, OFFSET, LIST_OFFSET, PACE, NUMBERS };
 
+/* A namespace, as the launcher knows it. */
+struct volume {
+    unsigned power; /* a block has two to this power bytes; 0 as long as this isn't known */
+    uint64_t blocks;
+    unsigned number;  /* by which its nodes are named, or 0 */
+    int is_read_only; /* whether an ioctl has set that its block devices can't be written */
+    /* the files of its block devices, with the data, and of its generic nodes, as its device's keeper has them open, or
+       0 */
+    int file, generic;
+    ino_t inode, generic_inode;
+};
+
 /* A device is the process of one subsystem. */
 struct device {
     int to_and_from, said; /* sockets for its input and output, and for its standard error */
@@ -26,6 +38,8 @@ struct device {
     unsigned first, count; /* its controllers, by the numbers of /dev/nvmeX */
     enum { STARTING, ANSWERING, LOST } state;
     pid_t keeper;          /* the process that alone exchanges requests with it */
+    struct volume volumes[MOST_NSID + 1]; /* its namespaces, by their NSIDs */
+    uint16_t named[MOST_NSID + 1];        /* the NSID that each number of its nodes names, or 0 */
 };
 
 extern struct device *devices; /* (in shared memory, as all that helpers read) */
@@ -130,18 +144,6 @@ int exchange(struct device *device, const struct request_header *header, void *d
 int carry_out(struct request_header *header, void *data, struct answer_header *answer);
 
 /* ---- nodes.c: nodes, and the data of namespaces */
-
-/* A namespace, as the launcher knows it. */
-struct volume {
-    unsigned power; /* a block has two to this power bytes; 0 as long as this isn't known */
-    uint64_t blocks;
-    unsigned number;  /* by which its nodes are named, or 0 */
-    int is_read_only; /* whether an ioctl has set that its block devices can't be written */
-    /* the files of its block devices, with the data, and of its generic nodes, as its device's keeper has them open, or
-       0 */
-    int file, generic;
-    ino_t inode, generic_inode;
-};
 
 /* Makes the nodes of all controllers. */
 void make_nodes(void);

@@ -13,12 +13,6 @@ static const struct group *disk; /* to which root's block devices belong, as on 
 /* Whether each controller shows the namespace with an NSID. */
 static unsigned char (*shown)[MOST_NSID + 1];
 
-/* What is known of each subsystem: its namespaces, and the NSID that each of their numbers names, or 0. */
-static struct subsystem {
-    struct volume volumes[MOST_NSID + 1];
-    uint16_t named[MOST_NSID + 1];
-} *subsystems;
-
 struct device *device_of(unsigned controller) {
     struct device *device = devices;
     while (controller >= device->first + device->count)
@@ -26,11 +20,7 @@ struct device *device_of(unsigned controller) {
     return device;
 }
 
-static struct subsystem *subsystem_of(unsigned controller) { return &subsystems[device_of(controller) - devices]; }
-
-static struct volume *volume_at(unsigned controller, uint32_t nsid) {
-    return &subsystem_of(controller)->volumes[nsid];
-}
+static struct volume *volume_at(unsigned controller, uint32_t nsid) { return &device_of(controller)->volumes[nsid]; }
 
 struct volume *volume_of(const struct node *node) { return volume_at(node->controller, node->nsid); }
 
@@ -61,7 +51,7 @@ static int find_node_at(char path[MOST_NAME], char kind, unsigned controller, ui
 }
 
 int find_namespace(struct node *node) {
-    node->nsid = subsystem_of(node->controller)->named[node->number];
+    node->nsid = device_of(node->controller)->named[node->number];
     return node->nsid != 0 && is_shown(node->controller, node->nsid);
 }
 
@@ -99,7 +89,7 @@ static int is_closed(int *file) {
 /* Gives a namespace that comes the lowest number of its subsystem that is free. */
 static void take_number(unsigned controller, uint32_t nsid) {
     struct volume *volume = volume_at(controller, nsid);
-    uint16_t *nsids = subsystem_of(controller)->named;
+    uint16_t *nsids = device_of(controller)->named;
     for (unsigned number = 1; volume->number == 0 && number <= MOST_NSID; number++)
         if (nsids[number] == 0 && is_closed(&gone[number].file) && is_closed(&gone[number].generic)) {
             nsids[number] = (uint16_t)nsid;
@@ -164,7 +154,7 @@ static void make_data(struct volume *volume) {
    names gets none again. Who has the old one open finds its end at once. (The kernel gives a lease to an owner.) */
 static void leave_files(unsigned controller, uint32_t nsid) {
     struct volume *volume = volume_at(controller, nsid), *left = &gone[volume->number];
-    subsystem_of(controller)->named[volume->number] = 0;
+    device_of(controller)->named[volume->number] = 0;
     *left = *volume;
     volume->file = volume->generic = 0;
     volume->number = 0;
@@ -386,7 +376,6 @@ void make_nodes(void) {
     char path[MOST_NAME];
     disk = geteuid() == 0 ? getgrnam("disk") : NULL;
     shown = share(MOST_CONTROLLERS * sizeof *shown);
-    subsystems = share(MOST_DEVICES * sizeof *subsystems);
     for (unsigned at = 0; at < last->first + last->count; at++) {
         if (identify(at, 0, CNS_CONTROLLER, identities[at]) < 0)
             fail("the device does not answer as it should");

@@ -70,6 +70,22 @@ __attribute__((format(printf, 2, 3))) static void set(const char *name, const ch
     va_end(texts);
 }
 
+/* Replaces the words in a text with their values, and | with the end of a line, as far as there is room. */
+static void expand(char *into, size_t room, const char *text) {
+    char *const last = into + room - 1, *end;
+    while (*text && into < last) {
+        size_t name = *text == '{' ? strcspn(text + 1, "}") : 0;
+        if (name > 0) {
+            end = memccpy(into, find_value(text + 1, name)->text, '\0', (size_t)(last - into));
+            into = end ? end - 1 : last;
+            text += name + 1;
+        } else
+            *into++ = *text == '|' ? '\n' : *text;
+        text++;
+    }
+    *into = '\0';
+}
+
 /* Sets a text by four names: as it is, and without its spaces at the end, as digits and as a part of a file's name, as
    udev makes it. */
 static void set_text(const char *const names[4], const unsigned char *text, size_t length) {
@@ -124,8 +140,9 @@ static void set_controller(unsigned number) {
     set_registers(number - device_of(number)->first);
 }
 
-/* Sets the values of what a folder shows: a controller, whose own don't change, or one of its namespaces. */
-static void set_values(enum part part, unsigned number, uint32_t nsid) {
+/* Sets the values of what a folder shows, a controller, whose own don't change, or one of its namespaces, makes the path
+   of the folder, which is one of them, and returns its first line. */
+static struct line *set_values(enum part part, unsigned number, uint32_t nsid, char path[PATH_MAX]) {
     const struct volume *volume = volume_of(&(struct node){.controller = number, .nsid = nsid});
     const char kind = part == GENERIC ? 'g' : nsid != 0 ? 'b' : 'c';
     static unsigned known = MOST_CONTROLLERS;
@@ -142,29 +159,9 @@ static void set_values(enum part part, unsigned number, uint32_t nsid) {
         set("block", "%u", 1U << volume->power);
         set("ro", "%d", volume->is_read_only);
     }
-}
-
-/* Replaces the words in a text with their values, and | with the end of a line, as far as there is room. */
-static void expand(char *into, size_t room, const char *text) {
-    char *const last = into + room - 1, *end;
-    while (*text && into < last) {
-        size_t name = *text == '{' ? strcspn(text + 1, "}") : 0;
-        if (name > 0) {
-            end = memccpy(into, find_value(text + 1, name)->text, '\0', (size_t)(last - into));
-            into = end ? end - 1 : last;
-            text += name + 1;
-        } else
-            *into++ = *text == '|' ? '\n' : *text;
-        text++;
-    }
-    *into = '\0';
-}
-
-/* Makes the path of a folder, which becomes a value, and returns its first line. */
-static struct line *expand_path(char path[PATH_MAX], const struct folder *folder) {
-    expand(path, PATH_MAX, folder->lines->text);
+    expand(path, PATH_MAX, folders[part].lines->text);
     set("path", "%s", path + strlen("/sys/"));
-    return folder->lines + 1;
+    return folders[part].lines + 1;
 }
 
 /* ---- the files */
@@ -216,8 +213,7 @@ void show(enum part part, unsigned number, uint32_t nsid) {
     struct folder *folder = folders + part;
     if (part == TOP)
         read_lines();
-    set_values(part, number, nsid);
-    struct line *line = expand_path(path, folder);
+    struct line *line = set_values(part, number, nsid, path);
     put(AT_FDCWD, strcat(path, "/"), '\0', "");
     int at = open(path, O_PATH | O_DIRECTORY | O_NOFOLLOW | O_CLOEXEC);
     for (; *line->name && at >= 0; line++) {
@@ -245,8 +241,7 @@ static int is_link_to(const char *name, const char *text) {
 /* (what a folder has elsewhere is removed first, as it comes last, but for links that another folder has made) */
 void hide(enum part part, unsigned number, uint32_t nsid) {
     char path[PATH_MAX], name[PATH_MAX], text[PATH_MAX];
-    set_values(part, number, nsid);
-    struct line *const lines_of = expand_path(path, &folders[part]), *line = lines_of;
+    struct line *const lines_of = set_values(part, number, nsid, path), *line = lines_of;
     int at = open(path, O_PATH | O_DIRECTORY | O_NOFOLLOW | O_CLOEXEC);
     while (*line->name)
         line++;
