@@ -9,7 +9,7 @@ enum place { NOT_KEPT, OF_NODE, IN_SYS, OF_LOG };
 
 /* Finds the folder of a name as the caller would, and returns what the name is, and whether it is there. */
 static enum place find_place(const struct call *call, int directory, char *path, int *is_there) {
-    char folder[PATH_MAX + 1], link[64], where[PATH_MAX];
+    char folder[PATH_MAX + 1];
     enum place place = NOT_KEPT;
     struct node node;
     for (size_t length = strlen(path); length > 1 && path[length - 1] == '/';)
@@ -17,12 +17,10 @@ static enum place find_place(const struct call *call, int directory, char *path,
     const char *name = strrchr(path, '/') ? strrchr(path, '/') + 1 : path;
     snprintf(folder, sizeof folder, "%.*s.", (int)(name - path), path);
     int file = look_up(call, directory, folder, &(struct open_how){.flags = O_PATH | O_DIRECTORY});
-    const struct statx about = known_about(file, "");
-    snprintf(link, sizeof link, "/proc/self/fd/%d", file);
-    read_link(link, where);
+    const struct statx about = known_about(file, ""), dev = known_about(AT_FDCWD, "/dev");
     if (file >= 0 && system_of(&about) == number_of(OF_SYS))
         place = IN_SYS;
-    else if (system_of(&about) == number_of(OF_DEV) && strcmp(where, "/dev") == 0)
+    else if (system_of(&about) == system_of(&dev) && about.stx_ino == dev.stx_ino)
         place = read_name(name, &node) == IS_NODE ? OF_NODE : strcmp(name, "kmsg") == 0 ? OF_LOG : NOT_KEPT;
     *is_there = place != NOT_KEPT && faccessat(file, name, F_OK, AT_SYMLINK_NOFOLLOW | AT_EACCESS) == 0;
     close(file);
