@@ -101,10 +101,10 @@ static void take_number(unsigned controller, uint32_t nsid) {
 
 /* ---- data */
 
-/* Returns the length of a namespace's data, which is no greater than a file can be. */
+/* Returns the length of a namespace's data, which is no greater than a file can be, and 0 if it isn't known. */
 static off_t length_of(const struct volume *volume) {
-    uint64_t most = (uint64_t)INT64_MAX >> volume->power;
-    return (off_t)((volume->blocks < most ? volume->blocks : most) << volume->power);
+    uint64_t most = (uint64_t)INT64_MAX >> volume->power, blocks = volume->power != 0 ? volume->blocks : 0;
+    return (off_t)((blocks < most ? blocks : most) << volume->power);
 }
 
 /* (by its path, because a process that began before the file was made doesn't have it) */
@@ -115,8 +115,8 @@ int open_data(const struct node *node) {
     return open(path, O_RDWR | O_NOFOLLOW | O_NONBLOCK | O_CLOEXEC);
 }
 
-static void set_length(const struct volume *volume, off_t length) {
-    if (volume->file > 0 && ftruncate(volume->file, length) < 0)
+static void set_length(const struct volume *volume) {
+    if (volume->file > 0 && ftruncate(volume->file, length_of(volume)) < 0)
         cannot("/dev");
 }
 
@@ -162,7 +162,8 @@ static void leave_files(unsigned controller, uint32_t nsid) {
         make_data(volume);
         move_data(left->file, volume->file);
     }
-    set_length(left, 0);
+    left->power = 0;
+    set_length(left);
     if (geteuid() == 0 && (fchown(left->file, 0, (gid_t)-1) < 0 || fchown(left->generic, 0, (gid_t)-1) < 0))
         cannot("/dev");
 }
@@ -185,7 +186,7 @@ static void put(unsigned controller, uint32_t nsid) {
         make_data(volume);
     if (volume->generic <= 0)
         volume->generic = make_file(0600, &volume->generic_inode);
-    set_length(volume, length_of(volume));
+    set_length(volume);
     shown[controller][nsid] = 1;
     show(BLOCK, controller, nsid);
     show(GENERIC, controller, nsid);
@@ -307,12 +308,8 @@ static void scan(unsigned first, unsigned count) {
    it is found that it has gone.) */
 static void forget_namespace(unsigned controller, uint32_t nsid) {
     struct volume *volume = volume_at(controller, nsid);
-    set_length(volume, 0);
-    volume->power = 0;
-    if (volume->number == 0 && volume->file > 0) {
-        close(volume->file);
-        volume->file = 0;
-    }
+    __atomic_store_n(&volume->power, 0, __ATOMIC_SEQ_CST);
+    set_length(volume);
 }
 
 /* Shows a namespace as it is since it was formatted or made read-only. (The library sees by the mode of the file
@@ -332,15 +329,12 @@ static void show_anew(unsigned controller, uint32_t nsid) {
 
 /* Clears the data of a formatted namespace, and makes it as long as the new format requires. */
 static void clear_namespace(unsigned controller, uint32_t nsid) {
-    struct volume *volume = volume_at(controller, nsid);
+    const struct volume *volume = volume_at(controller, nsid);
     if (volume->power == 0)
         return;
-    __atomic_store_n(&volume->power, 0, __ATOMIC_SEQ_CST);
-    set_length(volume, 0);
+    forget_namespace(controller, nsid);
     measure(controller, nsid);
-    if (volume->power == 0)
-        return;
-    set_length(volume, length_of(volume));
+    set_length(volume);
     show_anew(controller, nsid);
     list_blocks();
 }
@@ -404,15 +398,14 @@ static void repair(const struct device *device, uint32_t nsid) {
     const struct volume *volume = volume_at(device->first, nsid);
     unsigned controller = device->first;
     struct stat about;
-    if (volume->power == 0 || volume->file <= 0 || fstat(volume->file, &about) < 0 ||
-        about.st_size == length_of(volume))
+    if (volume->file <= 0 || fstat(volume->file, &about) < 0 || about.st_size == length_of(volume))
         return;
     while (!is_shown(controller, nsid) && controller < device->first + device->count - 1)
         controller++;
     if (about.st_size > length_of(volume) && takes_line(STDERR_FILENO))
         fprintf(stderr, "nvme-model: /dev/nvme%un%u: what was written past the end is cut off; Linux would have "
                 "refused it\n", controller, volume->number);
-    set_length(volume, length_of(volume));
+    set_length(volume);
 }
 
 /* (programs write what the library doesn't see, and close a file then) */
