@@ -319,6 +319,14 @@ static int give_file(const union notice *notice, int file, int flags) {
     return result;
 }
 
+/* Finds who answers a call. */
+static answering *answer_of(const struct decided_call *row, int call) {
+    for (;; row++)
+        for (const short *number = row->numbers; row->answer && *number != 0; number++)
+            if (*number == call)
+                return row->answer;
+}
+
 /* (a process that is gone by now may have left its number to another one) */
 void answer_call(const union notice *notice) {
     const struct seccomp_data *data = &notice->got.data;
@@ -326,10 +334,8 @@ void answer_call(const union notice *notice) {
                         .process = (pid_t)notice->got.pid,
                         .is_old = data->arch != AUDIT_ARCH_X86_64,
                         .opened = NOT_OPENED};
-    const struct decided_call *row = call.is_old ? old_decided_calls : decided_calls;
-    while (!row->answer || row->number != data->nr)
-        row++;
-    int result = act_as_caller(&call) && is_alive(call.id) ? row->answer(&call, data->args) : -EAGAIN;
+    answering *answer = answer_of(call.is_old ? old_decided_calls : decided_calls, data->nr);
+    int result = act_as_caller(&call) && is_alive(call.id) ? answer(&call, data->args) : -EAGAIN;
     if (result >= 0 && call.opened != NOT_OPENED)
         result = give_file(notice, result, call.opened);
     finish_call(notice, result);

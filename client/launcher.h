@@ -274,19 +274,20 @@ dev_t number_of(int is_sys);
 /* Reads by which name a file was opened, with links followed, or nothing. */
 void read_link(const char *link, char name[PATH_MAX]);
 
-/* What the command's filter decides about a call, by its number, if a test of one of its arguments holds: an action of
-   seccomp, and who answers it if it is handed over, with a result, or an error's number as a negative one. */
+/* What a filter decides about calls, by their numbers (of which the first one may be 0, and another 0 ends them), if a
+   test of one of their arguments holds: an action of seccomp, and who answers such a call if it is handed over, with a
+   result, or an error's number as a negative one. */
 typedef int answering(struct call *call, const __u64 *arguments);
 struct decided_call {
-    enum { BY_ALL, BY_ROOT } whose;
-    int number;
+    short numbers[80];
+    uint32_t action;
+    answering *answer;
     struct {
         enum { ALWAYS, EQUALS, HAS_BITS, HAS_TYPE } kind; /* (the type of an ioctl) */
         unsigned argument;
         uint32_t value;
     } test;
-    uint32_t action;
-    answering *answer;
+    int is_of_root; /* whether it holds for root alone */
 };
 
 /* The calls of programs of 64 and of 32 bits (opens.c); the last one has no action. */

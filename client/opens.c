@@ -221,10 +221,10 @@ enum { ANSWER = SECCOMP_RET_USER_NOTIF };
 
 const struct decided_call decided_calls[] = {
 #include "decided.h"
-    {0}};
+    {.action = 0}};
 
 /* (the next header gives the same names the numbers that programs of 32 bits use) */
 #include <asm/unistd_32.h>
 const struct decided_call old_decided_calls[] = {
 #include "decided.h"
-    {0}};
+    {.action = 0}};
