@@ -16,10 +16,10 @@ enum { NOBODY = 65534, MOST_GROUPS = 65536, NO_USER = -1 };
 
 /* What a process may do with files. */
 struct identity {
+    uint64_t rights; /* its capabilities, unless these are those of another user namespace */
+    size_t count;    /* of its groups, other than those without a number here, which give no rights here */
     uid_t user;
     gid_t group, groups[MOST_GROUPS];
-    size_t count;
-    uint64_t rights; /* its capabilities, unless these are those of another user namespace */
 };
 
 static struct identity taken = {.user = NO_USER}; /* the identity that this helper has taken */
@@ -39,14 +39,12 @@ const char *read_about(pid_t process, const char *name, char *text, size_t room)
     return text;
 }
 
-/* Whether a process is in this user namespace, whose link in /proc has a text of its own. */
+/* Whether a process is in this user namespace. */
 static int has_own_users(pid_t process) {
-    static char own[64];
-    char path[64], its[64] = "";
+    char path[64];
     snprintf(path, sizeof path, "/proc/%d/ns/user", process);
-    if (!*own && readlink("/proc/self/ns/user", own, sizeof own - 1) < 0)
-        return 0;
-    return readlink(path, its, sizeof its - 1) > 0 && strcmp(its, own) == 0;
+    const uint64_t its = known_about(AT_FDCWD, path).stx_ino;
+    return its != 0 && its == known_about(AT_FDCWD, "/proc/self/ns/user").stx_ino;
 }
 
 /* (the owner of a process's folder in /proc is root if the process changed its user) */
@@ -64,7 +62,8 @@ static int read_identity(pid_t process, struct identity *identity) {
         unsigned long number = strtoul(at, &end, 10);
         if (end == at)
             break;
-        identity->groups[identity->count++] = (gid_t)number;
+        if (number != NOBODY)
+            identity->groups[identity->count++] = (gid_t)number;
     }
     identity->rights = strtoull(rights + strlen("\nCapEff:"), NULL, 16);
     if (identity->rights != 0 && !has_own_users(process))
@@ -72,16 +71,10 @@ static int read_identity(pid_t process, struct identity *identity) {
     return 1;
 }
 
-/* (A group without a number here gives no rights here. Where no process may change its groups, this one has them; and
-   if it doesn't have the group itself, the kernel lets it read nothing of the caller's.) */
+/* (Where no process may change its groups, this one has them; and if it doesn't have the group itself, the kernel lets
+   it read nothing of the caller's.) */
 static int take_groups(const struct identity *identity) {
-    static gid_t known[MOST_GROUPS];
-    size_t count = 0;
-    int is_taken = setgroups(identity->count, identity->groups) == 0 || errno == EPERM;
-    for (size_t at = 0; at < identity->count && !is_taken; at++)
-        if (identity->groups[at] != NOBODY)
-            known[count++] = identity->groups[at];
-    if (!is_taken && setgroups(count, known) < 0)
+    if (setgroups(identity->count, identity->groups) < 0 && errno != EPERM)
         return -1;
     return setresgid(identity->group, identity->group, NO_USER) == 0 || identity->group == NOBODY ? 0 : -1;
 }
@@ -113,8 +106,7 @@ int act_as_caller(const struct call *call) {
         return 1;
     if (!read_identity(call->process, &wanted))
         return 0;
-    if (taken.user == wanted.user && taken.group == wanted.group && taken.rights == wanted.rights &&
-        taken.count == wanted.count && memcmp(taken.groups, wanted.groups, wanted.count * sizeof *wanted.groups) == 0)
+    if (memcmp(&taken, &wanted, offsetof(struct identity, groups) + wanted.count * sizeof *wanted.groups) == 0)
         return 1;
     taken.user = NO_USER;
     if (be_root() < 0 || take_groups(&wanted) < 0 || be(&wanted, wanted.user) < 0)
@@ -173,9 +165,8 @@ enum { MOST_LINKS = 40, TOP_OF_PROC = 1, PROC_BLOCK = 1024, ROOM = 2 * PATH_MAX 
 static int open_self(const struct call *call, int proc, int is_thread) {
     char text[8192], path[64], group[16], thread[16];
     read_about(call->process, "status", text, sizeof text);
-    const char *groups = strstr(text, "\nNStgid:"), *threads = strstr(text, "\nNSpid:");
-    if (!groups || !threads || sscanf(groups, " NStgid: %*u %15s", group) != 1 ||
-        sscanf(threads, " NSpid: %*u %15s", thread) != 1)
+    const char *numbers = strstr(text, "\nNStgid:");
+    if (!numbers || sscanf(numbers, " NStgid: %*u %15s%*[^N]NSpid: %*u %15s", group, thread) != 2)
         return -1;
     snprintf(path, sizeof path, is_thread ? "%s/task/%s" : "%s", group, thread);
     return openat(proc, path, O_PATH | O_CLOEXEC);
@@ -213,15 +204,9 @@ int is_in_proc(int file) {
            system.f_type == PROC_SUPER_MAGIC;
 }
 
-static struct statx root_of(pid_t process) {
-    char path[64];
-    snprintf(path, sizeof path, "/proc/%d/root", process);
-    return known_about(AT_FDCWD, path);
-}
-
-static int is_at(int folder, const struct statx *other) {
-    const struct statx about = known_about(folder, "");
-    return about.stx_mnt_id == other->stx_mnt_id && about.stx_ino == other->stx_ino;
+static int are_same(int one, int other) {
+    const struct statx about = known_about(one, ""), about_other = known_about(other, "");
+    return about.stx_ino != 0 && about.stx_ino == about_other.stx_ino && about.stx_mnt_id == about_other.stx_mnt_id;
 }
 
 /* Takes the first part of what is left of a path, or returns 0 if it is too long. */
@@ -234,15 +219,15 @@ static int take_part(char left[ROOM], char name[NAME_MAX + 1]) {
     return 1;
 }
 
-/* Follows a path, part by part, as the caller would: another process can't have the kernel do so, because nothing is at
-   /proc/self for it, and because it has another root if the caller has one of its own. */
-static int walk(const struct call *call, int at, const char *path, const struct open_how *how,
-                const struct statx *root) {
+/* Follows a path from a folder, which is closed, part by part, as the caller would: another process can't have the
+   kernel do so, because nothing is at /proc/self for it, and because it has another root if the caller has one of its
+   own. */
+static int walk(const struct call *call, int at, const char *path, const struct open_how *how, int root) {
     char left[ROOM], name[NAME_MAX + 1];
     unsigned links = 0;
     strcpy(left, path);
     while (at >= 0 && left[strspn(left, "/")] && take_part(left, name)) {
-        int before = at, is_top = strcmp(name, "..") == 0 && is_at(before, root);
+        int before = at, is_top = strcmp(name, "..") == 0 && are_same(before, root);
         at = openat(before, is_top ? "." : name, O_PATH | O_NOFOLLOW | O_CLOEXEC);
         if (at >= 0 && (*left || !(how->flags & O_NOFOLLOW)) && S_ISLNK(known_about(at, "").stx_mode)) {
             int link = at;
@@ -257,42 +242,25 @@ static int walk(const struct call *call, int at, const char *path, const struct 
     return -1;
 }
 
-/* Where a path of a process starts, the root folder above which it doesn't lead, and what is left of the path. */
-struct start {
-    int folder;
-    struct statx root;
-    const char *left;
-};
-
-static struct start start_of(const struct call *call, int directory, const char *path, uint64_t resolve) {
-    int is_below = resolve & (RESOLVE_BENEATH | RESOLVE_IN_ROOT) && *path == '/';
-    int is_absolute = *path == '/' && !is_below;
-    char folder[32];
-    snprintf(folder, sizeof folder, directory == AT_FDCWD ? "cwd" : "fd/%d", directory);
-    struct start start = {.folder = open_about(call->process, is_absolute ? "root" : folder, O_PATH),
-                          .left = is_below ? path : path + strspn(path, "/")};
-    start.root = is_absolute ? known_about(start.folder, "") : root_of(call->process);
-    return start;
-}
-
 /* (the kernel resolves a path if its process has the command's root folder, but for links that only the process can
    follow) */
 int look_up(const struct call *call, int directory, const char *path, const struct open_how *given) {
-    static struct statx of_command;
+    const int is_below = (given->resolve & (RESOLVE_BENEATH | RESOLVE_IN_ROOT)) != 0;
     const struct open_how how = {.flags = O_PATH | O_CLOEXEC | (given->flags & (O_NOFOLLOW | O_DIRECTORY)),
                                  .resolve = given->resolve | RESOLVE_NO_MAGICLINKS};
-    const struct start start = start_of(call, directory, path, given->resolve);
-    if (of_command.stx_ino == 0)
-        of_command = root_of(process_one);
-    if (start.folder < 0 || !*path || start.root.stx_ino == 0 || of_command.stx_ino == 0) {
-        close(start.folder);
-        return -1;
-    }
-    int is_same = start.root.stx_mnt_id == of_command.stx_mnt_id && start.root.stx_ino == of_command.stx_ino, file = -1;
-    if (is_same)
-        file = (int)syscall(SYS_openat2, start.folder, *start.left ? start.left : ".", &how, sizeof how);
-    if (file < 0 && (!is_same || errno == ENOENT || (errno == ELOOP && given->resolve == 0)))
-        return walk(call, start.folder, start.left, given, &start.root);
-    close(start.folder);
+    const char *left = is_below ? path : path + strspn(path, "/");
+    char folder[32];
+    snprintf(folder, sizeof folder, directory == AT_FDCWD ? "cwd" : "fd/%d", directory);
+    int start = open_about(call->process, *path == '/' && !is_below ? "root" : folder, O_PATH), file = -1;
+    int root = open_about(call->process, "root", O_PATH), of_command = open_about(process_one, "root", O_PATH);
+    int can_start = start >= 0 && root >= 0 && *path, is_same = are_same(root, of_command);
+    if (can_start && is_same)
+        file = (int)syscall(SYS_openat2, start, *left ? left : ".", &how, sizeof how);
+    if (can_start && file < 0 && (!is_same || errno == ENOENT || (errno == ELOOP && given->resolve == 0)))
+        file = walk(call, start, left, given, root);
+    else
+        close(start);
+    close(root);
+    close(of_command);
     return file;
 }

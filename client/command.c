@@ -59,7 +59,7 @@ static void prepend(const char *name, const char *value) { set_both(name, value,
 
 /* (a stream that is closed for the command is one that can't be used) */
 __attribute__((noreturn)) static void become(char **arguments) {
-    prepend("LD_PRELOAD", library_path);
+    prepend("LD_PRELOAD", MODEL_FOLDER "/library.so");
     /* (the address sanitizer wants to be the first library, and udev that /sys is a file system of the kernel) */
     prepend("ASAN_OPTIONS", "verify_asan_link_order=0");
     setenv("SYSTEMD_DEVICE_VERIFY_SYSFS", "0", 1);

@@ -111,7 +111,7 @@ static const struct decided_call launcher_calls[] = {
       SYS_statfs, SYS_fstatfs, SYS_inotify_init1, SYS_inotify_add_watch,
       SYS_process_vm_readv, SYS_process_vm_writev, SYS_fork, SYS_clone, SYS_wait4, SYS_waitid, SYS_kill,
       SYS_setpriority, SYS_ioprio_set, SYS_setsid, SYS_setgroups, SYS_setresuid, SYS_setresgid, SYS_capget, SYS_capset,
-      SYS_poll, SYS_ppoll, SYS_signalfd4, SYS_eventfd2, SYS_recvfrom},
+      SYS_poll, SYS_ppoll, SYS_signalfd4, SYS_eventfd2},
      .action = ALLOW},
     {{SYS_ioctl}, .action = ALLOW, .test = {EQUALS, 1, SECCOMP_IOCTL_NOTIF_RECV}},
     {{SYS_ioctl}, .action = ALLOW, .test = {EQUALS, 1, SECCOMP_IOCTL_NOTIF_SEND}},

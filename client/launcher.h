@@ -21,7 +21,8 @@ enum { DEPTH, PAGE_SIZE, WINDOW, OFFSET, LIST_OFFSET, PACE, NUMBERS };
 
 /* A device is the process of one subsystem. */
 struct device {
-    int to_and_from, said; /* sockets for its input and output, and for its standard error */
+    int to_and_from;       /* a socket for its input and output */
+    FILE *said;            /* what it writes to its standard error */
     int asks[2];           /* a pipe by which helpers ask its keeper, one after another */
     unsigned first, count; /* its controllers, by the numbers of /dev/nvmeX */
     enum { STARTING, ANSWERING, LOST } state;
@@ -33,7 +34,7 @@ extern unsigned device_count;
 extern unsigned nodes_wait; /* whether nodes wait for a scan or a reset, because of --no-notice */
 extern unsigned geometry[NUMBERS];
 extern sigset_t blocked; /* the signals that were blocked at the start, and are for the command and the devices */
-extern char library_path[], program_path[]; /* of the preloaded library and of the device's program */
+extern char library_path[], program_path[]; /* of the preloaded library and of the device's program, outside */
 
 /* ---- launcher.c: start and end */
 
@@ -60,9 +61,8 @@ int report_stop(void);
 /* Gives an open file another number. */
 void keep_as(int number, int file, const char *name);
 
-/* Reads all that a writer has put into a pipe, closes it, and returns the last line, without the writer's name at its
-   beginning. */
-const char *last_line(int file, const char *writer);
+/* Reads all that a writer has said, and returns the last line, without the writer's name at its beginning. */
+const char *last_line(FILE *said, const char *writer);
 
 /* Has standard error be the caller's again. */
 void restore_errors(void);
@@ -81,7 +81,7 @@ enum { MOST_ADDED = 64 };
 struct options {
     const char *subsystems[MOST_DEVICES], *added[MOST_ADDED], *trace_file;
     char *device_words[NUMBERS + 4]; /* a device's program and options */
-    unsigned subsystem_count, added_count, device_word_count, is_root;
+    unsigned subsystem_count, added_count, is_root;
     int has_trace;
     unsigned long long limit; /* of the memory for data */
 };
@@ -102,23 +102,14 @@ extern pid_t process_one; /* of that namespace */
 pid_t start_command(char **arguments, int ends);
 void release_command(void);
 
-/* ---- device.c */
-
-enum { SUBSYSTEM_FILE = STDERR_FILENO + 1 };
-
-/* Starts a device, with a subsystem file (or -1) of this name, which it has as that descriptor and which is closed
-   here. */
-void start_device(int file, const char *name);
-
-/* ---- relay.c: the exchange with devices */
-
-extern int trace_output; /* where the lines of a trace go */
+/* ---- device.c: devices, and the exchange with them */
 
 /* Returns whether a file takes a line within seconds, which it may not because nobody reads it. */
 int takes_line(int file);
 
-/* Starts the exchange with a device. */
-void greet_device(struct device *device, const char *name);
+/* Starts a device, with a subsystem file (or -1) of this name, which it has as descriptor 3 and which is closed
+   here. */
+void start_device(int file, const char *name);
 
 /* Takes note that a device is gone. */
 void lose_device(struct device *device);
@@ -233,12 +224,10 @@ union notice {
 enum { NOT_OURS = -10000 };
 
 /* A call that a process made. */
-enum { NOT_OPENED = -1 };
 struct call {
     uint64_t id;
     pid_t process;
     int is_old;      /* the program has 32 bits */
-    int opened;      /* the flags by which a file was opened for it, or NOT_OPENED */
     int file;        /* the descriptor of a node that it is about */
     int is_writable; /* which is open for writing */
     int is_path;     /* which is open as a path alone (O_PATH) */
@@ -324,8 +313,9 @@ void *share(size_t size);
 /* Returns room for data, in a helper. */
 void *own_data(void);
 
-/* Sends a request of a helper to the keeper of a controller's device, and returns -1 if the device is gone. */
-int ask_keeper(const struct request_header *header, struct answer_header *answer);
+/* Sends a request of a helper to the keeper of a controller's device, and returns the answer, or NULL if the device is
+   gone. */
+const struct answer_header *ask_keeper(const struct request_header *header);
 
 /* Sends one without an answer, and returns -ENXIO then. */
 int ask_controller(unsigned controller, uint16_t kind, uint32_t length);

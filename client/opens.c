@@ -17,23 +17,23 @@
    kernel are known by their numbers.) */
 static int sets_outside(const struct call *call, int file, const char *link) {
     const unsigned first_of_kernel = 0xf0000000;
-    char path[2 * PATH_MAX + 2], name[PATH_MAX], root[PATH_MAX], part[PATH_MAX] = "", *line = NULL;
-    unsigned long long number;
+    char path[2 * PATH_MAX + 2], name[PATH_MAX], part[PATH_MAX] = "", *line = NULL;
+    unsigned long long number = 0;
     size_t room = 0;
     const struct statx about = known_about(file, "");
     if (!is_in_proc(file))
         return 0;
     snprintf(path, sizeof path, "/proc/%d/mountinfo", call->process);
     FILE *mounts = fopen(path, "re");
-    while (mounts && getline(&line, &room, mounts) > 0)
-        if (sscanf(line, "%llu %*d %*s %4095s", &number, root) == 2 && number == about.stx_mnt_id)
-            strcpy(part, root);
+    while (mounts && number != about.stx_mnt_id && getline(&line, &room, mounts) > 0)
+        sscanf(line, "%llu %*d %*s %4095s", &number, part);
     free(line);
     if (mounts)
         fclose(mounts);
     read_link(link, name);
     snprintf(path, sizeof path, "%s%s/", part, name);
-    return strstr(path, "/net/") || strstr(path, "/autogroup/") || (!*part && about.stx_ino >= first_of_kernel);
+    return strstr(path, "/net/") || strstr(path, "/autogroup/") ||
+           (number != about.stx_mnt_id && about.stx_ino >= first_of_kernel);
 }
 
 /* Resets a controller, or looks for its namespaces, because such a file of it is opened for writing. What is then
@@ -45,14 +45,11 @@ static int open_attribute(const char *place, uint64_t flags) {
     if (sscanf(name, "/sys/devices/pci%*x:%*x/%*[^/]/nvme/nvme%u/%15[a-z]_controller", &controller, what) != 2 ||
         (flags & O_ACCMODE) != O_WRONLY || faccessat(AT_FDCWD, place, W_OK, AT_EACCESS) < 0)
         return -EACCES;
-    int file = open("/dev/null", O_WRONLY | O_CLOEXEC);
-    if (file < 0)
-        return -errno;
     int result = ask_controller(controller, strcmp(what, "reset") == 0 ? KIND_RESET : KIND_SCAN, 1);
-    if (result == 0)
-        return file;
-    close(file);
-    return result;
+    if (result < 0)
+        return result;
+    int file = open("/dev/null", O_WRONLY | O_CLOEXEC);
+    return file < 0 ? -errno : file;
 }
 
 /* Opens a character device, if the caller may open it so, but for reading, so that nobody writes to its file. (From the
@@ -109,6 +106,17 @@ static int open_found(struct call *call, int file, uint64_t flags, int is_length
     return is_length ? -EINVAL : open_node(call, place, flags);
 }
 
+/* Gives the process of a call a descriptor of a file, and returns that, or an error's number. (The file is closed here
+   before the process goes on, so that its claim ends when the process closes it.) */
+static int give_file(const struct call *call, int file, uint64_t flags) {
+    struct seccomp_notif_addfd added = {
+        .id = call->id, .srcfd = (uint32_t)file, .newfd_flags = (uint32_t)flags & O_CLOEXEC};
+    int result = ioctl(call_listener, SECCOMP_IOCTL_NOTIF_ADDFD, &added);
+    result = result < 0 ? -errno : result;
+    close(file);
+    return result;
+}
+
 /* Looks for the file at a path, from a folder. */
 static int find_and_open(struct call *call, int folder, uint64_t path, const struct open_how *how, int is_length) {
     char text[PATH_MAX];
@@ -120,8 +128,7 @@ static int find_and_open(struct call *call, int folder, uint64_t path, const str
         return -EACCES;
     int result = file < 0 ? NOT_OURS : open_found(call, file, how->flags, is_length);
     close(file);
-    call->opened = result >= 0 ? (int)how->flags : NOT_OPENED;
-    return result;
+    return result < 0 ? result : give_file(call, result, how->flags);
 }
 
 static int answer_open(struct call *call, const __u64 *words) {

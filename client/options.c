@@ -2,7 +2,7 @@
 #include "launcher.h"
 #include <getopt.h>
 
-struct options options = {.device_word_count = 1 + NUMBERS};
+struct options options = {.device_words = {MODEL_FOLDER "/device"}};
 unsigned geometry[NUMBERS] = {[DEPTH] = 32, [PAGE_SIZE] = 4096, [WINDOW] = 1, [PACE] = 1}, nodes_wait;
 
 #define SEE_HELP "\nsee nvme-model --help"
@@ -137,25 +137,24 @@ void fail_by_number(const char *name) {
     fail("%s", name);
 }
 
-/* (each option has a number behind the characters, and getopt_long says what is wrong with others) */
+/* (getopt_long returns 1 for each option of the list, and says what is wrong with others) */
 int read_options(int count, char **arguments) {
     struct option list[ROWS + 1] = {{0}};
-    int number;
-    for (int at = 0; at < ROWS; at++) {
+    int result, at;
+    for (at = 0; at < ROWS; at++) {
         const char *argument = rows[at].argument;
-        list[at].name = rows[at].name;
-        list[at].has_arg = !argument ? no_argument : *argument == '[' ? optional_argument : required_argument;
-        list[at].val = UCHAR_MAX + 1 + at;
+        int kind = !argument ? no_argument : *argument == '[' ? optional_argument : required_argument;
+        list[at] = (struct option){rows[at].name, kind, NULL, 1};
     }
-    while ((number = getopt_long(count, arguments, "+", list, NULL)) > UCHAR_MAX) {
-        option = rows + (number - UCHAR_MAX - 1);
+    while ((result = getopt_long(count, arguments, "+", list, &at)) == 1) {
+        option = rows + at;
         const char *reason = option->set      ? option->set(optarg)
                              : option->number ? set_number(optarg ?: "1")
                                               : "this can only be the first word";
         if (reason)
             fail("--%s%s%s: %s" SEE_HELP, option->name, optarg ? " " : "", optarg ?: "", reason);
     }
-    if (number >= 0) {
+    if (result >= 0) {
         fprintf(stderr, "%s\n", SEE_HELP + 1);
         exit(FAILED);
     }
@@ -165,5 +164,9 @@ int read_options(int count, char **arguments) {
     for (const struct row *row = rows; row < rows + ROWS; row++)
         if (row->range && asprintf(word++, "--%s=%u", row->name, *row->number) < 0)
             fail("out of memory");
+    if (options.subsystem_count > 0)
+        *word++ = "--subsystem=/proc/self/fd/3";
+    if (options.has_trace)
+        *word = "--trace";
     return optind;
 }
