@@ -27,7 +27,7 @@
        */
     {{__NR_kill}, ANSWER, .answer = answer_kill, .test = {EQUALS, 0, 0}},
     {{__NR_setpriority}, ANSWER, .answer = answer_priority, .test = {EQUALS, 0, PRIO_PGRP}},
-    {{__NR_ioprio_set}, ANSWER, .answer = answer_io_priority, .test = {EQUALS, 0, GROUP_IO_PRIORITY}},
+    {{__NR_ioprio_set}, ANSWER, .answer = answer_io_priority, .test = {EQUALS, 0, GROUP}},
     {{__NR_pidfd_send_signal}, .action = ERROR(EINVAL), .test = {HAS_BITS, 3, TO_GROUP}},
     {{__NR_pidfd_getfd}, .action = ERROR(EPERM)},
     /* io_uring, which opens files without calls; keys, which would be the caller's; clone3, whose flags can't be seen,

@@ -184,9 +184,10 @@ static int group_of(pid_t process) {
     return behind && sscanf(behind, ") %*c %d %d", &parent, &group) == 2 && parent > 1 ? group : -1;
 }
 
-/* Does to all processes of the group that are in the sandbox what a call would do to the group. */
-static int to_group(const struct call *call, int (*act)(pid_t process, int value), int value) {
-    int group = group_of(call->process), result = -ESRCH;
+/* Does to all processes of the caller's group that are in the sandbox what a call would do to the group. Its words are
+   the number of a group, which is 0 for this one (in the 32 bits that Linux reads), and a value. */
+static int to_group(const struct call *call, const __u64 *words, int (*act)(pid_t process, int value)) {
+    int group = (int)words[0] == 0 ? group_of(call->process) : 1, result = -ESRCH;
     DIR *entries = group == 0 ? opendir("/proc") : NULL;
     struct dirent *entry;
     if (!entries)
@@ -195,7 +196,7 @@ static int to_group(const struct call *call, int (*act)(pid_t process, int value
         pid_t process = atoi(entry->d_name);
         if (process <= 1 || group_of(process) != 0)
             continue;
-        int error = act(process, value) < 0 ? -errno : 0;
+        int error = act(process, (int)words[1]) < 0 ? -errno : 0;
         result = result == 0 ? 0 : error;
     }
     closedir(entries);
@@ -204,21 +205,13 @@ static int to_group(const struct call *call, int (*act)(pid_t process, int value
 
 static int set_priority(pid_t process, int value) { return setpriority(PRIO_PROCESS, (id_t)process, value); }
 
-enum { ONE_IO_PRIORITY = 1, GROUP_IO_PRIORITY = 2 };
-static int set_io_priority(pid_t process, int value) {
-    return (int)syscall(SYS_ioprio_set, ONE_IO_PRIORITY, process, value);
-}
+enum { ONE = 1, GROUP = 2 }; /* (of ioprio_set) */
+static int set_io(pid_t process, int value) { return (int)syscall(SYS_ioprio_set, ONE, process, value); }
 
 /* (a group with a number here has no process outside) */
-static int answer_kill(struct call *call, const __u64 *words) { return to_group(call, kill, (int)words[1]); }
-
-static int answer_priority(struct call *call, const __u64 *words) {
-    return words[1] == 0 ? to_group(call, set_priority, (int)words[2]) : NOT_OURS;
-}
-
-static int answer_io_priority(struct call *call, const __u64 *words) {
-    return words[1] == 0 ? to_group(call, set_io_priority, (int)words[2]) : NOT_OURS;
-}
+static int answer_kill(struct call *call, const __u64 *words) { return to_group(call, words, kill); }
+static int answer_priority(struct call *call, const __u64 *words) { return to_group(call, words + 1, set_priority); }
+static int answer_io_priority(struct call *call, const __u64 *words) { return to_group(call, words + 1, set_io); }
 
 /* ---- the tables */
 
