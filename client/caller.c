@@ -172,19 +172,20 @@ static int open_self(const struct call *call, int proc, int is_thread) {
     return openat(proc, path, O_PATH | O_CLOEXEC);
 }
 
-/* Follows a link of the folder `at`, and returns what it leads to, or puts its text before what is left of the path
-   and returns the folder where this begins. Links of /proc other than those at its top can't be read as texts. */
-static int follow(const struct call *call, int at, const char *name, int link, uint64_t resolve, char left[ROOM]) {
+/* Follows a link of the folder `at`, and returns what it leads to, or puts its text before the rest of the path and
+   returns the folder where this begins. Links of /proc other than those at its top can't be read as texts. */
+static int follow(const struct call *call, int at, const char *name, uint64_t resolve, char left[ROOM], char **rest) {
     char text[ROOM];
     int is_proc = is_in_proc(at), is_top = is_proc && known_about(at, "").stx_ino == TOP_OF_PROC;
     if (is_top && (strcmp(name, "self") == 0 || strcmp(name, "thread-self") == 0))
         return open_self(call, at, *name == 't');
     if (is_proc && !is_top)
         return resolve & ~(uint64_t)RESOLVE_CACHED ? -1 : openat(at, name, O_PATH | O_CLOEXEC);
-    ssize_t length = readlinkat(link, "", text, PATH_MAX - 1);
-    if (length < 0 || snprintf(text + length, ROOM - (size_t)length, "%s", left) >= ROOM - length)
+    const char *slash = *rest ? "/" : "";
+    ssize_t length = readlinkat(at, name, text, PATH_MAX - 1);
+    if (length < 0 || snprintf(text + length, ROOM - (size_t)length, "%s%s", slash, *rest ?: "") >= ROOM - length)
         return -1;
-    strcpy(left, text);
+    *rest = strcpy(left, text);
     return *left == '/' ? open_about(call->process, "root", O_PATH) : fcntl(at, F_DUPFD_CLOEXEC, 0);
 }
 
@@ -209,34 +210,26 @@ static int are_same(int one, int other) {
     return about.stx_ino != 0 && about.stx_ino == about_other.stx_ino && about.stx_mnt_id == about_other.stx_mnt_id;
 }
 
-/* Takes the first part of what is left of a path, or returns 0 if it is too long. */
-static int take_part(char left[ROOM], char name[NAME_MAX + 1]) {
-    size_t skipped = strspn(left, "/"), length = strcspn(left + skipped, "/");
-    if (length > NAME_MAX)
-        return 0;
-    snprintf(name, NAME_MAX + 1, "%.*s", (int)length, left + skipped);
-    memmove(left, left + skipped + length, strlen(left + skipped + length) + 1);
-    return 1;
-}
-
 /* Follows a path from a folder, which is closed, part by part, as the caller would: another process can't have the
    kernel do so, because nothing is at /proc/self for it, and because it has another root if the caller has one of its
    own. */
 static int walk(const struct call *call, int at, const char *path, const struct open_how *how, int root) {
-    char left[ROOM], name[NAME_MAX + 1];
+    char left[ROOM], *rest = strcpy(left, path), *name;
+    int is_folder = 0;
     unsigned links = 0;
-    strcpy(left, path);
-    while (at >= 0 && left[strspn(left, "/")] && take_part(left, name)) {
+    while (at >= 0 && (name = strsep(&rest, "/"))) {
         int before = at, is_top = strcmp(name, "..") == 0 && are_same(before, root);
+        is_folder = !*name;
+        if (is_folder)
+            continue;
         at = openat(before, is_top ? "." : name, O_PATH | O_NOFOLLOW | O_CLOEXEC);
-        if (at >= 0 && (*left || !(how->flags & O_NOFOLLOW)) && S_ISLNK(known_about(at, "").stx_mode)) {
-            int link = at;
-            at = links++ < MOST_LINKS ? follow(call, before, name, link, how->resolve, left) : -1;
-            close(link);
+        if (at >= 0 && (rest || !(how->flags & O_NOFOLLOW)) && S_ISLNK(known_about(at, "").stx_mode)) {
+            close(at);
+            at = links++ < MOST_LINKS ? follow(call, before, name, how->resolve, left, &rest) : -1;
         }
         close(before);
     }
-    if (at < 0 || !*left || S_ISDIR(known_about(at, "").stx_mode))
+    if (at < 0 || !is_folder || S_ISDIR(known_about(at, "").stx_mode))
         return at;
     close(at);
     return -1;

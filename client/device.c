@@ -63,9 +63,7 @@ void lose_device(struct device *device) {
 int exchange(struct device *device, const struct request_header *header, void *data, struct answer_header *answer) {
     uint32_t sent = header->kind == KIND_ENTRY && header->entry[0] & 1 ? header->length : 0;
     uint32_t most = sent > 0 ? 0 : header->length;
-    if (device->state == LOST)
-        return -1;
-    if (move_all(device->to_and_from, (void *)header, sizeof *header, 1) < 0 ||
+    if (device->state == LOST || move_all(device->to_and_from, (void *)header, sizeof *header, 1) < 0 ||
         move_all(device->to_and_from, data, sent, 1) < 0 ||
         move_all(device->to_and_from, answer, sizeof *answer, 0) < 0 || answer->length > most ||
         move_all(device->to_and_from, data, answer->length, 0) < 0) {
@@ -115,15 +113,15 @@ static void run_device(int file, int in_and_out, int said) {
 
 /* (the list of controller 0 also says how many controllers there are) */
 void start_device(int file, const char *name) {
-    int channel[2], said[2], asks[2];
+    int channel[2], said[2];
     struct device *device = devices + device_count++;
     struct request_header header = {.kind = KIND_LIST};
     struct answer_header answer;
     if (socketpair(AF_UNIX, SOCK_STREAM | SOCK_CLOEXEC, 0, channel) < 0 ||
-        socketpair(AF_UNIX, SOCK_STREAM | SOCK_CLOEXEC, 0, said) < 0 || pipe2(asks, O_CLOEXEC) < 0 ||
-        fcntl(said[0], F_SETFL, O_NONBLOCK) < 0)
+        socketpair(AF_UNIX, SOCK_STREAM | SOCK_CLOEXEC, 0, said) < 0 || pipe2(device->asks, O_CLOEXEC) < 0 ||
+        fcntl(said[0], F_SETFL, O_NONBLOCK) < 0 || !(device->said = fdopen(said[0], "r")))
         fail_by_errno("a device can't be started");
-    *device = (struct device){.to_and_from = channel[0], .said = fdopen(said[0], "r"), .asks = {asks[0], asks[1]}};
+    device->to_and_from = channel[0];
     if (device_count > 1)
         device->first = device[-1].first + device[-1].count;
     const pid_t process = must(fork(), "fork");

@@ -16,20 +16,18 @@ enum { LEAST_ROOM = 8, MOST_HELPERS = 512 };
 
 struct helper {
     pid_t process;         /* 0 if there is none */
-    _Atomic unsigned state; /* whether it waits for a keeper, which wakes it by a change of this */
+    _Atomic unsigned is_asking; /* whether it waits for a keeper, which wakes it by a change of this */
     int result;            /* of its last request: 0, or -1 if the device is gone */
     struct request_header request;
     struct answer_header answer;
     union notice notice; /* the call that it answers, whose identifier is 0 until it has one */
     unsigned char data[MOST_DATA]; /* of its request */
 };
-enum { WORKING, ASKING };
 
 static struct helper *helpers, *self; /* (`self` only in a helper) */
 static unsigned most_helpers = MOST_HELPERS;
+static _Atomic unsigned *helper_count; /* (which they share too) */
 static int needed; /* where the last helper without a call tells that it has one */
-
-static _Atomic unsigned *helper_count; /* (which they share besides) */
 
 unsigned await_files(const int *files, unsigned count, int milliseconds) {
     struct pollfd events[3];
@@ -63,8 +61,8 @@ static void serve(struct device *device, struct helper *helper) {
     helper->result = serve_keeper(device, &request);
     if (helper->result == NOT_OURS)
         helper->result = carry_out(&request, helper->data, &helper->answer);
-    helper->state = WORKING;
-    syscall(SYS_futex, &helper->state, FUTEX_WAKE, 1, NULL, NULL, 0);
+    helper->is_asking = 0;
+    syscall(SYS_futex, &helper->is_asking, FUTEX_WAKE, 1, NULL, NULL, 0);
 }
 
 static void start_keeper(struct device *device) {
@@ -94,10 +92,10 @@ const struct answer_header *ask_keeper(const struct request_header *header) {
     if (device->state == LOST)
         return NULL;
     self->request = *header;
-    self->state = ASKING;
+    self->is_asking = 1;
     (void)!write(device->asks[1], &place, sizeof place);
-    while (self->state == ASKING)
-        syscall(SYS_futex, &self->state, FUTEX_WAIT, ASKING, NULL, NULL, 0);
+    while (self->is_asking)
+        syscall(SYS_futex, &self->is_asking, FUTEX_WAIT, 1, NULL, NULL, 0);
     return self->result == 0 ? &self->answer : NULL;
 }
 
@@ -154,7 +152,7 @@ static void drop_helpers(void) {
    only the last place, those that work for nobody end. */
 static int add_helper(void) {
     struct helper *place = helpers, *last = helpers + most_helpers - 1;
-    while (place < end() && (place->process != 0 || place->state == ASKING))
+    while (place < end() && (place->process != 0 || place->is_asking))
         place++;
     if (place >= last)
         drop_helpers();

@@ -23,7 +23,7 @@ static int status_of_failure = FAILED; /* its status then */
 static sigset_t watched;               /* the signals that are passed on, and that of an ended process */
 static char here[PATH_MAX];            /* the current folder */
 sigset_t blocked;
-char library_path[PATH_MAX + 32], program_path[PATH_MAX + 32];
+static char library_path[PATH_MAX + 32], program_path[PATH_MAX + 32]; /* outside */
 
 /* Has no keeper report that a device has ended, when all end. */
 static void lose_devices(void) {
@@ -298,7 +298,7 @@ static const char *run_launcher(void) {
         keep_as(ERRORS, dup(STDERR_FILENO), "standard error");
         keep_as(STDERR_FILENO, reasons[1], "pipe");
         status_of_failure = NO_SANDBOX;
-        enter_sandbox();
+        enter_sandbox(library_path, program_path);
     }
     close(ends[1]);
     close(reasons[1]);

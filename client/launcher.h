@@ -34,7 +34,6 @@ extern unsigned device_count;
 extern unsigned nodes_wait; /* whether nodes wait for a scan or a reset, because of --no-notice */
 extern unsigned geometry[NUMBERS];
 extern sigset_t blocked; /* the signals that were blocked at the start, and are for the command and the devices */
-extern char library_path[], program_path[]; /* of the preloaded library and of the device's program, outside */
 
 /* ---- launcher.c: start and end */
 
@@ -401,8 +400,8 @@ int supply(struct device *device, const struct request_header *request, void *da
 #define SETTINGS MODEL_FOLDER "/settings" /* what the command's /proc has besides its processes */
 #define INSIDE "--inside" /* the launcher's word there */
 
-/* Starts the launcher in the sandbox, in place of this process. */
-__attribute__((noreturn)) void enter_sandbox(void);
+/* Starts the launcher in the sandbox, in place of this process, with the preloaded library and the device's program. */
+__attribute__((noreturn)) void enter_sandbox(const char *library, const char *program);
 
 /* Fails, in the sandbox, if a mount isn't kept from the command, or isn't what it was outside. */
 void check_mounts(void);

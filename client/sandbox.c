@@ -246,14 +246,14 @@ static void add_root(void) {
         add_stand_in(real);
 }
 
-static void compose(void) {
+static void compose(const char *library, const char *program) {
     add("bwrap");
     add_mounts();
     add_dev();
     add_sys();
     add_file("/proc/self/exe", MODEL_FOLDER "/launcher");
-    add_file(library_path, MODEL_FOLDER "/library.so");
-    add_file(program_path, MODEL_FOLDER "/device");
+    add_file(library, MODEL_FOLDER "/library.so");
+    add_file(program, MODEL_FOLDER "/device");
     if (options.is_root && geteuid() != 0)
         add_root();
     add_words("--unshare-pid --as-pid-1 --unshare-ipc --die-with-parent --chdir / %s %s -- " MODEL_FOLDER
@@ -270,7 +270,7 @@ static void write_map(const char *path, const char *format, unsigned number) {
 
 /* Becomes bwrap, which starts the launcher with its word, in a place where the machine's later mounts aren't
    seen. (The mounts that bwrap makes follow those that it finds, and a mount that came later wouldn't be nodev.) */
-void enter_sandbox(void) {
+void enter_sandbox(const char *library, const char *program) {
     unsigned user = geteuid(), group = getegid();
     if (unshare(CLONE_NEWNS) < 0) {
         must(unshare(CLONE_NEWUSER | CLONE_NEWNS), "no namespace can be made");
@@ -279,7 +279,7 @@ void enter_sandbox(void) {
         write_map("/proc/self/gid_map", "%u %u 1", group);
     }
     must(mount(NULL, "/", NULL, MS_REC | MS_PRIVATE, NULL), "mounts can't be private");
-    compose();
+    compose(library, program);
     execvp(words[0], words);
     if (errno == ENOENT)
         _exit(NOT_FOUND);
