@@ -17,7 +17,7 @@ enum { NOBODY = 65534, MOST_GROUPS = 65536, NO_USER = -1 };
 /* What a process may do with files. */
 struct identity {
     uint64_t rights; /* its capabilities, unless these are those of another user namespace */
-    size_t count;    /* of its groups, other than those without a number here, which give no rights here */
+    size_t count;    /* of its groups */
     uid_t user;
     gid_t group, groups[MOST_GROUPS];
 };
@@ -62,8 +62,7 @@ static int read_identity(pid_t process, struct identity *identity) {
         unsigned long number = strtoul(at, &end, 10);
         if (end == at)
             break;
-        if (number != NOBODY)
-            identity->groups[identity->count++] = (gid_t)number;
+        identity->groups[identity->count++] = (gid_t)number;
     }
     identity->rights = strtoull(rights + strlen("\nCapEff:"), NULL, 16);
     if (identity->rights != 0 && !has_own_users(process))
@@ -71,10 +70,16 @@ static int read_identity(pid_t process, struct identity *identity) {
     return 1;
 }
 
-/* (Where no process may change its groups, this one has them; and if it doesn't have the group itself, the kernel lets
-   it read nothing of the caller's.) */
+/* (A group without a number here gives no rights here. Where no process may change its groups, this one has them; and
+   if it doesn't have the group itself, the kernel lets it read nothing of the caller's.) */
 static int take_groups(const struct identity *identity) {
-    if (setgroups(identity->count, identity->groups) < 0 && errno != EPERM)
+    static gid_t known[MOST_GROUPS];
+    size_t count = 0;
+    int is_taken = setgroups(identity->count, identity->groups) == 0 || errno == EPERM;
+    for (size_t at = 0; at < identity->count && !is_taken; at++)
+        if (identity->groups[at] != NOBODY)
+            known[count++] = identity->groups[at];
+    if (!is_taken && setgroups(count, known) < 0)
         return -1;
     return setresgid(identity->group, identity->group, NO_USER) == 0 || identity->group == NOBODY ? 0 : -1;
 }

@@ -94,19 +94,15 @@ static int execute(struct call *call, int is_io, int is_wide) {
     return status;
 }
 
-/* Sets or finds a lock of a byte after all data, and returns what is there, or -1 if it can't be set. */
-static int lock(int file, int command, short type, off_t place) {
-    struct flock byte = {.l_type = type, .l_start = (off_t)1 << 62 | place, .l_len = 1};
-    return fcntl(file, command, &byte) < 0 ? -1 : byte.l_type;
-}
-
-/* (the file then has a lock as long as it is open, and no other file may have one; of two that get theirs at once,
-   maybe neither has claimed the device) */
+/* (the file then has a lock of a byte after all data as long as it is open, and no other file may have one; of two that
+   get theirs at once, maybe neither has claimed the device) */
 int claim(const struct call *call, int file) {
-    short type = (fcntl(file, F_GETFL) & O_ACCMODE) == O_RDONLY ? F_RDLCK : F_WRLCK;
-    off_t place = call->node.controller;
-    int is_alone = lock(file, F_OFD_SETLK, type, place) >= 0 && lock(file, F_OFD_GETLK, F_WRLCK, place) == F_UNLCK;
-    return is_alone ? 0 : -EBUSY;
+    struct flock byte = {.l_start = (off_t)1 << 62 | call->node.controller, .l_len = 1};
+    byte.l_type = (fcntl(file, F_GETFL) & O_ACCMODE) == O_RDONLY ? F_RDLCK : F_WRLCK;
+    if (fcntl(file, F_OFD_SETLK, &byte) < 0)
+        return -EBUSY;
+    byte.l_type = F_WRLCK;
+    return fcntl(file, F_OFD_GETLK, &byte) == 0 && byte.l_type == F_UNLCK ? 0 : -EBUSY;
 }
 
 /* Discards blocks, which are then zeros. */

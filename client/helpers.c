@@ -126,10 +126,8 @@ __attribute__((noreturn)) static void help(struct helper *helper) {
     self = helper;
     setsid();
     for (;;) {
-        if (!receive_call(&helper->notice)) {
+        while (!receive_call(&helper->notice))
             usleep(1000); /* (who made the call has ended, or all have) */
-            continue;
-        }
         __atomic_thread_fence(__ATOMIC_SEQ_CST); /* (of two that come at once, one sees the other) */
         if (!is_any_idle())
             eventfd_write(needed, 1);

@@ -92,10 +92,8 @@ static int open_found(struct call *call, int file, uint64_t flags, int is_length
     snprintf(place, sizeof place, "/proc/self/fd/%d", file);
     if (about.stx_ino == 0 || S_ISDIR(about.stx_mode))
         return NOT_OURS;
-    if (system_of(&about) == number_of(OF_SYS)) {
-        int is_read = !is_length && (flags & (O_ACCMODE | O_TRUNC)) == O_RDONLY;
-        return is_read ? NOT_OURS : is_length ? -EACCES : open_attribute(place, flags);
-    }
+    if (system_of(&about) == number_of(OF_SYS))
+        return (flags & (O_ACCMODE | O_TRUNC)) == O_RDONLY ? NOT_OURS : open_attribute(place, flags);
     if (!S_ISREG(about.stx_mode))
         return NOT_OURS;
     if (system_of(&about) != number_of(OF_DEV))
@@ -154,8 +152,9 @@ static int answer_openat2(struct call *call, const __u64 *words) {
     return find_and_open(call, (int)words[0], words[1], &how, 0);
 }
 
+/* (what is opened for reading and writing acts on nothing) */
 static int answer_truncate(struct call *call, const __u64 *words) {
-    return find_and_open(call, AT_FDCWD, words[0], &(struct open_how){.flags = O_WRONLY}, 1);
+    return find_and_open(call, AT_FDCWD, words[0], &(struct open_how){.flags = O_RDWR}, 1);
 }
 
 /* ---- calls that Linux refuses for a node, by its descriptor */

@@ -8,6 +8,7 @@
 #include <stdarg.h>
 #include <sys/mman.h>
 #include <sys/mount.h>
+#include <sys/param.h>
 
 /* Parts of the machine's /sys that the command sees, read-only. */
 static const char shown[] = "/sys/{devices/{system,virtual/{net,dmi}},fs/cgroup,kernel/mm,class/{net,dmi}}";
@@ -127,17 +128,14 @@ static int is_in(const char *folder, const char *path) {
 
 int is_replaced(const char *path) { return is_in("/dev", path) || is_in("/proc", path) || is_in("/sys", path); }
 
-/* Returns the most bytes of the model's files that describe nodes. (Few namespaces need less than the least number.) */
-static unsigned long long room_for_files(void) {
-    const unsigned long long least = 64 << 20;
-    return options.limit > least ? options.limit : least;
-}
+/* The limit of the model's files that describe nodes, if that of the data is less. (Few namespaces need less.) */
+enum { LEAST_ROOM = 64 << 20 };
 
 /* Adds folders of /run of the sandbox's own, if the machine has them: of udev, and of blkid, which remembers there what
    it has seen of nodes. (bwrap would make a folder that isn't there in the machine.) */
 static void add_run(void) {
     for (char **own = find("/run/{udev,blkid}"); *own; own++)
-        add_words("--size %llu --perms 0755 --tmpfs %s", room_for_files(), *own);
+        add_words("--size %llu --perms 0755 --tmpfs %s", MAX(options.limit, LEAST_ROOM), *own);
 }
 
 /* Looks at a path without asking a server, which might not answer. */
@@ -204,7 +202,7 @@ static void add_dev(void) {
 /* Adds a /sys with what tools read of the machine, among it its network interfaces, and the command's own /proc. */
 static void add_sys(void) {
     add_words("--size %llu --perms 0755 --tmpfs /sys --perms 0755 --dir /sys/fs --perms 0755 --dir " MODEL_FOLDER,
-              room_for_files());
+              MAX(options.limit, LEAST_ROOM));
     for (char **part = find(shown); *part; part++)
         add_below("--ro-bind-try", *part);
     for (char **interface = find("/sys/class/net/*"); *interface; interface++) {
