@@ -39,12 +39,15 @@ const char *read_about(pid_t process, const char *name, char *text, size_t room)
     return text;
 }
 
-/* Whether a process is in this user namespace. */
+/* Whether a process is in this user namespace, whose link in /proc has a text of its own. */
 static int has_own_users(pid_t process) {
-    char path[64];
+    static char own[PATH_MAX];
+    char path[64], its[PATH_MAX];
     snprintf(path, sizeof path, "/proc/%d/ns/user", process);
-    const uint64_t its = known_about(AT_FDCWD, path).stx_ino;
-    return its != 0 && its == known_about(AT_FDCWD, "/proc/self/ns/user").stx_ino;
+    read_link(path, its);
+    if (!*own)
+        read_link("/proc/self/ns/user", own);
+    return *its && strcmp(its, own) == 0;
 }
 
 /* (the owner of a process's folder in /proc is root if the process changed its user) */
@@ -210,20 +213,27 @@ int is_in_proc(int file) {
            system.f_type == PROC_SUPER_MAGIC;
 }
 
-static int are_same(int one, int other) {
-    const struct statx about = known_about(one, ""), about_other = known_about(other, "");
-    return about.stx_ino != 0 && about.stx_ino == about_other.stx_ino && about.stx_mnt_id == about_other.stx_mnt_id;
+static struct statx root_of(pid_t process) {
+    char path[64];
+    snprintf(path, sizeof path, "/proc/%d/root", process);
+    return known_about(AT_FDCWD, path);
+}
+
+static int are_same(const struct statx *one, const struct statx *other) {
+    return one->stx_mnt_id == other->stx_mnt_id && one->stx_ino == other->stx_ino;
 }
 
 /* Follows a path from a folder, which is closed, part by part, as the caller would: another process can't have the
    kernel do so, because nothing is at /proc/self for it, and because it has another root if the caller has one of its
    own. */
-static int walk(const struct call *call, int at, const char *path, const struct open_how *how, int root) {
+static int walk(const struct call *call, int at, const char *path, const struct open_how *how,
+                const struct statx *root) {
     char left[ROOM], *rest = strcpy(left, path), *name;
     int is_folder = 0;
     unsigned links = 0;
     while (at >= 0 && (name = strsep(&rest, "/"))) {
-        int before = at, is_top = strcmp(name, "..") == 0 && are_same(before, root);
+        const struct statx about = known_about(at, "");
+        int before = at, is_top = strcmp(name, "..") == 0 && are_same(&about, root);
         is_folder = !*name;
         if (is_folder)
             continue;
@@ -243,22 +253,22 @@ static int walk(const struct call *call, int at, const char *path, const struct 
 /* (the kernel resolves a path if its process has the command's root folder, but for links that only the process can
    follow) */
 int look_up(const struct call *call, int directory, const char *path, const struct open_how *given) {
-    const int is_below = (given->resolve & (RESOLVE_BENEATH | RESOLVE_IN_ROOT)) != 0;
+    static struct statx of_command;
+    const struct statx root = root_of(call->process);
     const struct open_how how = {.flags = O_PATH | O_CLOEXEC | (given->flags & (O_NOFOLLOW | O_DIRECTORY)),
                                  .resolve = given->resolve | RESOLVE_NO_MAGICLINKS};
+    const int is_below = (given->resolve & (RESOLVE_BENEATH | RESOLVE_IN_ROOT)) != 0;
     const char *left = is_below ? path : path + strspn(path, "/");
     char folder[32];
     snprintf(folder, sizeof folder, directory == AT_FDCWD ? "cwd" : "fd/%d", directory);
+    of_command = of_command.stx_ino == 0 ? root_of(process_one) : of_command;
     int start = open_about(call->process, *path == '/' && !is_below ? "root" : folder, O_PATH), file = -1;
-    int root = open_about(call->process, "root", O_PATH), of_command = open_about(process_one, "root", O_PATH);
-    int can_start = start >= 0 && root >= 0 && *path, is_same = are_same(root, of_command);
+    int can_start = start >= 0 && root.stx_ino != 0 && of_command.stx_ino != 0 && *path;
+    int is_same = are_same(&root, &of_command);
     if (can_start && is_same)
         file = (int)syscall(SYS_openat2, start, *left ? left : ".", &how, sizeof how);
     if (can_start && file < 0 && (!is_same || errno == ENOENT || (errno == ELOOP && given->resolve == 0)))
-        file = walk(call, start, left, given, root);
-    else
-        close(start);
-    close(root);
-    close(of_command);
+        return walk(call, start, left, given, &root);
+    close(start);
     return file;
 }

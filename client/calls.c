@@ -14,8 +14,11 @@
 enum { TO_DEVICE = 1, FROM_DEVICE = 2 };
 
 dev_t number_of(int is_sys) {
-    const struct statx about = known_about(AT_FDCWD, is_sys ? "/sys" : "/dev");
-    return system_of(&about);
+    static dev_t numbers[2];
+    struct stat about;
+    if (numbers[is_sys] == 0 && stat(is_sys ? "/sys" : "/dev", &about) == 0)
+        numbers[is_sys] = about.st_dev;
+    return numbers[is_sys];
 }
 
 void read_link(const char *link, char name[PATH_MAX]) {

@@ -27,7 +27,8 @@ static void add(unsigned code, size_t value, uint8_t left_out) {
 
 static void load(size_t at) { add(BPF_LD | BPF_W | BPF_ABS, at, 0); }
 
-/* Adds a table, whose rows are tried one after another. (Of an argument, 32 bits are tested.) */
+/* Adds a table, whose rows are tried one after another. (Of an argument, 32 bits are tested. The kernel doesn't run a
+   filter for a call that this allows by the number alone.) */
 static void add_rows(const struct decided_call *row) {
     static const uint32_t masks[] = {
         [EQUALS] = UINT32_MAX, [HAS_BITS] = UINT32_MAX, [HAS_TYPE] = _IOC_TYPEMASK << _IOC_TYPESHIFT};
@@ -35,10 +36,12 @@ static void add_rows(const struct decided_call *row) {
         for (const short *number = row->numbers; number == row->numbers || *number != 0; number++) {
             if (row->is_of_root && geteuid() != 0)
                 break;
-            add(BPF_JMP | BPF_JEQ | BPF_K, (size_t)*number, 5);
-            load(offsetof(struct seccomp_data, args) + 8 * row->test.argument);
-            add(BPF_ALU | BPF_AND | BPF_K, masks[row->test.kind], 0);
-            add(BPF_JMP | (row->test.kind == HAS_BITS ? BPF_JSET : BPF_JEQ) | BPF_K, row->test.value, 1);
+            add(BPF_JMP | BPF_JEQ | BPF_K, (size_t)*number, row->test.kind == ALWAYS ? 2 : 5);
+            if (row->test.kind != ALWAYS) {
+                load(offsetof(struct seccomp_data, args) + 8 * row->test.argument);
+                add(BPF_ALU | BPF_AND | BPF_K, masks[row->test.kind], 0);
+                add(BPF_JMP | (row->test.kind == HAS_BITS ? BPF_JSET : BPF_JEQ) | BPF_K, row->test.value, 1);
+            }
             add(BPF_RET | BPF_K, row->action, 0);
             load(offsetof(struct seccomp_data, nr));
         }

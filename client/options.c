@@ -137,24 +137,24 @@ void fail_by_number(const char *name) {
     fail("%s", name);
 }
 
-/* (getopt_long returns 1 for each option of the list, and says what is wrong with others) */
+/* (each option has a number behind the characters, and getopt_long says what is wrong with others) */
 int read_options(int count, char **arguments) {
     struct option list[ROWS + 1] = {{0}};
-    int result, at;
-    for (at = 0; at < ROWS; at++) {
+    int number;
+    for (int at = 0; at < ROWS; at++) {
         const char *argument = rows[at].argument;
         int kind = !argument ? no_argument : *argument == '[' ? optional_argument : required_argument;
-        list[at] = (struct option){rows[at].name, kind, NULL, 1};
+        list[at] = (struct option){rows[at].name, kind, NULL, UCHAR_MAX + 1 + at};
     }
-    while ((result = getopt_long(count, arguments, "+", list, &at)) == 1) {
-        option = rows + at;
+    while ((number = getopt_long(count, arguments, "+", list, NULL)) > UCHAR_MAX) {
+        option = rows + (number - UCHAR_MAX - 1);
         const char *reason = option->set      ? option->set(optarg)
                              : option->number ? set_number(optarg ?: "1")
                                               : "this can only be the first word";
         if (reason)
             fail("--%s%s%s: %s" SEE_HELP, option->name, optarg ? " " : "", optarg ?: "", reason);
     }
-    if (result >= 0) {
+    if (number >= 0) {
         fprintf(stderr, "%s\n", SEE_HELP + 1);
         exit(FAILED);
     }
