@@ -97,17 +97,6 @@ static int execute(struct call *call, int is_io, int is_wide) {
     return status;
 }
 
-/* (the file then has a lock of a byte after all data as long as it is open, and no other file may have one; of two that
-   get theirs at once, maybe neither has claimed the device) */
-int claim(const struct call *call, int file) {
-    struct flock byte = {.l_start = (off_t)1 << 62 | call->node.controller, .l_len = 1};
-    byte.l_type = (fcntl(file, F_GETFL) & O_ACCMODE) == O_RDONLY ? F_RDLCK : F_WRLCK;
-    if (fcntl(file, F_OFD_SETLK, &byte) < 0)
-        return -EBUSY;
-    byte.l_type = F_WRLCK;
-    return fcntl(file, F_OFD_GETLK, &byte) == 0 && byte.l_type == F_UNLCK ? 0 : -EBUSY;
-}
-
 /* Discards blocks, which are then zeros. */
 static int discard(const struct call *call, uint64_t size, uint64_t block) {
     const int punched = FALLOC_FL_PUNCH_HOLE | FALLOC_FL_KEEP_SIZE;

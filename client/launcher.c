@@ -151,22 +151,20 @@ void keep_as(int number, int file, const char *name) {
         close(file);
 }
 
-/* Opens a file, as the caller sees it, with a number of its own. */
+/* Opens a file of an option, as the caller sees it, with a number of its own. */
 static void open_as(int number, const char *path, int flags) {
     keep_as(number, open(path, flags | O_NOCTTY, 0666), path);
+    check_file(number, path);
 }
 
 static void open_files(void) {
-    open_as(HERE, ".", O_PATH);
-    open_as(WORDS, "/proc/self/cmdline", O_RDONLY);
-    for (unsigned at = 0; at < options.subsystem_count; at++) {
+    keep_as(HERE, open(".", O_PATH), ".");
+    keep_as(WORDS, open("/proc/self/cmdline", O_RDONLY), "/proc/self/cmdline");
+    for (unsigned at = 0; at < options.subsystem_count; at++)
         open_as(FILES + (int)at, options.subsystems[at], O_RDONLY);
-        check_file(FILES + (int)at, options.subsystems[at]);
-    }
     if (!options.trace_file)
         return;
     open_as(TRACE_TO, options.trace_file, O_WRONLY | O_CREAT);
-    check_file(TRACE_TO, options.trace_file);
     if (ftruncate(TRACE_TO, 0) < 0 && errno != EINVAL)
         fail_by_errno(options.trace_file);
 }

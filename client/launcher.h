@@ -251,10 +251,6 @@ void finish_call(const union notice *notice, int result);
 /* Finds the node that the file of a call is, and how it was opened, or returns 0. */
 int find_node(struct call *call);
 
-/* Claims a block device for a file that is opened with O_EXCL, and returns 0, or an error's number as a negative
-   one. */
-int claim(const struct call *call, int file);
-
 /* Returns the number of the file system in which nodes are, or the model's files of /sys. */
 enum { OF_DEV, OF_SYS };
 dev_t number_of(int is_sys);

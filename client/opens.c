@@ -63,6 +63,18 @@ static int open_character(const char *place, uint64_t flags) {
     return file < 0 ? -error : file;
 }
 
+/* Claims a block device for a file that is opened with O_EXCL, and returns 0, or an error's number as a negative one.
+   (The file then has a lock of a byte after all data as long as it is open, and no other file may have one; of two that
+   get theirs at once, maybe neither has claimed the device.) */
+static int claim(const struct call *call, int file) {
+    struct flock byte = {.l_start = (off_t)1 << 62 | call->node.controller, .l_len = 1};
+    byte.l_type = (fcntl(file, F_GETFL) & O_ACCMODE) == O_RDONLY ? F_RDLCK : F_WRLCK;
+    if (fcntl(file, F_OFD_SETLK, &byte) < 0)
+        return -EBUSY;
+    byte.l_type = F_WRLCK;
+    return fcntl(file, F_OFD_GETLK, &byte) == 0 && byte.l_type == F_UNLCK ? 0 : -EBUSY;
+}
+
 /* Opens a node as the caller could, but doesn't truncate it. (Linux 6.6 and later open files in memory for direct
    access. The library tells by this flag which writes fail. With O_TMPFILE, the C library wants a mode.) */
 static int open_node(const struct call *call, const char *place, uint64_t flags) {
