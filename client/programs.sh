@@ -6,7 +6,7 @@ flags='-O2 -g0 -pthread -Wall -Wextra -Wshadow -U_FORTIFY_SOURCE -D_FORTIFY_SOUR
     -fstack-clash-protection -Wl,-z,relro,-z,now'
 of_program='-fPIE -pie'
 of_library='-fPIC -shared'
-launcher='launcher relay nodes sysfs sandbox calls caller filter helpers io refuse device inherited command options
+launcher='launcher nodes sysfs sandbox calls caller filter helpers io refuse device inherited command options
     opens names lists'
 preloaded='library'
 qemu='qemu messages function memory proxy vfio_user drive queues volumes'

@@ -135,11 +135,10 @@ class Refused(EachUser):
                   'part = struct.pack("iiiiQ", 1, 0, 152, 0, ctypes.addressof(room))\n'
                   'for request in 0x125f, 0x1269, 0x1275, 0x1262, 0x1264:\n'
                   '    print(told(fcntl.ioctl, file, request, part))\n'
-                  'print(told(fcntl.ioctl, file, 0x1269, bytes(24)))\n'
                   'print(open("/sys/block/nvme0n1/ext_range").read().strip())')
         for user in USERS:
             ended = run(*user, *self.command('python3', '-c', 'import ctypes, errno, os\n' + script))
-            self.ends(ended, 0, b'0\n' + b'EINVAL\n' * 3 + b'ENOTTY\n' * 2 + b'EFAULT\n1\n', b'')
+            self.ends(ended, 0, b'0\n' + b'EINVAL\n' * 3 + b'ENOTTY\n' * 2 + b'1\n', b'')
         self.ends(self.shell('echo x > /dev/nvme0n1; for c in "--rereadpt" "--setra 64"; do '
                              'blockdev $c /dev/nvme0n1 2> /dev/null; echo $?; done; '
                              'nvme format /dev/nvme0n1 -l 1 -f'), 0,

@@ -70,7 +70,8 @@ for number, flags in (56, 0x02000011), (272, 0x02000000), (56, 0x12000011), (272
 PRIORITIES = '''import ctypes, os
 call = ctypes.CDLL(None, use_errno=True).syscall
 for number, which, value in (141, 1, 19), (251, 2, 2 << 13 | 6):
-    print(call(number, which, 0, value), ctypes.get_errno())
+    for group in 0, ctypes.c_ulong(1 << 32):  # (Linux reads 32 bits)
+        print(call(number, which, group, value), ctypes.get_errno())
 print(os.getpriority(os.PRIO_PROCESS, 0), call(252, 1, 0))
 os.setpgid(0, 0)
 for group in 0, os.getpid():
@@ -206,7 +207,7 @@ class Outside(ModelCase):
         # the caller's process group has processes outside, whose priorities stay
         outside = 'sleep 1000 & "$@"; cut -d " " -f 19 /proc/$!/stat; ionice -p $!; kill $!'
         by_old = 'for call in "97 1 0 19" "289 2 0 16390"; do "$1" $call; done'
-        ways = [(('python3', '-c', PRIORITIES), '0 0\n0 0\n19 16390\n0 0\n0 0\n')]
+        ways = [(('python3', '-c', PRIORITIES), '0 0\n0 0\n0 0\n0 0\n19 16390\n0 0\n0 0\n')]
         if run(helper('old', '-O1'), '20').status == 0:
             ways.append((('sh', '-c', by_old, 'sh', helper('old', '-O1')), '0\n0\n'))
         for user in USERS:
