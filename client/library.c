@@ -300,8 +300,7 @@ static size_t count_of(char *const *environment, const char **preloaded) {
 
 /* Copies an environment, with the library before all other preloaded libraries. */
 static void keep(char *const *from, const char *before, char **kept, char *preload) {
-    int is_there = strstr(before, LIBRARY) != NULL;
-    sprintf(preload, PRELOAD "%s%s%s", is_there ? "" : LIBRARY, is_there || !*before ? "" : ":", before);
+    sprintf(preload, PRELOAD "%s%s", strstr(before, LIBRARY) ? "" : LIBRARY ":", before);
     for (; from && *from; from++)
         if (strncmp(*from, PRELOAD, strlen(PRELOAD)) != 0)
             *kept++ = *from;
