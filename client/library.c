@@ -47,9 +47,9 @@ static int fails_by(int number) {
     return -1;
 }
 
-/* Returns whether a file is a node, or -1 with ENXIO if the node's device is gone. (It is in /dev, or has no name any
-   more.) */
-static int is_node(int file, const struct stat *about, struct node *node) {
+/* Returns the kind of a node, 0 if a file is none, or -1 with ENXIO if its device is gone. (It is in /dev, or has no
+   name any more.) */
+static int look_at(int file, const struct stat *about, struct node *node) {
     int before = errno, result;
     if (!S_ISREG(about->st_mode) || (about->st_dev != dev.st_dev && about->st_nlink != 0))
         return 0;
@@ -58,7 +58,7 @@ static int is_node(int file, const struct stat *about, struct node *node) {
     if (result < 0 && errno == ENXIO)
         return -1;
     errno = before;
-    return result == 0;
+    return result == 0 ? node->kind : 0;
 }
 
 /* A shell gives its terminal back to the group that had it, even to one outside of the sandbox, which has no number. */
@@ -72,10 +72,10 @@ PUBLIC int tcsetpgrp(int file, pid_t group) {
 /* Describes a file as the device for which it stands, if it is a node, and returns what the call returns. */
 static int describe(int file, struct stat *about) {
     struct node node;
-    int found = is_node(file, about, &node);
-    if (found <= 0)
-        return found;
-    about->st_mode = (about->st_mode & 07777 & ~READ_ONLY) | (node.kind == 'b' ? S_IFBLK : S_IFCHR);
+    int kind = look_at(file, about, &node);
+    if (kind <= 0)
+        return kind;
+    about->st_mode = (about->st_mode & 07777 & ~READ_ONLY) | (kind == 'b' ? S_IFBLK : S_IFCHR);
     about->st_rdev = makedev(major_of(node.kind), minor_of(node.kind, node.controller, node.number));
     about->st_size = about->st_blocks = 0;
     about->st_nlink = 1;
@@ -141,19 +141,18 @@ PUBLIC struct dirent *readdir(DIR *directory) {
 /* ---- calls that write: a namespace's block device doesn't grow, so a write stops at its end, and a write after the
    end finds no space; a character device takes no bytes */
 
-/* Returns the kind of a node, 0 if a file is none, or -1 if its device is gone. (The number of the last block device's
-   file is stored. No other file gets it.) */
+/* Returns the same, with what the file is. (The number of the last block device's file is stored. No other file gets
+   it.) */
 static int kind_of(int file, struct stat *about) {
     static _Atomic ino_t known;
     struct node node;
     if (NEXT(fstat)(file, about) < 0)
         return 0;
-    if (S_ISREG(about->st_mode) && about->st_dev == dev.st_dev && about->st_ino == known)
-        return 'b';
-    int found = is_node(file, about, &node);
-    if (found > 0 && node.kind == 'b' && about->st_dev == dev.st_dev)
+    int is_known = about->st_dev == dev.st_dev && about->st_ino == known;
+    int kind = is_known ? 'b' : look_at(file, about, &node);
+    if (kind == 'b' && about->st_dev == dev.st_dev)
         known = about->st_ino;
-    return found > 0 ? node.kind : found;
+    return kind;
 }
 
 /* Writes to a node what is before its end: all pieces, or a part of the first one, because a write may be short. (The
@@ -244,9 +243,8 @@ PUBLIC off_t lseek(int file, off_t by, int from) {
     PUBLIC int name(int file) { \
         struct stat about; \
         int kind = kind_of(file, &about); \
-        if (kind == 0 || (kind == 'b' && about.st_size > 0)) \
-            return NEXT(name)(file); \
-        return kind < 0 ? -1 : fails_by(kind == 'b' ? EIO : EINVAL); \
+        int is_safe = kind == 0 || (kind == 'b' && about.st_size > 0); \
+        return is_safe ? NEXT(name)(file) : kind < 0 ? -1 : fails_by(kind == 'b' ? EIO : EINVAL); \
     }
 
 SYNCS(fsync)
@@ -300,8 +298,7 @@ static size_t count_of(char *const *environment, const char **preloaded) {
 
 /* Copies an environment, with the library before all other preloaded libraries. */
 static void keep(char *const *from, const char *before, char **kept, char *preload) {
-    int is_there = strstr(before, LIBRARY) != NULL;
-    sprintf(preload, PRELOAD "%s%s%s", is_there ? "" : LIBRARY, is_there || !*before ? "" : ":", before);
+    sprintf(preload, PRELOAD "%s%s", strstr(before, LIBRARY) ? "" : LIBRARY ":", before);
     for (; from && *from; from++)
         if (strncmp(*from, PRELOAD, strlen(PRELOAD)) != 0)
             *kept++ = *from;

@@ -1,6 +1,7 @@
 /* The names that nobody makes, removes or gives to something else: all in the model's /sys, and those of its nodes in
    /dev. None of this is proved. */
 #include "launcher.h"
+#include <libgen.h>
 #include <linux/openat2.h>
 #include <sys/syscall.h>
 
@@ -9,13 +10,10 @@ enum place { NOT_KEPT, OF_NODE, IN_SYS, OF_LOG };
 
 /* Finds the folder of a name as the caller would, and returns what the name is, and whether it is there. */
 static enum place find_place(const struct call *call, int directory, char *path, int *is_there) {
-    char folder[PATH_MAX + 1];
+    char copy[PATH_MAX];
     enum place place = NOT_KEPT;
     struct node node;
-    for (size_t length = strlen(path); length > 1 && path[length - 1] == '/';)
-        path[--length] = '\0';
-    const char *name = strrchr(path, '/') ? strrchr(path, '/') + 1 : path;
-    snprintf(folder, sizeof folder, "%.*s.", (int)(name - path), path);
+    const char *folder = dirname(strcpy(copy, path)), *name = basename(path);
     int file = look_up(call, directory, folder, &(struct open_how){.flags = O_PATH | O_DIRECTORY});
     const struct statx about = known_about(file, ""), dev = known_about(AT_FDCWD, "/dev");
     if (file >= 0 && system_of(&about) == number_of(OF_SYS))

@@ -144,9 +144,10 @@ static int make_file(mode_t mode, ino_t *inode) {
     return file;
 }
 
-/* Makes the file for the data of a namespace. */
-static void make_data(struct volume *volume) {
+/* Makes the files of a namespace. */
+static void make_files(struct volume *volume) {
     volume->file = make_file(0660, &volume->inode);
+    volume->generic = make_file(0600, &volume->generic_inode);
     volume->is_read_only = 0;
 }
 
@@ -159,7 +160,7 @@ static void leave_files(unsigned controller, uint32_t nsid) {
     volume->file = volume->generic = 0;
     volume->number = 0;
     if (volume->power != 0) {
-        make_data(volume);
+        make_files(volume);
         move_data(left->file, volume->file);
     }
     left->power = 0;
@@ -183,9 +184,7 @@ static void make_node(char kind, unsigned controller, uint32_t nsid) {
 static void put(unsigned controller, uint32_t nsid) {
     struct volume *volume = volume_at(controller, nsid);
     if (volume->file <= 0)
-        make_data(volume);
-    if (volume->generic <= 0)
-        volume->generic = make_file(0600, &volume->generic_inode);
+        make_files(volume);
     set_length(volume);
     shown[controller][nsid] = 1;
     show(BLOCK, controller, nsid);

@@ -9,30 +9,26 @@
    folder that was made last. */
 extern char sys_text[];
 __asm__(".data\nsys_text: .incbin \"sys.txt\"\n.byte 0\n.previous");
-enum { MOST_LINES = 512, MOST_TEXT = 4096, MOST_BYTES = 8192 };
+enum { MOST_LINES = 512, MOST_TEXT = 2048, MOST_BYTES = 8192 };
 static struct line {
     const char *name, *text;
-    char mark;  /* what is before the text, or none (0) */
-    char *last; /* the text in the folder of this kind that was made last, or NULL */
+    char mark;            /* what is before the text, or none (0) */
+    char last[MOST_TEXT]; /* the text in the folder of this kind that was made last */
 } lines[MOST_LINES];
 static struct folder {
     struct line *lines;
     int last;
 } folders[PARTS];
 
-/* Whether the sandbox has records of udev of its own, because nothing is put into the machine's /run. */
-static int has_records(void) {
-    struct stat run, own;
-    return stat("/run", &run) == 0 && stat("/run/udev", &own) == 0 && run.st_dev != own.st_dev;
-}
-
-/* Reads the lines, among which the folders have the order of the parts. */
+/* Reads the lines, among which the folders have the order of the parts. (Nothing is put into the machine's /run, which
+   the sandbox has if there is none of its own for udev.) */
 static void read_lines(void) {
-    const int skips_records = !has_records();
+    struct stat run, own;
+    int has_own = stat("/run", &run) == 0 && stat("/run/udev", &own) == 0 && run.st_dev != own.st_dev;
     struct folder *folder = folders;
     struct line *line = lines;
     for (char *rest = sys_text, *at; (at = strsep(&rest, "\n"));) {
-        if (*at == '#' || (skips_records && strncmp(at, "/run/", 5) == 0))
+        if (*at == '#' || (strncmp(at, "/run/", 5) == 0 && !has_own))
             continue;
         if (*at == '[')
             (folder++)->lines = line;
@@ -47,7 +43,7 @@ static void read_lines(void) {
 
 static struct value {
     const char *name;
-    char text[2048];
+    char text[MOST_TEXT];
 } values[64];
 
 /* What Identify Controller says of each controller. */
@@ -219,13 +215,10 @@ void show(enum part part, unsigned number, uint32_t nsid) {
     for (; *line->name && at >= 0; line++) {
         expand(name, sizeof name, line->name);
         expand(text, sizeof text, line->text);
-        int is_same = *name != '/' && line->last && strcmp(text, line->last) == 0;
+        int is_same = *name != '/' && folder->last > 0 && strcmp(text, line->last) == 0;
         if (!is_same || linkat(folder->last, name, at, name, 0) < 0)
             put(at, name, line->mark, text);
-        if (!is_same) {
-            free(line->last);
-            line->last = strdup(text);
-        }
+        strcpy(line->last, text);
     }
     if (folder->last > 0)
         close(folder->last);
@@ -240,7 +233,7 @@ static int is_link_to(const char *name, const char *text) {
 
 /* (what a folder has elsewhere is removed first, as it comes last, but for links that another folder has made) */
 void hide(enum part part, unsigned number, uint32_t nsid) {
-    char path[PATH_MAX], name[PATH_MAX], text[PATH_MAX];
+    char path[PATH_MAX], name[PATH_MAX], text[MOST_TEXT];
     struct line *const lines_of = set_values(part, number, nsid, path), *line = lines_of;
     int at = open(path, O_PATH | O_DIRECTORY | O_NOFOLLOW | O_CLOEXEC);
     while (*line->name)
