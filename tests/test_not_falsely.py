@@ -178,6 +178,12 @@ class Refused(EachUser):
                    'nvme io-passthru /dev/nvme0n1 -n 1 -o 2 -r -l $size --cdw12=$c 2>&1 | grep -c "Invalid argument"; '
                    'done; done', b'16\n' + b'0\n0\n' * 3 + b'1 Invalid argument\n1\n' * 3)
 
+    def test_hints_about_blocks(self):
+        # only a command that says so deallocates blocks
+        self.gives('echo kept > /dev/nvme0n2; for how in --idr --idw --ad; do '
+                   'nvme dsm /dev/nvme0n2 $how --slbs 0 --blocks 9; head -c 4 /dev/nvme0n2 | tr "\\0" 0; done',
+                   b'NVMe DSM: success\nkept' * 2 + b'NVMe DSM: success\n0000')
+
     def test_what_grew_is_told(self):
         # by what the library doesn't see: a stream of the C library, and a program that makes its calls itself
         for script in 'seq 2000 > /dev/nvme0n2; ', 'busybox sh -c "seq 2000 > /dev/nvme0n2"; ':

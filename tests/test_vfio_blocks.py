@@ -3,7 +3,7 @@ standard."""
 
 import struct
 
-from tests.as_client import RESET
+from tests.as_client import BAR, REGION_WRITE, RESET, WANTS_NONE
 from tests.blocks import (
     ABORT, ATTACH, DELETE_COMPLETIONS, DELETE_SUBMISSIONS, FLUSH, FORMAT, GET_FEATURES, GET_LOG, INVALID_DELETION,
     INVALID_FIELD, INVALID_NAMESPACE, INVALID_QUEUE, INVALID_SIZE, INVALID_VECTOR, MANAGE, NOT_OF_NAMESPACE,
@@ -12,6 +12,7 @@ from tests.blocks import (
 from tests.driver import (
     CC, CSTS, ENABLED, HEAD, IDENTIFY, INVALID_OFFSET, NOWHERE, PAGE, TAIL, TRANSFER_ERROR, counter, is_raised)
 from tests.served import EVERY, GIBIBYTE
+from tests.support import DEMO
 
 
 class Queues(Blocks):
@@ -108,6 +109,27 @@ class Queues(Blocks):
         drive.set_register(0x1004 + 8 * 9, drive.completions[9][2])
         self.assertEqual([drive.take_io(9)[0] for _ in range(6)], [4, 5, 6, 7, 8, 9])
 
+    def test_turns(self):
+        # queues take turns, and an entry waits for no more than one of each other queue
+        drive = self.drive(pairs=0)
+        drive.at(8 * PAGE, PAGE)[:] = bytes(PAGE)
+        self.assertEqual(drive.create_completions(1, 8 * PAGE, 100), 0)
+        for number in 1, 2:
+            self.assertEqual(drive.create_submissions(number, (8 + number) * PAGE, 64, completions=1), 0)
+        for turn in range(40):
+            drive.put_io(1, block_entry(FLUSH, 1, identifier=turn), rings=False)
+        for turn in range(3):
+            drive.put_io(2, block_entry(FLUSH, 1, identifier=100 + turn), rings=False)
+        # (both doorbells come at once)
+        tails = [struct.pack('<HHIIIQIII', number, REGION_WRITE, 36, WANTS_NONE, 0, 0x1000 + 8 * number, BAR, 4, tail)
+                 for number, tail in ((1, 40), (2, 3))]
+        drive.socket.sendall(b''.join(tails))
+        self.sleeps()
+        queues = [drive.take_io(1)[2] for _ in range(43)]
+        first = queues.index(2)
+        self.assertLess(first, 18)
+        self.assertEqual(queues[first:first + 5], [2, 1, 2, 1, 2])
+
     def test_interrupts(self):
         # one message for each completion that is taken alone, and none for a queue that is deleted
         drive = self.drive()
@@ -174,6 +196,24 @@ class Queues(Blocks):
         self.assertEqual(second.load(1, 6, 1), b'two!' * 128)
 
 
+def event(drive):
+    """Takes an event of the admin queue, and returns its command identifier, dword 0 and status, if there is one."""
+    drive.register(0)
+    dword0, identifier, status = struct.unpack('<I8xHH', drive.at(drive.rings[1] + 16 * drive.head, 16))
+    if status & 1 != drive.phase:
+        return None
+    drive.head, drive.phase = (drive.head + 1, drive.phase) if drive.head < 15 else (0, 1 - drive.phase)
+    drive.set(HEAD, drive.head)
+    return identifier, dword0, status >> 1
+
+
+def request(drive):
+    """Requests an event, and returns the command identifier."""
+    drive.put(REQUEST_EVENT)
+    drive.taken += 1
+    return (drive.tail - 1) % 16 + 100
+
+
 class Commands(Blocks):
     def test_identify(self):
         # what Identify Controller says of what a drive has beside the controller
@@ -234,21 +274,6 @@ class Commands(Blocks):
             status = drive.status_of(GET_LOG, 2 * PAGE, nsid=EVERY, dword10=4 | keeps << 15 | 1023 << 16)
             self.assertEqual(status, 0)
             return [number for number in struct.unpack('<1024I', drive.at(2 * PAGE, PAGE)) if number]
-
-        def event(drive):
-            """Takes an event of the queue, and returns its command identifier, dword 0 and status, if there is one."""
-            drive.register(0)
-            dword0, identifier, status = struct.unpack('<I8xHH', drive.at(drive.rings[1] + 16 * drive.head, 16))
-            if status & 1 != drive.phase:
-                return None
-            drive.head, drive.phase = (drive.head + 1, drive.phase) if drive.head < 15 else (0, 1 - drive.phase)
-            drive.set(HEAD, drive.head)
-            return identifier, dword0, status >> 1
-
-        def request(drive):
-            drive.put(REQUEST_EVENT)
-            drive.taken += 1
-            return (drive.tail - 1) % 16 + 100
         bell = second.counters()[1]
         held = [request(second) for _ in range(4)]
         self.assertIsNone(event(second))
@@ -302,3 +327,21 @@ class Commands(Blocks):
         first.enable()
         self.assertEqual(self.attach(first, 1, [1]), 0)
         self.assertEqual(log(first), [])
+
+    def test_saved_wish_for_events(self):
+        # a controller that was reset tells of changes if the host has saved that it wants to know
+        feature = b'[[controller.feature]]\nfid = 11\nsaveable = true\n\n[[controller]]\ncntlid = 1'
+        self.stop(self.server)
+        self.server = self.start('--subsystem', self.file('wish.toml', DEMO.read_bytes().replace(
+            b'[[controller]]\ncntlid = 1', feature)))
+        drive = self.drive(pairs=0)
+        for dword10, dword11, is_told in ((0xb, 0x100, False), (0xb | 1 << 31, 0x100, True), (0xb, 0, True),
+                                          (0xb | 1 << 31, 0, False)):
+            self.assertEqual(drive.status_of(SET_FEATURES, dword10=dword10, dword11=dword11), 0)
+            drive.at(PAGE, PAGE)[:] = bytes(PAGE)
+            drive.enable()
+            self.assertEqual(drive.dword0_of(GET_FEATURES, dword10=0xb), 0x100 * is_told)
+            held = request(drive)
+            self.create(drive, 8)
+            self.assertEqual(event(drive), (held, 0x0004_0002, 0) if is_told else None)
+            self.assertEqual(drive.status_of(MANAGE, nsid=2, dword10=1), 0)

@@ -118,11 +118,15 @@ class Data(Blocks):
         self.assertEqual(self.create(drive, 64), nsid)
         self.assertEqual(drive.load(nsid, 0, 64), bytes(64 * 512))
         # all at once
-        for each in 1, nsid:
+        for each in 1, 3, nsid:
             self.assertEqual(drive.store(each, 0, b'data' * 128), 0)
+        # (but those that aren't attached to the controller)
+        self.assertEqual(self.attach(drive, 3, [0], detach=1), 0)
         self.assertEqual(drive.status_of(FORMAT, nsid=EVERY, dword10=0), 0)
+        self.assertEqual(self.attach(drive, 3, [0]), 0)
         for each in 1, nsid:
             self.assertEqual(drive.load(each, 0, 1), bytes(512))
+        self.assertEqual(drive.load(3, 0, 1), b'data' * 128)
         self.assertEqual(drive.status_of(MANAGE, nsid=EVERY, dword10=1), 0)
         self.assertEqual(drive.io(READ, 1, 0, 1, 40 * PAGE), INVALID_NAMESPACE)
 
@@ -153,8 +157,10 @@ class Data(Blocks):
         self.assertEqual(drive.store(1, 64, data[::-1]), 0)
         self.assertEqual(drive.store(1, 100, data), NO_CAPACITY)
         self.assertEqual(drive.load(1, 0, 128), data + data[::-1])
-        # a format gives it back
+        # a format gives it back, and commands that are refused take none
         self.assertEqual(drive.status_of(FORMAT, nsid=1), 0)
+        for first, count in (2000, 128), (2048, 64), (1 << 40, 1), (0, 65536):
+            self.assertIn(drive.io(WRITE, 1, first, count, 32 * PAGE, 14 * PAGE), (INVALID_FIELD, OUT_OF_RANGE))
         self.assertEqual(drive.store(1, 100, data), 0)
         for words in ('--data-limit', ''), ('--data-limit', '5X'), ('--data-limit', '-1'), ('--data-limit', '1KK'):
             self.assertEqual(run(program(*SANITIZERS), '--vfio-user', '--socket', self.path, *words).status, 72)
@@ -177,6 +183,13 @@ class Data(Blocks):
             self.ends(said, 72, b'', f'nvme-model: {place}/subsystem0.namespace1 is in use, or not a file\n'.encode())
             self.assertEqual(drive.status_of(MANAGE, nsid=nsid, dword10=1), 0)
             self.assertEqual(sorted(os.listdir(place)), [f'subsystem0.namespace{at}' for at in (1, 3)])
+            # (a file that someone else made isn't the data of a new namespace)
+            foreign = place / 'subsystem0.namespace2'
+            foreign.write_bytes(b'foreign')
+            nsid = self.create(drive, 8)
+            self.assertEqual(drive.io(WRITE, nsid, 0, 1, 32 * PAGE), INVALID_NAMESPACE)
+            self.assertEqual(foreign.read_bytes(), b'foreign')
+            foreign.unlink()
             drive.close()
             if turn % 2:
                 self.kill()
@@ -197,6 +210,21 @@ class Data(Blocks):
             path.unlink()
         self.server = self.start('--data', place)
         self.assertEqual(self.drive().load(1, 7, 1), bytes(512))
+
+    def test_folder_of_a_start_that_fails(self):
+        # nothing is made in the folder, whatever the start fails for
+        place = self.folder / 'kept'
+        place.mkdir()
+        later, broken = place / 'subsystem0.namespace3', self.file('broken.toml', b'version = 1\n')
+        for make, words in ((lambda: later.write_bytes(b'x'), ()), (lambda: os.mkfifo(later), ()),
+                            (lambda: None, ('--subsystem', DEMO, '--subsystem', broken)),
+                            (lambda: None, ('--socket', f'{self.path}{"x" * 108}'))):
+            make()
+            before = os.listdir(place)
+            said = run(program(*SANITIZERS), '--vfio-user', '--socket', f'{self.path}x', '--data', place, *words)
+            self.assertEqual(said.status, 72, said)
+            self.assertEqual(os.listdir(place), before, said)
+            later.unlink(missing_ok=True)
 
     def test_lost_data(self):
         # a file that another program cuts is fatal for a controller that uses what is lost, and for nobody else

@@ -210,6 +210,17 @@ class Waiting(Served):
         self.stop(self.server)
         self.server = self.start()
 
+    def test_what_receivers_have(self):
+        # a receiver keeps neither memory of another guest nor data, which would outlast them
+        first, second = self.guest(0), self.guest(1)
+        first.enable()
+        self.assertEqual((first.serial(), second.config(0)), ('S0', 0x0010_1b36))
+        self.assertIn('memfd:', pathlib.Path(f'/proc/{self.server.process.pid}/maps').read_text())
+        for number in self.receivers():
+            self.assertNotIn('memfd:', pathlib.Path(f'/proc/{number}/maps').read_text())
+            self.assertFalse([name for name in os.listdir(f'/proc/{number}/fd')
+                              if 'memfd:' in os.readlink(f'/proc/{number}/fd/{name}')])
+
     def receivers(self):
         """Returns the processes of the server that take descriptors."""
         number = self.server.process.pid
