@@ -10,5 +10,4 @@ launcher='launcher relay nodes sysfs sandbox calls caller filter helpers io refu
     opens names lists'
 preloaded='library'
 qemu='qemu messages function memory proxy vfio_user drive queues volumes'
-vm='vm vm_streams'
-vm_guest='vm_guest vm_streams'
+vm_guest='vm_guest'
