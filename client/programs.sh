@@ -10,5 +10,4 @@ launcher='launcher nodes sysfs sandbox calls caller filter helpers io refuse dev
     opens names lists supplied'
 preloaded='library'
 qemu='qemu messages function memory proxy vfio_user drive queues volumes supplied'
-vm='vm vm_streams'
-vm_guest='vm_guest vm_streams'
+vm_guest='vm_guest'

@@ -1,15 +1,16 @@
 """Stands for lib/nvme-model/qemu and its machine in the tests of `nvme-model --vm`: does the guest's part over the
-descriptors that QEMU would inherit. The variable MACHINE names what it does."""
+descriptors that QEMU would inherit, as its arguments say. The variable MACHINE names what it does."""
 
 import contextlib
 import os
+import re
 import signal
 import struct
 import sys
 import threading
 import time
 
-INPUT, OUTPUT, ERRORS, TERMINAL, MESSAGES = range(201, 206)
+INPUT, OUTPUT, ERRORS, TERMINAL, MESSAGES = PORTS = [*map(int, re.findall(r',fd=(\d+)', ' '.join(sys.argv)))]
 BEGUN, STOPPED, ENDED, UNREAD, ALIVE, SIGNAL, SIGNAL_GROUP, SIZE, CONTINUE, FINISH = range(10)
 MOST = 32 * 1024 - 4
 
@@ -99,6 +100,23 @@ def is_silent():
     time.sleep(10000)
 
 
+def needs_emulation():
+    """Is silent by KVM, and otherwise tells how it was started."""
+    how = sys.argv[sys.argv.index('-accel') + 1]
+    if how == 'kvm':
+        is_silent()
+    tell(ALIVE)
+    tell(BEGUN)
+    frame(OUTPUT, f'{how}\n'.encode())
+    ends(3 << 8, OUTPUT, ERRORS)
+
+
+def refuses_kvm():
+    if 'kvm' in sys.argv:
+        sys.exit(1)
+    needs_emulation()
+
+
 def falls_silent():
     tell(BEGUN)
     time.sleep(10000)
@@ -143,11 +161,11 @@ def stops():
 def writes():
     """Writes until nobody reads, and drops its input."""
     tell(BEGUN)
-    tell(UNREAD, INPUT - 201)
+    tell(UNREAD, PORTS.index(INPUT))
     threading.Thread(target=lambda: [*frames()], daemon=True).start()
     os.set_blocking(MESSAGES, False)
     message = b''
-    while message != struct.pack('<II', UNREAD, OUTPUT - 201):
+    while message != struct.pack('<II', UNREAD, PORTS.index(OUTPUT)):
         frame(OUTPUT, b'y\n' * 1000)
         with contextlib.suppress(BlockingIOError):
             message = os.read(MESSAGES, 8)

@@ -20,7 +20,7 @@ LISTED = dict(word.split('=', 1) for word in shlex.split((CLIENT / 'programs.sh'
 # The programs in C and the library, each with its sources.
 PARTS = {'bin/nvme-model': (*LISTED['launcher'].split(),),
          'lib/nvme-model/library.so': (*LISTED['preloaded'].split(),),
-         'lib/nvme-model/qemu': (*LISTED['qemu'].split(),), 'lib/nvme-model/vm': (*LISTED['vm'].split(),)}
+         'lib/nvme-model/qemu': (*LISTED['qemu'].split(),)}
 WARNINGS = '-Wall', '-Wextra', '-Wshadow', '-Werror'
 # Waits in a shell until what was written past the end of a node is cut off.
 CUT = 'until test $(busybox wc -c < /dev/nvme0n2) = 4608; do sleep 0.1; done; '

@@ -23,7 +23,8 @@ from tests.support import (LIMIT, TOP, USERS, Case, Running, end_all, environmen
                            processes, run, until)
 from tests.test_qemu import kernel, program
 
-SHORT = '-DMOST_START=3', '-DMOST_BY_KVM=3', '-DMOST_SILENCE=3', '-DMOST_END=2', '-DPERIOD=1'
+KVM = "'/dev/kvm'"
+SHORT = ('20, 900, 300, 60, 10', '3, 3, 3, 2, 1'),
 NEEDED = 'virtio_pci', 'virtio_console', '9pnet_virtio', '9p', 'overlay', 'nvme'
 MIB = 1 << 20
 # A drive with a namespace for a file system.
@@ -53,20 +54,24 @@ SILENT = b'nvme-model: the machine has ended without a word, as by a kill, or by
 QEMU = '#!/bin/sh\ncase $* in *kvm*) exit 1 ;; *) echo vfio-user-pci ;; esac\n'
 # (the Python that every user can run)
 PYTHON = shutil.which('python3', path='/usr/bin:/bin') or sys.executable
-MACHINE = f'#!/bin/sh\nexec {PYTHON} {TOP}/tests/as_machine.py\n'
+MACHINE = f'#!/bin/sh\nexec {PYTHON} {TOP}/tests/as_machine.py "$@"\n'
 
 
 @functools.lru_cache(maxsize=None)
-def parts(server, *options):
-    """Returns the folder of the programs, with the server, or the text of a script in its place."""
+def parts(server, *changes):
+    """Returns the folder of the programs, with the server, or the text of a script in its place, which has no KVM, and
+    with changes of texts of vm.py."""
     folder = pathlib.Path(tempfile.mkdtemp(dir=process_folder()))
     folder.chmod(0o755)
-    files = [CLIENT / 'vm_streams.c', '-pthread', *WARNINGS]
-    subprocess.run(['cc', '-g', '-O1', *options, '-o', folder / 'vm', CLIENT / 'vm.c', *files], check=True)
     guest = folder / 'vm_guest.static', CLIENT / 'vm_guest.c'
-    subprocess.run(['cc', '-O1', '-static', '-o', *guest, *files], check=True)
-    for name in 'vm.sh', 'vm_guest.sh':
+    subprocess.run(['cc', '-O1', '-static', '-pthread', *WARNINGS, '-o', *guest], check=True)
+    for name in 'vm.sh', 'vm.py', 'vm_guest.sh':
         shutil.copy(CLIENT / name, folder)
+    text = (folder / 'vm.py').read_text()
+    for old, new in {**{KVM: "'/none'" for _ in range(isinstance(server, str))}, **dict(changes)}.items():
+        assert text.count(old) == 1, old
+        text = text.replace(old, new)
+    (folder / 'vm.py').write_text(text)
     if isinstance(server, str):
         (folder / 'qemu').write_text(server)
     else:
@@ -100,18 +105,18 @@ class Machine(Case):
         self.place = installation()
         self.env = {'PATH': f'{self.place}:{os.environ["PATH"]}', 'TMPDIR': self.folder / 'none'}
 
-    def command(self, *words, options=()):
-        return [parts(MACHINE, *options) / 'vm.sh', '--vm', '--kernel', self.place / 'boot/vmlinuz-1.0', *words]
+    def command(self, *words, changes=()):
+        return [parts(MACHINE, *changes) / 'vm.sh', '--vm', '--kernel', self.place / 'boot/vmlinuz-1.0', *words]
 
-    def machine(self, name, *words, options=(), **more):
+    def machine(self, name, *words, changes=(), **more):
         """Runs a command in a machine that does what the function of this name does."""
-        return run(*self.command(*(words or ['true']), options=options), env={**self.env, 'MACHINE': name}, **more)
+        return run(*self.command(*(words or ['true']), changes=changes), env={**self.env, 'MACHINE': name}, **more)
 
     def started(self, name):
-        """Waits for a process whose name begins so, and returns its number."""
+        """Waits for a process that runs this file, and returns its number."""
         found = []
         self.assertTrue(until(lambda: found.extend(
-            {*left_running()} & {*processes('comm', lambda text: text.startswith(name))}) or found))
+            {*left_running()} & {*processes('cmdline', lambda text: f'/{name}\0'.encode() in text)}) or found))
         return found[0]
 
     def fails(self, ended, reason):
@@ -142,25 +147,29 @@ class Ends(Machine):
     def test_silence(self):
         for name in 'is_silent', 'falls_silent':
             with self.subTest(name):
-                self.fails(self.machine(name, options=SHORT), "the machine doesn't answer")
-        if os.access('/dev/kvm', os.W_OK):
-            self.file('qemu-system-x86_64', b'#!/bin/sh\necho vfio-user-pci\n').chmod(0o755)
-            with_kvm = {**self.env, 'PATH': f'{self.folder}:{self.env["PATH"]}'}
-            ended = run(*self.command('true', options=SHORT), env={**with_kvm, 'MACHINE': 'is_silent'})
-            self.ends(ended, 72, b'', b"nvme-model: the machine doesn't answer: --no-kvm may help\n")
-        self.ends(self.machine('lives', options=SHORT), 0, b'', b'')
-        self.ends(self.machine('stays', options=SHORT), 3, b'', b'')
+                self.fails(self.machine(name, changes=SHORT), "the machine doesn't answer")
+        # (a machine in which nothing has run by KVM is emulated, if it is silent or QEMU refuses it)
+        told = b'nvme-model: KVM runs no machine here, so its processors are emulated; --no-kvm saves 3 seconds\n'
+        by_kvm = *SHORT, (KVM, repr(str(self.file('kvm', b''))))
+        self.ends(self.machine('needs_emulation', changes=by_kvm), 3, b'tcg\n', told)
+        self.ends(self.machine('refuses_kvm', changes=by_kvm), 3, b'tcg\n', b'')
+        self.ends(self.machine('needs_emulation', '--no-kvm', 'true', changes=by_kvm), 3, b'tcg\n', b'')
+        self.fails(self.machine('falls_silent', changes=by_kvm), "the machine doesn't answer")
+        self.ends(self.machine('is_silent', changes=by_kvm), 72, b'',
+                  told + b"nvme-model: the machine doesn't answer\n")
+        self.ends(self.machine('lives', changes=SHORT), 0, b'', b'')
+        self.ends(self.machine('stays', changes=SHORT), 3, b'', b'')
 
     def test_kills(self):
         # whichever process is killed, nothing is left, and the others say why
         for name in 'is_silent', 'falls_silent':
-            for victim in b'vm\n', b'python':
+            for victim in 'vm.py', 'as_machine.py':
                 with self.subTest(name, victim=victim):
                     running = Running(*self.command('true'), env={**self.env, 'MACHINE': name})
-                    self.started(b'python')
+                    self.started('as_machine.py')
                     os.kill(self.started(victim), signal.SIGKILL)
                     ended = running.end()
-                    if victim == b'vm\n':
+                    if victim == 'vm.py':
                         self.assertEqual(ended.status, -signal.SIGKILL)
                     else:
                         self.ends(ended, 72, SILENT)
@@ -176,7 +185,7 @@ class Ends(Machine):
         self.leaves_no_process()
         for number in signal.SIGTERM, signal.SIGINT, signal.SIGUSR1:
             running = Running(*self.command('true'), env={**self.env, 'MACHINE': 'is_silent'})
-            self.started(b'python')
+            self.started('as_machine.py')
             running.process.send_signal(number)
             self.ends(running.end(), 128 + number, b'')
             self.leaves_no_process()
@@ -225,7 +234,7 @@ class Refusals(Machine):
     def test_what_is_missing(self):
         tools = self.folder / 'tools'
         tools.mkdir()
-        for name in 'sh', 'dirname', 'cat', 'sed', 'sort', 'awk', 'grep', 'readlink', 'timeout':
+        for name in 'sh', 'python3':
             (tools / name).symlink_to(shutil.which(name))
         self.env['PATH'] = tools
         self.fails(self.machine('copy'), 'there is no qemu-system-x86_64: install QEMU (qemu-system-x86)')
@@ -243,11 +252,12 @@ class Refusals(Machine):
         (lacking / 'modules.dep').write_text(''.join(f'kernel/{name}.ko:\n' for name in NEEDED))
         ended = self.machine('copy', '--modules', lacking, 'true')
         self.ends(ended, 72, b'')
-        self.assertIn(f"nvme-model: {lacking}/kernel/virtio_pci.ko can't be unpacked\n".encode(), ended.err)
+        self.assertIn(f"nvme-model: {lacking}/kernel/virtio_pci.ko can't be unpacked: ".encode(), ended.err)
 
     def test_words(self):
-        # what QEMU and the server are given: KVM only if a machine runs with it, and polling only without either
-        folder = parts('#!/bin/sh\necho "nvme-model: $*"\n')
+        # what QEMU and the server are given: KVM only if QEMU takes it, and polling only without either
+        server = '#!/bin/sh\ncase $* in *kvm*) qemu-system-x86_64 -accel kvm || exit ;; esac\necho "nvme-model: $*"\n'
+        folder = parts(server, (KVM, repr(str(self.file('kvm', b'')))))
         for kvm, devices, wanted in (
                 (1, 'vfio-user-pci', ('-accel tcg -cpu max -smp 3', 'mitigations=off -serial')),
                 (0, 'vfio-user-pci', ('-accel kvm -cpu host -smp 3', 'mitigations=off -serial')),
@@ -262,7 +272,7 @@ class Refusals(Machine):
                     said = run(folder / 'vm.sh', *more, *words, env={'PATH': path}).err.decode()
                     self.assertIn('nvme-model: --qemu --memory 1G --subsystem a b -- -accel ', said)
                     self.assertIn(' -fsdev local,id=root,path=/,security_model=none,readonly=on,multidevs=remap ', said)
-                    if more or not os.access('/dev/kvm', os.W_OK):
+                    if more:
                         self.assertIn('-accel tcg', said)
                     else:
                         self.assertEqual([word for word in wanted if word not in said], [], said)
@@ -383,7 +393,7 @@ class Boot(Case):
 
     def signals(self):
         self.assertEqual(self.hears(b'signals\n'), '')
-        number, = {*left_running()} & {*processes('comm', lambda text: text == b'vm\n')}
+        number, = {*left_running()} & {*processes('cmdline', lambda text: b'/vm.py\0' in text)}
         for name in 'HUP', 'INT', 'QUIT', 'USR1', 'USR2', 'TERM':
             os.kill(number, getattr(signal, f'SIG{name}'))
             self.assertEqual(self.hears(f'{name}\n'.encode()), '')
