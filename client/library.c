@@ -63,8 +63,7 @@ static int look_at(int file, const struct stat *about, struct node *node) {
 
 /* A shell gives its terminal back to the group that had it, even to one outside of the sandbox, which has no number. */
 PUBLIC int tcsetpgrp(int file, pid_t group) {
-    int result = NEXT(tcsetpgrp)(file, group);
-    return result < 0 && errno == ESRCH && group == 0 ? 0 : result;
+    return NEXT(tcsetpgrp)(file, group) == 0 || (errno == ESRCH && group == 0) ? 0 : -1;
 }
 
 /* ---- calls that describe a file */
