@@ -5,7 +5,6 @@
 #include "launcher.h"
 #include <linux/capability.h>
 #include <pthread.h>
-#include <sched.h>
 #include <sys/prctl.h>
 #include <sys/syscall.h>
 #include <sys/uio.h>

@@ -3,8 +3,6 @@
    kernel. None of this is proved. */
 #include "launcher.h"
 #include <dirent.h>
-#include <linux/filter.h>
-#include <linux/fs.h>
 #include <linux/openat2.h>
 #include <sched.h>
 #include <sys/resource.h>
