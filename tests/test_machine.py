@@ -16,69 +16,29 @@ from tests.support import IS_ROOT, NOBODY, TOP, Running, end_all, process_folder
 BYTES = b'MACHINE DATA 16\n' * 4096
 NESTED = 'unshare', '-U', '--map-user=1000', '--map-group=1000'
 
+SCRIPTS = TOP / 'tests/machine'
 BEGIN = 'echo MODELLED | dd of=/dev/nvme0n1 conv=notrunc 2> /dev/null; . "$place/attack.sh"; '
-AGAIN = 'sh -c \'. "$place/attack.sh"; attack\''
+KERNEL = 'files of the kernel'
+
+
+def scripts_in(name):
+    """Returns the scripts of a file of tests/machine by their names, each with what it prints."""
+    found = {}
+    for piece in (SCRIPTS / f'{name}.txt').read_text().rstrip('\n').split('\n\n'):
+        name, *lines = piece.split('\n')
+        found[name[2:]] = ('\n'.join(line for line in lines if not line.startswith('> ')),
+                           ''.join(f'{line[2:]}\n' for line in lines if line.startswith('> ')).encode())
+    return found
+
 
 # The ways to run the attack, for everybody and for root.
-WAYS = {
-    'the command itself': 'attack', 'a static shell': f'busybox {AGAIN}', 'without an environment':
-    f'env -i PATH="$PATH" place="$place" caller=$caller powerless=$powerless {AGAIN}',
-    'another library': f'LD_PRELOAD=x {AGAIN} 2> /dev/null', 'by unshare':
-    f'unshare -Urm sh -c \'umount -l /dev; umount -l /dev; mount --bind / /mnt; mount -o remount,dev /tmp; '
-    '. "$place/attack.sh"; attack; head -c 9 /mnt/dev/nvme0n1; :\' 2> /dev/null || attack',
-    'the device is killed': ': > "$place/begun"; until test -e "$place/killed"; do sleep 0.1; done; attack',
-    'by a model within': f'"$model" {AGAIN} 2> /dev/null || attack',
-    'a caller of the library is killed': 'nvme id-ns /dev/nvme0 & nvme format /dev/nvme0n1 & kill -9 $!; attack; wait'}
-BY_ROOT = {'su': f'su nobody -s /bin/sh -c "place=$place caller=$caller; '
-                 'export place caller powerless; . $place/attack.sh; attack"',
-           'setpriv': f'setpriv --reuid=65534 --regid=65534 --clear-groups {AGAIN}',
-           'sudo': f'sudo place=$place caller=$caller {AGAIN}',
-           'nsenter': f'nsenter -t $caller -m {AGAIN} || nsenter -t 1 -m true || attack'}
+WAYS, BY_ROOT = scripts_in('ways'), scripts_in('ways_of_root')
 
-ATTACH = 'nvme attach-ns /dev/nvme1 -n 1 -c 1 > /dev/null'
-DETACH = 'nvme detach-ns /dev/nvme1 -n 1 -c 1 > /dev/null'
-WRITTEN = '/dev/nvme1n1 /dev/ng1n1 /sys/block/nvme1n1 /sys/class/nvme-generic/ng1n1'
-KERNEL = 'files of the kernel'
-# What a command tries, and what it prints then. $place/plain is a file of the machine, with CLOBBER.
-TRIES = {
-    'links where the launcher writes': (
-        f'for n in {WRITTEN}; do ln -s "$place/plain" $n; done; {ATTACH}; cat "$place/plain"; '
-        'cat /sys/block/nvme1n1/nsid', b'CLOBBER1\n'),
-    'links while it writes': (
-        f'for n in {WRITTEN}; do while :; do ln -sf "$place/plain" $n; done 2> /dev/null & done; '
-        f'for i in 1 2 3; do {ATTACH}; {DETACH}; done 2> /dev/null; kill %1 %2 %3 %4; cat "$place/plain"',
-        b'CLOBBER'),
-    'hard links there': (
-        f'echo CLOBBER > /dev/own; for n in {WRITTEN}; do ln /dev/own $n 2> /dev/null; done; {ATTACH}; cat /dev/own; '
-        'cat /sys/block/nvme1n1/nsid', b'CLOBBER\n1\n'),
-    'pipes there': (
-        f'mkfifo {WRITTEN}; {ATTACH}; cat /sys/block/nvme1n1/nsid; test -p /dev/nvme1n1 && echo a pipe',
-        b'1\na pipe\n'),
-    'folders there': (f'mkdir -p $(printf "%s/x " {WRITTEN}); {ATTACH}; cat /sys/block/nvme1n1/nsid', b'1\n'),
-    'a folder of /sys that is a link': (
-        f'mkdir "$place/victim"; : > "$place/victim/ng1n1"; {ATTACH}; mv /sys/class/nvme-generic /sys/old; '
-        f'ln -s "$place" /sys/class/nvme-generic; {DETACH}; ls "$place/victim"; rm -r "$place/victim"', b'ng1n1\n'),
-    'a full /dev': (
-        f'cat /dev/zero > /dev/fill 2> /dev/null; {ATTACH}; head -c 1 /dev/nvme1n1 | wc -c; rm /dev/fill', b'1\n'),
-    'all kinds of nodes': (
-        'busybox find /dev /sys -type b; ls -A /dev; busybox find /dev -maxdepth 1 -type c | wc -l',
-        b'block\nchar\ndisk\nfd\nfull\nmqueue\nng0n1\nng0n2\nnull\nnvme0\nnvme0n1\nnvme0n2\nnvme1\nptmx\npts\nrandom\n'
-        b'shm\nstderr\nstdin\nstdout\ntty\nurandom\nzero\n6\n'),
-    KERNEL: (
-        'for f in /proc/sys/kernel/core_pattern /proc/sys/vm/swappiness /proc/sysrq-trigger '
-        '/proc/irq/default_smp_affinity /sys/kernel/mm/ksm/run /sys/devices/system/cpu/cpu1/online '
-        '/sys/fs/cgroup/cgroup.procs /sys/fs/cgroup/cpu/tasks "$place/sysfs/kernel/mm/ksm/run" '
-        '"$place/proc/sys/kernel/core_pattern" /proc/self/net/arp "$place/proc/self/net/arp"; do '
-        '(: >> "$f") 2> /dev/null && echo "$f"; done; '
-        'ls -d /proc/$caller "$place/proc/$caller" 2> /dev/null; echo end', b'end\n'),
-    'files of the model in /sys, and names in /dev': (
-        '(echo 7 > /sys/block/nvme0n1/ro) 2> /dev/null && echo written; '
-        'busybox truncate -s 0 /sys/block/nvme0n1/ro 2> /dev/null && echo cut; cat /sys/block/nvme0n1/ro; '
-        'find /dev -type b | sort', b'0\n/dev/nvme0n1\n/dev/nvme0n2\n'),
-    'open files of other processes': ('"$place/takes"', b'-1 1\n'),
-    'a user without rights': ('unshare -Ur true; cat /proc/self/status | grep NoNewPrivs', b'NoNewPrivs:\t1\n'),
-    'signals to the launcher': (
-        'for n in KILL STOP SEGV ALRM; do kill -$n 1; done; test -c /dev/nvme0; echo $?', b'0\n')}
+
+def called(script, *words, **variables):
+    """Returns what runs a command, by a script of callers.txt, in a mount namespace of its own."""
+    given = [f'{name}={value}' for name, value in variables.items()]
+    return 'env', *given, 'unshare', '-m', 'sh', '-c', scripts_in('callers')[script][0], 'sh', *words
 
 
 class Machine:
@@ -93,7 +53,7 @@ class Machine:
         private = ['unshare', '-m'] if kind == 'devices' else [*(NOBODY if IS_ROOT else ()), 'unshare', '-Urm']
         if not works(*private) or (kind == 'devices' and run('losetup', '--find').status != 0):
             case.skipTest('no such machine can be made here: there are no namespaces, or no loop devices')
-        self.holder = Running(*private, 'sh', TOP / 'tests/machine.sh', case.folder / 'new',
+        self.holder = Running(*private, 'sh', SCRIPTS / 'machine.sh', case.folder / 'new',
                               os.path.commonpath([process_folder(), installed()]), kind, self.disk)
         case.addCleanup(self.close)
         self.holder.comes(b'ready\n')
@@ -110,6 +70,16 @@ class Machine:
         for name in 'disk.node', 'reached', 'copy', 'copied':
             with contextlib.suppress(FileNotFoundError):
                 (self.case.folder / name).unlink()
+
+    def __enter__(self):
+        return self
+
+    def __exit__(self, failure, *_):
+        try:
+            if failure is None:
+                self.is_unchanged()
+        finally:
+            self.close()
 
     def looks(self):
         """Returns everything that must not change."""
@@ -148,20 +118,19 @@ class MachineCase(ModelCase):
     def setUp(self):
         super().setUp()
         self.folder.chmod(0o1777)
-        for script in 'attack.sh', 'caller.sh':
-            shutil.copy(TOP / 'tests' / script, self.folder)
+        for script in 'attack.sh', 'again.sh', 'caller.sh':
+            shutil.copy(SCRIPTS / script, self.folder)
         shutil.copy(static_program('takes'), self.folder / 'takes')
         (self.folder / 'link').symlink_to('/dev/nvme0n1')
         (self.folder / 'chain').symlink_to('/dev/disk/by-id/nvme-machine')
 
-    def reached_nothing(self, machine, ended, least=1):
+    def reached_nothing(self, ended, least):
         """Checks that an attack ran to its end, and found the model's data at least this often and no data of the
         machine."""
         found = re.findall(rb"(?m)^(\d+) times the model's$", ended.out)
         self.assertTrue(found, ended)
         self.assertNotIn(b'reached', ended.out, ended)
         self.assertGreaterEqual(max(map(int, found)), least, ended)
-        machine.is_unchanged()
 
     def kill_device(self):
         """Kills the device as soon as a command asks for it."""
@@ -170,13 +139,13 @@ class MachineCase(ModelCase):
             (self.folder / 'killed').touch()
 
     def attacks(self, kind, user, ways):
-        for name, script in ways.items():
-            with self.subTest(name, kind=kind, user=user), contextlib.closing(Machine(self, kind)) as machine:
+        for name, (script, _) in ways.items():
+            with self.subTest(name, user=user, kind=kind), Machine(self, kind) as machine:
                 killer = threading.Thread(target=self.kill_device)
                 if 'killed"' in script:
                     killer.start()
                 ended = machine.model(BEGIN + script, user, where='/dev')
-                self.reached_nothing(machine, ended, 0 if 'killed' in name or name in BY_ROOT else 5)
+                self.reached_nothing(ended, 0 if 'killed' in name or name in BY_ROOT else 5)
                 if 'killed"' in script:
                     killer.join()
                     self.assertIn(b'the device ended', ended.err)
@@ -188,9 +157,8 @@ class MachineCase(ModelCase):
         """Returns machines, each with a user."""
         kinds = [('devices', ()), ('devices', NOBODY)] if IS_ROOT else []
         for kind, user in (*kinds, ('files', ()), ('files', NESTED)):
-            with self.subTest(kind=kind, user=user), contextlib.closing(Machine(self, kind)) as machine:
+            with self.subTest(user=user, kind=kind), Machine(self, kind) as machine:
                 yield machine, user
-                machine.is_unchanged()
 
 
 class Attacks(MachineCase):
@@ -209,16 +177,18 @@ class Attacks(MachineCase):
         self.attacks('files', NESTED, WAYS)
 
     def test_tries(self):
-        self.tries({name: row for name, row in TRIES.items() if name != KERNEL})
+        self.tries(scripts_in('tries').keys() - {KERNEL})
 
     def test_files_of_the_kernel(self):
-        self.tries({KERNEL: TRIES[KERNEL]})
+        self.tries([KERNEL])
 
-    def tries(self, rows):
+    def tries(self, names):
+        before, scripts = (SCRIPTS / 'tries.sh').read_text(), scripts_in('tries')
         for machine, user in self.users():
-            for name, (script, wanted) in rows.items():
+            for name in sorted(names):
+                script, wanted = scripts[name]
                 with self.subTest(name):
-                    ended = machine.model(script, user, options=['--data-limit=2M'])
+                    ended = machine.model(before + script, user, options=['--data-limit=2M'])
                     self.assertEqual(ended.out, wanted, ended)
                     self.assertNotEqual(ended.status, 72, ended)
 
@@ -256,17 +226,15 @@ class Machines(MachineCase):
         for machine, user in self.users():
             self.ends(machine.model(script, user, where='/dev'), 0, b'MODELLEDMODELLED/dev\n', b'')
             # a folder that was taken away, with nodes in it or above it; and one that others can't search
-            ways = ['mkdir -m 777 "$place/gone/x"; cd "$place/gone/x"; rmdir "$place/gone/x"; exec "$@"',
-                    'cd /proc/$caller/root/dev/folder && exec "$@"']
+            ways = ['a folder that was removed', "a folder of nodes that others can't search"]
             if not user:
-                ways += ['mount --bind /dev "$place/gone"; cd "$place/gone"; umount -l "$place/gone"; exec "$@"',
-                         'mount --bind /dev "$place/gone"; cd "$place/gone"; mount -t tmpfs x "$place/gone"; exec "$@"']
+                ways += ['a folder of nodes that is no longer mounted', 'a folder of nodes under a mount']
             for way in ways:
                 (self.folder / 'gone').mkdir(exist_ok=True)
-                by = 'unshare', '-m', 'sh', '-c', way, 'sh'
-                ended = machine.model('head -c 8 nvme0n1 inner/node', user, by=by if not user else by[2:])
+                by = called(way)[3 if user else 0:]
+                ended = machine.model('head -c 8 nvme0n1 inner/node', user, by=by)
                 self.assertNotIn(b'MACHINE', ended.out, ended)
-                if 'gone' in way:
+                if 'search' not in way:
                     self.ends(ended, 72, b'')
                     self.assertRegex(ended.err, b'nvme-model: the (current )?folder .*run (it|the command) from '
                                      b'another')
@@ -308,9 +276,9 @@ class Machines(MachineCase):
     def test_less_than_all_rights(self):
         # root that can't make a mount namespace gets one through a user namespace
         less = 'setpriv', '--bounding-set=-sys_admin', '--inh-caps=-sys_admin'
-        with contextlib.closing(Machine(self, 'devices')) as machine:
+        with Machine(self, 'devices') as machine:
             ended = machine.model(BEGIN + 'attack', by=less)
-            self.reached_nothing(machine, ended, 5)
+            self.reached_nothing(ended, 5)
             self.assertEqual(ended.err, b'')
 
     def test_other_callers(self):
@@ -320,38 +288,29 @@ class Machines(MachineCase):
                 machine.kind == 'devices' and not user) else ('env', '-u', 'HOME')
             self.ends(machine.model('test -b /dev/nvme0n1; echo $?', user, by=unknown), 0, b'0\n', b'')
             if not user:
-                read_only = ('unshare', '-m', 'sh', '-c', 'mount --bind "$place" "$place" && mount -o remount,bind,ro '
-                             '"$place" && cd "$place" && exec "$@"', 'sh')
-                self.ends(machine.model('touch x 2> /dev/null || echo $PWD', by=read_only), 0,
-                          f'{self.folder}\n'.encode(), b'')
+                ended = machine.model('touch x 2> /dev/null || echo $PWD', by=called("a folder that can't be written"))
+                self.ends(ended, 0, f'{self.folder}\n'.encode(), b'')
 
     @unittest.skipUnless(IS_ROOT, 'root alone can mount without a user namespace')
     def test_other_mounts(self):
         # what is mounted later isn't seen, by root or by others
         waits = ('echo > "$place/started"; until test -e "$place/go"; do sleep 0.1; done; '
                  'head -c 7 "$place/gone/nvme0n1"; :')
-        later = ('mount --make-rshared / && { "$@" & until test -e "$place/started"; do sleep 0.1; done; '
-                 'mount --bind /dev "$place/gone"; : > "$place/go"; wait; }')
-        # a mount that its user can't reach before the folder above it is opened, also one whose path the kernel writes
-        # in more than 4,096 characters, and another view of the machine's processes
-        opened = 'chmod 755 "$place/%s"; head -c 7 "$place/%s/dev/nvme0n1"; ls "$place/%s/dev/$caller"; echo no'
-        hidden = ('mkdir -p "$place/%s/dev"; mount $kind "$place/%s/dev"; chown 65534:12 "$place/%s"; '
-                  'chmod 000 "$place/%s"; exec "$@"')
-        long_folder, closed = '/'.join([250 * ' '] * 5 + ['hidden']), '-o nodev,nosuid,noexec -t'
-        ways = (('hidden', '--bind /dev'), (long_folder, '--bind /dev'), ('hidden', f'{closed} proc proc'),
-                ('hidden', f'{closed} sysfs sysfs'))
         for user in (), NOBODY:
-            with self.subTest('mounted later', user=user), contextlib.closing(Machine(self, 'devices')) as machine:
-                ended = machine.model(waits, by=('unshare', '-m', 'sh', '-c', later, 'sh', *user))
-                self.ends(ended, 0, b'')
+            with self.subTest('mounted later', user=user), Machine(self, 'devices') as machine:
+                self.ends(machine.model(waits, by=called('mounts later', *user)), 0, b'')
                 self.assertTrue((self.folder / 'started').exists())
             for name in 'started', 'go':
                 (self.folder / name).unlink()
-        for folder, kind in ways:
-            with self.subTest(kind, folder=folder), contextlib.closing(Machine(self, 'devices')) as machine:
-                script = hidden.replace('%s', folder).replace('$kind', kind)
-                by = 'unshare', '-m', 'sh', '-c', script, 'sh', *NOBODY
-                ended = machine.model(opened.replace('%s', folder), by=by)
+        # a mount that its user can't reach before the folder above it is opened, also one whose path the kernel writes
+        # in more than 4,096 characters, and another view of the machine's processes
+        opened = ('chmod 755 "$place/$hidden"; head -c 7 "$place/$hidden/dev/nvme0n1"; '
+                  'ls "$place/$hidden/dev/$caller"; echo no')
+        long_folder, closed = '/'.join([250 * ' '] * 5 + ['hidden']), '-o nodev,nosuid,noexec -t'
+        for folder, kind in (('hidden', '--bind /dev'), (long_folder, '--bind /dev'), ('hidden', f'{closed} proc proc'),
+                             ('hidden', f'{closed} sysfs sysfs')):
+            with self.subTest(kind, folder=folder), Machine(self, 'devices') as machine:
+                ended = machine.model(opened, by=called('hides a mount', *NOBODY, hidden=folder, kind=kind))
                 # (bubblewrap 0.13 makes even such a mount nodev)
                 is_kept = ended.status == 0 and 'bind' in kind
                 self.ends(ended, 0 if is_kept else 72, b'no\n' if is_kept else b'')
@@ -361,40 +320,29 @@ class Machines(MachineCase):
     @unittest.skipUnless(IS_ROOT, 'root alone can mount without a user namespace')
     def test_long_paths(self):
         # another /proc is replaced by the command's own, however long its path is
-        place = '$place/' + '/'.join([245 * 'x'] * 15) + '/' + 100 * 'x'
-        script = (f'(: >> "{place}/sys/kernel/core_pattern") 2> /dev/null && echo written; ls "{place}/$caller" '
-                  f'2> /dev/null; ls -d "{place}/1" | wc -l')
-        mounting = f'mkdir -p "{place}"; mount -t proc proc "{place}"; exec "$@"'
+        hidden = '/'.join([245 * 'x'] * 15) + '/' + 100 * 'x'
+        script = ('(: >> "$place/$hidden/sys/kernel/core_pattern") 2> /dev/null && echo written; '
+                  'ls "$place/$hidden/$caller" 2> /dev/null; ls -d "$place/$hidden/1" | wc -l')
         for user in (), NOBODY:
-            with self.subTest(user=user), contextlib.closing(Machine(self, 'devices')) as machine:
-                ended = machine.model(script, by=('unshare', '-m', 'sh', '-c', mounting, 'sh', *user))
-                self.ends(ended, 0, b'1\n', b'')
+            with self.subTest(user=user), Machine(self, 'devices') as machine:
+                self.ends(machine.model(script, by=called('another /proc', *user, hidden=hidden)), 0, b'1\n', b'')
 
     @unittest.skipUnless(IS_ROOT, 'root alone can chroot')
     def test_other_roots(self):
         # another root that is a mount point; and one with nodes in a plain folder. (Other views of its /dev would be
         # devtmpfs on a true machine, but are tmpfs here.)
-        ways = {'a mount point': 'mount --rbind / "$place/root" && chroot "$place/root" "$@"',
-                'a plain /dev': 'for m in alias bound; do mount -o remount,bind,ro "$place/$m"; done; '
-                'mount -t tmpfs x "$place/root" && cd / && for d in *; do case $d in dev) ;; *) test -d $d && '
-                'test ! -L $d && mkdir "$place/root/$d" && mount --rbind $d "$place/root/$d" || '
-                'cp -a $d "$place/root/$d" ;; esac; done; mkdir "$place/root/dev"; cp -a /dev/null /dev/zero /dev/full '
-                '/dev/random /dev/urandom /dev/tty /dev/nvme0 /dev/nvme0n1 "$place/root/dev" && '
-                'chroot "$place/root" "$@"'}
-        for name, way in ways.items():
-            with self.subTest(name), contextlib.closing(Machine(self, 'devices')) as machine:
-                by = 'unshare', '-m', 'sh', '-c', way + '; exit', 'sh'
-                ended = machine.model(BEGIN + 'cd ../../..; attack', by=by)
-                self.reached_nothing(machine, ended, 5)
+        for way in 'another root', 'another root with nodes in a plain folder':
+            with self.subTest(way), Machine(self, 'devices') as machine:
+                ended = machine.model(BEGIN + 'cd ../../..; attack', by=called(way))
+                self.reached_nothing(ended, 5)
 
     def test_eight_at_once(self):
-        with contextlib.closing(Machine(self, 'files')) as machine:
+        with Machine(self, 'files') as machine:
             script = ('for i in 1 2 3 4 5 6 7 8; do "$model" sh -c "echo $i > /dev/nvme0n1; : > $place/wrote-$i; '
                       'until test \\$(ls $place | grep -c wrote-) = 8; do sleep 0.1; done; '
                       'echo \\$(head -c 1 /dev/nvme0n1)" & done; wait')
             ended = run(*machine.enter, 'sh', '-c', script, env={'model': installed(), 'place': self.folder})
             self.assertEqual(sorted(ended.out.split()), [b'%d' % number for number in range(1, 9)], ended)
-            machine.is_unchanged()
 
 
 # Runs a command in a place where no mount namespace can be made, or where there is no bwrap.
@@ -418,10 +366,9 @@ class NoSandbox(MachineCase):
         # whatever nodes the machine has, the command doesn't begin, and the reason tells what does without a sandbox
         for kind in ('devices', 'files', 'none') if IS_ROOT else ('files', 'none'):
             for way, reason in self.ways().items():
-                with self.subTest(kind, way=way), contextlib.closing(Machine(self, kind)) as machine:
+                with self.subTest(way=way, kind=kind), Machine(self, kind) as machine:
                     ended = machine.model('touch "$place/touched"', by=way)
                     self.ends(ended, 72, b'')
                     self.assertRegex(ended.err, b'^nvme-model: no sandbox can be made: .*' + reason + b'.*; ' +
                                      BY_VM.encode() + b'\n$')
                     self.assertFalse((self.folder / 'touched').exists())
-                    machine.is_unchanged()

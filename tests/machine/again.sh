@@ -1,0 +1,3 @@
+# The attack, in a shell of its own.
+. "$place/attack.sh"
+attack
