@@ -2,7 +2,6 @@
 terminal and signals, and that nothing of this machine is changed; and, with tests/as_machine.py in the machine's place,
 how runs end, are killed, and can't begin."""
 
-import contextlib
 import fcntl
 import functools
 import os
