@@ -229,7 +229,7 @@ class Data(Blocks):
                             (lambda: None, ('--socket', f'{self.path}{"x" * 108}'))):
             make()
             before = os.listdir(place)
-            said = run(program(*SANITIZERS), '--vfio-user', '--socket', f'{self.path}x', '--data', place, *words)
+            said = self.ended(f'{self.path}x', '--data', place, *words)
             self.assertEqual(said.status, 72, said)
             self.assertEqual(os.listdir(place), before, said)
             later.unlink(missing_ok=True)
