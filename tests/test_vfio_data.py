@@ -221,8 +221,7 @@ class Data(Blocks):
 
     def test_folder_of_a_start_that_fails(self):
         # nothing is made in the folder, whatever the start fails for
-        place = self.folder / 'kept'
-        place.mkdir()
+        place = self.data_folder()
         later, broken = place / 'subsystem0.namespace3', self.file('broken.toml', b'version = 1\n')
         for make, words in ((lambda: later.write_bytes(b'x'), ()), (lambda: os.mkfifo(later), ()),
                             (lambda: None, ('--subsystem', DEMO, '--subsystem', broken)),

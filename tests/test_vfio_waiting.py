@@ -72,13 +72,14 @@ class Waiting(Served):
         finally:
             os.kill(self.server.process.pid, signal.SIGCONT)
 
-    def signal_receivers(self, signal_number):
-        """Sends a signal to the processes of the server that take descriptors, and returns how many there are."""
+    def receivers(self):
+        """Returns the processes of the server that take descriptors."""
         number = self.server.process.pid
-        found = pathlib.Path(f'/proc/{number}/task/{number}/children').read_text().split()
-        for receiver in found:
-            os.kill(int(receiver), signal_number)
-        return len(found)
+        return [int(word) for word in pathlib.Path(f'/proc/{number}/task/{number}/children').read_text().split()]
+
+    def signal_receivers(self, number):
+        for receiver in self.receivers():
+            os.kill(receiver, number)
 
     def test_file_system(self):
         # a file of a file system that doesn't answer is refused, and only its own client waits until it is closed
@@ -172,7 +173,7 @@ class Waiting(Served):
         self.goes_on(0)
         # a server that is killed leaves none
         self.greeted()
-        self.assertEqual(self.signal_receivers(0), 1)
+        self.assertEqual(len(self.receivers()), 1)
         self.kill()
         self.server = self.start()
 
@@ -215,18 +216,12 @@ class Waiting(Served):
     def test_what_receivers_have(self):
         # a receiver keeps neither memory of another guest nor data, which would outlast them
         first, second = self.guest(0), self.guest(1)
-        first.enable()
         self.assertEqual((first.serial(), second.config(0)), ('S0', 0x0010_1b36))
         self.assertIn('memfd:', pathlib.Path(f'/proc/{self.server.process.pid}/maps').read_text())
         for number in self.receivers():
             self.assertNotIn('memfd:', pathlib.Path(f'/proc/{number}/maps').read_text())
             self.assertFalse([name for name in os.listdir(f'/proc/{number}/fd')
                               if 'memfd:' in os.readlink(f'/proc/{number}/fd/{name}')])
-
-    def receivers(self):
-        """Returns the processes of the server that take descriptors."""
-        number = self.server.process.pid
-        return [int(word) for word in pathlib.Path(f'/proc/{number}/task/{number}/children').read_text().split()]
 
     def test_few_descriptors(self):
         # where none is left, a request is refused by EMFILE, or a client waits, and the server goes on

@@ -108,7 +108,7 @@ class Machine(Case):
         return [parts(MACHINE, *changes) / 'vm.sh', '--vm', '--kernel', self.place / 'boot/vmlinuz-1.0', *words]
 
     def machine(self, name, *words, changes=(), **more):
-        """Runs a command in a machine that does what the function of this name does."""
+        """Runs a command in a machine of this name (tests/as_machine.py)."""
         return run(*self.command(*(words or ['true']), changes=changes), env={**self.env, 'MACHINE': name}, **more)
 
     def started(self, name):
