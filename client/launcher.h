@@ -27,6 +27,7 @@ struct device {
     unsigned first, count; /* its controllers, by the numbers of /dev/nvmeX */
     enum { STARTING, ANSWERING, LOST } state;
     pid_t keeper;          /* the process that alone exchanges requests with it */
+    _Atomic int failures;  /* of the first device: how many lines of a trace couldn't be written */
 };
 
 extern struct device *devices; /* (in shared memory, as all that helpers read) */
