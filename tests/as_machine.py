@@ -100,6 +100,19 @@ def is_silent():
     time.sleep(10000)
 
 
+def tells_files():
+    """Writes the machine's first files, without its programs."""
+    with open(sys.argv[sys.argv.index('-initrd') + 1], 'rb') as file:
+        tell(BEGUN)
+        while (header := file.read(110)) and header.startswith(b'070701'):
+            size, length = int(header[54:62], 16), int(header[94:102], 16)
+            name = file.read(length + -(110 + length) % 4).rstrip(b'\0')
+            data = file.read(size + -size % 4)[:size]
+            if name not in (b'init', b'setup', b'begin', b'TRAILER!!!'):
+                frame(OUTPUT, name + b' ' + data.replace(b'\0', b'|') + b'\0')
+    ends(0, OUTPUT, ERRORS)
+
+
 def needs_emulation():
     """Is silent by KVM, and otherwise tells how it was started."""
     how = sys.argv[sys.argv.index('-accel') + 1]
@@ -109,6 +122,12 @@ def needs_emulation():
     tell(BEGUN)
     frame(OUTPUT, f'{how}\n'.encode())
     ends(3 << 8, OUTPUT, ERRORS)
+
+
+def dies_by_kvm():
+    if 'kvm' in sys.argv:
+        os.kill(os.getpid(), signal.SIGKILL)
+    needs_emulation()
 
 
 def refuses_kvm():
