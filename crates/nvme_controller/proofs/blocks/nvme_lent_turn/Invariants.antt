@@ -1,4 +1,4 @@
-use Rattle.nvme_controller.proofs.blocks.lent_serve.Given as goal
+use Rattle.nvme_controller.proofs.blocks.nvme_lent_turn.Given as goal
 
 -- the reference to the bytes
 abbrev pub ghosts-serve : goal.ghosts-serve

@@ -1,4 +1,4 @@
-use Rattle.nvme_controller.proofs.blocks.lent_look.Given as goal
+use Rattle.nvme_controller.proofs.blocks.nvme_lent_next.Given as goal
 
 -- the reference to the bytes
 abbrev pub ghosts-look : goal.ghosts-look

@@ -1,4 +1,4 @@
-use Rattle.nvme_controller.proofs.blocks.lent_answer.Given as goal
+use Rattle.nvme_controller.proofs.blocks.nvme_lent_complete.Given as goal
 
 -- the reference to the bytes
 abbrev pub ghosts-answer : goal.ghosts-answer

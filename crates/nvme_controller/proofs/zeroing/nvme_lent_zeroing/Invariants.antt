@@ -1,4 +1,4 @@
-use Rattle.nvme_controller.proofs.zeroing.lent_find.Given as goal
+use Rattle.nvme_controller.proofs.zeroing.nvme_lent_zeroing.Given as goal
 
 -- the reference to the bytes
 abbrev pub ghosts-find : goal.ghosts-find

@@ -1,4 +1,4 @@
-use Rattle.nvme_controller.proofs.data.lent_write.Given as goal
+use Rattle.nvme_controller.proofs.data.nvme_lent_write.Given as goal
 
 -- the reference to the bytes
 abbrev pub ghosts-write : goal.ghosts-write
