@@ -144,8 +144,8 @@ class Arguments(ModelCase, transcripts='launcher'):
                       b'nvme-model: nvme: No such file or directory: install the package nvme-cli\n')
 
     def test_script_in_a_copy(self):
-        # no command is run without a device; two launchers may build the client at the same time; paths have spaces and
-        # links
+        # nothing is compiled without a device; a compiler needs the C library; two launchers may build the client at the
+        # same time; paths have spaces and links
         copy, link = self.folder / 'a folder: here', self.folder / 'link'
         copy.mkdir()
         for name in 'nvme-model', 'VERSION':
@@ -156,13 +156,15 @@ class Arguments(ModelCase, transcripts='launcher'):
                   'nvme-model: there is no proved device program of these sources')
         self.ends(run(copy / 'nvme-model', '--compile', ''), 72, b'',
                   b'nvme-model: --compile needs the name of a folder\n')
-        for folder in 'tools', '.ci':
-            (copy / folder).mkdir()
-            (copy / folder / 'stamp').symlink_to('/bin/true')
+        self.assertFalse((copy / 'out').exists())
+        (copy / 'tools').mkdir()
+        (copy / 'tools/stamp').symlink_to('/bin/true')
+        (self.folder / 'cc').symlink_to('/bin/false')
+        self.ends(run(copy / 'nvme-model', 'true', env={'PATH': f'{self.folder}:{os.environ["PATH"]}'}), 72, b'',
+                  b"nvme-model: cc doesn't find the C library: apt install libc6-dev\n")
         made = copy / 'crates/nvme_device/out/nvme_device'
         made.parent.mkdir(parents=True)
         made.symlink_to(program('nvme_device'))
-        shutil.rmtree(copy / 'out')
         both = run('sh', '-c', '"$0" true & "$0" true && wait $!', copy / 'nvme-model')
         self.ends(both, 0, b'', b'')
         self.assertEqual(sorted(str(path.relative_to(copy / 'out/client')) for path in (copy / 'out').rglob('*')
