@@ -26,7 +26,6 @@ static int move_all(int file, void *at, size_t size, int outwards) {
 /* Copies a line of a device. That of a trace begins with a controller, whose number among all devices' controllers
    replaces its own. The first time that it can't be written is reported, in whatever process. */
 static void copy_line(const struct device *device, const char *line) {
-    static _Atomic int *has_failed;
     const int output = options.trace_file ? TRACE_TO : STDERR_FILENO;
     unsigned number;
     int behind = 0;
@@ -34,9 +33,8 @@ static void copy_line(const struct device *device, const char *line) {
         dprintf(STDERR_FILENO, "%s", line);
         return;
     }
-    has_failed = has_failed ?: share(sizeof *has_failed);
     await_room(output);
-    if (dprintf(output, "nvme%u %s", number + device->first, line + behind) < 0 && !(*has_failed)++)
+    if (dprintf(output, "nvme%u %s", number + device->first, line + behind) < 0 && !devices->failures++)
         fprintf(stderr, "nvme-model: the trace can't be written: %s\n", strerror(errno));
 }
 

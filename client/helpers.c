@@ -14,10 +14,10 @@
 /* The most helpers. (They are fewer if there are no addresses for the data of so many.) */
 enum { LEAST_ROOM = 8, MOST_HELPERS = 512 };
 
+enum { ASKING = 1 };
 struct helper {
-    pid_t process;         /* 0 if there is none */
-    _Atomic unsigned is_asking; /* whether it waits for a keeper, which wakes it by a change of this */
-    int result;            /* of its last request: 0, or -1 if the device is gone */
+    pid_t process;       /* 0 if there is none */
+    _Atomic int state;   /* of its request: ASKING, until the keeper wakes it, and then 0, or -1 if the device is gone */
     struct request_header request;
     struct answer_header answer;
     union notice notice; /* the call that it answers, whose identifier is 0 until it has one */
@@ -58,11 +58,9 @@ static struct helper *end(void) { return helpers + *helper_count; }
 /* Carries out the request of a helper. */
 static void serve(struct device *device, struct helper *helper) {
     struct request_header request = helper->request;
-    helper->result = serve_keeper(device, &request);
-    if (helper->result == NOT_OURS)
-        helper->result = carry_out(&request, helper->data, &helper->answer);
-    helper->is_asking = 0;
-    syscall(SYS_futex, &helper->is_asking, FUTEX_WAKE, 1, NULL, NULL, 0);
+    int result = serve_keeper(device, &request);
+    helper->state = result == NOT_OURS ? carry_out(&request, helper->data, &helper->answer) : result;
+    syscall(SYS_futex, &helper->state, FUTEX_WAKE, 1, NULL, NULL, 0);
 }
 
 static void start_keeper(struct device *device) {
@@ -92,11 +90,11 @@ const struct answer_header *ask_keeper(const struct request_header *header) {
     if (device->state == LOST)
         return NULL;
     self->request = *header;
-    self->is_asking = 1;
+    self->state = ASKING;
     (void)!write(device->asks[1], &place, sizeof place);
-    while (self->is_asking)
-        syscall(SYS_futex, &self->is_asking, FUTEX_WAIT, 1, NULL, NULL, 0);
-    return self->result == 0 ? &self->answer : NULL;
+    while (self->state == ASKING)
+        syscall(SYS_futex, &self->state, FUTEX_WAIT, ASKING, NULL, NULL, 0);
+    return self->state == 0 ? &self->answer : NULL;
 }
 
 int ask_controller(unsigned controller, uint16_t kind, uint32_t length) {
@@ -150,7 +148,7 @@ static void drop_helpers(void) {
    only the last place, those that work for nobody end. */
 static int add_helper(void) {
     struct helper *place = helpers, *last = helpers + most_helpers - 1;
-    while (place < end() && (place->process != 0 || place->is_asking))
+    while (place < end() && (place->process != 0 || place->state == ASKING))
         place++;
     if (place >= last)
         drop_helpers();

@@ -344,8 +344,9 @@ int main(int count, char **arguments) {
         if (is_qemu && count == 3 && strcmp(arguments[2], "--help") == 0)
             exit(fputs(qemu_usage, stdout) >= 0 && fflush(stdout) == 0 ? 0 : FAILED);
         if (is_qemu || is_vm) {
-            find_parts(is_vm ? "vm.sh" : "qemu");
-            must(execv(program_path, arguments), program_path);
+            find_parts(is_vm ? "vm.py" : "qemu");
+            execv(program_path, arguments);
+            must(-1, is_vm && access(program_path, F_OK) == 0 ? "--vm needs python3 (apt install python3)" : program_path);
         }
         must(close_range(STDERR_FILENO + 1, ~0U, CLOSE_RANGE_CLOEXEC), "close_range");
     }

@@ -39,6 +39,7 @@ struct device {
     unsigned first, count; /* its controllers, by the numbers of /dev/nvmeX */
     enum { STARTING, ANSWERING, LOST } state;
     pid_t keeper;          /* the process that alone exchanges requests with it */
+    _Atomic int failures;  /* of the first device: how many lines of a trace couldn't be written */
     struct volume volumes[MOST_NSID + 1]; /* its namespaces, by their NSIDs */
     uint16_t named[MOST_NSID + 1];        /* the NSID that each number of its nodes names, or 0 */
 };

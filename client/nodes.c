@@ -171,26 +171,22 @@ static void leave_files(unsigned controller, uint32_t nsid) {
 
 /* ---- nodes */
 
-/* Makes a node, which is another name of its file, or leaves what has its name. */
-static void make_node(char kind, unsigned controller, uint32_t nsid) {
-    const struct volume *volume = volume_at(controller, nsid);
-    char path[MOST_NAME], file[32];
-    print_path(path, kind, controller, volume->number);
-    snprintf(file, sizeof file, "/proc/self/fd/%d", kind == 'b' ? volume->file : volume->generic);
-    if (linkat(AT_FDCWD, file, AT_FDCWD, path, AT_SYMLINK_FOLLOW) < 0)
-        cannot(path);
-}
-
+/* Shows a namespace. (A node is another name of its file; what has the name of one is left alone.) */
 static void put(unsigned controller, uint32_t nsid) {
     struct volume *volume = volume_at(controller, nsid);
+    char path[MOST_NAME], file[32];
     if (volume->file <= 0)
         make_files(volume);
     set_length(volume);
     shown[controller][nsid] = 1;
     show(BLOCK, controller, nsid);
     show(GENERIC, controller, nsid);
-    make_node('g', controller, nsid);
-    make_node('b', controller, nsid);
+    for (const char *kind = "gb"; *kind; kind++) {
+        print_path(path, *kind, controller, volume->number);
+        snprintf(file, sizeof file, "/proc/self/fd/%d", *kind == 'b' ? volume->file : volume->generic);
+        if (linkat(AT_FDCWD, file, AT_FDCWD, path, AT_SYMLINK_FOLLOW) < 0)
+            cannot(path);
+    }
 }
 
 static void hide_namespace(unsigned controller, uint32_t nsid) {

@@ -44,7 +44,6 @@ it changes is gone at its end.
 
 The exit status is that of COMMAND, or 72 if nvme-model itself can't continue. See nvme-model(1).
 '''
-FAILED = 72
 LIBC, SET_DEATH_SIGNAL, OF_KERNEL = ctypes.CDLL(None), 1, 0x80  # (linux/prctl.h, asm-generic/siginfo.h)
 PARTS = os.path.dirname(os.path.abspath(__file__))
 QEMU, KVM, BOOT, MODULES = 'qemu-system-x86_64', '/dev/kvm', '/boot', '/lib/modules'
@@ -68,7 +67,7 @@ def say(text):
 def refuse(reason=''):
     """Ends with the reason why nvme-model can't continue, or with the usage after a wrong option."""
     os.write(2, os.fsencode(f'nvme-model: {reason}\n' if reason else USAGE))
-    sys.exit(FAILED)
+    sys.exit(72)
 
 
 def ready(*files, seconds=None, event=select.POLLIN):
@@ -170,8 +169,8 @@ class Machine:
 
     def __init__(self, words, archive, mask):
         """Starts it, with a socket for each port. It ends with this process."""
-        pairs = [socket.socketpair() for _ in Port]
-        files = [theirs.fileno() for _, theirs in pairs]
+        self.ports, theirs = zip(*(socket.socketpair() for _ in Port))
+        files = [end.fileno() for end in theirs]
         words = [*words, '-initrd', f'/proc/self/fd/{archive}', '-device', 'virtio-serial-pci']
         for port, file in enumerate(files, 1):
             words += ['-chardev', f'socket,id=port{port},fd={file}']
@@ -184,10 +183,9 @@ class Machine:
         self.process = subprocess.Popen(
             words, stdin=subprocess.DEVNULL, stdout=subprocess.PIPE, stderr=subprocess.STDOUT, start_new_session=True,
             pass_fds=[archive, *files], preexec_fn=prepare)
-        self.ports, self.said, self.output = [ours for ours, _ in pairs], b'', self.process.stdout.fileno()
-        self.unread = set()
-        for _, theirs in pairs:
-            theirs.close()
+        self.said, self.unread, self.output = b'', set(), self.process.stdout.fileno()
+        for end in theirs:
+            end.close()
 
     def send(self, port, data):
         with contextlib.suppress(OSError):
@@ -330,7 +328,7 @@ class Run:
         return [('begin', numbers + self.terminal.size() + self.terminal.mode),
                 ('words', os.fsencode(''.join(f'{word}\0' for word in command))),
                 ('variables', content('/proc/self/environ')),
-                ('place', os.fsencode(f'{os.uname().nodename}\0{os.getcwd()}'))]
+                ('place', os.fsencode(f'{os.uname().nodename}\0{os.readlink("/proc/self/cwd")}'))]
 
     def watch_signals(self):
         """Has signals be read, except for those that would end this process but are ignored."""

@@ -99,6 +99,22 @@ def refuses_kvm():
         sys.exit(1)
 
 
+def dies_by_kvm():
+    if 'kvm' in sys.argv:
+        os.kill(os.getpid(), signal.SIGKILL)
+
+
+def tells_files():
+    """Writes the machine's first files, without its programs."""
+    with open(sys.argv[sys.argv.index('-initrd') + 1], 'rb') as file:
+        while (header := file.read(110)) and header.startswith(b'070701'):
+            size, length = int(header[54:62], 16), int(header[94:102], 16)
+            name = file.read(length + -(110 + length) % 4).rstrip(b'\0')
+            data = file.read(size + -size % 4)[:size]
+            if name not in (b'init', b'setup', b'begin', b'TRAILER!!!'):
+                frame(OUTPUT, name + b' ' + data.replace(b'\0', b'|') + b'\0')
+
+
 PANIC = '[    1.0] Kernel panic - not syncing: a reason\r\n[    1.1] ---[ end Kernel panic ]---\r'
 BEGINS, FAILS, WAITS = (tell, BEGUN), (sys.exit, 72), (time.sleep, 10000)
 # What each machine does: calls, in order.
@@ -113,6 +129,8 @@ MACHINES = {
     'is_silent': [WAITS],
     'needs_emulation': [(emulates,), (ends, 3 << 8)],
     'refuses_kvm': [(refuses_kvm,), (emulates,), (ends, 3 << 8)],
+    'dies_by_kvm': [(dies_by_kvm,), (emulates,), (ends, 3 << 8)],
+    'tells_files': [BEGINS, (tells_files,), (ends, 0)],
     'falls_silent': [BEGINS, WAITS],
     # (it is silent but for answers, longer than a machine may be)
     'lives': [BEGINS, *[(awaits, ALIVE), (tell, ALIVE)] * 5, (ends, 0)],

@@ -6,7 +6,7 @@ import re
 import struct
 import tomllib
 
-from tests.records import LAYOUTS
+from tests.records import places
 
 # The keys of each table with their defaults. Those that are required have none.
 DEFAULTS = {
@@ -15,7 +15,7 @@ DEFAULTS = {
     'controller': {'vid': 0, 'ssvid': 0, 'rab': 0, 'ieee': 0, 'mdts': 5, 'elpe': 63, 'wctemp': 343, 'cctemp': 353,
                    'vwc': 0, 'crypto_erase': False},
     'feature': {'default': 0, 'saveable': False, 'changeable': True},
-    'smart': {key: 0 for key in LAYOUTS['smart'][1].split() if key not in ('num_err_log_entries', 'sensors')},
+    'smart': {key: 0 for key in places('smart') if key not in ('num_err_log_entries', 'sensors')},
     'namespace': {'extended': False, 'shared': False, 'controllers': []},
 }
 MASKS = {1: 0xffffff07, 2: 0xe0, 5: 0x1ffff, 6: 1, 8: 0xffff, 10: 1, 11: 0x7fff}
@@ -121,8 +121,10 @@ def random_file(random, controllers, namespaces):
     return text + ''.join(random_controller(random, cntlid, version) for cntlid in identifiers) + ''.join(tables)
 
 
-# The keys that are fields of a controller, and what other fields of it are in the model. (Comments name these.)
+# The keys that are fields of a controller, the places of fields that tests/records.py doesn't name, and what the fields
+# without a key are in the model.
 OF_CONTROLLER = 'cntlid', 'vid', 'ssvid', 'sn', 'mn', 'fr', 'rab', 'ieee', 'mdts', 'elpe', 'wctemp', 'cctemp', 'vwc'
+OTHERS = {'oaes': (92, 4), 'ctratt': (96, 4)}
 NAMED = {'ver': 0x10400, 'oacs': 10, 'frmw': 2, 'lpa': 4, 'npss': 0, 'sqes': 0x66, 'cqes': 0x44, 'oncs': 16, 'oaes': 0,
          'ctratt': 0}
 
@@ -150,10 +152,8 @@ def notes_in(text):
 
 
 def fields_of(kind, record):
-    """Returns the values in a record by their keys."""
-    layout, keys = LAYOUTS[kind]
-    found = dict(zip(keys.split(), struct.unpack(layout, record)))
-    return {**found, 'oaes': number_at(record, 92, 4), 'ctratt': number_at(record, 96, 4)}
+    """Returns the bytes of the values in a record by their keys."""
+    return {key: record[at:at + size] for key, (at, size) in {**places(kind), **OTHERS}.items()}
 
 
 def unnamed(keys, said, fields, notes):
@@ -164,7 +164,7 @@ def unnamed(keys, said, fields, notes):
         if isinstance(here, str):
             here, there = here.encode(), there.rstrip(b' \0')
         else:
-            there = there if isinstance(there, int) else int.from_bytes(there, 'little')
+            there = int.from_bytes(there, 'little')
             named += f'{there} on the drive.'
         found += [key] * (here != there and not any(note.startswith(named) for note in notes))
     return found
@@ -181,7 +181,7 @@ def unnamed_differences(text, drive):
         wrong += [(place, key) for key in [*unnamed(OF_CONTROLLER, keys, fields, said),
                                            *unnamed(DEFAULTS['smart'], keys.get('smart', {}), health, said)]]
         wrong += [(place, key) for key, here in NAMED.items()
-                  if fields[key] != here and f' {key.upper()} 0x' not in others]
+                  if int.from_bytes(fields[key], 'little') != here and f' {key.upper()} 0x' not in others]
     formats = [(keys['lbads'], keys.get('ms', 0), keys.get('rp', 0)) for keys in file['format']]
     for keys in file.get('namespace', []):
         said = ''.join(notes.get(('namespace', keys['nsid']), ()))

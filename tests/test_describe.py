@@ -5,7 +5,6 @@ import errno
 import random
 import re
 import struct
-import sys
 import unittest.mock
 
 from tests.described import unnamed_differences, unnamed_values
@@ -46,12 +45,6 @@ class Sends(DriveCase):
             self.assertEqual(drive.sent, [])
             controller.send(IDENTIFY, 0, 1, size=4096)
         self.assertEqual(len(drive.sent), 1)
-
-    def test_one_place_sends(self):
-        source = DESCRIBE.read_text()
-        self.assertEqual(len(re.findall(r'\bioctl\b', source)), 1)
-        imported = set(re.findall(r'(?m)^\s*(?:import|from) (\w+)', source))
-        self.assertEqual(imported - set(getattr(sys, 'stdlib_module_names', imported)), set())
 
     def test_commands(self):
         """The commands of a plain drive: only these opcodes, Get Log Page with RAE, and no Select where the drive has

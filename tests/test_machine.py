@@ -12,33 +12,14 @@ import unittest
 
 from tests.modelled import BY_VM, DEVICES, PROGRAMS, ModelCase, installed, mounts, signals, static_program, works
 from tests.support import IS_ROOT, NOBODY, TOP, Running, end_all, process_folder, run, until
+from tests.transcripts import transcripts_of
 
 BYTES = b'MACHINE DATA 16\n' * 4096
 NESTED = 'unshare', '-U', '--map-user=1000', '--map-group=1000'
 
-SCRIPTS = TOP / 'tests/machine'
-BEGIN = 'echo MODELLED | dd of=/dev/nvme0n1 conv=notrunc 2> /dev/null; . "$place/attack.sh"; '
-KERNEL = 'files of the kernel'
-
-
-def scripts_in(name):
-    """Returns the scripts of a file of tests/machine by their names, each with what it prints."""
-    found = {}
-    for piece in (SCRIPTS / f'{name}.txt').read_text().rstrip('\n').split('\n\n'):
-        name, *lines = piece.split('\n')
-        found[name[2:]] = ('\n'.join(line for line in lines if not line.startswith('> ')),
-                           ''.join(f'{line[2:]}\n' for line in lines if line.startswith('> ')).encode())
-    return found
-
-
-# The ways to run the attack, for everybody and for root.
-WAYS, BY_ROOT = scripts_in('ways'), scripts_in('ways_of_root')
-
-
-def called(script, *words, **variables):
-    """Returns what runs a command, by a script of callers.txt, in a mount namespace of its own."""
-    given = [f'{name}={value}' for name, value in variables.items()]
-    return 'env', *given, 'unshare', '-m', 'sh', '-c', scripts_in('callers')[script][0], 'sh', *words
+# The ways to run the attack, and what a command tries besides.
+WAYS, TRIES = transcripts_of('attacks'), transcripts_of('tries')
+KERNEL, ATTACK = 'files_of_the_kernel', WAYS['the_command_itself'][0].beginning
 
 
 class Machine:
@@ -53,7 +34,7 @@ class Machine:
         private = ['unshare', '-m'] if kind == 'devices' else [*(NOBODY if IS_ROOT else ()), 'unshare', '-Urm']
         if not works(*private) or (kind == 'devices' and run('losetup', '--find').status != 0):
             case.skipTest('no such machine can be made here: there are no namespaces, or no loop devices')
-        self.holder = Running(*private, 'sh', SCRIPTS / 'machine.sh', case.folder / 'new',
+        self.holder = Running(*private, 'sh', TOP / 'tests/machine.sh', case.folder / 'new',
                               os.path.commonpath([process_folder(), installed()]), kind, self.disk)
         case.addCleanup(self.close)
         self.holder.comes(b'ready\n')
@@ -70,16 +51,6 @@ class Machine:
         for name in 'disk.node', 'reached', 'copy', 'copied':
             with contextlib.suppress(FileNotFoundError):
                 (self.case.folder / name).unlink()
-
-    def __enter__(self):
-        return self
-
-    def __exit__(self, failure, *_):
-        try:
-            if failure is None:
-                self.is_unchanged()
-        finally:
-            self.close()
 
     def looks(self):
         """Returns everything that must not change."""
@@ -118,19 +89,20 @@ class MachineCase(ModelCase):
     def setUp(self):
         super().setUp()
         self.folder.chmod(0o1777)
-        for script in 'attack.sh', 'again.sh', 'caller.sh':
-            shutil.copy(SCRIPTS / script, self.folder)
+        for script in 'attack.sh', 'caller.sh':
+            shutil.copy(TOP / 'tests' / script, self.folder)
         shutil.copy(static_program('takes'), self.folder / 'takes')
         (self.folder / 'link').symlink_to('/dev/nvme0n1')
         (self.folder / 'chain').symlink_to('/dev/disk/by-id/nvme-machine')
 
-    def reached_nothing(self, ended, least):
+    def reached_nothing(self, machine, ended, least=1):
         """Checks that an attack ran to its end, and found the model's data at least this often and no data of the
         machine."""
         found = re.findall(rb"(?m)^(\d+) times the model's$", ended.out)
         self.assertTrue(found, ended)
         self.assertNotIn(b'reached', ended.out, ended)
         self.assertGreaterEqual(max(map(int, found)), least, ended)
+        machine.is_unchanged()
 
     def kill_device(self):
         """Kills the device as soon as a command asks for it."""
@@ -138,62 +110,76 @@ class MachineCase(ModelCase):
             signals(DEVICES, 9)()
             (self.folder / 'killed').touch()
 
-    def attacks(self, kind, user, ways):
-        for name, (script, _) in ways.items():
-            with self.subTest(name, user=user, kind=kind), Machine(self, kind) as machine:
+    def attacks(self, kind, user=()):
+        for name, (way,) in WAYS.items():
+            if way.headings['root'] and (kind, user) != ('devices', ()):
+                continue
+            with self.subTest(name, kind=kind, user=user), contextlib.closing(Machine(self, kind)) as machine:
                 killer = threading.Thread(target=self.kill_device)
-                if 'killed"' in script:
+                if 'killed"' in way.script:
                     killer.start()
-                ended = machine.model(BEGIN + script, user, where='/dev')
-                self.reached_nothing(ended, 0 if 'killed' in name or name in BY_ROOT else 5)
-                if 'killed"' in script:
+                ended = machine.model(way.beginning + way.script, user, where='/dev')
+                self.reached_nothing(machine, ended, 0 if 'killed' in name or way.headings['root'] else 5)
+                if 'killed"' in way.script:
                     killer.join()
                     self.assertIn(b'the device ended', ended.err)
                     for mark in 'begun', 'killed':
                         (self.folder / mark).unlink()
             self.leaves_nothing()
 
+    def transcribe(self, transcript):
+        """Runs a transcript on machines: with real nodes if it is root's alone, where its script outside has a mount
+        namespace, or on each machine."""
+        outside, script = transcript.outside(), transcript.beginning + transcript.script
+        if not transcript.headings['root']:
+            for machine, user in self.users():
+                transcript.agrees(self, machine.model(script, user, by=outside))
+            return
+        for user in transcript.users():
+            with self.subTest(transcript.place, user=user), contextlib.closing(Machine(self, 'devices')) as machine:
+                transcript.agrees(self, machine.model(script, by=('unshare', '-m', *outside, *user)))
+                machine.is_unchanged()
+
     def users(self):
         """Returns machines, each with a user."""
         kinds = [('devices', ()), ('devices', NOBODY)] if IS_ROOT else []
         for kind, user in (*kinds, ('files', ()), ('files', NESTED)):
-            with self.subTest(user=user, kind=kind), Machine(self, kind) as machine:
+            with self.subTest(kind=kind, user=user), contextlib.closing(Machine(self, kind)) as machine:
                 yield machine, user
+                machine.is_unchanged()
 
 
 class Attacks(MachineCase):
     @unittest.skipUnless(IS_ROOT, 'true device nodes can be made by root alone')
     def test_devices_and_root(self):
-        self.attacks('devices', (), {**WAYS, **BY_ROOT})
+        self.attacks('devices')
 
     @unittest.skipUnless(IS_ROOT, 'true device nodes can be made by root alone')
     def test_devices_and_another_user(self):
-        self.attacks('devices', NOBODY, WAYS)
+        self.attacks('devices', NOBODY)
 
     def test_files_and_root_of_a_user_namespace(self):
-        self.attacks('files', (), WAYS)
+        self.attacks('files')
 
     def test_files_and_a_user(self):
-        self.attacks('files', NESTED, WAYS)
+        self.attacks('files', NESTED)
 
     def test_tries(self):
-        self.tries(scripts_in('tries').keys() - {KERNEL})
+        self.tries({name: row for name, row in TRIES.items() if name != KERNEL})
 
     def test_files_of_the_kernel(self):
-        self.tries([KERNEL])
+        self.tries({KERNEL: TRIES[KERNEL]})
 
-    def tries(self, names):
-        before, scripts = (SCRIPTS / 'tries.sh').read_text(), scripts_in('tries')
+    def tries(self, rows):
         for machine, user in self.users():
-            for name in sorted(names):
-                script, wanted = scripts[name]
+            for name, (row,) in rows.items():
                 with self.subTest(name):
-                    ended = machine.model(before + script, user, options=['--data-limit=2M'])
-                    self.assertEqual(ended.out, wanted, ended)
+                    ended = machine.model(row.beginning + row.script, user, options=['--data-limit=2M'])
+                    self.assertEqual(ended.out, b''.join(text for _, text in row.output), ended)
                     self.assertNotEqual(ended.status, 72, ended)
 
 
-class Machines(MachineCase):
+class Machines(MachineCase, transcripts='on_machines'):
     """Tests other properties on a machine with nodes, for root and for another user."""
 
     def test_what_is_inherited(self):
@@ -212,44 +198,25 @@ class Machines(MachineCase):
                 self.assertEqual((self.folder / 'touched').exists(), said == '')
                 (self.folder / 'touched').unlink(missing_ok=True)
 
-    def test_many_descriptors_are_inherited(self):
-        # the launcher's own numbers begin at 200, and each of them may be the next one that is free
-        for machine, user in self.users():
-            for last in 199, 200, 203:
-                by = 'bash', '-c', f'for n in {{3..{last}}}; do eval "exec $n< /dev/null"; done; exec "$@"', 'bash'
-                ended = machine.model('pwd; exec ls /proc/self/fd', user, where='/', by=by)
-                # (3 is the folder that ls reads)
-                self.ends(ended, 0, b'/\n0\n1\n2\n3\n', b'')
-
     def test_working_folder(self):
         script = 'echo MODELLED | dd of=nvme0n1 conv=notrunc 2> /dev/null; head -c 8 ./nvme0n1 ../dev/nvme0n1 -q; pwd'
         for machine, user in self.users():
             self.ends(machine.model(script, user, where='/dev'), 0, b'MODELLEDMODELLED/dev\n', b'')
             # a folder that was taken away, with nodes in it or above it; and one that others can't search
-            ways = ['a folder that was removed', "a folder of nodes that others can't search"]
+            ways = ['mkdir -m 777 "$place/gone/x"; cd "$place/gone/x"; rmdir "$place/gone/x"; exec "$@"',
+                    'cd /proc/$caller/root/dev/folder && exec "$@"']
             if not user:
-                ways += ['a folder of nodes that is no longer mounted', 'a folder of nodes under a mount']
+                ways += ['mount --bind /dev "$place/gone"; cd "$place/gone"; umount -l "$place/gone"; exec "$@"',
+                         'mount --bind /dev "$place/gone"; cd "$place/gone"; mount -t tmpfs x "$place/gone"; exec "$@"']
             for way in ways:
                 (self.folder / 'gone').mkdir(exist_ok=True)
-                by = called(way)[3 if user else 0:]
-                ended = machine.model('head -c 8 nvme0n1 inner/node', user, by=by)
+                by = 'unshare', '-m', 'sh', '-c', way, 'sh'
+                ended = machine.model('head -c 8 nvme0n1 inner/node', user, by=by if not user else by[2:])
                 self.assertNotIn(b'MACHINE', ended.out, ended)
-                if 'search' not in way:
+                if 'gone' in way:
                     self.ends(ended, 72, b'')
                     self.assertRegex(ended.err, b'nvme-model: the (current )?folder .*run (it|the command) from '
                                      b'another')
-
-    def test_the_rest_of_the_machine_is_there(self):
-        script = ('for f in null zero full random urandom tty fd/0 pts ptmx shm; do test -e /dev/$f || echo $f; done; '
-                  'stat -f -c %T /dev/mqueue; '
-                  'echo x > /dev/null; head -c 3 /dev/zero | wc -c; ls -A "$place" | grep -c seven; '
-                  'test -w /tmp && echo yes; grep -c " /proc " /proc/self/mounts; echo kept > "$place/kept"; '
-                  'cat /sys/class/net/lo/mtu | wc -l; nproc | wc -l; ls /sys/devices/system/cpu | grep -c -x online')
-        for machine, user in self.users():
-            # (the machine's /proc is covered by bwrap's, and this by the command's)
-            self.ends(machine.model(script, user), 0, b'mqueue\n3\n1\nyes\n3\n1\n1\n1\n', b'')
-            self.assertEqual((self.folder / 'kept').read_bytes(), b'kept\n')
-            (self.folder / 'kept').unlink()
 
     def test_devices_that_are_added(self):
         for machine, user in self.users():
@@ -276,9 +243,9 @@ class Machines(MachineCase):
     def test_less_than_all_rights(self):
         # root that can't make a mount namespace gets one through a user namespace
         less = 'setpriv', '--bounding-set=-sys_admin', '--inh-caps=-sys_admin'
-        with Machine(self, 'devices') as machine:
-            ended = machine.model(BEGIN + 'attack', by=less)
-            self.reached_nothing(ended, 5)
+        with contextlib.closing(Machine(self, 'devices')) as machine:
+            ended = machine.model(ATTACK + 'attack', by=less)
+            self.reached_nothing(machine, ended, 5)
             self.assertEqual(ended.err, b'')
 
     def test_other_callers(self):
@@ -288,61 +255,57 @@ class Machines(MachineCase):
                 machine.kind == 'devices' and not user) else ('env', '-u', 'HOME')
             self.ends(machine.model('test -b /dev/nvme0n1; echo $?', user, by=unknown), 0, b'0\n', b'')
             if not user:
-                ended = machine.model('touch x 2> /dev/null || echo $PWD', by=called("a folder that can't be written"))
-                self.ends(ended, 0, f'{self.folder}\n'.encode(), b'')
+                read_only = ('unshare', '-m', 'sh', '-c', 'mount --bind "$place" "$place" && mount -o remount,bind,ro '
+                             '"$place" && cd "$place" && exec "$@"', 'sh')
+                self.ends(machine.model('touch x 2> /dev/null || echo $PWD', by=read_only), 0,
+                          f'{self.folder}\n'.encode(), b'')
 
     @unittest.skipUnless(IS_ROOT, 'root alone can mount without a user namespace')
     def test_other_mounts(self):
-        # what is mounted later isn't seen, by root or by others
-        waits = ('echo > "$place/started"; until test -e "$place/go"; do sleep 0.1; done; '
-                 'head -c 7 "$place/gone/nvme0n1"; :')
-        for user in (), NOBODY:
-            with self.subTest('mounted later', user=user), Machine(self, 'devices') as machine:
-                self.ends(machine.model(waits, by=called('mounts later', *user)), 0, b'')
-                self.assertTrue((self.folder / 'started').exists())
-            for name in 'started', 'go':
-                (self.folder / name).unlink()
         # a mount that its user can't reach before the folder above it is opened, also one whose path the kernel writes
         # in more than 4,096 characters, and another view of the machine's processes
-        opened = ('chmod 755 "$place/$hidden"; head -c 7 "$place/$hidden/dev/nvme0n1"; '
-                  'ls "$place/$hidden/dev/$caller"; echo no')
+        opened = 'chmod 755 "$place/%s"; head -c 7 "$place/%s/dev/nvme0n1"; ls "$place/%s/dev/$caller"; echo no'
+        hidden = ('mkdir -p "$place/%s/dev"; mount $kind "$place/%s/dev"; chown 65534:12 "$place/%s"; '
+                  'chmod 000 "$place/%s"; exec "$@"')
         long_folder, closed = '/'.join([250 * ' '] * 5 + ['hidden']), '-o nodev,nosuid,noexec -t'
-        for folder, kind in (('hidden', '--bind /dev'), (long_folder, '--bind /dev'), ('hidden', f'{closed} proc proc'),
-                             ('hidden', f'{closed} sysfs sysfs')):
-            with self.subTest(kind, folder=folder), Machine(self, 'devices') as machine:
-                ended = machine.model(opened, by=called('hides a mount', *NOBODY, hidden=folder, kind=kind))
+        ways = (('hidden', '--bind /dev'), (long_folder, '--bind /dev'), ('hidden', f'{closed} proc proc'),
+                ('hidden', f'{closed} sysfs sysfs'))
+        for folder, kind in ways:
+            with self.subTest(kind, folder=folder), contextlib.closing(Machine(self, 'devices')) as machine:
+                script = hidden.replace('%s', folder).replace('$kind', kind)
+                by = 'unshare', '-m', 'sh', '-c', script, 'sh', *NOBODY
+                ended = machine.model(opened.replace('%s', folder), by=by)
                 # (bubblewrap 0.13 makes even such a mount nodev)
                 is_kept = ended.status == 0 and 'bind' in kind
                 self.ends(ended, 0 if is_kept else 72, b'no\n' if is_kept else b'')
                 self.assertIn(b'Permission denied' if is_kept else b"can't be kept from the command", ended.err)
                 (self.folder / folder).chmod(0o755)
 
-    @unittest.skipUnless(IS_ROOT, 'root alone can mount without a user namespace')
-    def test_long_paths(self):
-        # another /proc is replaced by the command's own, however long its path is
-        hidden = '/'.join([245 * 'x'] * 15) + '/' + 100 * 'x'
-        script = ('(: >> "$place/$hidden/sys/kernel/core_pattern") 2> /dev/null && echo written; '
-                  'ls "$place/$hidden/$caller" 2> /dev/null; ls -d "$place/$hidden/1" | wc -l')
-        for user in (), NOBODY:
-            with self.subTest(user=user), Machine(self, 'devices') as machine:
-                self.ends(machine.model(script, by=called('another /proc', *user, hidden=hidden)), 0, b'1\n', b'')
-
     @unittest.skipUnless(IS_ROOT, 'root alone can chroot')
     def test_other_roots(self):
         # another root that is a mount point; and one with nodes in a plain folder. (Other views of its /dev would be
         # devtmpfs on a true machine, but are tmpfs here.)
-        for way in 'another root', 'another root with nodes in a plain folder':
-            with self.subTest(way), Machine(self, 'devices') as machine:
-                ended = machine.model(BEGIN + 'cd ../../..; attack', by=called(way))
-                self.reached_nothing(ended, 5)
+        ways = {'a mount point': 'mount --rbind / "$place/root" && chroot "$place/root" "$@"',
+                'a plain /dev': 'for m in alias bound; do mount -o remount,bind,ro "$place/$m"; done; '
+                'mount -t tmpfs x "$place/root" && cd / && for d in *; do case $d in dev) ;; *) test -d $d && '
+                'test ! -L $d && mkdir "$place/root/$d" && mount --rbind $d "$place/root/$d" || '
+                'cp -a $d "$place/root/$d" ;; esac; done; mkdir "$place/root/dev"; cp -a /dev/null /dev/zero /dev/full '
+                '/dev/random /dev/urandom /dev/tty /dev/nvme0 /dev/nvme0n1 "$place/root/dev" && '
+                'chroot "$place/root" "$@"'}
+        for name, way in ways.items():
+            with self.subTest(name), contextlib.closing(Machine(self, 'devices')) as machine:
+                by = 'unshare', '-m', 'sh', '-c', way + '; exit', 'sh'
+                ended = machine.model(ATTACK + 'cd ../../..; attack', by=by)
+                self.reached_nothing(machine, ended, 5)
 
     def test_eight_at_once(self):
-        with Machine(self, 'files') as machine:
+        with contextlib.closing(Machine(self, 'files')) as machine:
             script = ('for i in 1 2 3 4 5 6 7 8; do "$model" sh -c "echo $i > /dev/nvme0n1; : > $place/wrote-$i; '
                       'until test \\$(ls $place | grep -c wrote-) = 8; do sleep 0.1; done; '
                       'echo \\$(head -c 1 /dev/nvme0n1)" & done; wait')
             ended = run(*machine.enter, 'sh', '-c', script, env={'model': installed(), 'place': self.folder})
             self.assertEqual(sorted(ended.out.split()), [b'%d' % number for number in range(1, 9)], ended)
+            machine.is_unchanged()
 
 
 # Runs a command in a place where no mount namespace can be made, or where there is no bwrap.
@@ -366,9 +329,10 @@ class NoSandbox(MachineCase):
         # whatever nodes the machine has, the command doesn't begin, and the reason tells what does without a sandbox
         for kind in ('devices', 'files', 'none') if IS_ROOT else ('files', 'none'):
             for way, reason in self.ways().items():
-                with self.subTest(way=way, kind=kind), Machine(self, kind) as machine:
+                with self.subTest(kind, way=way), contextlib.closing(Machine(self, kind)) as machine:
                     ended = machine.model('touch "$place/touched"', by=way)
                     self.ends(ended, 72, b'')
                     self.assertRegex(ended.err, b'^nvme-model: no sandbox can be made: .*' + reason + b'.*; ' +
                                      BY_VM.encode() + b'\n$')
                     self.assertFalse((self.folder / 'touched').exists())
+                    machine.is_unchanged()

@@ -162,11 +162,14 @@ class Queues(Blocks):
 
     def test_shutdown(self):
         drive = self.drive()
-        for notice, status in (1, 9), (2, 9), (0, 1), (1, 9):
+        for notice, status in (1, 9), (2, 9), (3, 1), (0, 1), (1, 9):
             drive.set_register(CC, ENABLED | notice << 14)
             self.assertEqual(drive.register(CSTS), status)
         drive.set_register(CC, ENABLED & ~1)
         self.assertEqual(drive.register(CSTS), 0)
+        # (nothing is left of the queues)
+        drive.put_io(1, block_entry(FLUSH, 1))
+        self.assertIsNone(drive.take_io(1))
         self.begin(drive)
         self.assertEqual((drive.register(CSTS), drive.io(FLUSH, 1)), (1, 0))
 

@@ -278,6 +278,8 @@ class Data(Blocks):
                                              (DATASET, 4 << 32, 1, struct.pack('<IIQ', 0, 2 ** 32 - 1, 8))):
             drive.at(40 * PAGE, len(ranges))[:] = ranges
             self.assertEqual(drive.io(opcode, 1, first, count, 40 * PAGE), 0)
+            for place in 1 << 30, 1 << 31:
+                self.assertEqual(drive.store(1, place, b'y' * 4096), 0)
         self.assertEqual(drive.store(1, 1 << 32, b'x' * 4096), 0)
         self.assertEqual(drive.load(1, (1 << 32) - 8, 24), bytes(4096) + b'x' * 4096 + bytes(4096))
 

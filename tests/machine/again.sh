@@ -1,3 +1,0 @@
-# The attack, in a shell of its own.
-. "$place/attack.sh"
-attack
