@@ -1,20 +1,13 @@
 """What the tests of nvme-describe share: random subsystem files, and files as values, with every default filled in."""
 
+import collections
 import json
 import re
 import struct
+import tomllib
 
 from tests.records import places
 
-# The places and sizes of fields of a controller and its health log, by their keys. NAMED has the model's values, too.
-CONTROLLER = places('id_ctrl')
-OF_CONTROLLER = {key: CONTROLLER[key] for key in ('cntlid', 'vid', 'ssvid', 'rab', 'ieee', 'mdts', 'elpe', 'wctemp',
-                                                  'cctemp', 'vwc')}
-OF_TOP, TEXTS = ({key: CONTROLLER[key] for key in keys} for keys in (('nn', 'tnvmcap'), ('sn', 'mn', 'fr')))
-OF_HEALTH = {key: place for key, place in places('smart').items() if key not in ('num_err_log_entries', 'sensors')}
-NAMED = {'OAES': (92, 4, 0), 'CTRATT': (96, 4, 0), **{key.upper(): (*CONTROLLER[key], value) for key, value in (
-    ('ver', 0x10400), ('oacs', 10), ('frmw', 2), ('lpa', 4), ('npss', 0), ('sqes', 0x66), ('cqes', 0x44),
-    ('oncs', 16))}}
 # The keys of each table with their defaults. Those that are required have none.
 DEFAULTS = {
     'top': {'mc': 0},
@@ -22,62 +15,43 @@ DEFAULTS = {
     'controller': {'vid': 0, 'ssvid': 0, 'rab': 0, 'ieee': 0, 'mdts': 5, 'elpe': 63, 'wctemp': 343, 'cctemp': 353,
                    'vwc': 0, 'crypto_erase': False},
     'feature': {'default': 0, 'saveable': False, 'changeable': True},
-    'smart': dict.fromkeys(OF_HEALTH, 0),
+    'smart': {key: 0 for key in places('smart') if key not in ('num_err_log_entries', 'sensors')},
     'namespace': {'extended': False, 'shared': False, 'controllers': []},
 }
 MASKS = {1: 0xffffff07, 2: 0xe0, 5: 0x1ffff, 6: 1, 8: 0xffff, 10: 1, 11: 0x7fff}
 GREATEST = 2 ** 63 - 1
 
 
-def tables_of(text):
-    """Returns the tables of a subsystem file as pairs of a name and a dictionary, in the order of the file. The file
-    has a key in each line, with a value that JSON has too."""
-    tables = [('top', {})]
-    for line in text.splitlines():
-        heading = re.fullmatch(r'\[\[?(?:controller\.)?(\w+)\]\]?', line)
-        if heading:
-            tables.append((heading[1], {}))
-        elif line and not line.startswith('#'):
-            key, value = line.split(' = ', 1)
-            tables[-1][1][key] = json.loads(value)
-    return tables
+def feature(keys, wctemp):
+    """Returns the keys of a feature with its defaults."""
+    if keys['fid'] == 4:
+        return {**DEFAULTS['feature'], 'over': [wctemp] + 8 * [65535], 'under': 9 * [0], **keys, 'default': 0}
+    return {**DEFAULTS['feature'], **keys}
 
 
-def filled(name, keys, wctemp):
-    """Returns the keys of a table with its defaults."""
-    if name == 'feature' and keys['fid'] == 4:
-        keys = {'over': [wctemp] + 8 * [65535], 'under': 9 * [0], **keys}
-        return {**DEFAULTS[name], **keys, 'default': 0}
-    if name == 'smart':
-        keys = {**keys, 'sensors': (keys.get('sensors', []) + 8 * [0])[:8]}
-    return {**DEFAULTS[name], **keys}
+def controller(keys, has_namespaces):
+    """Returns the keys of a controller with its defaults, and without features that have no effect."""
+    keys = {**DEFAULTS['controller'], **keys}
+    features = {each['fid']: feature(each, keys['wctemp'])
+                for each in [*({'fid': fid} for fid in MASKS), *keys.get('feature', [])]}
+    for fid, has_effect in (5, has_namespaces), (6, keys['vwc'] & 1):
+        if not has_effect:
+            del features[fid]
+    smart = {'sensors': [], **DEFAULTS['smart'], **keys.get('smart', {})}
+    smart['sensors'] = (smart['sensors'] + 8 * [0])[:8]
+    return {**keys, 'feature': features, 'smart': smart}
 
 
 def meaning(text):
-    """Returns what a subsystem file says: the keys of each table, by the names of tables. It leaves out what has no
-    effect: the order of namespaces and of their controllers, version 2 without thresholds, a cache that isn't there,
-    and Error Recovery of a controller without a namespace, which no command reports."""
-    said, place, wctemp = {}, -1, 343
-    for name, keys in tables_of(text):
-        if name == 'controller':
-            place, wctemp = place + 1, keys.get('wctemp', 343)
-            said.update({('feature', place, fid): filled('feature', {'fid': fid}, wctemp) for fid in MASKS})
-            said['smart', place] = filled('smart', {}, wctemp)
-        number = {'feature': (place, keys.get('fid')), 'namespace': (keys.get('nsid'),), 'top': (),
-                  'format': (sum(one[0] == 'format' for one in said),)}.get(name, (place,))
-        said[(name, *number)] = filled(name, keys, wctemp)
-    for key, keys in said.items():
-        if key[0] == 'namespace':
-            keys['controllers'] = sorted(keys['controllers'])
-    said['top',].pop('version')
-    having = {cntlid for key, keys in said.items() if key[0] == 'namespace' for cntlid in keys['controllers']}
-    for at in range(place + 1):
-        controller = said['controller', at]
-        if not controller['vwc'] & 1:
-            del said['feature', at, 6]
-        if controller['cntlid'] not in having:
-            del said['feature', at, 5]
-    return said
+    """Returns what a subsystem file says, with all defaults. It leaves out what has no effect: the order of namespaces
+    and of their controllers, version 2 without thresholds, a cache that isn't there, and Error Recovery of a controller
+    without a namespace, which no command reports."""
+    said = {**DEFAULTS['top'], **tomllib.loads(text), 'version': 0}
+    namespaces = [{**DEFAULTS['namespace'], **keys} for keys in said.get('namespace', [])]
+    having = {cntlid for keys in namespaces for cntlid in keys['controllers']}
+    return {**said, 'format': [{**DEFAULTS['format'], **keys} for keys in said['format']],
+            'controller': [controller(keys, keys['cntlid'] in having) for keys in said['controller']],
+            'namespace': {keys['nsid']: {**keys, 'controllers': sorted(keys['controllers'])} for keys in namespaces}}
 
 
 def text_of(random, most):
@@ -101,24 +75,20 @@ def numbers(random, most, count):
 
 
 def random_feature(random, fid):
-    text = '\n[[controller.feature]]\n' + line('fid', fid)
-    if fid == 4:
-        return text + some(random, over=numbers(random, 65535, 9), under=numbers(random, 65535, 9),
-                           saveable=random.random() < 0.5, changeable=random.random() < 0.5)
-    return text + some(random, default=random.getrandbits(32) & MASKS[fid], changeable=random.random() < 0.5,
-                       saveable=fid != 5 and random.random() < 0.5)
+    keys = {'over': numbers(random, 65535, 9), 'under': numbers(random, 65535, 9)} if fid == 4 else {
+        'default': random.getrandbits(32) & MASKS[fid]}
+    return '\n[[controller.feature]]\n' + line('fid', fid) + some(
+        random, **keys, changeable=random.random() < 0.5, saveable=fid != 5 and random.random() < 0.5)
 
 
 def random_controller(random, cntlid, version):
     text = '\n[[controller]]\n' + line('cntlid', cntlid)
     text += ''.join(line(key, text_of(random, most)) for key, most in (('sn', 20), ('mn', 40), ('fr', 8)))
-    text += some(random, vid=random.getrandbits(16), ssvid=random.getrandbits(16), rab=random.getrandbits(8),
-                 ieee=random.getrandbits(24), mdts=random.randint(2, 8), elpe=random.getrandbits(8),
-                 wctemp=random.getrandbits(16), cctemp=random.getrandbits(16), vwc=random.randint(0, 7),
-                 crypto_erase=random.random() < 0.5)
+    bits = {'vid': 16, 'ssvid': 16, 'rab': 8, 'ieee': 24, 'elpe': 8, 'wctemp': 16, 'cctemp': 16, 'vwc': 3}
+    text += some(random, mdts=random.randint(2, 8), crypto_erase=random.random() < 0.5,
+                 **{key: random.getrandbits(count) for key, count in bits.items()})
     fids = sorted({*MASKS, *[4] * (version == 2)})
-    for fid in random.sample(fids, random.randint(0, len(fids))):
-        text += random_feature(random, fid)
+    text += ''.join(random_feature(random, fid) for fid in random.sample(fids, random.randint(0, len(fids))))
     if random.random() < 0.7:
         keys = {key: random.choice([0, 1, 255, random.getrandbits(8)]) for key in DEFAULTS['smart']}
         keys.update({key: random.choice([GREATEST, random.getrandbits(40)]) for key in list(keys)[5:14]})
@@ -146,9 +116,17 @@ def random_file(random, controllers, namespaces):
     text = line('version', version) + line('nn', nn) + line('tnvmcap', random.choice([used, used + 12345, GREATEST]))
     text += line('mc', mc) + line('subnqn', text_of(random, random.choice([5, 223])))
     for power, metadata in formats:
-        text += '\n[[format]]\n' + line('lbads', power) + some(random, ms=metadata, rp=random.randint(0, 3)) \
-            if metadata == 0 else '\n[[format]]\n' + line('lbads', power) + line('ms', metadata)
+        more = line('ms', metadata) if metadata else some(random, ms=0, rp=random.randint(0, 3))
+        text += '\n[[format]]\n' + line('lbads', power) + more
     return text + ''.join(random_controller(random, cntlid, version) for cntlid in identifiers) + ''.join(tables)
+
+
+# The keys that are fields of a controller, the places of fields that tests/records.py doesn't name, and what the fields
+# without a key are in the model.
+OF_CONTROLLER = 'cntlid', 'vid', 'ssvid', 'sn', 'mn', 'fr', 'rab', 'ieee', 'mdts', 'elpe', 'wctemp', 'cctemp', 'vwc'
+OTHERS = {'oaes': (92, 4), 'ctratt': (96, 4)}
+NAMED = {'ver': 0x10400, 'oacs': 10, 'frmw': 2, 'lpa': 4, 'npss': 0, 'sqes': 0x66, 'cqes': 0x44, 'oncs': 16, 'oaes': 0,
+         'ctratt': 0}
 
 
 def number_at(data, at, size):
@@ -158,60 +136,59 @@ def number_at(data, at, size):
 def notes_in(text):
     """Returns the comments of each table of a file, by its kind and place: the NSID of a namespace, or the position of
     a controller, with which its features and health log are. A comment of several tables is with each."""
-    found, kind, place, positions = {}, 'top', 0, {'controller': -1, 'format': -1}
-    lines = iter(text.replace('\n# (Likewise ', ' (Likewise ').splitlines())
-    for line in lines:
-        heading = re.fullmatch(r'\[\[?(controller|format|namespace)?\.?(\w*)\]\]?', line)
-        if heading and not heading[2]:
+    found, kind, place, counts = {}, 'top', 0, collections.Counter()
+    for table in text.replace('\n# (Likewise ', ' (Likewise ').split('\n\n'):
+        heading, nsid = re.match(r'\[\[(controller|format|namespace)\]\]', table), re.search('(?m)^nsid = (.*)', table)
+        if heading:
             kind = heading[1]
-            positions[kind] = place = positions.get(kind, 0) + 1
-        if line.startswith('nsid = '):
-            found['namespace', int(line[7:])] = found.pop(('new', 0), set())
-        if not line.startswith('# ') or line.startswith('# nvme set-'):
-            continue
-        while not line.endswith(('.', '.)', ':')):
-            line += next(lines)[1:]
-        others = re.search(r' \(Likewise (?:NSID |/dev/nvme|formats )([\d, to]+)\.\)$', line)
-        key = ('new', 0) if kind == 'namespace' else (kind, place)
-        found.setdefault(key, set()).add(line[2:others.start() if others else None])
-        for first, last in re.findall(r'(\d+)(?: to (\d+))?', others[1] if others else ''):
-            for other in range(int(first), int(last or first) + 1):
-                found.setdefault(('later', kind, other), set()).add(line[2:others.start()])
-    for key in [key for key in found if key[0] == 'later']:
-        found.setdefault(key[1:], set()).update(found.pop(key))
+            place = int(nsid[1]) if nsid else counts[kind]
+            counts[kind] += 1
+        for note in re.findall(r'(?ms)^# (?!nvme set-)(.*?(?:\.\)?|:))$', table):
+            note, _, others = note.replace('\n#', '').partition(' (Likewise ')
+            for first, last in [(place, ''), *re.findall(r'(\d+)(?: to (\d+))?', others)]:
+                for other in range(int(first), int(last or first) + 1):
+                    found.setdefault((kind, other), set()).add(note)
+    return found
+
+
+def fields_of(kind, record):
+    """Returns the bytes of the values in a record by their keys."""
+    return {key: record[at:at + size] for key, (at, size) in {**places(kind), **OTHERS}.items()}
+
+
+def unnamed(keys, said, fields, notes):
+    """Returns those of these keys whose values differ from the fields of a record, and aren't named in a comment."""
+    found = []
+    for key in keys:
+        here, there, named = said.get(key, 0), fields[key], f'{key.upper()} is '
+        if isinstance(here, str):
+            here, there = here.encode(), there.rstrip(b' \0')
+        else:
+            there = int.from_bytes(there, 'little')
+            named += f'{there} on the drive.'
+        found += [key] * (here != there and not any(note.startswith(named) for note in notes))
     return found
 
 
 def unnamed_differences(text, drive):
     """Returns what differs in a file from the records of a drive, and isn't named in a comment of its table."""
-    notes, place, wrong, formats = notes_in(text), -1, [], []
-    for name, keys in tables_of(text):
-        place += name == 'controller'
-        if name == 'top':
-            wrong += [key for key, (at, size) in OF_TOP.items()
-                      if keys[key] != number_at(drive.records[0, 6, 1, 0], at, size) and
-                      not any(note.startswith(f'{key.upper()} is ') for note in notes['top', 0])]
-        if name == 'format':
-            formats.append((keys['lbads'], keys.get('ms', 0), keys.get('rp', 0)))
-        if name in ('controller', 'smart'):
-            fields = OF_CONTROLLER if name == 'controller' else OF_HEALTH
-            record = drive.records.get((place, 6, 1, 0) if name == 'controller' else (place, 2, 2, 0xffffffff), b'')
-            wrong += [(place, key) for key, (at, size) in fields.items()
-                      if keys.get(key, 0) != number_at(record, at, size) and
-                      f'{key.upper()} is {number_at(record, at, size)} on the drive.' not in notes['controller', place]]
-        if name == 'controller':
-            wrong += [(place, key) for key, (at, size) in TEXTS.items()
-                      if keys[key].encode() != record[at:at + size].rstrip(b' \0') and
-                      not any(note.startswith(f'{key.upper()} is ') for note in notes['controller', place])]
-            said = ''.join(note for note in notes['controller', place] if note.startswith('On the drive'))
-            wrong += [(place, field) for field, (at, size, here) in NAMED.items()
-                      if number_at(record, at, size) != here and f' {field} 0x' not in said]
-        if name == 'namespace':
-            said = ''.join(notes.get(('namespace', keys['nsid']), ()))
-            records = [record for (_, opcode, cns, nsid), record in drive.records.items()
-                       if (opcode, nsid) == (6, keys['nsid']) and cns in (0, 0x11) and any(record[:8])]
-            wrong += [(keys['nsid'], field) for field in differing_fields(keys, records[-1], formats)
-                      if not re.search(rf'\b{field}\b', said)]
+    file, notes = tomllib.loads(text), notes_in(text)
+    wrong = unnamed(('nn', 'tnvmcap'), file, fields_of('id_ctrl', drive.records[0, 6, 1, 0]), notes['top', 0])
+    for place, keys in enumerate(file['controller']):
+        fields, said = fields_of('id_ctrl', drive.records[place, 6, 1, 0]), notes['controller', place]
+        health = fields_of('smart', drive.records.get((place, 2, 2, 0xffffffff), bytes(512)))
+        others = ''.join(note for note in said if note.startswith('On the drive'))
+        wrong += [(place, key) for key in [*unnamed(OF_CONTROLLER, keys, fields, said),
+                                           *unnamed(DEFAULTS['smart'], keys.get('smart', {}), health, said)]]
+        wrong += [(place, key) for key, here in NAMED.items()
+                  if int.from_bytes(fields[key], 'little') != here and f' {key.upper()} 0x' not in others]
+    formats = [(keys['lbads'], keys.get('ms', 0), keys.get('rp', 0)) for keys in file['format']]
+    for keys in file.get('namespace', []):
+        said = ''.join(notes.get(('namespace', keys['nsid']), ()))
+        records = [record for (_, opcode, cns, nsid), record in drive.records.items()
+                   if (opcode, nsid) == (6, keys['nsid']) and cns in (0, 0x11) and any(record[:8])]
+        wrong += [(keys['nsid'], field) for field in differing_fields(keys, records[-1], formats)
+                  if not re.search(rf'\b{field}\b', said)]
     return wrong
 
 
@@ -233,16 +210,11 @@ def states(text):
     """Returns the state of each feature in the model of a file after the commands at its end: the default, saved and
     current value by the controller, the feature, and the NSID or the selector, which is None for all others; and the
     capabilities by the controller and the feature."""
-    place, values, capabilities = -1, {}, {}
-    for name, keys in tables_of(text):
-        place += name == 'controller'
-        if name == 'controller':
-            capabilities.update({(place, fid): 4 | 2 * (fid == 5) for fid in MASKS})
-            values.update({(place, fid, None): 3 * [0] for fid in MASKS})
-        if name == 'feature':
+    values, capabilities = {}, {}
+    for place, controller in enumerate(tomllib.loads(text)['controller']):
+        for keys in [*({'fid': fid} for fid in MASKS), *controller.get('feature', [])]:
             fid = keys['fid']
-            capabilities[place, fid] = (keys.get('saveable', False) | 2 * (fid == 5) |
-                                        4 * keys.get('changeable', True))
+            capabilities[place, fid] = keys.get('saveable', False) | 2 * (fid == 5) | 4 * keys.get('changeable', True)
             values[place, fid, None] = 3 * [keys.get('default', 0)]
             for at, value in enumerate(keys.get('over', []) + keys.get('under', [])):
                 values[place, fid, at if at < 9 else at + 7] = 3 * [value]
@@ -263,11 +235,9 @@ def unnamed_values(text, drive):
     values, capabilities = states(text)
     for (place, fid, key), told in drive.values.items():
         said = ''.join(note for note in notes['controller', place] if note.startswith(f'Feature {fid} on the drive'))
-        if told[0] is None:
-            is_said = fid == 4 or f"The drive doesn't report feature {fid}." in notes['controller', place]
-            wrong += [] if is_said else [(place, fid, key)]
-            continue
-        if f"The drive doesn't report feature {fid}." in notes['controller', place]:
+        is_missing = f"The drive doesn't report feature {fid}." in notes['controller', place]
+        if told[0] is None or is_missing:
+            wrong += [] if is_missing or fid == 4 else [(place, fid, key)]
             continue
         mask = 0xffff if fid == 4 else 0xffffffff
         default, saved, current = values.get((place, fid, key if fid in (4, 5) else None)) or values[place, fid, None]

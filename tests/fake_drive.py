@@ -4,6 +4,7 @@ them."""
 import ctypes
 import errno
 import os
+import runpy
 import struct
 import types
 import unittest.mock
@@ -16,15 +17,8 @@ EVERY = 0xffffffff
 COMMAND = struct.Struct('=BBHIIIQQII8I')
 
 
-def loaded():
-    """Returns the program as a module."""
-    module = types.ModuleType('nvme_describe')
-    source = (TOP / 'nvme-describe').read_bytes()
-    exec(compile(source, TOP / 'nvme-describe', 'exec'), module.__dict__)
-    return module
-
-
-PROGRAM = loaded()
+# The program as a module.
+PROGRAM = types.SimpleNamespace(**runpy.run_path(str(TOP / 'nvme-describe')))
 
 
 class Drive:
@@ -77,6 +71,12 @@ def described(drive, paths, is_current=False):
             raise Stopped(stopped.code) from None
 
 
+def with_fields(data, fields):
+    for at, field in fields.items():
+        data[int(at[1:]):int(at[1:]) + len(field)] = field
+    return bytes(data)
+
+
 def identity(**fields):
     """Returns the data of Identify Controller of a plain drive, with these fields as bytes at their places."""
     data = bytearray(4096)
@@ -85,9 +85,7 @@ def identity(**fields):
     data[77], data[256], data[260], data[261], data[512], data[513] = 5, 10, 2, 4, 0x66, 0x44
     struct.pack_into('<IH', data, 516, 8, 16)
     data[768:785] = b'nqn.2014-08.org:a'
-    for at, field in fields.items():
-        data[int(at[1:]):int(at[1:]) + len(field)] = field
-    return bytes(data)
+    return with_fields(data, fields)
 
 
 def namespace(blocks=8, lbads=(9,), **fields):
@@ -98,9 +96,7 @@ def namespace(blocks=8, lbads=(9,), **fields):
     data[25] = len(lbads) - 1
     for at, power in enumerate(lbads):
         data[130 + 4 * at] = power
-    for at, field in fields.items():
-        data[int(at[1:]):int(at[1:]) + len(field)] = field
-    return bytes(data)
+    return with_fields(data, fields)
 
 
 def ns_list(*nsids):
@@ -108,12 +104,12 @@ def ns_list(*nsids):
 
 
 class Plain:
-    """The answers of a plain drive with one or more controllers, which a test changes by the key of a command: its
-    opcode and its CNS, LID or FID, and perhaps the NSID."""
+    """The answers of a plain drive with one or more controllers and these namespaces. Others are given by the key of a
+    command: its opcode and its CNS, LID or FID, and perhaps the NSID, and first the controller."""
 
-    def __init__(self, namespaces=None, count=1):
+    def __init__(self, changes=(), namespaces=None, count=1):
         self.namespaces = {1: namespace()} if namespaces is None else namespaces
-        self.count, self.changes = count, {}
+        self.count, self.changes = count, dict(changes)
 
     def __call__(self, controller, opcode, nsid, dword10, dword11, size):
         what = dword10 & 0xff

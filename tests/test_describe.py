@@ -9,7 +9,7 @@ import unittest.mock
 
 from tests.described import unnamed_differences, unnamed_values
 from tests.fake_drive import (EVERY, GET_FEATURES, GET_LOG, IDENTIFY, PROGRAM, REFUSED, Drive, Plain, Stopped, Wild,
-                              described, error, identity, namespace, node, nodes, ns_list)
+                              described, error, identity, namespace, node, nodes, ns_list, with_fields)
 from tests.support import TOP, Case, program, run
 
 DRIVES = 4000
@@ -59,15 +59,10 @@ class Sends(DriveCase):
 
     def test_few_refusals(self):
         """A plain drive refuses one command: the threshold that it doesn't have."""
-        refused = []
-        plain = Plain()
-
-        def answer(*command):
-            said = plain(*command)
-            refused.extend([command] * (said[0] != 0))
-            return said
-        self.accepted(described(Drive(answer), nodes(1)))
-        self.assertEqual([command[1:4] for command in refused], [(GET_FEATURES, 0, 4)])
+        drive, plain = Drive(Plain()), Plain()
+        self.accepted(described(drive, nodes(1)))
+        refused = [command[1:4] for command in drive.sent if plain(*command)[0] != 0]
+        self.assertEqual(refused, [(GET_FEATURES, 0, 4)])
 
 
 class Misbehaving(DriveCase):
@@ -75,46 +70,29 @@ class Misbehaving(DriveCase):
         """An error of any command ends the program with a message that names the node."""
         drive = Drive(Plain())
         self.accepted(described(drive, nodes(1)))
-        total = len(drive.sent)
-        self.assertGreater(total, 20)
-        for number in range(total):
-            plain, left = Plain(), [number]
-
-            def answer(*command, plain=plain, left=left):
-                left[0] -= 1
-                if left[0] < 0:
-                    raise error(errno.EIO)
-                return plain(*command)
-            self.stops(answer, '/dev/nvme0: Input/output error', nodes(1))
+        answers = [Plain()(*command) for command in drive.sent]
+        self.assertGreater(len(answers), 20)
+        for number in range(len(answers)):
+            failing = unittest.mock.Mock(side_effect=[*answers[:number], error(errno.EIO)], count=1)
+            self.stops(failing, '/dev/nvme0: Input/output error')
 
     def test_messages(self):
         for number, message in ((errno.EACCES, 'Permission denied: root is needed'), (errno.ENODEV, 'No such device'),
                                 (errno.EPERM, 'Operation not permitted: root is needed'),
                                 (errno.ENOTTY, 'this is not an NVMe controller')):
-            plain = Plain()
-            plain.changes[IDENTIFY, 1] = error(number)
-            self.stops(plain, f'/dev/nvme0: {message}')
+            self.stops(Plain({(IDENTIFY, 1): error(number)}), f'/dev/nvme0: {message}')
         for change in REFUSED, b'', bytes(4096):
-            plain = Plain()
-            plain.changes[IDENTIFY, 1] = change
-            self.stops(plain, '/dev/nvme0: the controller answers nothing to Identify')
+            self.stops(Plain({(IDENTIFY, 1): change}), '/dev/nvme0: the controller answers nothing to Identify')
         for listed in ns_list(3, 1), ns_list(1, 1), ns_list(1, 0, 2), ns_list(*range(1024, 0, -1)), ns_list(0, 5):
             for cns in 2, 0x10:
-                plain = Plain()
-                plain.changes[IDENTIFY, cns] = listed
-                self.stops(plain, "/dev/nvme0: a list of namespaces doesn't ascend")
+                self.stops(Plain({(IDENTIFY, cns): listed}), "/dev/nvme0: a list of namespaces doesn't ascend")
 
     def test_arguments(self):
-        same = Plain(count=2)
-        same.changes[IDENTIFY, 1] = identity()
-        self.stops(same, 'one controller is given twice: /dev/nvme0 /dev/nvme1')
-        other = Plain(count=2)
-        other.changes[1, IDENTIFY, 1, 0] = identity(_78=b'\1', _784=b'b')
-        self.stops(other, 'these are controllers of several subsystems: /dev/nvme0 /dev/nvme1')
+        self.stops(Plain({(IDENTIFY, 1): identity()}, count=2), 'one controller is given twice: /dev/nvme0 /dev/nvme1')
+        self.stops(Plain({(1, IDENTIFY, 1, 0): identity(_78=b'\1', _784=b'b')}, count=2),
+                   'these are controllers of several subsystems: /dev/nvme0 /dev/nvme1')
         self.stops(Plain(count=17), 'a file has at most 16 controllers: .*')
-        high = Plain()
-        high.changes[IDENTIFY, 1] = identity(_78=b'\xf0\xff')
-        self.stops(high, 'no file has a controller identifier above 65519: /dev/nvme0')
+        self.stops(changed(_78=b'\xf0\xff'), 'no file has a controller identifier above 65519: /dev/nvme0')
         self.stops(Plain(), 'none of these is a controller: /dev/nvme0n1 /dev/ng0n1 /dev/nvme-fabrics',
                    ['/dev/nvme0n1', '/dev/ng0n1', '/dev/nvme-fabrics'])
 
@@ -129,9 +107,8 @@ class Misbehaving(DriveCase):
 
     def test_namespaces_that_go_away(self):
         for change in REFUSED, 0x402c, bytes(4096), b'':
-            plain = Plain({nsid: namespace() for nsid in (1, 2, 3)})
-            plain.changes[IDENTIFY, 0, 2] = plain.changes[IDENTIFY, 0x11, 2] = change
-            text = self.file_of(plain)
+            changes = {(IDENTIFY, 0, 2): change, (IDENTIFY, 0x11, 2): change}
+            text = self.file_of(Plain(changes, {nsid: namespace() for nsid in (1, 2, 3)}))
             self.assertEqual(re.findall(r'(?m)^nsid = (\d+)', text), ['1', '3'])
             self.assertIn('# Left out (above 1024, with another format or without data): NSID 2.\n', text)
 
@@ -153,24 +130,18 @@ class Misbehaving(DriveCase):
 
 def changed(**fields):
     """Returns a plain drive whose controller has these fields."""
-    plain = Plain()
-    plain.changes[IDENTIFY, 1] = identity(**fields)
-    return plain
+    return Plain({(IDENTIFY, 1): identity(**fields)})
 
 
 def shaped(*lbads, **fields):
     """Returns a plain drive with a namespace of these formats and fields."""
-    plain = Plain({1: namespace(lbads=lbads, **fields)})
-    plain.changes[IDENTIFY, 0, EVERY] = namespace(blocks=0, lbads=lbads)
-    return plain
+    return Plain({(IDENTIFY, 0, EVERY): namespace(blocks=0, lbads=lbads)}, {1: namespace(lbads=lbads, **fields)})
 
 
 def reporting(fid, current, capabilities=4, default=0, saved=0):
     """Returns a plain drive with these values of a feature."""
-    plain = Plain()
     values = {0: current, 1: default, 2: saved, 3: capabilities}
-    plain.changes[GET_FEATURES, fid] = lambda nsid, dword10, dword11: (0, values[dword10 >> 8 & 7], b'')
-    return plain
+    return Plain({(GET_FEATURES, fid): lambda nsid, dword10, dword11: (0, values[dword10 >> 8 & 7], b'')})
 
 
 class Comments(DriveCase):
@@ -183,50 +154,50 @@ class Comments(DriveCase):
             self.assertIn(f'\n{line}\n', f'\n{joined}')
         return text
 
-    def test_controllers(self):
-        for fields, lines in (
-                ({'_77': b'\0'}, '# MDTS is 0 on the drive.\nmdts = 8'),
-                ({'_77': b'\1'}, '# MDTS is 1 on the drive.\nmdts = 2'),
-                ({'_77': b'\x20'}, '# MDTS is 32 on the drive.\nmdts = 8'),
-                ({'_525': b'\x08'}, '# VWC is 8 on the drive.'),
-                ({'_516': bytes(4)}, '# NN is 0 on the drive.\nnn = 1'),
-                ({'_516': b'\xff' * 4}, '# NN is 4294967295 on the drive.\nnn = 1024'),
-                ({'_4': bytes(20)}, "# SN is '' on the drive.\nsn = \"?\""),
-                ({'_4': b'a"\\\n\xff'.ljust(20)}, r"""# SN is 'a"\\\n\xff' on the drive.""" + '\nsn = "a\\"\\\\??"'),
-                ({'_4': b' x\0\0'.ljust(20, b'\0')}, 'sn = " x"'),
-                ({'_768': bytes(256)}, '# The drive has no SUBNQN, and Linux would give it this one.'),
-                ({'_768': b'n' * 256}, 'subnqn = "' + 'n' * 223 + '"'),
-                ({'_256': b'\0'}, '# Only the model has Namespace Management, Format NVM.'),
-                ({'_280': b'\xff' * 16}, f'# TNVMCAP is {2 ** 128 - 1} on the drive.\ntnvmcap = {ABOVE - 1}'),
-                ({'_524': b'\7'}, 'crypto_erase = true')):
+    def have(self, *rows):
+        for plain, *lines in rows:
             with self.subTest(lines):
-                self.has(changed(**fields), lines)
+                self.has(plain, *lines)
+
+    def test_controllers(self):
+        self.have(
+            (changed(_77=b'\0'), '# MDTS is 0 on the drive.\nmdts = 8'),
+            (changed(_77=b'\1'), '# MDTS is 1 on the drive.\nmdts = 2'),
+            (changed(_77=b'\x20'), '# MDTS is 32 on the drive.\nmdts = 8'),
+            (changed(_525=b'\x08'), '# VWC is 8 on the drive.'),
+            (changed(_516=bytes(4)), '# NN is 0 on the drive.\nnn = 1'),
+            (changed(_516=b'\xff' * 4), '# NN is 4294967295 on the drive.\nnn = 1024'),
+            (changed(_4=bytes(20)), "# SN is '' on the drive.\nsn = \"?\""),
+            (changed(_4=b'a"\\\n\xff'.ljust(20)), r"""# SN is 'a"\\\n\xff' on the drive.""" + '\nsn = "a\\"\\\\??"'),
+            (changed(_4=b' x\0\0'.ljust(20, b'\0')), 'sn = " x"'),
+            (changed(_768=bytes(256)), '# The drive has no SUBNQN, and Linux would give it this one.'),
+            (changed(_768=b'n' * 256), 'subnqn = "' + 'n' * 223 + '"'),
+            (changed(_256=b'\0'), '# Only the model has Namespace Management, Format NVM.'),
+            (changed(_280=b'\xff' * 16), f'# TNVMCAP is {2 ** 128 - 1} on the drive.\ntnvmcap = {ABOVE - 1}'),
+            (changed(_524=b'\7'), 'crypto_erase = true'))
         text = self.file_of(changed(_80=b'\0\3\1\0', _92=b'\0\1', _2048=b'\1', _3072=b'\1\1', _524=b'\3'))
         self.assertIn('VER 0x10300 (0x10400), OAES 0x100 (0x0)', text)
         self.assertRegex(text, r'FNA 0x3 \(0x0\), power\n# states, bytes 3072 to 3073\.')
 
     def test_namespaces(self):
-        for plain, lines in (
-                (shaped(9, 0), '# LBADS is 0 on the drive.\nlbads = 9'), (shaped(9, 17), '# LBADS is 17 on the drive.'),
-                (shaped(9, _48=b'\1\x20'), '# The drive has other values of NVMCAP.\nnsid = 1\nbytes = 4096'),
-                (shaped(9, _8=b'\7'), '# The drive has other values of NCAP.'),
-                (shaped(9, _16=b'\1', _24=b'\1', _104=b'\1', _4095=b'\1'),
-                 '# The drive has other values of NUSE, NSFEAT, NGUID, bytes 4095.'),
-                (shaped(9, _26=b'\x10'), '# The drive has other values of FLBAS.'),
-                (shaped(9, _48=b'\7\x10'), 'bytes = 4103'),
-                (shaped(17, _48=bytes(8)),
-                 '# The drive has other values of NSZE, NCAP, NVMCAP.\nnsid = 1\nbytes = 1048576'),
-                (shaped(*range(9, 17), *range(9, 17), 9, 9), '# The drive reports 18 formats.')):
-            with self.subTest(lines):
-                self.has(plain, lines)
+        self.have(
+            (shaped(9, 0), '# LBADS is 0 on the drive.\nlbads = 9'), (shaped(9, 17), '# LBADS is 17 on the drive.'),
+            (shaped(9, _48=b'\1\x20'), '# The drive has other values of NVMCAP.\nnsid = 1\nbytes = 4096'),
+            (shaped(9, _8=b'\7'), '# The drive has other values of NCAP.'),
+            (shaped(9, _16=b'\1', _24=b'\1', _104=b'\1', _4095=b'\1'),
+             '# The drive has other values of NUSE, NSFEAT, NGUID, bytes 4095.'),
+            (shaped(9, _26=b'\x10'), '# The drive has other values of FLBAS.'),
+            (shaped(9, _48=b'\7\x10'), 'bytes = 4103'),
+            (shaped(17, _48=bytes(8)),
+             '# The drive has other values of NSZE, NCAP, NVMCAP.\nnsid = 1\nbytes = 1048576'),
+            (shaped(*range(9, 17), *range(9, 17), 9, 9), '# The drive reports 18 formats.'))
 
     def test_many_namespaces(self):
         """Comments of many namespaces are one comment."""
-        plain = Plain({nsid: namespace(_16=struct.pack('<Q', nsid)) for nsid in range(1, 1025)})
-        text = self.file_of(plain)
+        text = self.file_of(Plain({}, {nsid: namespace(_16=struct.pack('<Q', nsid)) for nsid in range(1, 1025)}))
         self.assertIn('# The drive has other values of NUSE. (Likewise NSID 2 to 1024.)\n', text)
         self.assertLess(text.count('#'), 10)
-        plain = Plain({nsid: namespace() for nsid in (5, 1024, 1025, 70000)})
+        plain = Plain({}, {nsid: namespace() for nsid in (5, 1024, 1025, 70000)})
         self.has(plain, '# Left out (above 1024, with another format or without data): NSID 1025, 70000.')
 
     def test_formats_of_namespaces(self):
@@ -239,61 +210,44 @@ class Comments(DriveCase):
         wide.namespaces = {1: namespace(lbads=(*range(9, 17), *range(9, 17), 10), _26=b'\x20')}
         self.has(wide, 'format = 1')
 
-    def test_without_formats(self):
-        plain = Plain({})
-        plain.changes[IDENTIFY, 0, EVERY] = 0x400b
-        self.has(plain, '# The drive reports 0 formats.', 'lbads = 9')
-        plain = Plain({4: namespace(lbads=(12,))})
-        plain.changes[IDENTIFY, 0, EVERY] = 0x400b
-        self.has(plain, 'lbads = 12', 'nsid = 4')
-
-    def test_lists(self):
-        plain = Plain()
-        plain.changes[IDENTIFY, 0x10] = 0x4002
-        self.has(plain, "# The drive doesn't list the namespaces that no controller has.", 'nsid = 1')
-        old = Plain({3: namespace()})
-        old.changes[IDENTIFY, 2] = old.changes[IDENTIFY, 0x10] = 0x4002
-        self.has(old, 'nsid = 3\nbytes = 4096\nformat = 0\ncontrollers = [0]')
+    def test_what_is_refused(self):
+        formats, lists = {(IDENTIFY, 0, EVERY): 0x400b}, {(IDENTIFY, 2): 0x4002, (IDENTIFY, 0x10): 0x4002}
+        self.have(
+            (Plain(formats, {}), '# The drive reports 0 formats.', 'lbads = 9'),
+            (Plain(formats, {4: namespace(lbads=(12,))}), 'lbads = 12', 'nsid = 4'),
+            (Plain({(IDENTIFY, 0x10): 0x4002}), "# The drive doesn't list the namespaces that no controller has.",
+             'nsid = 1'),
+            (Plain(lists, {3: namespace()}), 'nsid = 3\nbytes = 4096\nformat = 0\ncontrollers = [0]'),
+            (Plain({GET_LOG: 0x4109}), '# The drive refuses its health log.'))
 
     def test_features(self):
-        for plain, lines in (
-                (reporting(1, 7, default=7, capabilities=0), 'fid = 1\ndefault = 7\nchangeable = false'),
-                (reporting(1, 0xff, default=0xff), '# Feature 1 on the drive: current value 0xff, default 0xff.'),
-                (reporting(2, 3), '# Feature 2 on the drive: current value 0x3.'),
-                (reporting(5, 0, capabilities=7), '# Feature 5 on the drive: capabilities 0x7.'),
-                (reporting(10, 1, capabilities=0), '# Feature 10 on the drive: current value 0x1.'),
-                (reporting(8, 5, 5, 3, 4), '# nvme set-feature /dev/nvme0 -f 8 --value 0x4 --save\n'
-                 '# nvme set-feature /dev/nvme0 -f 8 --value 0x5')):
-            with self.subTest(lines):
-                self.has(plain, lines)
+        two = {1: namespace(), 2: namespace()}
+        others = {(GET_FEATURES, 5, 2): lambda nsid, dword10, _: (0, 6 if dword10 >> 8 & 7 == 3 else 9, b'')}
+        sensors = {(GET_FEATURES, 4): lambda nsid, dword10, dword11: (
+            (0, 7 | dword11, b'') if dword11 >> 16 & 15 < 8 else (REFUSED, 0, b''))}
+        self.have(
+            (reporting(1, 7, default=7, capabilities=0), 'fid = 1\ndefault = 7\nchangeable = false'),
+            (reporting(1, 0xff, default=0xff), '# Feature 1 on the drive: current value 0xff, default 0xff.'),
+            (reporting(2, 3), '# Feature 2 on the drive: current value 0x3.'),
+            (reporting(5, 0, capabilities=7), '# Feature 5 on the drive: capabilities 0x7.'),
+            (reporting(10, 1, capabilities=0), '# Feature 10 on the drive: current value 0x1.'),
+            (reporting(8, 5, 5, 3, 4), '# nvme set-feature /dev/nvme0 -f 8 --value 0x4 --save\n'
+             '# nvme set-feature /dev/nvme0 -f 8 --value 0x5'),
+            (Plain({(GET_FEATURES, 8): 0x4002}), "# The drive doesn't report feature 8."),
+            (Plain({(GET_FEATURES, 5, 2): 0x4002}, two), "# The drive doesn't report feature 5."),
+            (Plain(others, two), '# Feature 5 on the drive: default 0x9.\nfid = 5',
+             '# nvme set-feature /dev/nvme0 -n 2 -f 5 --value 0x9'),
+            (Plain(sensors), '# Feature 4 on the drive: capabilities 0x7, no threshold 0x18, no threshold 0x8.',
+             'version = 2', 'over = [7, 7, 7, 7, 7, 7, 7, 7, 65535]', 'under = [7, 7, 7, 7, 7, 7, 7, 7, 0]'),
+            (changed(_520=b'\0'), '# Feature 1 on the drive: capabilities not reported, default not reported.'))
         self.has(reporting(8, 5, 5, 3, 4), '# Feature 8 on the drive: default 0x3.\nfid = 8\ndefault = 5',
                  '# nvme set-feature /dev/nvme0 -f 8 --value 0x4 --save\n'
                  '# nvme set-feature /dev/nvme0 -f 8 --value 0x5', is_current=True)
-        plain = Plain()
-        plain.changes[GET_FEATURES, 8] = 0x4002
-        self.has(plain, "# The drive doesn't report feature 8.")
-        plain = Plain({1: namespace(), 2: namespace()})
-        plain.changes[GET_FEATURES, 5, 2] = 0x4002
-        self.has(plain, "# The drive doesn't report feature 5.")
-        plain.changes[GET_FEATURES, 5, 2] = lambda nsid, dword10, dword11: (0, 6 if dword10 >> 8 & 7 == 3 else 9, b'')
-        self.has(plain, '# Feature 5 on the drive: default 0x9.\nfid = 5',
-                 '# nvme set-feature /dev/nvme0 -n 2 -f 5 --value 0x9')
-        sensors = Plain()
-        sensors.changes[GET_FEATURES, 4] = lambda nsid, dword10, dword11: (
-            (0, 7 | dword11, b'') if dword11 >> 16 & 15 < 8 else (REFUSED, 0, b''))
-        self.has(sensors, '# Feature 4 on the drive: capabilities 0x7, no threshold 0x18, no threshold 0x8.',
-                 'version = 2', 'over = [7, 7, 7, 7, 7, 7, 7, 7, 65535]', 'under = [7, 7, 7, 7, 7, 7, 7, 7, 0]')
-        old = changed(_520=b'\0')
-        self.has(old, '# Feature 1 on the drive: capabilities not reported, default not reported.')
 
     def test_health(self):
-        plain = Plain()
-        plain.changes[GET_LOG] = 0x4109
-        self.has(plain, '# The drive refuses its health log.')
-        log = bytearray(512)
-        log[32:48], log[176], log[216] = b'\xff' * 16, 5, 1
-        plain.changes[GET_LOG] = bytes(log)
-        self.has(plain, f'# DATA_UNITS_READ is {2 ** 128 - 1} on the drive.\ndata_units_read = {ABOVE - 1}',
+        log = with_fields(bytearray(512), {'_32': b'\xff' * 16, '_176': b'\5', '_216': b'\1'})
+        self.has(Plain({GET_LOG: log}),
+                 f'# DATA_UNITS_READ is {2 ** 128 - 1} on the drive.\ndata_units_read = {ABOVE - 1}',
                  '# On the drive (and in the model): num_err_log_entries 0x5 (0x0), bytes 216.')
 
 

@@ -5,8 +5,9 @@ drive, and find what a script meets there."""
 import random
 import re
 import shutil
+import tomllib
 
-from tests.described import MASKS, meaning, random_file, tables_of
+from tests.described import MASKS, meaning, random_file
 from tests.modelled import PROGRAMS, ModelCase, installed
 from tests.support import DEMO, TOP, program, run
 from tests.test_subsystem_files import largest
@@ -35,10 +36,7 @@ class RoundTrip(ModelCase):
         return [path.with_suffix('.toml.out').read_text() for path in files]
 
     def comes_back(self, text, found):
-        wanted, got = meaning(text), meaning(found)
-        self.assertEqual(wanted.keys(), got.keys(), found)
-        for key in wanted:
-            self.assertEqual(wanted[key], got[key], key)
+        self.assertEqual(meaning(text), meaning(found), found)
         self.ends(run(program('nvme_script'), '--subsystem', self.file('found.toml', found.encode())), 0, b'', b'')
         # (nothing differs, but for the log entry of a threshold and Error Recovery without a namespace)
         comments = [line for line in found.splitlines() if line.startswith('#')]
@@ -93,14 +91,12 @@ class Sends(ModelCase):
 
 def operations(source, text):
     """Returns random changes of the features that a file's controllers have, each as set_features.py takes it."""
-    tables = tables_of(text)
-    controllers = [keys for name, keys in tables if name == 'controller']
+    file = tomllib.loads(text)
     for _ in range(source.randint(1, 30)):
-        place = source.randrange(len(controllers))
+        place = source.randrange(len(file['controller']))
         fid = source.choice([*MASKS, 4])
-        cntlid = controllers[place]['cntlid']
-        having = [keys['nsid'] for name, keys in tables
-                  if name == 'namespace' and cntlid in keys.get('controllers', [])]
+        cntlid = file['controller'][place]['cntlid']
+        having = [keys['nsid'] for keys in file.get('namespace', []) if cntlid in keys.get('controllers', [])]
         nsid = source.choice([*having, 0xffffffff]) if fid == 5 else 0
         value = source.getrandbits(32) & MASKS.get(fid, 0xffff)
         if fid == 4:

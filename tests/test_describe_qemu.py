@@ -25,12 +25,12 @@ PLACES = {'acl': 258, 'aerl': 259, 'ocfs': 534, 'sgls': 536, 'dlfeat': 33, 'nows
 
 def shown():
     """Returns a shell script that shows what is compared, each after a line with its name."""
-    commands = [f'id-ctrl /dev/nvme{one} -o json' for one in CONTROLLERS]
-    commands += [f'list-ns /dev/nvme{one}{more}' for one in CONTROLLERS for more in ('', ' --all')]
-    commands += [f'id-ns /dev/nvme{one} -n {nsid} -o json' for one in CONTROLLERS for nsid in NSIDS]
-    commands += [f'get-feature /dev/nvme{one} -f {fid} -s {select} -n {1 if fid == 5 else 0}'
-                 for one in CONTROLLERS for fid in FIDS for select in (0, 1, 3)]
-    return ''.join(f'echo "> {command}"; nvme {command} 2>&1\n' for command in commands)
+    commands = ['id-ctrl {} -o json', 'list-ns {}', 'list-ns {} --all']
+    commands += [f'id-ns {{}} -n {nsid} -o json' for nsid in NSIDS]
+    commands += [f'get-feature {{}} -f {fid} -s {select} -n {1 if fid == 5 else 0}'
+                 for fid in FIDS for select in (0, 1, 3)]
+    return ''.join(f'echo "> {command}"; nvme {command} 2>&1\n' for one in CONTROLLERS
+                   for command in (text.format(f'/dev/nvme{one}') for text in commands))
 
 
 def answers(text):
@@ -116,8 +116,8 @@ class Described(ModelCase):
         for command, one in there.items():
             for name in differing(command, one, here[command]):
                 count += 1
-                self.assertTrue(any(re.search(pattern, comments) for pattern in patterns(name)) or
-                                is_in_bytes(name, comments), f'{name}: {command}\n{one}\n{here[command]}\n{comments}')
+                self.assertTrue(re.search(pattern(name), comments) or is_in_bytes(name, comments),
+                                f'{name}: {command}\n{one}\n{here[command]}\n{comments}')
         self.assertGreater(count, 10)
 
 
@@ -133,20 +133,15 @@ def differing(command, one, other):
     return [key for key in one.keys() | other.keys() if one.get(key, 0) != other.get(key, 0)]
 
 
-def patterns(name):
-    """Returns patterns of the comments that name what differs."""
-    if name in ('psds', 'npss'):
-        return ['power states']
+def pattern(name):
+    """Returns a pattern of the comments that name what differs."""
+    named = {'psds': 'power states', 'npss': 'power states', '7': 'only the commands, features'}
     if name.isdigit():
-        return ['only the commands, features' if name == '7' else
-                rf"Feature {name} on the drive|doesn't report feature {name}\b"]
-    return [rf'\b{name.upper()}\b']
+        return named.get(name, rf"Feature {name} on the drive|doesn't report feature {name}\b")
+    return named.get(name, rf'\b{name.upper()}\b')
 
 
 def is_in_bytes(name, comments):
     """Returns whether the bytes of a field are among those that a comment names by numbers."""
-    for text in re.findall(r'bytes ([\d, to]+)', comments):
-        runs = re.findall(r'(\d+)(?: to (\d+))?', text)
-        if any(int(first) <= PLACES.get(name, -1) <= int(last or first) for first, last in runs):
-            return True
-    return False
+    runs = re.findall(r'(\d+)(?: to (\d+))?', ' '.join(re.findall(r'bytes ([\d, to]+)', comments)))
+    return any(int(first) <= PLACES.get(name, -1) <= int(last or first) for first, last in runs)
