@@ -1,5 +1,5 @@
 #!/bin/busybox sh
-# Runs first in a guest of tests/test_qemu.py: loads the modules, binds the driver, and runs a script.
+# What a guest with Linux runs first (tests/test_qemu.py): it loads the modules, binds the driver, and runs a script.
 busybox mount -t proc proc /proc
 busybox mount -t sysfs sys /sys
 busybox mount -t devtmpfs dev /dev
