@@ -36,10 +36,10 @@ struct device {
     int to_and_from, said; /* sockets for its input and output, and for its standard error */
     int asks[2];           /* a pipe by which helpers ask its keeper, one after another */
     unsigned first, count; /* its controllers, by the numbers of /dev/nvmeX */
-    enum { STARTING, ANSWERING, LOST } state;
-    pid_t keeper;          /* the process that alone exchanges requests with it */
     struct volume volumes[MOST_NSID + 1]; /* its namespaces, by their NSIDs */
     uint16_t named[MOST_NSID + 1];        /* the NSID that each number of its nodes names, or 0 */
+    enum { STARTING, ANSWERING, LOST } state;
+    pid_t keeper;          /* the process that alone exchanges requests with it */
 };
 
 extern struct device *devices; /* (in shared memory, as all that helpers read) */
