@@ -37,11 +37,11 @@ struct device {
     FILE *said;            /* what it writes to its standard error */
     int asks[2];           /* a pipe by which helpers ask its keeper, one after another */
     unsigned first, count; /* its controllers, by the numbers of /dev/nvmeX */
+    struct volume volumes[MOST_NSID + 1]; /* its namespaces, by their NSIDs */
+    uint16_t named[MOST_NSID + 1];        /* the NSID that each number of its nodes names, or 0 */
     enum { STARTING, ANSWERING, LOST } state;
     pid_t keeper;          /* the process that alone exchanges requests with it */
     _Atomic int failures;  /* of the first device: how many lines of a trace couldn't be written */
-    struct volume volumes[MOST_NSID + 1]; /* its namespaces, by their NSIDs */
-    uint16_t named[MOST_NSID + 1];        /* the NSID that each number of its nodes names, or 0 */
 };
 
 extern struct device *devices; /* (in shared memory, as all that helpers read) */

@@ -136,8 +136,8 @@ static void set_controller(unsigned number) {
     set_registers(number - device_of(number)->first);
 }
 
-/* Sets the values of what a folder shows, a controller, whose own don't change, or one of its namespaces, makes the path
-   of the folder, which is one of them, and returns its first line. */
+/* Sets the values of what a folder shows: a controller, whose own don't change, or one of its namespaces. Makes the
+   path of the folder, which is one of them, and returns its first line. */
 static struct line *set_values(enum part part, unsigned number, uint32_t nsid, char path[PATH_MAX]) {
     const struct volume *volume = volume_of(&(struct node){.controller = number, .nsid = nsid});
     const char kind = part == GENERIC ? 'g' : nsid != 0 ? 'b' : 'c';
