@@ -48,6 +48,7 @@ class Tools(Case):
                                     ('tools/build nvme_trace nvme_bench', 72, build),
                                     ('tools/library --help', 72, b'tools/library takes no arguments'),
                                     ('tools/mutants --help', 0, rb'usage: mutants \[-h\] \[WORD '),
+                                    ('tools/speed_of_drives --help', 0, rb'usage: speed_of_drives \[-h\] '),
                                     ('tools/coverage --help', 0, rb'usage: coverage \[-h\] \[MODULE '),
                                     ('tools/mutants --bogus', 2, b'unrecognized arguments: --bogus')):
             with self.subTest(words):

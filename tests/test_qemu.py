@@ -32,6 +32,10 @@ ERROR = r'nvme-model: error (\d+): command (\d+), status 0x([0-9a-f]+), location
 
 # The modules that Linux's driver needs if it isn't part of the kernel. Each module lists those that it needs itself.
 MODULES = 'crct10dif_generic', 'crc64_rocksoft_generic', 'nvme'
+# Reads the sector 2000 of the drive from which it was booted (int 13h), writes it to the serial port up to a zero byte,
+# and turns the machine off.
+BOOT_SECTOR = bytes.fromhex('fc 31c0 8ed8 b442 be247c cd13 be0080 ac 84c0 7406 baf803 ee ebf5 ba0406 b80020 ef f4 ebfd'
+                            '1000 0800 0080 0000 d007000000000000')
 
 
 @functools.lru_cache(maxsize=None)
@@ -285,10 +289,10 @@ class Drivers(ModelCase):
         self.subsystem.write_bytes(DEMO.read_bytes().replace(b'elpe = 3', b'elpe = 63'))
         self.console, self.results = self.folder / 'console', self.folder / 'results'
 
-    def boot(self, *options):
+    def boot(self, *options, own=()):
         """Runs a machine until it would reset itself, and returns what the program reported at its end."""
-        ended = run(program(), '--summary', '--subsystem', self.subsystem, '--', '-nodefaults', '-display', 'none',
-                    '-no-reboot', *options)
+        ended = run(program(), '--summary', '--subsystem', self.subsystem, *own, '--', '-nodefaults', '-display',
+                    'none', '-no-reboot', *options)
         self.ends(ended, 0, b'')
         return ended.err.decode()
 
@@ -296,6 +300,18 @@ class Drivers(ModelCase):
         # SeaBIOS's driver identifies a controller, creates I/O queues, and identifies each namespace
         summary = self.boot('-boot', 'reboot-timeout=1')
         self.assertEqual(re.findall(COUNTS, summary), [('0', '5', '0'), ('1', '5', '0')])
+
+    def test_disk_image(self):
+        # SeaBIOS boots from a drive, whose first sector is a program that reads another one and tells what it has
+        place = self.folder / 'kept'
+        place.mkdir()
+        image = bytearray(1 << 20)
+        image[:len(BOOT_SECTOR)] = BOOT_SECTOR
+        image[510:512] = b'\x55\xaa'
+        image[2000 * 512:2000 * 512 + 12] = b'SECTOR 2000\n'
+        (place / 'subsystem0.namespace1').write_bytes(image)
+        self.boot('-serial', f'file:{self.console}', own=['--data', place])
+        self.assertEqual(self.console.read_bytes(), b'SECTOR 2000\n')
 
     def test_linux(self):
         # (Without KVM, the older device has no interrupts. A busy machine fails the kernel's check of the timer.)
