@@ -34,8 +34,8 @@ struct frame { uint32_t length; char bytes[32 * 1024 - sizeof(uint32_t)]; };
 enum kind { BEGUN, STOPPED, ENDED, UNREAD, ALIVE, SIGNAL, SIGNAL_GROUP, SIZE, CONTINUE, FINISH };
 struct message { uint32_t kind, value; };
 
-/* How the command begins. (The terminal's mode is the kernel's struct termios.) */
-enum stream { CLOSED, NOTHING, PIPE, ON_TERMINAL };
+/* How the command begins. (Errors may go where the output goes. The terminal's mode is the kernel's struct termios.) */
+enum stream { CLOSED, NOTHING, PIPE, ON_TERMINAL, AS_OUTPUT };
 static struct begin {
     uint32_t streams[3], has_terminal, is_in_front, mask;
     struct winsize size;
@@ -228,9 +228,10 @@ static void start_command(char **words) {
     int theirs[3], ours[3], pair[2];
     for (int stream = 0; stream < 3; stream++) {
         int is_pipe = begin.streams[stream] == PIPE && pipe2(pair, O_CLOEXEC) == 0;
-        theirs[stream] = is_pipe                                   ? pair[stream != 0]
+        theirs[stream] = is_pipe                                ? pair[stream != 0]
                          : begin.streams[stream] == ON_TERMINAL ? slave
                          : begin.streams[stream] == NOTHING     ? open("/dev/null", O_RDWR | O_CLOEXEC)
+                         : begin.streams[stream] == AS_OUTPUT   ? theirs[OUTPUT]
                                                                 : -1;
         ours[stream] = is_pipe ? pair[stream == 0] : -1;
     }

@@ -108,7 +108,9 @@ def tells_files():
             size, length = int(header[54:62], 16), int(header[94:102], 16)
             name = file.read(length + -(110 + length) % 4).rstrip(b'\0')
             data = file.read(size + -size % 4)[:size]
-            if name not in (b'init', b'setup', b'begin', b'TRAILER!!!'):
+            if name == b'begin':
+                data = ' '.join(map(str, struct.unpack('6I', data[:24]))).encode()
+            if name not in (b'init', b'setup', b'TRAILER!!!'):
                 frame(OUTPUT, name + b' ' + data.replace(b'\0', b'|') + b'\0')
     ends(0, OUTPUT, ERRORS)
 
@@ -175,6 +177,13 @@ def stops():
         tell(STOPPED, number)
         awaits(CONTINUE)
     ends(0, OUTPUT, ERRORS, TERMINAL)
+
+
+def stops_once():
+    tell(BEGUN)
+    tell(STOPPED, signal.SIGSTOP)
+    awaits(CONTINUE)
+    ends(0, OUTPUT, ERRORS)
 
 
 def writes():
