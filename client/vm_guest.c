@@ -16,6 +16,8 @@
 #include <sys/mount.h>
 #include <sys/stat.h>
 #include <sys/syscall.h>
+#include <sys/sysmacros.h>
+#include <sys/utsname.h>
 #include <sys/wait.h>
 #include <termios.h>
 #include <unistd.h>
@@ -175,6 +177,27 @@ static char **texts_of(const char *path) {
     return texts;
 }
 
+/* Makes the nodes whose first use loads a module, such as loop-control. */
+static void make_nodes(void) {
+    struct utsname kernel;
+    char line[256], name[101], path[128], kind;
+    unsigned major, minor;
+    uname(&kernel);
+    snprintf(line, sizeof line, "/lib/modules/%s/modules.devname", kernel.release);
+    FILE *file = fopen(line, "re");
+    while (file && fgets(line, sizeof line, file))
+        if (sscanf(line, "%*s %100s %c%u:%u", name, &kind, &major, &minor) == 4) {
+            snprintf(path, sizeof path, "/dev/%s", name);
+            char *end = strrchr(path, '/');
+            *end = '\0';
+            mkdir(path, 0755);
+            *end = '/';
+            mknod(path, (kind == 'b' ? S_IFBLK : S_IFCHR) | 0600, makedev(major, minor));
+        }
+    if (file)
+        fclose(file);
+}
+
 /* Makes the root folder, and has a script do the rest. It says on the console what it can't do. */
 static void make_root(const char *script, const char *settings) {
     setenv("settings", settings, 1);
@@ -200,6 +223,7 @@ static void make_root(const char *script, const char *settings) {
         refuse("its streams");
     if (system(script) != 0)
         end_machine();
+    make_nodes();
 }
 
 /* ---- the command */
