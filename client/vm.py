@@ -45,28 +45,27 @@ it changes is gone at its end.
 The exit status is that of COMMAND, or 72 if nvme-model itself can't continue. See nvme-model(1).
 '''
 LIBC, SET_DEATH_SIGNAL, OF_KERNEL = ctypes.CDLL(None), 1, 0x80  # (linux/prctl.h, asm-generic/siginfo.h)
-PARTS = os.path.dirname(os.path.abspath(__file__))
-QEMU, KVM, BOOT, MODULES = 'qemu-system-x86_64', '/dev/kvm', '/boot', '/lib/modules'
+PARTS, QEMU = os.path.dirname(os.path.abspath(__file__)), 'qemu-system-x86_64'
+KVM, BOOT, MODULES = '/dev/kvm', '/boot', '/lib/modules'
 NEEDED = 'virtio_pci', 'virtio_console', '9pnet_virtio', '9p', 'overlay', 'nvme'
 # How many seconds a machine may be silent: by KVM, until its process 1 runs, which takes a few; until the command runs,
 # which a busy machine emulates slowly; later, when it is asked each PERIOD whether it lives; and at the end.
 MOST_BY_KVM, MOST_START, MOST_SILENCE, MOST_END, PERIOD = 20, 900, 300, 60, 10
 MOST_FRAME = 32 * 1024 - 4
-
 # What a standard stream is; what the ports of the machine carry; and what messages say, which vm_guest.c explains.
-Stream = enum.IntEnum('Stream', 'CLOSED NOTHING PIPE TERMINAL', start=0)
+Stream = enum.IntEnum('Stream', 'CLOSED NOTHING PIPE TERMINAL AS_OUTPUT', start=0)
 Port = enum.IntEnum('Port', 'INPUT OUTPUT ERRORS TERMINAL MESSAGES', start=0)
 Kind = enum.IntEnum('Kind', 'BEGUN STOPPED ENDED UNREAD ALIVE SIGNAL SIGNAL_GROUP SIZE CONTINUE FINISH', start=0)
 
 
 def say(text):
     with contextlib.suppress(OSError):
-        os.write(2, os.fsencode(f'nvme-model: {text}\n'))
+        os.write(2, os.fsencode(text))
 
 
 def refuse(reason=''):
     """Ends with the reason why nvme-model can't continue, or with the usage after a wrong option."""
-    os.write(2, os.fsencode(f'nvme-model: {reason}\n' if reason else USAGE))
+    say(f'nvme-model: {reason}\n' if reason else USAGE)
     sys.exit(72)
 
 
@@ -230,7 +229,7 @@ class Machine:
                     ready(stream, event=select.POLLOUT)
                 except OSError as error:
                     if not isinstance(error, BrokenPipeError):
-                        say(f'a stream of the command: {error.strerror}')
+                        say(f'nvme-model: a stream of the command: {error.strerror}\n')
                     self.unread.add(port)
                     self.tell(Kind.UNREAD, port)
         os.close(stream)
@@ -260,7 +259,9 @@ def kind_of(stream):
         os.open('/dev/null', os.O_RDWR)
         return Stream.CLOSED
     is_nothing = stat.S_ISCHR(about.st_mode) and about.st_rdev == os.makedev(1, 3)
-    return Stream.TERMINAL if os.isatty(stream) else Stream.NOTHING if is_nothing else Stream.PIPE
+    is_output = stream == 2 and os.path.samestat(about, os.fstat(1))
+    return (Stream.TERMINAL if os.isatty(stream) else Stream.NOTHING if is_nothing else
+            Stream.AS_OUTPUT if is_output else Stream.PIPE)
 
 
 class Terminal:
@@ -324,10 +325,9 @@ class Run:
         """Returns the files that tell vm_guest.c how the command begins."""
         os.umask(mask := os.umask(0))
         numbers = struct.pack('6I', *self.streams, self.terminal.file >= 0, self.terminal.is_in_front, mask)
-        # (Python may have added to its own environment)
         return [('begin', numbers + self.terminal.size() + self.terminal.mode),
                 ('words', os.fsencode(''.join(f'{word}\0' for word in command))),
-                ('variables', content('/proc/self/environ')),
+                ('variables', content('/proc/self/environ')),  # (Python may have added to its own)
                 ('place', os.fsencode(f'{os.uname().nodename}\0{os.readlink("/proc/self/cwd")}'))]
 
     def watch_signals(self):
@@ -362,7 +362,7 @@ class Run:
             words += ['-fsdev', f'local,id={name},path={path},security_model=none{how},multidevs=remap',
                       '-device', f'virtio-9p-pci,fsdev={name},mount_tag={name}']
         if not self.is_by_kvm and os.isatty(2):
-            say('the machine starts, which takes some 15 seconds without KVM' + slow)
+            say(f'nvme-model: the machine starts, which takes some 15 seconds without KVM{slow}\n')
         self.machine = Machine(words, self.archive, self.mask)
         self.heard = self.asked = time.monotonic()
 
@@ -397,7 +397,7 @@ class Run:
         self.machine.process.kill()
         if self.is_by_kvm and not self.lives and (self.machine.process.wait() == 1 or reason):
             if reason:
-                say(f'KVM runs no machine here, so its processors are emulated; --no-kvm saves {MOST_BY_KVM} seconds')
+                say(f'nvme-model: KVM runs no machine here, so it is emulated: --no-kvm saves {MOST_BY_KVM} seconds\n')
             self.is_by_kvm = False
             return self.start()
         if not reason:
@@ -482,8 +482,7 @@ class Run:
             self.machine.process.kill()
         if self.machine.process.wait() != 0 and answers:
             refuse(self.machine.reason())
-        code = os.waitstatus_to_exitcode(how)
-        return code if code >= 0 else 128 - code
+        return os.WEXITSTATUS(how) if os.WIFEXITED(how) else 128 + os.WTERMSIG(how)
 
 
 def main():

@@ -16,6 +16,8 @@
 #include <sys/mount.h>
 #include <sys/stat.h>
 #include <sys/syscall.h>
+#include <sys/sysmacros.h>
+#include <sys/utsname.h>
 #include <sys/wait.h>
 #include <termios.h>
 #include <unistd.h>
@@ -34,8 +36,8 @@ struct frame { uint32_t length; char bytes[32 * 1024 - sizeof(uint32_t)]; };
 enum kind { BEGUN, STOPPED, ENDED, UNREAD, ALIVE, SIGNAL, SIGNAL_GROUP, SIZE, CONTINUE, FINISH };
 struct message { uint32_t kind, value; };
 
-/* How the command begins. (The terminal's mode is the kernel's struct termios.) */
-enum stream { CLOSED, NOTHING, PIPE, ON_TERMINAL };
+/* How the command begins. (Errors may go where the output goes. The terminal's mode is the kernel's struct termios.) */
+enum stream { CLOSED, NOTHING, PIPE, ON_TERMINAL, AS_OUTPUT };
 static struct begin {
     uint32_t streams[3], has_terminal, is_in_front, mask;
     struct winsize size;
@@ -175,6 +177,27 @@ static char **texts_of(const char *path) {
     return texts;
 }
 
+/* Makes the nodes whose first use loads a module, such as loop-control. */
+static void make_nodes(void) {
+    struct utsname kernel;
+    char line[256], name[101], path[128], kind;
+    unsigned major, minor;
+    uname(&kernel);
+    snprintf(line, sizeof line, "/lib/modules/%s/modules.devname", kernel.release);
+    FILE *file = fopen(line, "re");
+    while (file && fgets(line, sizeof line, file))
+        if (sscanf(line, "%*s %100s %c%u:%u", name, &kind, &major, &minor) == 4) {
+            snprintf(path, sizeof path, "/dev/%s", name);
+            char *end = strrchr(path, '/');
+            *end = '\0';
+            mkdir(path, 0755);
+            *end = '/';
+            mknod(path, (kind == 'b' ? S_IFBLK : S_IFCHR) | 0600, makedev(major, minor));
+        }
+    if (file)
+        fclose(file);
+}
+
 /* Makes the root folder, and has a script do the rest. It says on the console what it can't do. */
 static void make_root(const char *script, const char *settings) {
     setenv("settings", settings, 1);
@@ -200,6 +223,7 @@ static void make_root(const char *script, const char *settings) {
         refuse("its streams");
     if (system(script) != 0)
         end_machine();
+    make_nodes();
 }
 
 /* ---- the command */
@@ -228,9 +252,10 @@ static void start_command(char **words) {
     int theirs[3], ours[3], pair[2];
     for (int stream = 0; stream < 3; stream++) {
         int is_pipe = begin.streams[stream] == PIPE && pipe2(pair, O_CLOEXEC) == 0;
-        theirs[stream] = is_pipe                                   ? pair[stream != 0]
+        theirs[stream] = is_pipe                                ? pair[stream != 0]
                          : begin.streams[stream] == ON_TERMINAL ? slave
                          : begin.streams[stream] == NOTHING     ? open("/dev/null", O_RDWR | O_CLOEXEC)
+                         : begin.streams[stream] == AS_OUTPUT   ? theirs[OUTPUT]
                                                                 : -1;
         ours[stream] = is_pipe ? pair[stream == 0] : -1;
     }

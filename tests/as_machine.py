@@ -111,7 +111,9 @@ def tells_files():
             size, length = int(header[54:62], 16), int(header[94:102], 16)
             name = file.read(length + -(110 + length) % 4).rstrip(b'\0')
             data = file.read(size + -size % 4)[:size]
-            if name not in (b'init', b'setup', b'begin', b'TRAILER!!!'):
+            if name == b'begin':
+                data = ' '.join(map(str, struct.unpack('6I', data[:24]))).encode()
+            if name not in (b'init', b'setup', b'TRAILER!!!'):
                 frame(OUTPUT, name + b' ' + data.replace(b'\0', b'|') + b'\0')
 
 
@@ -140,6 +142,7 @@ MACHINES = {
     # (it tells that signals have stopped the command, one of which doesn't stop anything)
     'stops': [BEGINS, (tell, STOPPED, signal.SIGSTOP), (awaits, CONTINUE), (tell, STOPPED, signal.SIGTTIN),
               (awaits, CONTINUE), (tell, STOPPED, signal.SIGKILL), (awaits, CONTINUE), (ends, 0, TERMINAL)],
+    'stops_once': [BEGINS, (tell, STOPPED, signal.SIGSTOP), (awaits, CONTINUE), (ends, 0)],
     'writes': [BEGINS, (writes,), (ends, 0)]}
 
 

@@ -15,6 +15,7 @@ import subprocess
 import sys
 import tempfile
 import termios
+import time
 import unittest
 
 from tests.modelled import CLIENT, WARNINGS, installed, why_no_sandbox
@@ -148,7 +149,7 @@ class Ends(Machine):
             with self.subTest(name):
                 self.fails(self.machine(name, changes=SHORT), "the machine doesn't answer")
         # (a machine in which nothing has run by KVM is emulated, if it is silent or QEMU refuses it)
-        told = b'nvme-model: KVM runs no machine here, so its processors are emulated; --no-kvm saves 3 seconds\n'
+        told = b'nvme-model: KVM runs no machine here, so it is emulated: --no-kvm saves 3 seconds\n'
         by_kvm = *SHORT, (KVM, repr(str(self.file('kvm', b''))))
         self.ends(self.machine('needs_emulation', changes=by_kvm), 3, b'tcg\n', told)
         self.ends(self.machine('refuses_kvm', changes=by_kvm), 3, b'tcg\n', b'')
@@ -177,12 +178,14 @@ class Ends(Machine):
         # (a Python in the C locale gives itself a variable, and takes others)
         variables = [f'PATH={self.env["PATH"]}', 'MACHINE=tells_files', 'PYTHONPATH=/none', 'x=a\nb', f'{MARK}=1']
         words = self.command('--modules', modules, '--net', '--share', modules, '--', b'a  b', '', b'\xff', '--net')
-        ended = run('env', '-i', *variables, *words, cwd=modules)
+        ended = run('env', '-i', *variables, *words, cwd=modules, err='&1')
         told = dict(part.split(b' ', 1) for part in ended.out.split(b'\0')[:-1])
         told[b'variables'] = {*told[b'variables'].split(b'|')}
         self.assertEqual(told, {
             b'settings': f'modules {modules}\nnetwork\nshare0 {modules}'.encode(), b'words': b'a  b||\xff|--net|',
             b'variables': {b'', *map(str.encode, variables)}, b'place': f'{socket.gethostname()}|{modules}'.encode(),
+            # (streams that are no terminal, of which the last is the second one, no terminal, and the umask)
+            b'begin': b'2 2 4 0 0 18',
             **{f'module{place}'.encode(): name.encode() for place, name in enumerate(order)}})
 
     def test_newest_kernel(self):
@@ -236,6 +239,20 @@ class Ends(Machine):
         # (in a group that no shell could have continue, a stop has no effect)
         running = Running(*self.command('true'), env={**self.env, 'MACHINE': 'stops'}, terminal=True)
         self.assertEqual(running.end().status, 0)
+
+    def test_long_stop(self):
+        # (in a group of its own, which this process can have continue, a stop has an effect)
+        env = environment({**self.env, 'MACHINE': 'stops_once'})
+        with subprocess.Popen(self.command('true', changes=SHORT), env=env, preexec_fn=os.setpgrp) as process:
+            self.assertTrue(os.WIFSTOPPED(os.waitpid(process.pid, os.WUNTRACED)[1]))
+            time.sleep(5)  # (longer than a machine may be silent)
+            process.send_signal(signal.SIGCONT)
+            self.assertEqual(process.wait(LIMIT), 0)
+
+    def test_full(self):
+        # what a file has no room for is told, and the command is then as one whose output nobody reads
+        full = b'nvme-model: a stream of the command: No space left on device\n'
+        self.ends(self.machine('writes', out='/dev/full'), 0, err=full)
 
     def test_unread(self):
         ours, theirs = socket.socketpair()

@@ -32,7 +32,7 @@ until [ "$over" ]; do sleep 0.1; done
 
 test -e /dev/disk/by-id/nvme-Demo_Controller_S0 && echo udev
 sh examples/mounted.sh
-modprobe loop && grep -c '^loop ' /proc/modules
+: < /dev/loop-control && grep -c '^loop ' /proc/modules
 for folder in proc sys dev run; do mount | grep -c " on /$folder "; done
 ls -d /sys/class/net/*
 
