@@ -78,12 +78,12 @@ class Identities(CallCase, transcripts='rights'):
         self.needs('busybox')
         inner = ('cd "$1"; mkdir root root/dev; cp "$2" root; echo own > root/dev/nvme0n2; '
                  'ln -s /dev/nvme0n2 root/link; ln -s /../../dev/nvme0n2 root/up; '
-                 'for path in link up ..//dev//nvme0n2 /dev/nvme0n2; do '
+                 'for path in link up ../dev/nvme0n2 /dev/nvme0n2; do '
                  'chroot root /busybox sh -c "echo $path > $path"; cat root/dev/nvme0n2; done; rm -r root; ' + LOOK)
         user = USERS[-1]
         ended = run(*user, *self.command('sh', '-c', script, 'sh', 'unshare', '-Urm', 'sh', '-c', inner, 'sh',
                                          self.folder, shutil.which('busybox')))
-        self.ends(ended, 0, b'link\nup\n..//dev//nvme0n2\n/dev/nvme0n2\n4608 same\n', b'')
+        self.ends(ended, 0, b'link\nup\n../dev/nvme0n2\n/dev/nvme0n2\n4608 same\n', b'')
 
 
 class Groups(CallCase):
