@@ -310,7 +310,7 @@ class Machines(MachineCase, transcripts='on_machines'):
 
 # Runs a command in a place where no mount namespace can be made, or where there is no bwrap.
 WITHOUT = ('unshare', '-Ur', 'sh', '-c', 'echo 0 > /proc/sys/user/max_mnt_namespaces; exec "$@"', 'sh')
-UNREADABLE = '/usr/bin/python3', str(PROGRAMS / 'unreadable.py')
+UNREADABLE = '/usr/bin/python3', '-c', (PROGRAMS / 'unreadable.py').read_text()  # (by no path: this may be in /tmp)
 
 
 class NoSandbox(MachineCase):
