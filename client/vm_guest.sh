@@ -44,7 +44,7 @@ own=/lib/modules/$release
 for daemon in /usr/lib/systemd/systemd-udevd /lib/systemd/systemd-udevd; do
     [ -x "$daemon" ] || continue
     rules=${daemon%/systemd/*}/udev/rules.d
-    for name in 50-udev-default 55-dm 60-block 60-persistent-storage 60-persistent-storage-dm 63-md-raid-arrays \
+    for name in 50-udev-default 55-dm 56-lvm 60-block 60-persistent-storage 60-persistent-storage-dm 63-md-raid-arrays \
         64-btrfs 64-md-raid-assembly 69-lvm 80-drivers 95-dm-notify 99-systemd; do
         [ ! -e "$rules/$name.rules" ] || kept="${kept-} $rules/$name.rules"
     done
