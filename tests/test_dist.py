@@ -4,6 +4,7 @@ packages, it is checked which files they have, with which owners and versions, a
 broken. The jobs of SUPPORT run with the archive. Each digest of each PROVED is compared. These tests need all that is
 packed, see tools/dist, but one packs nvme-script and nvme-model alone."""
 
+import collections
 import functools
 import gzip
 import hashlib
@@ -15,7 +16,7 @@ import unittest
 
 from tests.modelled import VERSION, installed, why_no_sandbox
 from tests.pages import Page
-from tests.support import DEMO, IS_ROOT, LIMIT, NOBODY, TOP, Case, library, process_folder, run
+from tests.support import DEMO, IS_ROOT, LIMIT, NOBODY, TOP, Case, library, process_folder, run, table
 from tests.test_installed import LOOK
 
 DIST = TOP / 'tools/dist'
@@ -24,21 +25,9 @@ PROGRAMS = {'nvme_script': 'lib/nvme-model/nvme_script', 'nvme_explain': 'lib/nv
             'nvme_device': 'lib/nvme-model/nvme_device', 'nvme_trace': 'bin/nvme-trace', 'nvme_bench': 'bin/nvme-bench'}
 LIBRARIES = 'usr/lib/x86_64-linux-gnu'
 # What each package must have.
-WANTED = {
-    'nvme-script': ['usr/bin/nvme-script', 'usr/bin/nvme-trace', 'usr/bin/nvme-model', 'usr/bin/nvme-describe',
-                    'usr/lib/nvme-model/nvme_device', 'usr/share/man/man1/nvme-describe.1.gz',
-                    'usr/lib/nvme-model/library.so', 'usr/lib/nvme-model/qemu', 'usr/share/man/man1/nvme-script.1.gz',
-                    'usr/share/man/man1/nvme-trace.1.gz', 'usr/share/man/man1/nvme-model.1.gz',
-                    'usr/share/bash-completion/completions/nvme-script', 'usr/share/doc/nvme-script/GUIDE.md',
-                    'usr/share/doc/nvme-script/examples/provision.sh', 'usr/share/doc/nvme-script/examples/demo.toml'],
-    'nvme-bench': ['usr/bin/nvme-bench', 'usr/share/doc/nvme-bench/BENCHES.md', 'usr/share/man/man1/nvme-bench.1.gz'],
-    'libnvme-controller-dev': [f'{LIBRARIES}/libnvme_controller.a', f'{LIBRARIES}/libnvme_controller.so',
-                               f'{LIBRARIES}/pkgconfig/nvme_controller.pc', 'usr/include/nvme_controller.h',
-                               'usr/include/nvme_records.h', 'usr/share/man/man3/nvme_controller.3.gz',
-                               'usr/share/doc/libnvme-controller-dev/EMBEDDING.md',
-                               'usr/share/doc/libnvme-controller-dev/examples/bench.c',
-                               'usr/share/doc/libnvme-controller-dev/examples/bench.sv'],
-    'python3-nvme-controller': ['usr/lib/python3/dist-packages/nvme_controller.py']}
+WANTED = collections.defaultdict(list)
+for package, file in table('packages'):
+    WANTED[package].append(file)
 # What is in DEBIAN besides control and md5sums.
 MEMBERS = {'libnvme-controller-dev': ['shlibs', 'triggers'], 'python3-nvme-controller': ['postinst', 'prerm']}
 
@@ -139,10 +128,11 @@ class Bytes(Packages):
         self.assertLessEqual({oct(member.mode) for member in members if not member.issym()}, {'0o755', '0o644'})
 
 
-class Archive(Packages):
+class Archive(Packages, transcripts='archive'):
     def setUp(self):
         super().setUp()
         self.place = unpacked()
+        self.env = {'archive': self.place}
         self.before = {path: path.lstat().st_mtime_ns for path in self.place.rglob('*')}
         self.addCleanup(self.is_as_before)
         self.folder.chmod(0o777)
@@ -208,27 +198,10 @@ class Archive(Packages):
         self.ends(run(*as_another(self.place / 'install', '--remove', prefix), cwd='/'), 0, b'', b'')
         self.assertEqual(list(prefix.parent.iterdir()), [])
 
-    def test_list_of_what_was_installed(self):
-        # neither a line of the list nor a link in its place leads anywhere else
-        prefix, other = self.folder / 'prefix', self.folder / 'other'
-        (prefix / 'share/nvme-script').mkdir(parents=True)
-        path = prefix / 'share/nvme-script/installed'
-        other.write_text('bin/nothing\n../other\n')
-        path.symlink_to(other)
-        self.ends(run(self.place / 'install', prefix), 0, b'', b'')
-        self.assertEqual(other.read_text(), 'bin/nothing\n../other\n')
-        path.write_text(f'{path.read_text()}../other\n')
-        self.ends(run(self.place / 'install', '--remove', prefix), 0, b'', b'')
-        self.assertTrue(other.exists())
-
+    @unittest.skipUnless(IS_ROOT, 'root alone can become another user')
     def test_install_in_the_wrong_place(self):
-        self.ends(run(self.place / 'install', '--remove', self.folder), 1, b'',
-                  f'install: nothing was installed in {self.folder}\n'.encode())
-        for words in ['-x'], ['a', 'b'], ['']:
-            self.ends(run(self.place / 'install', *words), 2, b'', b'usage: install [--remove] [PREFIX]\n')
-        if IS_ROOT:
-            self.folder.chmod(0o755)
-            self.assertNotEqual(run(*as_another(self.place / 'install', self.folder)).status, 0)
+        self.folder.chmod(0o755)
+        self.assertNotEqual(run(*as_another(self.place / 'install', self.folder)).status, 0)
 
 
 class Debian(Packages):
@@ -282,17 +255,9 @@ class Debian(Packages):
         whole = self.folder / 'root'
         for root in roots().values():
             shutil.copytree(root / 'usr', whole / 'usr', dirs_exist_ok=True, symlinks=True)
-        pages = list(whole.rglob('*.md'))
+        pages = [Page(str(path)) for path in whole.rglob('*.md')]
         self.assertGreater(len(pages), 9)
-        for page in pages:
-            for link in re.findall(r'\]\(([^ )]+)', page.read_text()):
-                name, _, heading = link.partition('#')
-                if '://' not in link:
-                    with self.subTest(page.name, link=link):
-                        target = page.parent / name if name else page
-                        self.assertTrue(target.is_file(), f'{page.name}: {link} leads to nothing')
-                        if heading:
-                            self.assertIn(heading, list(Page(str(target)).anchors()))
+        self.assertEqual([link for page in pages for link in page.broken_links()], [])
 
     def test_versions(self):
         texts = {path: gzip.decompress(path.read_bytes()).decode()
@@ -434,43 +399,5 @@ class Part(Case):
                           (place / 'share/doc/nvme-script/PROVED').read_text())
 
 
-class First(Case):
-    """A copy in which nothing was built."""
-
-    def setUp(self):
-        super().setUp()
-        for name in 'VERSION', 'crates.txt', 'HANDLES':
-            shutil.copy(TOP / name, self.folder)
-        shutil.copytree(TOP / 'tools', self.folder / 'tools')
-
-    def test_says_what_to_build(self):
-        ended = run(self.folder / 'tools/dist')
-        self.ends(ended, 72, b'')
-        lines = ended.err.decode().splitlines()
-        for crate, command in (('nvme_script', './nvme-script --build'), ('nvme_device', './nvme-model --build'),
-                               ('nvme_trace', 'tools/build nvme_trace'), ('nvme_controller', 'make library')):
-            self.assertIn(f'dist: there is no proved {crate} of these sources: {command} makes it', lines)
-        self.assertEqual(lines[-1], 'dist: make packages builds and packs everything')
-        self.assertFalse((self.folder / 'out').exists())
-
-    def test_needs_debhelper(self):
-        # this is said before anything is built
-        shutil.copy(TOP / 'Makefile', self.folder)
-        ended = run(shutil.which('make'), 'packages', cwd=self.folder, env={'PATH': '/nowhere'})
-        self.assertIn(b'packages need debhelper: apt install debhelper\n', ended.err, ended)
-        self.assertFalse((self.folder / 'out').exists())
-
-    def test_refuses_what_is_not_committed(self):
-        (self.folder / 'tools/stamp').unlink()
-        (self.folder / 'tools/stamp').symlink_to('/bin/true')
-        for words in ('init', '-q'), ('add', '.'), ('-c', 'user.name=x', '-c', 'user.email=x', 'commit', '-qm', 'x'):
-            self.ends(run('git', *words, cwd=self.folder), 0)
-        with (self.folder / 'tools/dist').open('a') as file:
-            file.write('# changed\n')
-        self.file('new', b'')
-        ended = run(self.folder / 'tools/dist', cwd='/')
-        self.ends(ended, 72, b'', b'dist: these files are not as they were committed:\ndist: tools/dist\ndist: new\n')
-
-
-if __name__ == '__main__':
-    unittest.main()
+class First(Case, transcripts='unbuilt'):
+    pass
