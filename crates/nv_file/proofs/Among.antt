@@ -1,13 +1,11 @@
 -- Whether one of a slice has a number, as `any` over the slice says.
 use Rattle.std.proofs.Common.{◌≡◌, ◌∙◌, ◌==◌, ℕ, Bool, List, Bor, map, sym}
 use Rattle.std.proofs.lemmas.Iterator.Search.{any_from_yields_List}
-use Rattle.std.proofs.lemmas.Iterator.{YieldsList}
 use Rattle.std.specs.Fn.{Called}
 use Rattle.std.specs.Iterator.{ChecksAny}
-use Rattle.std.specs.Prelude.{Option}
-use Rattle.nv_model.proofs.MappedLaws.{list_any-map}
 use Rattle.nv_file.specs.KeyChecks.{is_among}
 use denote.Param.Members.{Mut}
+use Rattle.nv_file.proofs.Words.{list_any-map, Option, YieldsList}
 
 -- whether `any` finds the number in a slice is whether it is among the numbers of the elements
 pub any_is_among : {S A F : Type 0} {steps : S → Option (Bor A) → S → Type 0} {g : Mut F (Bor A × Unit {0}) Bool}

@@ -1,17 +1,12 @@
 -- What the test of the attachments means.
 use Rattle.std.proofs.Common.{◌≡◌, ◌≢◌, ℕ, ◌≤◌, ℤ, pos, Bool, true, false, not, ◌&&◌, ◌||◌, List, [], ◌∷◌, length}
 use Rattle.std.proofs.Common.{get_or, int_eq, nat_le, refl, sym, ◌∙◌, arith}
-use Rattle.std.specs.Prelude.{All, Any, AllPairs}
-use Rattle.std.specs.List.{list_any, list_all}
-use Rattle.std.proofs.lemmas.Bool.{and_parts, false≢true, leb-true}
 use Rattle.std.proofs.lemmas.Bool.Decides.{Decides-int_eq}
-use Rattle.std.proofs.lemmas.List.Elements.{All-weaker}
-use Rattle.std.proofs.lemmas.List.Folds.{Any-from_list_any, list_any_at}
 use Rattle.std.proofs.lemmas.List.Kept.{AllPairs-cons}
 use Rattle.std.proofs.lemmas.List.Sums.{AllPass-from_list_all}
-use Rattle.nv_file.specs.FileValue.{ControllerValue, NamespaceValue}
 use Rattle.nv_file.specs.File.{may_attach, is_cntlid, differ, attaches}
-use Rattle.nv_file.specs.IsFile.{IsAttached}
+use Rattle.nv_file.proofs.Words.{All, All-weaker, AllPairs, and_parts, Any, Any-from_list_any, ControllerValue}
+use Rattle.nv_file.proofs.Words.{false≢true, IsAttached, leb-true, list_all, list_any, list_any_at, NamespaceValue}
 
 -- if the test finds a controller with the identifier, one has it
 named_one : (cs : List ControllerValue) (z : ℤ) → is_cntlid cs z ≡ true → Any (λ c. pos c.identity.cntlid ≡ z) cs

@@ -1,12 +1,9 @@
 -- The first check that fails, of checks one after the other.
-use Rattle.std.proofs.Common.{◌≡◌, ◌∙◌, inl, inr, Bool, true, false, if◌then◌else◌, List, [], ◌∷◌, ◌++◌, Option}
-use Rattle.std.proofs.Common.{Some, None, IfSome, Result, Ok, Err, refl, subst, sym, ap}
-use Rattle.std.specs.Option.{option_map_or}
-use Rattle.nv_file.specs.declared.error.SubsystemError.{SubsystemError}
-use Rattle.nv_file.specs.declared.error.SubsystemError.TheVariants.{Memory}
+use Rattle.std.proofs.Common.{◌≡◌, ◌∙◌, inl, inr, Bool, true, false, if◌then◌else◌, List, [], ◌∷◌, ◌++◌, Option, Some}
+use Rattle.std.proofs.Common.{None, IfSome, Result, Ok, Err, refl, subst, sym, ap}
 use Rattle.nv_file.specs.Check.{Check, check, checked, first_error}
 use Rattle.nv_layout.specs.UnlessMemory.{IsUnlessMemory}
-use Rattle.nv_file.specs.inner.Reading.{IsCheckedUnlessMemory, IsToldFirst}
+use Rattle.nv_file.proofs.Words.{IsCheckedUnlessMemory, IsToldFirst, Memory, option_map_or, SubsystemError}
 
 -- the first of two faults, or else the second
 abbrev pub or_else : Option SubsystemError → Option SubsystemError → Option SubsystemError

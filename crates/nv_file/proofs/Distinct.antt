@@ -1,16 +1,10 @@
 -- Keys that differ, as entries are added.
 use Rattle.std.proofs.Common.{◌≡◌, ◌≢◌, ℕ, zero, suc, ◌<◌, Bool, true, false, ◌||◌, ◌==◌, List, [], ◌∷◌, ◌++◌, length}
 use Rattle.std.proofs.Common.{get_or, map, refl, sym, ◌∙◌, arith, eq-eqb}
-use Rattle.std.specs.Prelude.{AllPairs}
-use Rattle.std.specs.List.{list_any}
-use Rattle.std.proofs.lemmas.List.{map_push}
 use Rattle.std.proofs.lemmas.List.Quantifiers.{all_pairs_push}
-use Rattle.nv_model.specs.declared.feature_rule.FeatureRule.{FeatureRule}
-use Rattle.nv_file.specs.declared.controller.ControllerEntry.{ControllerEntry}
-use Rattle.nv_file.specs.declared.namespace.NamespaceEntry.{NamespaceEntry}
 use Rattle.nv_file.specs.KeyChecks.{is_among}
-use Rattle.nv_file.specs.FileValue.{controller_entry_view, namespace_entry_view}
-use Rattle.nv_model.proofs.MappedLaws.{list_any-map}
+use Rattle.nv_file.proofs.Words.{AllPairs, controller_entry_view, ControllerEntry, FeatureRule, list_any, list_any-map}
+use Rattle.nv_file.proofs.Words.{map_push, namespace_entry_view, NamespaceEntry}
 
 -- if a disjunction is false, both its parts are
 or_false : (a b : Bool) → (a || b) ≡ false → (a ≡ false) × (b ≡ false)

@@ -1,13 +1,10 @@
 -- The checks of a table without members.
 use Rattle.std.proofs.Common.{◌≡◌, ℕ, Some, None, refl}
-use Rattle.toml.specs.Data.{no_members}
 use Rattle.nv_model.specs.Logs.{zero_smart}
-use Rattle.nv_file.specs.declared.error.SubsystemError.TheVariants.{Missing}
-use Rattle.nv_file.specs.declared.key.Key.{Key}
-use Rattle.nv_file.specs.declared.table_name.TableName.{TableName}
 use Rattle.nv_file.specs.Check.{check, first_error}
 use Rattle.nv_file.specs.KeyChecks.{integer, integers_at, number_at, of_kind, optional_integer, optional_list}
 use Rattle.nv_file.specs.TableChecks.{counters_checks, counters_value, smart_checks, smart_value}
+use Rattle.nv_file.proofs.Words.{Key, Missing, no_members, TableName}
 use Rattle.nv_file.proofs.CheckLaws.{faults}
 
 -- in a table without members, an integer that must be there is missing

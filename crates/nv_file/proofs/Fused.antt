@@ -1,12 +1,9 @@
 -- Entries in the code and their values.
-use Rattle.std.proofs.Common.{◌≡◌, ℕ, List, [], ◌∷◌, map, ◌+◌, ◌<◌, ◌&&◌, not, length, drop, get_or, sum_by}
-use Rattle.std.proofs.Common.{int_eq, ℤ, pos, refl}
-use Rattle.std.proofs.lemmas.List.{drop_more}
-use Rattle.std.specs.List.{list_any, list_all, fold}
-use Rattle.nv_file.specs.declared.controller.ControllerEntry.{ControllerEntry}
-use Rattle.nv_file.specs.declared.namespace.NamespaceEntry.{NamespaceEntry}
+use Rattle.std.proofs.Common.{◌≡◌, ℕ, List, [], ◌∷◌, map, ◌+◌, ◌<◌, ◌&&◌, not, length, drop, get_or, sum_by, int_eq, ℤ}
+use Rattle.std.proofs.Common.{pos, refl}
 use Rattle.nv_file.specs.File.{may_attach, is_cntlid, differ}
-use Rattle.nv_file.specs.FileValue.{ControllerValue, controller_entry_view, namespace_entry_view}
+use Rattle.nv_file.proofs.Words.{controller_entry_view, ControllerEntry, ControllerValue, drop_more, fold, list_all}
+use Rattle.nv_file.proofs.Words.{list_any, namespace_entry_view, NamespaceEntry}
 use Rattle.nv_file.proofs.CheckLaws.{faults}
 
 -- a sum of capacities from n on is the same for entries in the code and for their values

@@ -1,14 +1,10 @@
 -- The checks of one key with a given value.
 use Rattle.std.proofs.Common.{◌≡◌, ◌∙◌, ℕ, Bool, true, false, ◌&&◌, List, [], length, Option, Some, None, is_some}
 use Rattle.std.proofs.Common.{unwrap_or, nat_le, refl, sym, ap}
-use Rattle.toml.specs.Data.{Data, Members, get_member}
-use Rattle.nv_file.specs.declared.error.SubsystemError.{SubsystemError}
-use Rattle.nv_file.specs.declared.error.SubsystemError.TheVariants.{Range}
-use Rattle.nv_file.specs.declared.key.Key.{Key}
-use Rattle.nv_file.specs.declared.table_name.TableName.{TableName}
 use Rattle.nv_file.specs.Check.{check, first_error}
-use Rattle.nv_file.specs.KeyChecks.{as_tables, in_limits, of_kind, tables, tables_at}
-use Rattle.nv_file.specs.Names.{key_text}
+use Rattle.nv_file.specs.KeyChecks.{of_kind, tables, tables_at}
+use Rattle.nv_file.proofs.Words.{as_tables, Data, get_member, in_limits, Key, key_text, Members, Range, SubsystemError}
+use Rattle.nv_file.proofs.Words.{TableName}
 
 -- ---- something is of a kind, or is not
 

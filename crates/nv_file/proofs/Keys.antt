@@ -1,13 +1,7 @@
 -- The keys of a map, and the keys of the members that it represents.
 use Rattle.std.proofs.Common.{◌≡◌, List, [], ◌∷◌, String, BTreeMap, Global, map, string_bytes, refl}
-use Rattle.std.specs.List.{list_all, list_any}
-use Rattle.std.specs.Str.{bytes_eq}
 use Rattle.std.specs.BTreeMap.{keys}
-use Rattle.toml.specs.declared.value.Value.{Value}
-use Rattle.toml.specs.View.{table_view, members_view}
-use Rattle.nv_file.specs.declared.key.Key.{Key}
-use Rattle.nv_file.specs.Names.{key_text}
-use Rattle.nv_file.specs.KeyChecks.{has_only}
+use Rattle.nv_file.proofs.Words.{bytes_eq, has_only, Key, key_text, list_all, list_any, members_view, table_view, Value}
 
 -- whether each key of some entries is known is whether their members have only known keys
 known_entries : (known : List Key) (es : List (String Global × Value))

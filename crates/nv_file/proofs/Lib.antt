@@ -1,3 +1,4 @@
+pub mod Words
 pub mod Among
 pub mod Attached
 pub mod CheckLaws

@@ -3,10 +3,10 @@ use Rattle.nv_file.specs.File.{file_checks, file_value}
 use Rattle.nv_file.specs.KeyChecks.{flag_at, integer, integers_at, number_at, of_kind, optional_integer, tables}
 use Rattle.nv_file.specs.KeyChecks.{tables_at, text, text_at}
 use Rattle.nv_file.specs.TableChecks.{controller_checks, controller_value, counters_checks, counters_value}
-use Rattle.nv_file.specs.TableChecks.{defaults_checks, defaults_value, feature_checks, feature_value}
-use Rattle.nv_file.specs.TableChecks.{format_checks, format_value, identity_checks, identity_value}
-use Rattle.nv_file.specs.TableChecks.{namespace_checks, namespace_value, numbers_checks, numbers_value}
-use Rattle.nv_file.specs.TableChecks.{smart_checks, smart_value, thresholds, thresholds_at}
+use Rattle.nv_file.specs.TableChecks.{defaults_checks, defaults_value, feature_checks, feature_value, format_checks}
+use Rattle.nv_file.specs.TableChecks.{format_value, identity_checks, identity_value, namespace_checks, namespace_value}
+use Rattle.nv_file.specs.TableChecks.{numbers_checks, numbers_value, smart_checks, smart_value, thresholds}
+use Rattle.nv_file.specs.TableChecks.{thresholds_at}
 
 -- opens the checks of one key, and the values at a key
 unfoldable pub keys : Unit {0}

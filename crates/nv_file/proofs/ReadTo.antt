@@ -1,17 +1,11 @@
 -- A list of tables that is read up to an index.
 use Rattle.std.proofs.Common.{◌≡◌, ◌∙◌, ◌⊎◌, inl, inr, ℕ, ◌+◌, ◌<◌, ◌≤◌, List, [], ◌∷◌, ◌++◌, length, take, drop}
 use Rattle.std.proofs.Common.{get_or, map, Some, None, BTreeMap, String, Global, refl, sym, ap}
-use Rattle.std.proofs.lemmas.List.{drop_all, drop_more, map_push, take_all, take_more}
 use Rattle.std.proofs.lemmas.Simd.{map-map}
 use Rattle.std.specs.Borrow.{Bor}
-use Rattle.toml.specs.Data.{Members}
-use Rattle.toml.specs.View.{table_view}
-use Rattle.toml.specs.declared.value.Value.{Value}
-use Rattle.nv_file.specs.declared.error.SubsystemError.{SubsystemError}
-use Rattle.nv_file.specs.declared.error.SubsystemError.TheVariants.{Memory}
 use Rattle.nv_file.specs.Check.{Check, first_error}
-use Rattle.nv_file.specs.KeyChecks.{each}
-use Rattle.nv_file.specs.inner.SectionView.{tables_view}
+use Rattle.nv_file.proofs.Words.{drop_all, drop_more, each, map_push, Members, Memory, SubsystemError, table_view}
+use Rattle.nv_file.proofs.Words.{tables_view, take_all, take_more, Value}
 use Rattle.nv_file.proofs.CheckLaws.{or_else, faults_append, faults_none}
 
 -- a table of the code

@@ -1,14 +1,10 @@
 -- Bytes that aren't UTF-8, and texts of white space and comments alone.
-use Rattle.std.proofs.Common.{◌≡◌, ◌∙◌, ℕ, List, Bool, true, false, [], ◌++◌, Some, Err}
-use Rattle.std.proofs.Common.{ap, append_assoc, append-nil, sym}
-use Rattle.std.proofs.lemmas.Str.{IsUtf8-from_is_utf8, is_utf8-from_IsUtf8}
-use Rattle.std.specs.Option.{ok_or}
-use Rattle.std.specs.Str.{IsUtf8, is_utf8}
-use Rattle.toml.specs.Data.{no_members}
-use Rattle.toml.specs.Errors.{IsBlank}
+use Rattle.std.proofs.Common.{◌≡◌, ◌∙◌, ℕ, List, Bool, true, false, [], ◌++◌, Some, Err, ap, append_assoc, append-nil}
+use Rattle.std.proofs.Common.{sym}
 use Rattle.toml.specs.Parse.{lines, parse_document}
-use Rattle.nv_file.specs.declared.error.SubsystemError.TheVariants.{NotToml}
 use Rattle.nv_file.specs.File.{document}
+use Rattle.nv_file.proofs.Words.{is_utf8, is_utf8-from_IsUtf8, IsBlank, IsUtf8, IsUtf8-from_is_utf8, no_members}
+use Rattle.nv_file.proofs.Words.{NotToml, ok_or}
 
 -- a document that is parsed as the text of UTF-8 bytes is the document of the bytes
 pub text_document : (bytes text : List ℕ) → text ≡ bytes → IsUtf8 bytes

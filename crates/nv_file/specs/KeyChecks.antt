@@ -1,16 +1,14 @@
 -- What a table has at a key, and the checks of one key. `t` is the table and `k` the key, as a
 -- fault names them; `m` are the members of the table.
-use Rattle.std.specs.Prelude.{ℕ, ℤ, pos, negsuc, Bool, true, false, not, ◌&&◌, ◌||◌, ◌==◌, List, []}
-use Rattle.std.specs.Prelude.{◌∷◌, ◌++◌, length, Option, Some, option_and_then, unwrap_or, is_some}
-use Rattle.std.specs.Prelude.{nat_le}
+use Rattle.std.specs.Prelude.{ℕ, ℤ, pos, negsuc, Bool, true, false, not, ◌&&◌, ◌||◌, ◌==◌, List, [], ◌∷◌, ◌++◌, length}
+use Rattle.std.specs.Prelude.{Option, Some, option_and_then, unwrap_or, is_some, nat_le}
 use Rattle.std.specs.List.{list_all, list_any}
 use Rattle.std.specs.Option.{option_map_or}
 use Rattle.std.specs.Str.{bytes_eq}
 use Rattle.toml.specs.Data.{Data, Items, no_items, item, Members, no_members, member, get_member}
 use Rattle.toml.specs.Data.{as_integer, as_str, as_bool, as_array, as_table}
 use Rattle.nv_model.specs.Ranges.{is_text}
-use Rattle.nv_file.specs.declared.error.SubsystemError.TheVariants.{Missing, Kind, Range, Repeated}
-use Rattle.nv_file.specs.declared.error.SubsystemError.TheVariants.{Unknown}
+use Rattle.nv_file.specs.declared.error.SubsystemError.TheVariants.{Missing, Kind, Range, Repeated, Unknown}
 use Rattle.nv_file.specs.declared.table_name.TableName.{TableName}
 use Rattle.nv_file.specs.declared.key.Key.{Key}
 use Rattle.nv_file.specs.Names.{key_text}

@@ -1,8 +1,7 @@
 -- The tables of a file: for each the checks of its keys in their order, and what it holds if
 -- none of them fails. `m` are the members of the table.
-use Rattle.std.specs.Prelude.{ℕ, ◌^◌, Bool, true, false, not, ◌&&◌, ◌||◌, List, [], ◌∷◌, ◌++◌, map}
-use Rattle.std.specs.Prelude.{Option, is_some, ◌==◌, slice_get, slice_index, length}
-use Rattle.std.specs.Prelude.{if◌then◌else◌}
+use Rattle.std.specs.Prelude.{ℕ, ◌^◌, Bool, true, false, not, ◌&&◌, ◌||◌, List, [], ◌∷◌, ◌++◌, map, Option, is_some}
+use Rattle.std.specs.Prelude.{◌==◌, slice_get, slice_index, length, if◌then◌else◌}
 use Rattle.std.specs.List.{list_all}
 use Rattle.std.specs.Option.{option_map_or}
 use Rattle.toml.specs.Data.{Members, as_table}
@@ -22,12 +21,9 @@ use Rattle.nv_file.specs.declared.key.Key.{Key}
 use Rattle.nv_file.specs.declared.key.Key.TheVariants as key
 use Rattle.nv_file.specs.Check.{Check}
 use Rattle.nv_file.specs.FileValue.{ControllerValue, NamespaceValue}
-use Rattle.nv_file.specs.KeyChecks.{has_key, integer, optional_integer, optional_integers, text, flag}
-use Rattle.nv_file.specs.KeyChecks.{optional_list}
-use Rattle.nv_file.specs.KeyChecks.{of_kind, in_limits, is_within, not_repeated, no_other, each}
-use Rattle.nv_file.specs.KeyChecks.{as_tables, as_integers}
-use Rattle.nv_file.specs.KeyChecks.{number, number_at, text_at, flag_at, integers_at, tables_at}
-use Rattle.nv_file.specs.KeyChecks.{table_at}
+use Rattle.nv_file.specs.KeyChecks.{has_key, integer, optional_integer, optional_integers, text, flag, optional_list}
+use Rattle.nv_file.specs.KeyChecks.{of_kind, in_limits, is_within, not_repeated, no_other, each, as_tables, as_integers}
+use Rattle.nv_file.specs.KeyChecks.{number, number_at, text_at, flag_at, integers_at, tables_at, table_at}
 use Rattle.nv_file.specs.Names.{keys_of, feature_keys}
 
 -- ---- a format

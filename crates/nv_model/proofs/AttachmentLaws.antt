@@ -1,27 +1,16 @@
 -- An attach and a detach leave a well-formed subsystem well formed.
-use Rattle.std.proofs.Common.{rules, ◌≡◌, ◌∙◌, ℕ, ◌==◌, ◌≤◌, ◌||◌, ◌&&◌, Bool, true, false, not}
-use Rattle.std.proofs.Common.{cond, List, length, Some, None, nat_lt, refl, sym, ap, arith}
-use Rattle.std.specs.Prelude.{count_by, if◌then◌else◌}
-use Rattle.std.specs.List.{AllByRecursion}
-use Rattle.std.specs.Option.{option_map_or}
+use Rattle.std.proofs.Common.{rules, ◌≡◌, ◌∙◌, ℕ, ◌==◌, ◌≤◌, ◌||◌, ◌&&◌, Bool, true, false, not, cond, List, length}
+use Rattle.std.proofs.Common.{Some, None, nat_lt, refl, sym, ap, arith}
 use Rattle.std.specs.FinMap as map_of
-use Rattle.std.proofs.lemmas.Bool.{not-false}
-use Rattle.std.proofs.lemmas.Bool.Decides.{nat_tests}
-use Rattle.std.proofs.lemmas.List.{length-map}
-use Rattle.nv_bits.proofs.NumberLaws.{contains-insert}
-use Rattle.nv_model.specs.declared.namespace.Namespace.{Namespace}
-use Rattle.nv_command.proofs.RefusalLaws.{is_refusal-refusal_by}
-use Rattle.nv_model.specs.Attachment.{attach_rows, attached, attachment_rows, detached, fewer}
-use Rattle.nv_model.specs.Attachment.{has_attached, is_listed, is_private, more, unchanged}
-use Rattle.nv_model.specs.Attachment.{with_attachments, with_one}
-use Rattle.nv_model.proofs.FeatureLaws.{values-with, values-without}
+use Rattle.nv_model.specs.Attachment.{attach_rows, attached, attachment_rows, detached, fewer, has_attached, is_listed}
+use Rattle.nv_model.specs.Attachment.{is_private, more, unchanged, with_attachments, with_one}
 use Rattle.nv_model.specs.Management.{with_attached, with_nsids, without}
+use Rattle.nv_model.proofs.Words.{AllByRecursion, AreValues, contains-insert, Controller, count_by, first_refusal}
+use Rattle.nv_model.proofs.Words.{if◌then◌else◌, is_allocated, is_refusal-refusal_by, IsController, IsWellFormed}
+use Rattle.nv_model.proofs.Words.{length-map, Namespace, nat_tests, not-false, option_map_or, State}
+use Rattle.nv_model.proofs.FeatureLaws.{values-with, values-without}
 use Rattle.nv_model.proofs.ManagementLaws.{AllRefuse, attached_keep, left, none_holds}
 use Rattle.nv_model.proofs.MappedLaws.{count_by-map, count_by-map_le}
-use Rattle.nv_model.specs.Conditions.{is_allocated}
-use Rattle.nv_model.specs.Conditions.{first_refusal}
-use Rattle.nv_model.specs.State.{Controller, State}
-use Rattle.nv_model.specs.WellFormed.{AreValues, IsController, IsWellFormed}
 
 -- ---- attach
 

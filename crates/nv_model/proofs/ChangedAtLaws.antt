@@ -1,9 +1,7 @@
 -- A list that is changed at one index.
-use Rattle.std.proofs.Common.{◌≡◌, ℕ, zero, suc, ◌+◌, ◌<◌, ap, refl, arith, Bool, cond, List, []}
-use Rattle.std.proofs.Common.{◌∷◌, fold, length, map, set, get_or}
-use Rattle.std.specs.Prelude.{All, count_by, slice_get}
-use Rattle.std.specs.Option.{option_map_or}
-use Rattle.nv_model.specs.State.{changed_at}
+use Rattle.std.proofs.Common.{◌≡◌, ℕ, zero, suc, ◌+◌, ◌<◌, ap, refl, arith, Bool, cond, List, [], ◌∷◌, fold, length}
+use Rattle.std.proofs.Common.{map, set, get_or}
+use Rattle.nv_model.proofs.Words.{All, changed_at, count_by, option_map_or, slice_get}
 
 -- writing an element whose view is f of the old one's changes the list of views by f at that index
 pub views_changed : {X Y : Type 0} (view : X → Y) (f : Y → Y) (xs : List X) (i : ℕ) (y d : X) → i

@@ -1,16 +1,11 @@
 -- What is found in a map after the values of some keys are changed.
-use Rattle.std.proofs.Common.{◌≡◌, ◌∙◌, ◌||◌, Bool, true, cond, List, [], ◌∷◌, map, Option}
-use Rattle.std.proofs.Common.{Some, None, arith, refl, sym, ap}
-use Rattle.std.specs.Prelude.{option_map, if◌then◌else◌}
-use Rattle.std.specs.List.{fold, list_any}
-use Rattle.std.specs.Option.{option_map_or}
-use Rattle.std.specs.Ordering.{eq_by_cmp}
-use Rattle.std.specs.declared.cmp.Ordering.{Ordering}
-use Rattle.std.specs.Cmp.{Equal-is, IsTotalOrder}
+use Rattle.std.proofs.Common.{◌≡◌, ◌∙◌, ◌||◌, Bool, true, cond, List, [], ◌∷◌, map, Option, Some, None, arith, refl}
+use Rattle.std.proofs.Common.{sym, ap}
 use Rattle.std.specs.FinMap as map_of
-use Rattle.std.specs.FinMap.{FinMap, IsAntisymmetric, find, get-entries, get-from_entries}
-use Rattle.std.specs.FinMap.{get-insert, same_map}
-use Rattle.nv_model.specs.Change.{changed_at_keys}
+use Rattle.std.specs.declared.cmp.Ordering.{Ordering}
+use Rattle.nv_model.proofs.Words.{changed_at_keys, eq_by_cmp, Equal-is, find, FinMap, fold, get-entries}
+use Rattle.nv_model.proofs.Words.{get-from_entries, get-insert, if◌then◌else◌, IsAntisymmetric, IsTotalOrder, list_any}
+use Rattle.nv_model.proofs.Words.{option_map, option_map_or, same_map}
 
 -- the value of a key, changed
 abbrev changed_if : {X : Type 0} → Bool → (X → X) → Option X → Option X

@@ -1,6 +1,6 @@
 -- Choices that depend on a test.
 use Rattle.std.proofs.Common.{Bool, true, false}
-use Rattle.std.specs.Prelude.{if◌then◌else◌}
+use Rattle.nv_model.proofs.Words.{if◌then◌else◌}
 
 -- what holds for both holds for the one that is chosen
 pub chosen_fits : {A : Type 0} (P : A → Type 0) (b : Bool) (x y : A) → P x → P y

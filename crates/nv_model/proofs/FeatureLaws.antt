@@ -1,31 +1,17 @@
 -- The values of features stay well formed when NSIDs are attached and detached, and when values are written.
-use Rattle.std.proofs.Common.{◌≡◌, ◌∙◌, ℕ, ◌==◌, ◌&&◌, Bool, true, false, cond, Option, Some}
-use Rattle.std.proofs.Common.{None, is_some, refl, sym, ap, subst, arith}
-use Rattle.std.specs.Prelude.{IsSomeAnd, unwrap_or, if◌then◌else◌}
-use Rattle.std.proofs.lemmas.Bool.{and_from, eqb-true, false_from_ne_true}
-use Rattle.std.proofs.lemmas.Bool.Decides.{nat_tests}
-use Rattle.std.specs.Ordering.{nat_cmp}
+use Rattle.std.proofs.Common.{◌≡◌, ◌∙◌, ℕ, ◌==◌, ◌&&◌, Bool, true, false, cond, Option, Some, None, is_some, refl, sym}
+use Rattle.std.proofs.Common.{ap, subst, arith}
 use Rattle.std.specs.FinMap as map_of
-use Rattle.std.specs.FinMap.{get-empty}
-use Rattle.std.specs.Option.{option_map_or}
-use Rattle.nv_bits.proofs.NumberLaws.{contains-insert, contains-remove}
-use Rattle.nv_layout.specs.Feature.{feature_of, is_selector, is_value, row_of}
-use Rattle.nv_layout.proofs.FeatureTableLaws.{default_is_value, feature_at}
-use Rattle.nv_layout.proofs.FeatureTableLaws.{feature_with}
-use Rattle.nv_layout.specs.declared.feature.Feature.{Feature}
 use Rattle.nv_layout.specs.declared.feature.Feature.TheVariants as feature
-use Rattle.nv_model.specs.Values.{default_at}
-use Rattle.nv_model.specs.declared.defaults.Defaults.{Defaults}
-use Rattle.nv_model.specs.declared.feature_rule.FeatureRule.{FeatureRule}
-use Rattle.nv_model.specs.Values.{FeatureRules, first_value, rule_of}
-use Rattle.nv_model.specs.Values.{default_of, default_rule}
-use Rattle.nv_model.specs.State.{Nsids}
-use Rattle.nv_model.specs.WellFormed.{is_supported}
+use Rattle.nv_model.specs.Values.{default_at, FeatureRules, first_value, rule_of, default_of, default_rule}
 use Rattle.nv_model.specs.Values.{FeatureValues, ValueKey, is_alone, key_of, recovery_key}
-use Rattle.nv_model.proofs.ValueLaws.{by_numbers, is_key, same_key, value_of_insert}
-use Rattle.nv_model.proofs.ValueLaws.{value_of_remove, value_of_retain}
-use Rattle.nv_model.specs.WellFormed.{AreRules, AreValues, has_value, is_value_at, may_have}
-use Rattle.nv_model.specs.declared.feature_value.FeatureValue.{FeatureValue}
+use Rattle.nv_model.specs.declared.defaults.Defaults.{Defaults}
+use Rattle.nv_model.proofs.Words.{and_from, AreRules, AreValues, contains-insert, contains-remove, default_is_value}
+use Rattle.nv_model.proofs.Words.{eqb-true, false_from_ne_true, Feature, feature_at, feature_of, feature_with}
+use Rattle.nv_model.proofs.Words.{FeatureRule, FeatureValue, get-empty, has_value, if◌then◌else◌, is_selector}
+use Rattle.nv_model.proofs.Words.{is_supported, is_value, is_value_at, IsSomeAnd, may_have, nat_cmp, nat_tests, Nsids}
+use Rattle.nv_model.proofs.Words.{option_map_or, row_of, unwrap_or}
+use Rattle.nv_model.proofs.ValueLaws.{by_numbers, is_key, same_key, value_of_insert, value_of_remove, value_of_retain}
 
 -- ---- which keys have a value after a change
 

@@ -1,32 +1,17 @@
 -- A format leaves a well-formed subsystem well formed.
-use Rattle.std.proofs.Common.{rules, ◌≡◌, ◌∙◌, ℕ, ◌-◌, ◌==◌, ◌≤◌, ◌^◌, Bool, true, false}
-use Rattle.std.proofs.Common.{cond, List, [], ◌∷◌, Option, Some, None, nat_lt, refl, sym, ap, subst}
-use Rattle.std.proofs.Common.{arith}
-use Rattle.std.specs.Prelude.{IsSomeAnd, slice_get}
-use Rattle.std.specs.List.{AllByRecursion, fold, list_any}
-use Rattle.std.specs.Option.{option_map_or}
+use Rattle.std.proofs.Common.{rules, ◌≡◌, ◌∙◌, ℕ, ◌-◌, ◌==◌, ◌≤◌, ◌^◌, Bool, true, false, cond, List, [], ◌∷◌, Option}
+use Rattle.std.proofs.Common.{Some, None, nat_lt, refl, sym, ap, subst, arith}
 use Rattle.std.specs.FinMap as map_of
-use Rattle.std.proofs.lemmas.Bool.{not-false, or_parts}
-use Rattle.std.proofs.lemmas.Bool.Decides.{nat_tests}
-use Rattle.nv_bits.proofs.NumberLaws.{get_of_insert}
-use Rattle.nv_model.specs.Ranges.{IsInFormat}
-use Rattle.nv_model.specs.Conditions.{may_extend, can_have, format_at}
-use Rattle.nv_model.specs.declared.format.Format.{Format}
-use Rattle.nv_model.specs.declared.namespace.Namespace.{Namespace}
-use Rattle.nv_command.proofs.RefusalLaws.{is_refusal-refusal_by}
 use Rattle.nv_command.specs.declared.format.NewFormat.{NewFormat}
 use Rattle.nv_model.specs.Format.{format_rows, formatted, in_format, is_below}
 use Rattle.nv_model.specs.inner.Format.{with_format}
-use Rattle.std.specs.Cmp.{nat_cmp_total}
-use Rattle.std.specs.FinMap.{nat_cmp-IsAntisymmetric}
-use Rattle.nv_model.specs.Change.{changed_at_keys}
+use Rattle.nv_model.proofs.Words.{AllByRecursion, can_have, changed_at_keys, concerned, first_refusal, fold, Format}
+use Rattle.nv_model.proofs.Words.{format_at, get_of_insert, is_refusal-refusal_by, IsInFormat, IsNamespace, IsSomeAnd}
+use Rattle.nv_model.proofs.Words.{IsWellFormed, list_any, may_extend, Namespace, Namespaces, nat_cmp-IsAntisymmetric}
+use Rattle.nv_model.proofs.Words.{nat_cmp_total, nat_tests, not-false, option_map_or, or_parts, slice_get, State}
 use Rattle.nv_model.proofs.ChangedKeysLaws.{folded}
 use Rattle.nv_model.proofs.ManagementLaws.{AllRefuse, controllers_with, extends_by, none_holds}
-use Rattle.nv_model.specs.Conditions.{concerned}
-use Rattle.nv_model.specs.Conditions.{first_refusal}
-use Rattle.nv_model.specs.State.{Namespaces, State}
 use Rattle.nv_model.proofs.UsedLaws.{used-change}
-use Rattle.nv_model.specs.WellFormed.{IsNamespace, IsWellFormed}
 
 -- each row of a format has a refusal
 pub format_rows_fit : (s : State) (c : ℕ) (f : NewFormat) → AllRefuse (format_rows s c f)

@@ -1,15 +1,11 @@
 -- The Identify data of a controller fits its record.
-use Rattle.std.proofs.Common.{rules, ◌≡◌, ◌∙◌, ℕ, ◌<◌, ◌^◌, refl, arith, lit<, List, ◌++◌, length, Option}
-use Rattle.std.proofs.Common.{Some, None}
-use Rattle.std.specs.Prelude.{replicate, nat_le}
-use Rattle.std.specs.Option.{option_map_or}
-use Rattle.std.proofs.lemmas.List.{length-append, length-replicate, length-take}
+use Rattle.std.proofs.Common.{rules, ◌≡◌, ◌∙◌, ℕ, ◌<◌, ◌^◌, refl, arith, lit<, List, ◌++◌, length, Option, Some, None}
 use Rattle.nv_layout.specs.IdCtrl.{IdCtrlFits, id_ctrl_of_bytes}
 use Rattle.nv_layout.specs.Parts.{number_at, text_at}
-use Rattle.nv_model.proofs.ChoiceLaws.{chosen_fits}
 use Rattle.nv_model.specs.IdentifyController.{cmic_of, fna_of, id_ctrl_of, no_controller, padded}
-use Rattle.nv_model.specs.State.{Controller, State}
-use Rattle.nv_model.specs.WellFormed.{IsController, IsWellFormed}
+use Rattle.nv_model.proofs.Words.{Controller, IsController, IsWellFormed, length-append, length-replicate, length-take}
+use Rattle.nv_model.proofs.Words.{nat_le, option_map_or, replicate, State}
+use Rattle.nv_model.proofs.ChoiceLaws.{chosen_fits}
 
 -- a padded text has the size that was asked for
 length-padded : (size padding : ℕ) (text : List ℕ) → length (padded size padding text) ≡ size

@@ -1,19 +1,11 @@
 -- The Identify data of a namespace fits its record.
-use Rattle.std.proofs.Common.{rules, ◌≡◌, ◌∙◌, ℕ, zero, suc, ◌-◌, ◌/◌, ◌<◌, ◌≤◌, ◌^◌, arith}
-use Rattle.std.proofs.Common.{lit<, List, [], ◌∷◌, ◌++◌, length, map, get_or, Option}
-use Rattle.std.proofs.Common.{Some, None}
-use Rattle.std.specs.Prelude.{All, replicate, slice_get}
-use Rattle.std.specs.List.{AllByRecursion}
-use Rattle.std.specs.Option.{option_map_or}
-use Rattle.std.proofs.lemmas.List.{length-append, length-map, length-replicate}
+use Rattle.std.proofs.Common.{rules, ◌≡◌, ◌∙◌, ℕ, zero, suc, ◌-◌, ◌/◌, ◌<◌, ◌≤◌, ◌^◌, arith, lit<, List, [], ◌∷◌, ◌++◌}
+use Rattle.std.proofs.Common.{length, map, get_or, Option, Some, None}
 use native.Mathlib.Nat.{div-le_self}
-use Rattle.nv_layout.specs.IdNs.{IdNsFits, LbafFits}
-use Rattle.nv_model.specs.Ranges.{IsFormat}
+use Rattle.nv_model.proofs.Words.{All, AllByRecursion, blank, common_of, flbas_of, Format, id_ns_of, IdNsFits, IsFormat}
+use Rattle.nv_model.proofs.Words.{lbaf_of, LbafFits, lbafs_of, length-append, length-map, length-replicate, Namespace}
+use Rattle.nv_model.proofs.Words.{no_lbaf, option_map_or, replicate, slice_get}
 use Rattle.nv_model.proofs.ChoiceLaws.{chosen_fits}
-use Rattle.nv_model.specs.Identify.{blank, common_of, id_ns_of, flbas_of, lbaf_of, lbafs_of}
-use Rattle.nv_model.specs.Identify.{no_lbaf}
-use Rattle.nv_model.specs.declared.format.Format.{Format}
-use Rattle.nv_model.specs.declared.namespace.Namespace.{Namespace}
 
 -- an LBA format of zeros fits its record
 no_lbaf_fits : LbafFits no_lbaf

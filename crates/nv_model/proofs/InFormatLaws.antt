@@ -1,10 +1,6 @@
 -- A namespace in its format.
 use Rattle.std.proofs.Common.{◌≡◌, ℕ, ◌<◌, ◌^◌, arith, refl, List, length, Option, Some, None}
-use Rattle.std.specs.Prelude.{IsSomeAnd, slice_get}
-use Rattle.std.proofs.lemmas.Option.{slice_get_within}
-use Rattle.nv_model.specs.Ranges.{IsInFormat}
-use Rattle.nv_model.specs.declared.format.Format.{Format}
-use Rattle.nv_model.specs.declared.namespace.Namespace.{Namespace}
+use Rattle.nv_model.proofs.Words.{Format, IsInFormat, IsSomeAnd, Namespace, slice_get, slice_get_within}
 
 -- an index at which a table has some format is within the table
 some_within : (fs : List Format) (i : ℕ) (P : Format → Type 0) (o : Option Format) → slice_get fs i

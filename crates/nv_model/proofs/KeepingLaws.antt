@@ -1,12 +1,9 @@
 -- A change of one controller leaves a well-formed subsystem well formed.
 use Rattle.std.proofs.Common.{◌≡◌, ◌∙◌, ℕ, ◌≤◌, Some, ap, sym, refl, subst, arith}
 use Rattle.std.specs.FinMap as map_of
-use Rattle.std.proofs.lemmas.Option.{get_or_from_slice_get, slice_get_within}
-use Rattle.nv_model.specs.State.{Identity}
-use Rattle.nv_model.proofs.ChangedAtLaws.{All-changed_at, count_by-changed_at, each_place}
-use Rattle.nv_model.proofs.ChangedAtLaws.{length-changed_at}
-use Rattle.nv_model.specs.State.{Controller, Namespaces, Nsids, State, controller_at, with_controller}
-use Rattle.nv_model.specs.WellFormed.{IsController, IsWellFormed}
+use Rattle.nv_model.proofs.Words.{Controller, controller_at, get_or_from_slice_get, Identity, IsController}
+use Rattle.nv_model.proofs.Words.{IsWellFormed, Namespaces, Nsids, slice_get_within, State, with_controller}
+use Rattle.nv_model.proofs.ChangedAtLaws.{All-changed_at, count_by-changed_at, each_place, length-changed_at}
 
 -- each controller of a well-formed subsystem is one that IsController allows
 pub is_controller : (s : State) (c : ℕ) → IsWellFormed s → (x : Controller) → controller_at s c ≡ Some x

@@ -1,3 +1,4 @@
+pub mod Words
 pub mod ChangedKeysLaws
 pub mod ChoiceLaws
 pub mod ChangedAtLaws

@@ -2,29 +2,16 @@
 use Rattle.std.proofs.Common.{◌≡◌, ◌∙◌, ℕ, zero, suc, ◌*◌, ◌==◌, ◌^◌, ◌<◌, ◌≤◌, true, false, List, [], ◌∷◌, Option}
 use Rattle.std.proofs.Common.{Some, None, ap, arith, inl, inr, length, refl, subst, sym}
 use Rattle.std.specs.FinMap as map_of
-use Rattle.std.specs.Prelude.{if◌then◌else◌, map, slice_get}
 use Rattle.std.proofs.Math.Nat.{pow-le-pow_right}
-use Rattle.std.proofs.lemmas.Option.{slice_get_cases}
-use Rattle.std.specs.Option.{option_map_or}
-use Rattle.nv_layout.specs.Feature.{feature_of}
-use Rattle.nv_command.specs.Nsid.{broadcast_nsid}
-use Rattle.nv_command.specs.declared.command.Command.{Command}
-use Rattle.nv_command.specs.declared.command.Command.TheVariants.{Attachment, Create, Delete}
-use Rattle.nv_command.specs.declared.command.Command.TheVariants.{SetFeature}
-use Rattle.nv_command.specs.declared.refusal.Refusal.{Refusal}
-use Rattle.nv_model.proofs.ChangedAtLaws.{slice_get-changed_at}
+use Rattle.nv_command.specs.declared.command.Command.TheVariants.{Attachment, Create, Delete, SetFeature}
 use Rattle.nv_model.specs.Attachment.{fewer, more}
-use Rattle.nv_model.specs.Meaning.{effect_of}
-use Rattle.nv_model.specs.Features.{changed_nsids, with_values}
-use Rattle.nv_model.specs.State.{Identity}
-use Rattle.nv_model.specs.Management.{new_namespace, with_nsids}
-use Rattle.nv_model.specs.Management.{without, without_all, without_any, without_one}
-use Rattle.nv_model.specs.Conditions.{free_nsid}
-use Rattle.nv_model.specs.Meaning.{refusal_of}
-use Rattle.nv_model.specs.State.{Controller, State, changed_at, with_controller}
+use Rattle.nv_model.specs.Management.{new_namespace, with_nsids, without, without_all, without_any, without_one}
 use Rattle.nv_model.specs.Step.{refused, step, step_by, with_command, with_refusal}
-use Rattle.nv_model.specs.WellFormed.{IsController, IsWellFormed}
-use Rattle.nv_model.specs.Conditions.{greatest_limit, limit_of, mdts_of}
+use Rattle.nv_model.proofs.Words.{broadcast_nsid, changed_at, changed_nsids, Command, Controller, effect_of, feature_of}
+use Rattle.nv_model.proofs.Words.{free_nsid, greatest_limit, Identity, if◌then◌else◌, IsController, IsWellFormed}
+use Rattle.nv_model.proofs.Words.{limit_of, map, mdts_of, option_map_or, Refusal, refusal_of, slice_get}
+use Rattle.nv_model.proofs.Words.{slice_get_cases, State, with_controller, with_values}
+use Rattle.nv_model.proofs.ChangedAtLaws.{slice_get-changed_at}
 
 -- an MDTS up to 8 gives at most the greatest limit
 pub limit_within : (m : ℕ) → m ≤ 8 → 4096 * 2 ^ m ≤ greatest_limit

@@ -1,20 +1,11 @@
 -- A list of NSIDs that is returned fits a namespace list.
-use Rattle.std.proofs.Common.{◌≡◌, ◌≢◌, ◌∙◌, ℕ, ◌+◌, ◌-◌, ◌<◌, ◌≤◌, ◌^◌, ◌&&◌}
-use Rattle.std.proofs.Common.{arith, Bool, true, false, cond, nat_lt, List, [], ◌∷◌, length, map}
-use Rattle.std.proofs.Math.Dec.{T}
-use Rattle.std.specs.List.{AllByRecursion, list_any}
-use Rattle.std.specs.Ordering.{eq_by_cmp, is_lt, nat_cmp}
+use Rattle.std.proofs.Common.{◌≡◌, ◌≢◌, ◌∙◌, ℕ, ◌+◌, ◌-◌, ◌<◌, ◌≤◌, ◌^◌, ◌&&◌, arith, Bool, true, false, cond, nat_lt}
+use Rattle.std.proofs.Common.{List, [], ◌∷◌, length, map}
 use Rattle.std.specs.FinMap as map_of
-use Rattle.std.specs.FinMap.{contains_key-keys, entries_sorted, is_sorted}
-use Rattle.std.specs.Cmp.{unsigned_tied}
-use Rattle.std.proofs.lemmas.Bool.{or_left, or_right}
-use Rattle.std.proofs.lemmas.Bool.Decides.{nat_tests}
-use Rattle.std.proofs.lemmas.List.{length-map}
-use Rattle.std.proofs.lemmas.List.Sums.{count_by-le-length, length-filter}
-use Rattle.nv_command.specs.Reply.{IsNsidList}
-use Rattle.nv_bits.proofs.NumberLaws.{left, less, right}
-use Rattle.nv_bits.specs.Above.{above}
-use Rattle.nv_layout.specs.Limits.{most_nsids}
+use Rattle.std.proofs.Math.Dec.{T}
+use Rattle.nv_model.proofs.Words.{above, AllByRecursion, contains_key-keys, count_by-le-length, entries_sorted}
+use Rattle.nv_model.proofs.Words.{eq_by_cmp, is_lt, is_sorted, IsNsidList, left, length-filter, length-map, less}
+use Rattle.nv_model.proofs.Words.{list_any, most_nsids, nat_cmp, nat_tests, or_left, or_right, right, unsigned_tied}
 
 -- if two truth values hold, so does their conjunction
 both : (a b : Bool) → T a → T b → T (a && b)

@@ -1,24 +1,16 @@
 -- Each refusal of a Get Log Page has a status, and the logs fit their records.
-use Rattle.std.proofs.Common.{rules, ◌≡◌, ℕ, zero, suc, ◌+◌, ◌-◌, ◌^◌, ◌<◌, refl, arith, lit<, List, []}
-use Rattle.std.proofs.Common.{◌∷◌, ◌++◌, length, get_or, Option, Some, None}
-use Rattle.std.specs.Prelude.{All, replicate}
-use Rattle.std.specs.List.{AllByRecursion}
-use Rattle.std.specs.Option.{option_map_or}
-use Rattle.std.proofs.lemmas.List.{length-append, length-replicate}
-use Rattle.nv_layout.specs.ErrorEntry.{ErrorEntryFits, no_entry}
+use Rattle.std.proofs.Common.{rules, ◌≡◌, ℕ, zero, suc, ◌+◌, ◌-◌, ◌^◌, ◌<◌, refl, arith, lit<, List, [], ◌∷◌, ◌++◌}
+use Rattle.std.proofs.Common.{length, get_or, Option, Some, None}
 use Rattle.nv_layout.proofs.LogLaws.{no_entry_fits}
 use Rattle.nv_layout.proofs.PartLaws.{all_below}
 use Rattle.nv_layout.specs.Smart.{SmartFits}
-use Rattle.nv_layout.specs.declared.error_entry.ErrorEntry.{ErrorEntry}
-use Rattle.nv_command.proofs.RefusalLaws.{is_refusal-refusal_by}
 use Rattle.nv_command.specs.declared.logs.LogQuery.{LogQuery}
-use Rattle.nv_command.specs.Reply.{IsEntryList}
-use Rattle.nv_model.specs.Logs.{errors_of, health_of, log_rows, no_health, smart_of, zero_smart}
-use Rattle.nv_model.specs.Ranges.{IsSmart}
 use Rattle.nv_model.specs.declared.smart_base.SmartBase.{SmartBase}
+use Rattle.nv_model.proofs.Words.{All, AllByRecursion, Controller, ErrorEntry, ErrorEntryFits, errors_of, health_of}
+use Rattle.nv_model.proofs.Words.{is_refusal-refusal_by, IsController, IsEntryList, IsSmart, length-append}
+use Rattle.nv_model.proofs.Words.{length-replicate, log_rows, Namespaces, no_entry, no_health, option_map_or, replicate}
+use Rattle.nv_model.proofs.Words.{smart_of, State, zero_smart}
 use Rattle.nv_model.proofs.ManagementLaws.{AllRefuse}
-use Rattle.nv_model.specs.State.{Controller, Namespaces, State}
-use Rattle.nv_model.specs.WellFormed.{IsController}
 
 -- each row of a Get Log Page has a refusal
 pub log_rows_fit : (s : State) (c : ℕ) (q : LogQuery) → AllRefuse (log_rows s c q)

@@ -1,27 +1,16 @@
 -- The commands of `list` are accepted, and change only how many commands a controller took.
-use Rattle.std.proofs.Common.{◌≡◌, ◌∙◌, ℕ, ◌≤◌, arith, ap, refl, true, []}
-use Rattle.std.proofs.Common.{◌∷◌, Option, Some, None, Ok, is_some}
-use Rattle.std.specs.Prelude.{All, nat_le, ◌&&◌, ◌||◌, ◌==◌, not}
-use Rattle.std.specs.Option.{option_map_or}
+use Rattle.std.proofs.Common.{◌≡◌, ◌∙◌, ℕ, ◌≤◌, arith, ap, refl, true, [], ◌∷◌, Option, Some, None, Ok, is_some}
 use Rattle.std.specs.FinMap as map_of
-use Rattle.std.specs.FinMap.{contains_key-keys}
-use Rattle.std.proofs.lemmas.Bool.Decides.{nat_tests}
 use Rattle.std.proofs.lemmas.Cmp.{eq_by_cmp_equiv, nat_cmp_total}
 use Rattle.std.proofs.lemmas.Map.Views.{All-from_any}
 use Rattle.nv_command.specs.Received.{answer_received}
-use Rattle.nv_command.specs.Nsid.{broadcast_nsid}
-use Rattle.nv_command.specs.declared.command.Command.{Command}
-use Rattle.nv_command.specs.declared.command.Command.TheVariants.{IdentifyController}
-use Rattle.nv_command.specs.declared.command.Command.TheVariants.{IdentifyNamespace, ActiveList}
-use Rattle.nv_command.specs.declared.status_code.StatusCode.TheVariants.{InvalidNamespaceOrFormat}
+use Rattle.nv_command.specs.declared.command.Command.TheVariants.{IdentifyController, IdentifyNamespace, ActiveList}
+use Rattle.nv_model.specs.Step.{Step, next_count, step, step_by, with_command}
+use Rattle.nv_model.proofs.Words.{active_nsids, All, ascending, broadcast_nsid, Command, contains_key-keys, Controller}
+use Rattle.nv_model.proofs.Words.{controller_at, first_refusal, InvalidNamespaceOrFormat, IsController, IsWellFormed}
+use Rattle.nv_model.proofs.Words.{nat_le, nat_tests, not, option_map_or, reply_of, row, State, ◌&&◌, ◌==◌, ◌||◌}
 use Rattle.nv_model.proofs.ChangedAtLaws.{slice_get-changed_at}
 use Rattle.nv_model.proofs.KeepingLaws.{is_controller}
-use Rattle.nv_model.specs.Conditions.{active_nsids}
-use Rattle.nv_model.specs.Meaning.{reply_of}
-use Rattle.nv_model.specs.Conditions.{first_refusal, row}
-use Rattle.nv_model.specs.State.{Controller, State, ascending, controller_at}
-use Rattle.nv_model.specs.Step.{Step, next_count, step, step_by, with_command}
-use Rattle.nv_model.specs.WellFormed.{IsController, IsWellFormed}
 
 -- an NSID that a namespace could have, if they go up to nn
 abbrev pub IsInside : ℕ → ℕ → Type 0

@@ -1,44 +1,25 @@
 -- A create and a delete leave a well-formed subsystem well formed.
-use Rattle.std.proofs.Common.{rules, ◌≡◌, ◌≢◌, ◌∙◌, ℕ, zero, suc, ◌+◌, ◌*◌, ◌-◌, ◌==◌, ◌<◌, ◌≤◌}
-use Rattle.std.proofs.Common.{◌^◌, ◌||◌, ◌&&◌, Bool, true, false, not, cond, List, [], ◌∷◌, length}
-use Rattle.std.proofs.Common.{Option, Some, None, is_some, bit_and, nat_lt, refl, sym, ap, subst}
-use Rattle.std.proofs.Common.{arith, lit<}
-use Rattle.std.specs.Prelude.{All, IsSomeAnd, count_by, if◌then◌else◌, unwrap_or}
-use Rattle.std.specs.List.{AllByRecursion, find, range_with_len}
-use Rattle.std.specs.Option.{option_map_or}
+use Rattle.std.proofs.Common.{rules, ◌≡◌, ◌≢◌, ◌∙◌, ℕ, zero, suc, ◌+◌, ◌*◌, ◌-◌, ◌==◌, ◌<◌, ◌≤◌, ◌^◌, ◌||◌, ◌&&◌, Bool}
+use Rattle.std.proofs.Common.{true, false, not, cond, List, [], ◌∷◌, length, Option, Some, None, is_some, bit_and}
+use Rattle.std.proofs.Common.{nat_lt, refl, sym, ap, subst, arith, lit<}
 use Rattle.std.specs.FinMap as map_of
-use Rattle.std.specs.FinMap.{get-empty}
-use Rattle.std.specs.Ordering.{nat_cmp}
-use Rattle.std.proofs.lemmas.Bool.{not-false, not-true}
-use Rattle.std.proofs.lemmas.Bool.Decides.{nat_tests}
-use Rattle.std.proofs.lemmas.List.{length-map}
-use Rattle.std.proofs.lemmas.List.Elements.{All-map, All-weaker}
+use Rattle.std.specs.List.{find}
 use Rattle.nv_bits.specs.Numbers.{NumberMap}
-use Rattle.nv_bits.proofs.NumberLaws.{contains-insert, contains-remove, get_of_insert, get_of_remove}
-use Rattle.nv_bits.proofs.NumberLaws.{remove_absent}
-use Rattle.nv_model.specs.Ranges.{IsInFormat}
-use Rattle.nv_model.specs.Conditions.{may_extend, format_at}
-use Rattle.nv_model.specs.declared.format.Format.{Format}
-use Rattle.nv_model.specs.declared.namespace.Namespace.{Namespace}
-use Rattle.nv_command.specs.Refusal.{IsRefusal}
 use Rattle.nv_layout.specs.declared.new_namespace.NewNamespace.{NewNamespace}
-use Rattle.nv_command.proofs.RefusalLaws.{is_refusal-refusal_by}
-use Rattle.nv_command.specs.Nsid.{broadcast_nsid}
-use Rattle.nv_command.specs.declared.status_code.StatusCode.TheVariants.{NamespaceInsufficientCapacity}
-use Rattle.nv_model.specs.WellFormed.{unallocated, used}
-use Rattle.nv_model.specs.Management.{Attached, bytes_needed, capacity_refusal, create_rows}
-use Rattle.nv_model.specs.Management.{created, created_nsid, delete_rows, deleted, format_index}
-use Rattle.nv_model.specs.Management.{is_extended, new_namespace, with_attached, with_nsids}
-use Rattle.nv_model.specs.Management.{without, without_all, without_any, without_one}
+use Rattle.nv_model.specs.Management.{Attached, bytes_needed, capacity_refusal, create_rows, created, created_nsid}
+use Rattle.nv_model.specs.Management.{delete_rows, deleted, format_index, is_extended, new_namespace, with_attached}
+use Rattle.nv_model.specs.Management.{with_nsids, without, without_all, without_any, without_one}
+use Rattle.nv_model.proofs.Words.{All, All-map, All-weaker, AllByRecursion, AreValues, broadcast_nsid, contains-insert}
+use Rattle.nv_model.proofs.Words.{contains-remove, Controller, count_by, first_refusal, Format, format_at, free_nsid}
+use Rattle.nv_model.proofs.Words.{get-empty, get_of_insert, get_of_remove, if◌then◌else◌, is_allocated}
+use Rattle.nv_model.proofs.Words.{is_refusal-refusal_by, IsController, IsInFormat, IsNamespace, IsRefusal, IsSomeAnd}
+use Rattle.nv_model.proofs.Words.{IsWellFormed, length-map, may_extend, most_nsids, Namespace}
+use Rattle.nv_model.proofs.Words.{NamespaceInsufficientCapacity, Namespaces, nat_cmp, nat_tests, not-false, not-true}
+use Rattle.nv_model.proofs.Words.{option_map_or, range_with_len, remove_absent, Row, State, unallocated, unwrap_or}
+use Rattle.nv_model.proofs.Words.{used}
 use Rattle.nv_model.proofs.FeatureLaws.{values-without, values-without_any}
 use Rattle.nv_model.proofs.MappedLaws.{count_by-map_le, none_pass, pairs_map, untrue}
-use Rattle.nv_model.specs.Conditions.{free_nsid, is_allocated}
-use Rattle.nv_model.specs.Conditions.{first_refusal}
-use Rattle.nv_model.specs.State.{Controller, Namespaces, State}
 use Rattle.nv_model.proofs.UsedLaws.{used-empty, used-insert, used-remove}
-use Rattle.nv_model.specs.WellFormed.{AreValues, IsController, IsNamespace, IsWellFormed}
-use Rattle.nv_model.specs.Conditions.{Row}
-use Rattle.nv_layout.specs.Limits.{most_nsids}
 
 -- ---- rows
 

@@ -1,11 +1,7 @@
 -- Lists that are mapped, and counts of what passes a test.
-use Rattle.std.proofs.Common.{◌≡◌, ℕ, zero, suc, ◌≤◌, Bool, true, false, cond, List, [], ◌∷◌, map}
-use Rattle.std.proofs.Common.{length, get_or, refl, sym, ap, subst, arith, ◌<◌, ◌||◌, ◌++◌, take}
-use Rattle.std.proofs.Common.{drop, set}
-use Rattle.std.specs.Prelude.{All, AllPairs, count_by}
-use Rattle.std.specs.List.{list_any}
-use Rattle.std.proofs.lemmas.List.{length-map, get_or-map}
-use Rattle.std.proofs.lemmas.List.Sums.{sum_by-cons}
+use Rattle.std.proofs.Common.{◌≡◌, ℕ, zero, suc, ◌≤◌, Bool, true, false, cond, List, [], ◌∷◌, map, length, get_or, refl}
+use Rattle.std.proofs.Common.{sym, ap, subst, arith, ◌<◌, ◌||◌, ◌++◌, take, drop, set}
+use Rattle.nv_model.proofs.Words.{All, AllPairs, count_by, get_or-map, length-map, list_any, sum_by-cons}
 
 -- if every element fails a test, the count of elements that pass it is 0
 pub none_pass : {X : Type 0} (p : X → Bool) (xs : List X) → All (λ x. p x ≡ false) xs

@@ -1,53 +1,33 @@
 -- The meaning of each command is sound: the one table of facts about refusals, replies and effects.
-use Rattle.std.proofs.Common.{◌≡◌, ℕ, ◌≤◌, ◌==◌, arith, refl, [], true}
-use Rattle.std.proofs.Common.{List, Option, Some, None, is_some, length}
+use Rattle.std.proofs.Common.{◌≡◌, ℕ, ◌≤◌, ◌==◌, arith, refl, [], true, List, Option, Some, None, is_some, length}
 use Rattle.std.specs.FinMap as map_of
-use Rattle.std.specs.Option.{option_map_or}
-use Rattle.std.specs.Prelude.{slice_get}
-use Rattle.nv_layout.specs.IdNs.{IdNsFits}
-use Rattle.nv_command.specs.Form.{form_of}
 use Rattle.nv_command.specs.LogPage.{log_asked, log_kind}
 use Rattle.nv_command.specs.declared.log_page.LogPage.{LogPage}
 use Rattle.nv_command.specs.declared.log_page.LogPage.TheVariants.{ErrorInformation, Health}
-use Rattle.nv_command.proofs.RefusalLaws.{is_refusal-refusal_by}
-use Rattle.nv_command.specs.Reply.{FitsRecord, IsNsidList, kind_of}
-use Rattle.nv_command.specs.declared.command.Command.{Command}
-use Rattle.nv_command.specs.declared.command.Command.TheVariants.{IdentifyController}
-use Rattle.nv_command.specs.declared.command.Command.TheVariants.{IdentifyNamespace}
-use Rattle.nv_command.specs.declared.command.Command.TheVariants.{AllocatedNamespace, ActiveList}
-use Rattle.nv_command.specs.declared.command.Command.TheVariants.{AllocatedList, Create, Delete}
-use Rattle.nv_command.specs.declared.command.Command.TheVariants.{Attachment, Format, GetFeature}
-use Rattle.nv_command.specs.declared.command.Command.TheVariants.{SetFeature, GetLog}
-use Rattle.nv_command.specs.Nsid.{broadcast_nsid}
+use Rattle.nv_command.specs.declared.command.Command.TheVariants.{IdentifyController, IdentifyNamespace}
+use Rattle.nv_command.specs.declared.command.Command.TheVariants.{AllocatedNamespace, ActiveList, AllocatedList, Create}
+use Rattle.nv_command.specs.declared.command.Command.TheVariants.{Delete, Attachment, Format, GetFeature, SetFeature}
+use Rattle.nv_command.specs.declared.command.Command.TheVariants.{GetLog}
 use Rattle.nv_command.specs.declared.transfer.ReplyKind.{ReplyKind}
 use Rattle.nv_command.specs.declared.reply.Reply.{Reply}
-use Rattle.nv_command.specs.declared.status_code.StatusCode.TheVariants.{InvalidNamespaceOrFormat}
-use Rattle.nv_bits.specs.Above.{above}
-use Rattle.nv_model.proofs.AttachmentLaws.{attachment_controllers, attachment_keeps}
-use Rattle.nv_model.proofs.AttachmentLaws.{attachment_rows_fit}
+use Rattle.nv_model.proofs.Words.{above, ascending, blank, broadcast_nsid, Command, Controller, controller_at}
+use Rattle.nv_model.proofs.Words.{first_refusal, FitsRecord, form_of, id_ns_of, IdNsFits, InvalidNamespaceOrFormat}
+use Rattle.nv_model.proofs.Words.{is_active, is_refusal-refusal_by, IsController, IsNsidList, IsWellFormed, kind_of}
+use Rattle.nv_model.proofs.Words.{log_reply, Meaning, meaning_of, Namespace, option_map_or, Row, slice_get, State}
+use Rattle.nv_model.proofs.Words.{telling}
+use Rattle.nv_model.proofs.AttachmentLaws.{attachment_controllers, attachment_keeps, attachment_rows_fit}
 use Rattle.nv_model.proofs.ChoiceLaws.{chosen_fits}
 use Rattle.nv_model.proofs.FormatLaws.{format_keeps, format_rows_fit}
-use Rattle.nv_model.specs.Identify.{blank, id_ns_of}
 use Rattle.nv_model.proofs.KeepingLaws.{is_controller}
 use Rattle.nv_model.proofs.IdentifyControllerLaws.{id_ctrl_fits}
 use Rattle.nv_model.proofs.IdentifyLaws.{blank_fits, common_fits, id_ns_fits}
 use Rattle.nv_model.proofs.InFormatLaws.{capacity_fits, format_below}
 use Rattle.nv_model.proofs.ListLaws.{keys_fit}
 use Rattle.nv_model.proofs.LogLaws.{errors_fit, log_rows_fit, smart_fits}
-use Rattle.nv_model.specs.Logs.{log_reply}
 use Rattle.nv_model.proofs.ManagementLaws.{AllRefuse, create_keeps, create_rows_fit, created_controllers}
-use Rattle.nv_model.proofs.ManagementLaws.{created_nsid_fits, delete_keeps, delete_rows_fit}
-use Rattle.nv_model.proofs.ManagementLaws.{deleted_controllers}
-use Rattle.nv_model.specs.Conditions.{Row}
-use Rattle.nv_model.specs.Meaning.{Meaning, meaning_of, telling}
-use Rattle.nv_model.specs.Conditions.{is_active}
-use Rattle.nv_model.specs.Conditions.{first_refusal}
-use Rattle.nv_model.proofs.SetFeatureLaws.{feature_controllers, feature_keeps}
-use Rattle.nv_model.proofs.SetFeatureLaws.{feature_number_fits, get_feature_rows_fit}
-use Rattle.nv_model.proofs.SetFeatureLaws.{set_feature_rows_fit}
-use Rattle.nv_model.specs.State.{Controller, State, ascending, controller_at}
-use Rattle.nv_model.specs.WellFormed.{IsController, IsWellFormed}
-use Rattle.nv_model.specs.declared.namespace.Namespace.{Namespace}
+use Rattle.nv_model.proofs.ManagementLaws.{created_nsid_fits, delete_keeps, delete_rows_fit, deleted_controllers}
+use Rattle.nv_model.proofs.SetFeatureLaws.{feature_controllers, feature_keeps, feature_number_fits}
+use Rattle.nv_model.proofs.SetFeatureLaws.{get_feature_rows_fit, set_feature_rows_fit}
 
 -- ---- replies
 

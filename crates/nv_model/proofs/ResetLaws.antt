@@ -1,28 +1,19 @@
 -- A reset leaves a well-formed subsystem well formed, and adds or removes no controller.
-use Rattle.std.proofs.Common.{◌≡◌, ◌∙◌, ℕ, zero, suc, ◌+◌, Bool, true, false, List, []}
-use Rattle.std.proofs.Common.{◌∷◌, map, length, Option, Some, None, is_some, refl, sym, ap, subst}
-use Rattle.std.proofs.Common.{arith}
-use Rattle.std.proofs.Math.Numerals.{suc-eq-add-one}
-use Rattle.std.proofs.lemmas.Bool.{and_from, and_parts}
-use Rattle.std.specs.Prelude.{option_map, slice_index_or, unwrap_or, if◌then◌else◌}
-use Rattle.std.specs.List.{fold, range_with_len}
-use Rattle.std.specs.Option.{option_map_or}
+use Rattle.std.proofs.Common.{◌≡◌, ◌∙◌, ℕ, zero, suc, ◌+◌, Bool, true, false, List, [], ◌∷◌, map, length, Option, Some}
+use Rattle.std.proofs.Common.{None, is_some, refl, sym, ap, subst, arith}
 use Rattle.std.specs.FinMap as map_of
-use Rattle.std.specs.FinMap.{find, get-entries, get-from_entries}
-use Rattle.nv_layout.specs.Feature.{feature_of, is_value}
-use Rattle.nv_layout.proofs.FeatureTableLaws.{feature_with}
-use Rattle.nv_layout.specs.declared.feature.Feature.{Feature}
+use Rattle.std.proofs.Math.Numerals.{suc-eq-add-one}
+use Rattle.nv_model.specs.Values.{FeatureRules, first_value, rule_for, rule_of, default_of, restored, FeatureValues}
+use Rattle.nv_model.specs.Values.{ValueKey, key_cmp}
+use Rattle.nv_model.specs.Step.{all_restored, reset, reset_if, reset_where, with_restored}
+use Rattle.nv_model.proofs.Words.{and_from, and_parts, AreRules, AreValues, Feature, feature_of, feature_with}
+use Rattle.nv_model.proofs.Words.{FeatureValue, find, fold, get-entries, get-from_entries, if◌then◌else◌, is_value}
+use Rattle.nv_model.proofs.Words.{is_value_at, IsWellFormed, may_have, option_map, option_map_or, range_with_len}
+use Rattle.nv_model.proofs.Words.{slice_index_or, State, unwrap_or}
 use Rattle.nv_model.proofs.ChangedAtLaws.{length-changed_at}
 use Rattle.nv_model.proofs.FeatureLaws.{AreSound, default_is_sound}
-use Rattle.nv_model.specs.Values.{FeatureRules, first_value, rule_for, rule_of}
-use Rattle.nv_model.specs.Values.{default_of, restored}
 use Rattle.nv_model.proofs.KeepingLaws.{KeepsController, keeps}
-use Rattle.nv_model.specs.Step.{all_restored, reset, reset_if, reset_where, with_restored}
-use Rattle.nv_model.specs.State.{State}
-use Rattle.nv_model.specs.Values.{FeatureValues, ValueKey, key_cmp}
 use Rattle.nv_model.proofs.ValueLaws.{key_cmp_total, same_key}
-use Rattle.nv_model.specs.WellFormed.{AreRules, AreValues, IsWellFormed, is_value_at, may_have}
-use Rattle.nv_model.specs.declared.feature_value.FeatureValue.{FeatureValue}
 
 -- ---- the value of each key
 

@@ -1,42 +1,25 @@
 -- Get Features and Set Features leave a well-formed subsystem well formed, and their replies fit.
-use Rattle.std.proofs.Common.{rules, ◌≡◌, ◌∙◌, ℕ, ◌+◌, ◌==◌, ◌<◌, ◌^◌, Bool, true, false}
-use Rattle.std.proofs.Common.{List, [], ◌∷◌, length, Option, Some, None, is_some, refl, sym, ap}
-use Rattle.std.proofs.Common.{arith, subst, lit<, map}
-use Rattle.std.specs.Prelude.{if◌then◌else◌, option_map, unwrap_or}
-use Rattle.std.specs.List.{fold}
-use Rattle.std.specs.Option.{option_map_or}
+use Rattle.std.proofs.Common.{rules, ◌≡◌, ◌∙◌, ℕ, ◌+◌, ◌==◌, ◌<◌, ◌^◌, Bool, true, false, List, [], ◌∷◌, length, Option}
+use Rattle.std.proofs.Common.{Some, None, is_some, refl, sym, ap, arith, subst, lit<, map}
 use Rattle.std.specs.FinMap as map_of
-use Rattle.std.proofs.lemmas.Bool.{and_parts, not-false}
-use Rattle.nv_layout.specs.Feature.{feature_of, is_accepted, is_get_selector, is_value, row_of}
-use Rattle.nv_layout.specs.Feature.{selector_in, stored}
-use Rattle.nv_layout.proofs.FeatureTableLaws.{feature_at, stored_is_value, value_fits}
-use Rattle.nv_layout.specs.declared.feature.Feature.{Feature}
-use Rattle.nv_model.specs.declared.feature_rule.FeatureRule.{FeatureRule}
-use Rattle.nv_command.proofs.RefusalLaws.{is_refusal-refusal_by}
 use Rattle.nv_command.specs.declared.features.FeatureQuery.{FeatureQuery}
 use Rattle.nv_command.specs.declared.features.FeatureSetting.{FeatureSetting}
-use Rattle.nv_model.specs.Change.{changed, changed_at}
+use Rattle.nv_model.specs.Change.{changed_at}
+use Rattle.nv_model.specs.Values.{FeatureRules, rule_of, default_of, written, FeatureValues, key_of}
+use Rattle.nv_model.specs.Features.{feature_number, get_feature_rows, get_rows, is_set, selected, set_feature_rows}
+use Rattle.nv_model.specs.Features.{set_rows, supported_at, told, with_feature, with_value, write}
+use Rattle.nv_model.proofs.Words.{and_parts, AreValues, changed, changed_nsids, Controller, controller_at, Feature}
+use Rattle.nv_model.proofs.Words.{feature_at, feature_of, FeatureRule, FeatureValue, first_refusal, fold, if◌then◌else◌}
+use Rattle.nv_model.proofs.Words.{InvalidFieldInCommand, is_accepted, is_get_selector, is_refusal-refusal_by}
+use Rattle.nv_model.proofs.Words.{is_supported, is_value, is_value_at, IsController, IsWellFormed, may_have, not-false}
+use Rattle.nv_model.proofs.Words.{Nsids, option_map, option_map_or, Row, row, row_of, selector_in, State, stored}
+use Rattle.nv_model.proofs.Words.{stored_is_value, supported, unwrap_or, value_fits, with_controller, with_values}
 use Rattle.nv_model.proofs.ChangedAtLaws.{length-changed_at}
 use Rattle.nv_model.proofs.ChoiceLaws.{chosen_fits}
 use Rattle.nv_model.proofs.FeatureLaws.{default_is_sound, sound_at, values-written}
-use Rattle.nv_model.specs.Values.{FeatureRules, rule_of}
-use Rattle.nv_model.specs.Features.{changed_nsids, feature_number, get_feature_rows}
-use Rattle.nv_model.specs.Features.{get_rows, is_set}
-use Rattle.nv_model.specs.Features.{selected, set_feature_rows, set_rows, supported_at, told}
-use Rattle.nv_model.specs.Features.{with_feature, with_value, with_values, write}
-use Rattle.nv_model.specs.Values.{default_of, written}
 use Rattle.nv_model.proofs.KeepingLaws.{KeepsController, is_controller, keeps}
 use Rattle.nv_model.proofs.ManagementLaws.{AllRefuse, none_holds}
-use Rattle.nv_command.specs.declared.status_code.StatusCode.TheVariants.{InvalidFieldInCommand}
-use Rattle.nv_model.specs.Conditions.{first_refusal, row}
-use Rattle.nv_model.specs.State.{Controller, Nsids, State, controller_at}
-use Rattle.nv_model.specs.State.{with_controller}
-use Rattle.nv_model.specs.WellFormed.{is_supported, supported}
-use Rattle.nv_model.specs.Values.{FeatureValues, key_of}
 use Rattle.nv_model.proofs.ValueLaws.{put_back, removed_absent}
-use Rattle.nv_model.specs.WellFormed.{AreValues, IsController, IsWellFormed, is_value_at, may_have}
-use Rattle.nv_model.specs.declared.feature_value.FeatureValue.{FeatureValue}
-use Rattle.nv_model.specs.Conditions.{Row}
 
 -- ---- rows
 

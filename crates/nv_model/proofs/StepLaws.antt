@@ -1,25 +1,10 @@
 -- A command leaves a well-formed subsystem well formed.
-use Rattle.std.proofs.Common.{rules, ◌≡◌, ◌∙◌, ℕ, ◌+◌, ◌<◌, ◌≤◌, ◌^◌, refl, subst, arith, suc, Bool}
-use Rattle.std.proofs.Common.{true, false, List, [], ◌∷◌, length, take, Option, Some, None, min}
-use Rattle.std.proofs.lemmas.List.{length-take}
-use Rattle.std.proofs.lemmas.List.Elements.{All-cons, All-take}
-use Rattle.std.specs.Prelude.{if◌then◌else◌}
-use Rattle.std.specs.List.{AllByRecursion}
-use Rattle.nv_model.specs.State.{State}
-use Rattle.nv_model.specs.Ranges.{greatest_count}
-use Rattle.nv_model.specs.Step.{next_count, refused, step, step_by, with_command, with_refusal}
-use Rattle.nv_model.specs.Meaning.{effect_of}
-use Rattle.nv_model.specs.Step.{log_entry}
-use Rattle.nv_model.specs.Meaning.{refusal_of, rows_of}
-use Rattle.nv_model.specs.Conditions.{first_refusal}
-use Rattle.nv_model.specs.Conditions.{Row}
-use Rattle.nv_command.specs.Form.{namespace_of}
-use Rattle.nv_command.specs.Refusal.{IsRefusal}
-use Rattle.nv_model.specs.WellFormed.{IsWellFormed}
-use Rattle.nv_command.specs.declared.command.Command.{Command}
-use Rattle.nv_command.specs.declared.refusal.Refusal.{Refusal}
-use Rattle.nv_layout.specs.ErrorEntry.{ErrorEntryFits}
-use Rattle.nv_layout.specs.declared.error_entry.ErrorEntry.{ErrorEntry}
+use Rattle.std.proofs.Common.{rules, ◌≡◌, ◌∙◌, ℕ, ◌+◌, ◌<◌, ◌≤◌, ◌^◌, refl, subst, arith, suc, Bool, true, false, List}
+use Rattle.std.proofs.Common.{[], ◌∷◌, length, take, Option, Some, None, min}
+use Rattle.nv_model.specs.Step.{next_count, refused, step, step_by, with_command, with_refusal, log_entry}
+use Rattle.nv_model.proofs.Words.{All-cons, All-take, AllByRecursion, Command, effect_of, ErrorEntry, ErrorEntryFits}
+use Rattle.nv_model.proofs.Words.{first_refusal, greatest_count, if◌then◌else◌, IsRefusal, IsWellFormed, length-take}
+use Rattle.nv_model.proofs.Words.{namespace_of, Refusal, refusal_of, Row, rows_of, State}
 use Rattle.nv_model.proofs.ChangedAtLaws.{length-changed_at}
 use Rattle.nv_model.proofs.KeepingLaws.{KeepsController, keeps}
 use Rattle.nv_model.proofs.MeaningLaws.{sound}

@@ -1,20 +1,11 @@
 -- The capacity that is in use when a namespace is added or removed.
-use Rattle.std.proofs.Common.{◌≡◌, ◌∙◌, ℕ, ◌+◌, List, [], ◌∷◌, map, length, cond}
-use Rattle.std.proofs.Common.{Some, None, refl, sym, ap, arith, Ordering}
-use Rattle.std.specs.Prelude.{sum_by}
-use Rattle.std.specs.Ordering.{nat_cmp}
-use Rattle.std.specs.declared.cmp.Ordering.TheVariants.{Less, Equal, Greater}
-use Rattle.std.specs.Cmp.{nat_cmp_total}
+use Rattle.std.proofs.Common.{◌≡◌, ◌∙◌, ℕ, ◌+◌, List, [], ◌∷◌, map, length, cond, Some, None, refl, sym, ap, arith}
+use Rattle.std.proofs.Common.{Ordering}
 use Rattle.std.specs.FinMap as map_of
-use Rattle.std.specs.FinMap.{entries-insert, get-entries, len-empty, len-entries}
 use Rattle.std.specs.FinMap.Entries.{put, find}
-use Rattle.std.proofs.lemmas.Bool.{eq-eqb}
-use Rattle.std.proofs.lemmas.Bool.Decides.{nat_tests}
-use Rattle.std.proofs.lemmas.List.Sums.{sum_by-cons}
-use Rattle.nv_bits.proofs.NumberLaws.{get_of_insert, get_of_remove, same_numbers}
-use Rattle.nv_model.specs.WellFormed.{used}
-use Rattle.nv_model.specs.State.{Namespaces}
-use Rattle.nv_model.specs.declared.namespace.Namespace.{Namespace}
+use Rattle.nv_model.proofs.Words.{entries-insert, eq-eqb, Equal, get-entries, get_of_insert, get_of_remove, Greater}
+use Rattle.nv_model.proofs.Words.{len-empty, len-entries, Less, Namespace, Namespaces, nat_cmp, nat_cmp_total}
+use Rattle.nv_model.proofs.Words.{nat_tests, same_numbers, sum_by, sum_by-cons, used}
 
 -- the sum of the capacities of some entries
 total : List (ℕ × Namespace) → ℕ

@@ -1,16 +1,11 @@
 -- Laws of the values of features under their keys.
-use Rattle.std.proofs.Common.{◌≡◌, ◌∙◌, ◌==◌, ◌&&◌, Bool, true, cond}
-use Rattle.std.proofs.Common.{Option, Some, None, sym, ap, arith, Ordering}
-use Rattle.std.specs.Option.{option_map_or}
-use Rattle.std.specs.Ordering.{eq_by_cmp, is_eq, nat_cmp, ordering_then}
-use Rattle.std.specs.declared.cmp.Ordering.TheVariants.{Equal}
-use Rattle.std.specs.Cmp.{Equal-is, IsTotalOrder, unsigned_tied}
-use Rattle.std.specs.Cmp.Lexicographic.{nat_list_cmp_total}
+use Rattle.std.proofs.Common.{◌≡◌, ◌∙◌, ◌==◌, ◌&&◌, Bool, true, cond, Option, Some, None, sym, ap, arith, Ordering}
 use Rattle.std.specs.FinMap as map_of
-use Rattle.std.specs.FinMap.{IsAntisymmetric, get-insert, get-remove, get-retain_keys}
-use Rattle.std.specs.FinMap.{nat_cmp-IsAntisymmetric, same_map, slice_cmp-IsAntisymmetric}
+use Rattle.std.specs.Cmp.Lexicographic.{nat_list_cmp_total}
 use Rattle.nv_model.specs.Values.{FeatureValues, ValueKey, key_cmp, numbers_of}
-use Rattle.nv_model.specs.declared.feature_value.FeatureValue.{FeatureValue}
+use Rattle.nv_model.proofs.Words.{eq_by_cmp, Equal, Equal-is, FeatureValue, get-insert, get-remove, get-retain_keys}
+use Rattle.nv_model.proofs.Words.{is_eq, IsAntisymmetric, IsTotalOrder, nat_cmp, nat_cmp-IsAntisymmetric, option_map_or}
+use Rattle.nv_model.proofs.Words.{ordering_then, same_map, slice_cmp-IsAntisymmetric, unsigned_tied}
 
 -- ---- the order of keys
 

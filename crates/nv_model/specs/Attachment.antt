@@ -4,19 +4,14 @@ use Rattle.std.specs.Prelude.{drop, length, count_by, if◌then◌else◌}
 use Rattle.std.specs.List.{list_all, list_any, zip}
 use Rattle.std.specs.Option.{option_map_or}
 use Rattle.std.specs.FinMap as map_of
-use Rattle.nv_command.specs.declared.status_code.StatusCode.TheVariants.{ControllerListInvalid}
-use Rattle.nv_command.specs.declared.status_code.StatusCode.TheVariants.{InvalidFieldInCommand}
+use Rattle.nv_command.specs.declared.status_code.StatusCode.TheVariants.{ControllerListInvalid, InvalidFieldInCommand}
 use Rattle.nv_command.specs.declared.status_code.StatusCode.TheVariants.{InvalidNamespaceOrFormat}
-use Rattle.nv_command.specs.declared.status_code.StatusCode.TheVariants.{NamespaceAlreadyAttached}
-use Rattle.nv_command.specs.declared.status_code.StatusCode.TheVariants.{NamespaceIsPrivate}
+use Rattle.nv_command.specs.declared.status_code.StatusCode.TheVariants.{NamespaceAlreadyAttached, NamespaceIsPrivate}
 use Rattle.nv_command.specs.declared.status_code.StatusCode.TheVariants.{NamespaceNotAttached}
-use Rattle.nv_model.specs.Values.{first_value}
+use Rattle.nv_model.specs.Values.{first_value, recovery_key}
 use Rattle.nv_model.specs.Management.{Attached, with_attached, without}
-use Rattle.nv_model.specs.Conditions.{is_allocated, is_valid}
-use Rattle.nv_model.specs.Conditions.{row}
+use Rattle.nv_model.specs.Conditions.{is_allocated, is_valid, row, Row}
 use Rattle.nv_model.specs.State.{Controller, State}
-use Rattle.nv_model.specs.Values.{recovery_key}
-use Rattle.nv_model.specs.Conditions.{Row}
 
 -- ---- the list of controller identifiers
 

@@ -17,15 +17,11 @@ use Rattle.nv_command.specs.declared.status_code.StatusCode.TheVariants.{Feature
 use Rattle.nv_command.specs.declared.status_code.StatusCode.TheVariants.{InvalidFieldInCommand}
 use Rattle.nv_command.specs.declared.status_code.StatusCode.TheVariants.{InvalidNamespaceOrFormat}
 use Rattle.nv_model.specs.Change.{Change, changed}
-use Rattle.nv_model.specs.Values.{rule_of}
-use Rattle.nv_model.specs.Values.{default_of, default_rule, written}
-use Rattle.nv_model.specs.Conditions.{concerned, is_active, is_valid}
-use Rattle.nv_model.specs.Conditions.{row}
+use Rattle.nv_model.specs.Values.{rule_of, default_of, default_rule, written, FeatureValues, key_of, keys_of}
+use Rattle.nv_model.specs.Conditions.{concerned, is_active, is_valid, row, Row}
 use Rattle.nv_model.specs.State.{Controller, State, controller_at, with_controller}
 use Rattle.nv_model.specs.WellFormed.{supported}
-use Rattle.nv_model.specs.Values.{FeatureValues, key_of, keys_of}
 use Rattle.nv_model.specs.declared.feature_value.FeatureValue.{FeatureValue}
-use Rattle.nv_model.specs.Conditions.{Row}
 
 -- how a controller treats a feature
 abbrev pub rule_at : State → ℕ → Feature → FeatureRule

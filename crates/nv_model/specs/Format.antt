@@ -5,14 +5,12 @@ use Rattle.std.specs.Option.{option_map_or}
 use Rattle.std.specs.FinMap as map_of
 use Rattle.nv_command.specs.Nsid.{broadcast_nsid}
 use Rattle.nv_command.specs.declared.format.NewFormat.{NewFormat}
-use Rattle.nv_command.specs.declared.status_code.StatusCode.TheVariants.{InvalidFieldInCommand}
-use Rattle.nv_command.specs.declared.status_code.StatusCode.TheVariants.{InvalidFormat}
+use Rattle.nv_command.specs.declared.status_code.StatusCode.TheVariants.{InvalidFieldInCommand, InvalidFormat}
 use Rattle.nv_command.specs.declared.status_code.StatusCode.TheVariants.{InvalidNamespaceOrFormat}
 use Rattle.nv_model.specs.declared.namespace.Namespace.{Namespace}
 use Rattle.nv_model.specs.Change.{changed_at_keys}
-use Rattle.nv_model.specs.Conditions.{can_have, format_at, concerned, is_active, is_valid, row}
+use Rattle.nv_model.specs.Conditions.{can_have, format_at, concerned, is_active, is_valid, row, Row}
 use Rattle.nv_model.specs.State.{State, controller_at}
-use Rattle.nv_model.specs.Conditions.{Row}
 
 -- a namespace with a capacity below a size
 abbrev pub is_below : State → ℕ → ℕ → Bool

@@ -11,9 +11,7 @@ use Rattle.nv_command.specs.declared.reply.Reply.{Reply}
 use Rattle.nv_command.specs.declared.reply.Reply.TheVariants as reply
 use Rattle.nv_command.specs.declared.status_code.StatusCode.TheVariants.{InvalidNamespaceOrFormat}
 use Rattle.nv_model.specs.WellFormed.{blocks}
-use Rattle.nv_model.specs.Conditions.{active_nsids, is_active, is_valid}
-use Rattle.nv_model.specs.Conditions.{row}
-use Rattle.nv_model.specs.Conditions.{Row}
+use Rattle.nv_model.specs.Conditions.{active_nsids, is_active, is_valid, row, Row}
 use Rattle.nv_model.specs.State.{State, allocated_nsids}
 use Rattle.nv_model.specs.declared.format.Format.{Format}
 use Rattle.nv_model.specs.declared.namespace.Namespace.{Namespace}

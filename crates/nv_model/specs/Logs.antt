@@ -12,12 +12,9 @@ use Rattle.nv_command.specs.declared.log_page.LogPage.TheVariants.{ErrorInformat
 use Rattle.nv_command.specs.declared.logs.LogQuery.{LogQuery}
 use Rattle.nv_command.specs.declared.reply.Reply.{Reply}
 use Rattle.nv_command.specs.declared.reply.Reply.TheVariants as reply
-use Rattle.nv_command.specs.declared.status_code.StatusCode.TheVariants.{InvalidFieldInCommand}
-use Rattle.nv_command.specs.declared.status_code.StatusCode.TheVariants.{InvalidLogPage}
-use Rattle.nv_model.specs.Conditions.{limit_of}
-use Rattle.nv_model.specs.Conditions.{row}
+use Rattle.nv_command.specs.declared.status_code.StatusCode.TheVariants.{InvalidFieldInCommand, InvalidLogPage}
+use Rattle.nv_model.specs.Conditions.{limit_of, row, Row}
 use Rattle.nv_model.specs.State.{Controller, State, controller_at}
-use Rattle.nv_model.specs.Conditions.{Row}
 use Rattle.nv_model.specs.declared.smart_base.SmartBase.{SmartBase}
 
 -- ---- refusals

@@ -7,20 +7,16 @@ use Rattle.nv_command.specs.StatusCode.{status_of_code}
 use Rattle.nv_command.specs.Nsid.{broadcast_nsid}
 use Rattle.nv_layout.specs.declared.new_namespace.NewNamespace.{NewNamespace}
 use Rattle.nv_command.specs.declared.refusal.Refusal.{Refusal}
-use Rattle.nv_command.specs.declared.status_code.StatusCode.TheVariants.{InvalidFieldInCommand}
-use Rattle.nv_command.specs.declared.status_code.StatusCode.TheVariants.{InvalidFormat}
+use Rattle.nv_command.specs.declared.status_code.StatusCode.TheVariants.{InvalidFieldInCommand, InvalidFormat}
 use Rattle.nv_command.specs.declared.status_code.StatusCode.TheVariants.{InvalidNamespaceOrFormat}
 use Rattle.nv_command.specs.declared.status_code.StatusCode.TheVariants.{NamespaceIdentifierUnavailable}
 use Rattle.nv_command.specs.declared.status_code.StatusCode.TheVariants.{NamespaceInsufficientCapacity}
 use Rattle.nv_command.specs.declared.status_code.StatusCode.TheVariants.{ThinProvisioningNotSupported}
 use Rattle.nv_model.specs.declared.namespace.Namespace.{Namespace}
 use Rattle.nv_model.specs.WellFormed.{unallocated}
-use Rattle.nv_model.specs.Conditions.{can_have, format_at}
-use Rattle.nv_model.specs.Conditions.{free_nsid, is_allocated, is_valid}
-use Rattle.nv_model.specs.Conditions.{row}
+use Rattle.nv_model.specs.Conditions.{can_have, format_at, free_nsid, is_allocated, is_valid, row, Row}
 use Rattle.nv_model.specs.State.{Controller, Nsids, State}
 use Rattle.nv_model.specs.Values.{FeatureValues, is_alone, recovery_key}
-use Rattle.nv_model.specs.Conditions.{Row}
 
 -- ---- create
 

@@ -2,10 +2,9 @@
 use Rattle.std.specs.Prelude.{ℕ, List, [], Option}
 use Rattle.nv_command.specs.declared.command.Command.{Command}
 use Rattle.nv_command.specs.declared.command.Command.TheVariants.{IdentifyController, IdentifyNamespace}
-use Rattle.nv_command.specs.declared.command.Command.TheVariants.{AllocatedNamespace, ActiveList}
-use Rattle.nv_command.specs.declared.command.Command.TheVariants.{AllocatedList, Create, Delete}
-use Rattle.nv_command.specs.declared.command.Command.TheVariants.{Attachment, Format, GetFeature}
-use Rattle.nv_command.specs.declared.command.Command.TheVariants.{SetFeature, GetLog}
+use Rattle.nv_command.specs.declared.command.Command.TheVariants.{AllocatedNamespace, ActiveList, AllocatedList, Create}
+use Rattle.nv_command.specs.declared.command.Command.TheVariants.{Delete, Attachment, Format, GetFeature, SetFeature}
+use Rattle.nv_command.specs.declared.command.Command.TheVariants.{GetLog}
 use Rattle.nv_layout.specs.declared.new_namespace.NewNamespace.{NewNamespace}
 use Rattle.nv_command.specs.declared.reply.Reply.{Reply}
 use Rattle.nv_command.specs.declared.reply.Reply.TheVariants.{Done, Number}
@@ -19,9 +18,8 @@ use Rattle.nv_command.specs.LogPage.{log_asked}
 use Rattle.nv_model.specs.Logs.{log_reply, log_rows}
 use Rattle.nv_model.specs.Management.{create_rows, created, created_nsid, delete_rows, deleted}
 use Rattle.nv_model.specs.State.{State}
-use Rattle.nv_model.specs.Conditions.{Row}
+use Rattle.nv_model.specs.Conditions.{Row, first_refusal}
 use Rattle.nv_command.specs.declared.refusal.Refusal.{Refusal}
-use Rattle.nv_model.specs.Conditions.{first_refusal}
 
 -- for a command of controller c in state s: the rows by which it is refused and, if none applies,
 -- its reply and the state after it

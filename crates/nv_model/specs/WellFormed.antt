@@ -10,11 +10,9 @@ use Rattle.nv_model.specs.declared.format.Format.{Format}
 use Rattle.nv_model.specs.declared.namespace.Namespace.{Namespace}
 use Rattle.nv_layout.specs.Feature.{feature_of, row_of, is_selector, is_value}
 use Rattle.nv_layout.specs.declared.feature.Feature.{Feature}
-use Rattle.nv_layout.specs.declared.feature.Feature.TheVariants.{TemperatureThreshold}
-use Rattle.nv_layout.specs.declared.feature.Feature.TheVariants.{VolatileWriteCache}
+use Rattle.nv_layout.specs.declared.feature.Feature.TheVariants.{TemperatureThreshold, VolatileWriteCache}
 use Rattle.nv_model.specs.Values.{FeatureRules, FeatureValues, ValueKey}
-use Rattle.nv_model.specs.Ranges.{AreTopKeys, IsFeatureRule, IsFormat, IsIdentity, IsInFormat, IsSmart}
-use Rattle.nv_model.specs.Ranges.{greatest_count}
+use Rattle.nv_model.specs.Ranges.{AreTopKeys, IsFeatureRule, IsFormat, IsIdentity, IsInFormat, IsSmart, greatest_count}
 use Rattle.nv_model.specs.declared.feature_rule.FeatureRule.{FeatureRule}
 use Rattle.nv_model.specs.declared.feature_value.FeatureValue.{FeatureValue}
 use Rattle.nv_layout.specs.ErrorEntry.{ErrorEntryFits}

@@ -1,14 +1,11 @@
 -- Buffers and lists in a memory that changes, and the places of a buffer.
-use Rattle.std.proofs.Common.{◌≡◌, ℕ, suc, ◌+◌, ◌*◌, ◌/◌, ◌%◌, ◌<◌, ◌≤◌, List, ◌∷◌, arith, get_or}
-use Rattle.std.proofs.Common.{inl, inr, length, subst, sym}
-use Rattle.std.proofs.lemmas.Grind.{common_steps}
-use Rattle.std.proofs.Math.Nat.{mul-le-mul_right}
-use Rattle.std.proofs.lemmas.Bool.{cases_lt}
-use Rattle.std.proofs.lemmas.Nat.{div-add-mod', div_below, same_from_place}
+use Rattle.std.proofs.Common.{◌≡◌, ℕ, suc, ◌+◌, ◌*◌, ◌/◌, ◌%◌, ◌<◌, ◌≤◌, List, ◌∷◌, arith, get_or, inl, inr, length}
+use Rattle.std.proofs.Common.{subst, sym}
 use Rattle.nv_prp.specs.Buffer.{IsBuffer, IsListPlace, buffer_place, buffer_places}
-use Rattle.nv_prp.specs.Place.{AreDistinct}
+use Rattle.nv_prp.specs.Transfer.{place_of, transfer_places}
+use Rattle.nv_prp.proofs.Words.{AreDistinct, cases_lt, common_steps, div-add-mod', div_below, mul-le-mul_right}
+use Rattle.nv_prp.proofs.Words.{PrpTransfer, same_from_place}
 use Rattle.nv_prp.proofs.PlaceLaws.{table-same, table_distinct}
-use Rattle.nv_prp.specs.Transfer.{PrpTransfer, place_of, transfer_places}
 
 -- if the size of a memory doesn't change, its buffers stay buffers, and its places for lists too
 

@@ -1,18 +1,13 @@
 -- The spans of a buffer, one for each of its pages.
-use Rattle.std.proofs.Common.{◌≡◌, ◌∙◌, ℕ, ◌+◌, ◌-◌, ◌*◌, ◌/◌, ◌%◌, ◌<◌, ◌≤◌, List, [], ◌∷◌, ◌++◌, append-nil}
-use Rattle.std.proofs.Common.{ap, arith, get_or, length, refl}
-use Rattle.std.proofs.lemmas.Grind.{common_steps}
-use Rattle.std.proofs.lemmas.Grind.{flat_map-append}
+use Rattle.std.proofs.Common.{◌≡◌, ◌∙◌, ℕ, ◌+◌, ◌-◌, ◌*◌, ◌/◌, ◌%◌, ◌<◌, ◌≤◌, List, [], ◌∷◌, ◌++◌, append-nil, ap}
+use Rattle.std.proofs.Common.{arith, get_or, length, refl}
 use Rattle.std.proofs.lemmas.List.Elements.{All-push}
-use Rattle.std.proofs.lemmas.Nat.{div-add-mod', div-mul-add, div_below, mod-mul-add, mod_below}
-use Rattle.nv_host.specs.Pages.{IsPageSize}
-use Rattle.nv_host.proofs.PageLaws.{page_size_bounds}
 use Rattle.nv_prp.specs.Buffer.{IsBuffer, buffer_place, buffer_places}
 use Rattle.nv_prp.specs.Place.{LieIn, places, span_places}
-use Rattle.nv_prp.specs.Transfer.{most_bytes}
+use Rattle.nv_prp.proofs.Words.{common_steps, div-add-mod', div-mul-add, div_below, flat_map-append, IsPageSize}
+use Rattle.nv_prp.proofs.Words.{mod-mul-add, mod_below, most_bytes, page_size_bounds, Span}
 use Rattle.nv_prp.proofs.PageLaws.{page_times}
 use Rattle.nv_prp.proofs.PlaceLaws.{length-table, table-append, table-same}
-use Rattle.nv_prp.specs.declared.spans.Span.{Span}
 
 -- the page of a byte of the buffer is one of its pages
 pub page_there : (bytes pages : List ℕ) (page_size start from most : ℕ) → 0 < most

@@ -1,19 +1,14 @@
 -- Transfers whose entries were built for a buffer.
 use Rattle.std.proofs.Common.{◌≡◌, ◌∙◌, ◌⊎◌, ℕ, ◌+◌, ◌-◌, ◌*◌, ◌/◌, ◌%◌, ◌<◌, ◌≤◌, List, None, ap, arith, get_or, inl}
 use Rattle.std.proofs.Common.{inr, length, refl, subst}
-use Rattle.std.proofs.lemmas.Grind.{common_steps}
-use Rattle.std.proofs.lemmas.Bool.{cases_lt, cases_order, lt-ltb}
-use Rattle.std.proofs.lemmas.Nat.{div_below, mod-mul-add}
-use Rattle.std.proofs.lemmas.Bool.Decides.{nat_tests}
 use Rattle.nv_host.specs.Bytes.{bytes_at}
 use Rattle.nv_host.proofs.BytesLaws.{bytes_at-bytes_at}
-use Rattle.nv_host.specs.Pages.{HasPage, IsPageSize}
-use Rattle.nv_host.proofs.PageLaws.{page_size_bounds, page_size_in_qwords}
 use Rattle.nv_prp.specs.Buffer.{IsBuffer, IsFor, IsListPlace, KeepsList, buffer_place}
-use Rattle.nv_prp.specs.inner.Buffer.{NamesPages}
-use Rattle.nv_prp.specs.Transfer.{PrpTransfer, data_pages, entry_fault, list_qwords, naming_number, naming_qword}
-use Rattle.nv_prp.specs.Transfer.{offset, page_base, place_of, prp2_fault, qword, qword_fault, qword_place, qwords}
-use Rattle.nv_prp.specs.Transfer.{room}
+use Rattle.nv_prp.specs.Transfer.{entry_fault, naming_qword, page_base, place_of, prp2_fault, qword, qword_fault}
+use Rattle.nv_prp.specs.Transfer.{qword_place, qwords}
+use Rattle.nv_prp.proofs.Words.{cases_lt, cases_order, common_steps, data_pages, div_below, HasPage, IsPageSize}
+use Rattle.nv_prp.proofs.Words.{list_qwords, lt-ltb, mod-mul-add, NamesPages, naming_number, nat_tests, offset}
+use Rattle.nv_prp.proofs.Words.{page_size_bounds, page_size_in_qwords, PrpTransfer, room}
 use Rattle.nv_prp.proofs.FaultLaws.{multiple_stays, no_fault_at, no_fault_of_page}
 use Rattle.nv_prp.proofs.ListLaws.{base_by_list, whole_room}
 use Rattle.nv_prp.proofs.PageLaws.{base_of_two, pages_span}

@@ -2,20 +2,16 @@
 use Rattle.std.proofs.Common.{append-nil, append_assoc, ◌≡◌, ◌∙◌, ℕ, ◌+◌, ◌≤◌, List, [], ◌++◌, ap, arith, drop, length}
 use Rattle.std.proofs.Common.{length-append, length-drop, length-take, sym, take, add-one, zero, suc, ◌<◌, ◌∷◌, get_or}
 use Rattle.std.proofs.Common.{refl, set}
-use Rattle.std.proofs.lemmas.Grind.{common_steps}
 use Rattle.std.proofs.Math.Seq.{take-add, take-suc}
 use Rattle.std.proofs.lemmas.List.{drop-drop, places as item_places, same_lists, take-append-drop, drop_all, drop_more}
-use Rattle.std.proofs.lemmas.List.{take_all, get_or-map, length-take-le, map-append}
-use Rattle.std.proofs.lemmas.List.{set_split}
+use Rattle.std.proofs.lemmas.List.{take_all, get_or-map, length-take-le, map-append, set_split}
 use Rattle.std.proofs.lemmas.Slice.{take-put_mid}
 use Rattle.nv_host.specs.Bytes.{bytes_at, with_bytes}
 use Rattle.nv_host.proofs.BytesLaws.{bytes_at-bytes_at, length-bytes_at, length-with_bytes}
 use borrow.Rule.Slice.PartMut.{put_mid}
-use Rattle.std.specs.List.{flat_map}
-use Rattle.std.proofs.lemmas.Grind.{same_number_lists}
-use Rattle.nv_prp.specs.Place.{LieIn, places, read_at, span_places, table, written_at}
+use Rattle.nv_prp.specs.Place.{LieIn, places, read_at, span_places, written_at}
+use Rattle.nv_prp.proofs.Words.{common_steps, flat_map, same_number_lists, Span, table}
 use Rattle.nv_prp.proofs.PlaceLaws.{get_or-table, length-read_at, length-span_places, length-table}
-use Rattle.nv_prp.specs.declared.spans.Span.{Span}
 
 -- writing no bytes changes nothing
 pub none_written : (m : List ℕ) (a : ℕ) → with_bytes m a [] ≡ m

@@ -1,18 +1,12 @@
 -- The fault of a single entry, and the first fault of a transfer.
 use Rattle.std.proofs.Common.{◌==◌, if◌then◌else◌, nat_le, ◌≡◌, ◌∙◌, ℕ, ◌+◌, ◌-◌, ◌*◌, ◌/◌, ◌%◌, ◌<◌, ◌≤◌, List, None}
 use Rattle.std.proofs.Common.{Some, ap, arith, length, zero, suc, inl, inr, refl}
-use Rattle.std.proofs.lemmas.Grind.{common_steps}
-use Rattle.std.proofs.Math.Nat.{mul-add-mod_self_left, mul-mod_left}
-use Rattle.std.proofs.lemmas.Bool.Decides.{nat_tests}
-use Rattle.std.proofs.lemmas.Bool.{cases_lt, lt-ltb}
-use Rattle.std.proofs.lemmas.Nat.{mod-mul-add}
-use Rattle.nv_host.specs.Pages.{HasPage, IsPageSize}
-use Rattle.nv_host.proofs.PageLaws.{page_size_bounds}
-use Rattle.nv_prp.specs.Transfer.{entry_fault, IsLegal, PrpTransfer, data_pages, fault_after_prp1, first_fault}
-use Rattle.nv_prp.specs.Transfer.{first_qword_fault, list_qwords, prp1_fault, prp2_fault, qword_fault, qwords, room}
+use Rattle.nv_prp.specs.Transfer.{entry_fault, first_fault, prp2_fault, qword_fault, qwords}
 use Rattle.std.specs.Option.{option_or}
-use Rattle.nv_prp.specs.declared.error.PrpError.{PrpError}
 use Rattle.nv_prp.specs.declared.error.PrpError.TheVariants.{Offset, Outside}
+use Rattle.nv_prp.proofs.Words.{cases_lt, common_steps, data_pages, fault_after_prp1, first_qword_fault, HasPage}
+use Rattle.nv_prp.proofs.Words.{IsLegal, IsPageSize, list_qwords, lt-ltb, mod-mul-add, mul-add-mod_self_left}
+use Rattle.nv_prp.proofs.Words.{mul-mod_left, nat_tests, page_size_bounds, prp1_fault, PrpError, PrpTransfer, room}
 
 -- an aligned entry that lies in a memory of whole pages has no fault
 pub entry_inside : (pages page_size size alignment entry : ℕ) → pages * page_size ≡ size → IsPageSize page_size

@@ -1,3 +1,4 @@
+pub mod Words
 pub mod PageLaws
 pub mod CopyLaws
 pub mod FaultLaws

@@ -1,16 +1,10 @@
 -- The Qwords of a list, by their indices.
 use Rattle.std.proofs.Common.{◌≡◌, ◌∙◌, ℕ, zero, suc, ◌+◌, ◌-◌, ◌*◌, ◌/◌, ◌%◌, ◌<◌, ◌≤◌, None, Some, ap, arith, length}
-use Rattle.std.proofs.lemmas.Grind.{common_steps}
-use Rattle.std.proofs.lemmas.Bool.{lt-ltb}
-use Rattle.std.proofs.lemmas.Bool.Decides.{nat_tests}
-use Rattle.std.proofs.lemmas.Nat.{div-add-mod'}
-use Rattle.nv_host.specs.Pages.{IsPageSize}
-use Rattle.nv_host.proofs.PageLaws.{page_size_bounds, page_size_in_qwords}
-use Rattle.nv_prp.specs.inner.ListWalk.{Comes, IsList, ListTurn, cursor_of, used_of}
-use Rattle.nv_prp.specs.Transfer.{PrpTransfer, data_pages, entry_fault, fault_after_prp1, first_qword_fault, list_place}
-use Rattle.nv_prp.specs.Transfer.{naming_number, naming_qword, page_base, qword, qword_fault, qword_place}
-use Rattle.nv_prp.specs.Transfer.{room, second_page}
-use Rattle.nv_prp.specs.declared.error.PrpError.{PrpError}
+use Rattle.nv_prp.specs.Transfer.{entry_fault, naming_qword, page_base, qword, qword_fault, qword_place}
+use Rattle.nv_prp.proofs.Words.{Comes, common_steps, cursor_of, data_pages, div-add-mod', fault_after_prp1}
+use Rattle.nv_prp.proofs.Words.{first_qword_fault, IsList, IsPageSize, list_place, ListTurn, lt-ltb, naming_number}
+use Rattle.nv_prp.proofs.Words.{nat_tests, page_size_bounds, page_size_in_qwords, PrpError, PrpTransfer, room}
+use Rattle.nv_prp.proofs.Words.{second_page, used_of}
 use Rattle.nv_prp.proofs.FaultLaws.{from_no_fault, each_none, fault_of_list, fault_stays, next_fault}
 use Rattle.nv_prp.proofs.PageLaws.{spans}
 

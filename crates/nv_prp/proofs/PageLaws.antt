@@ -1,20 +1,12 @@
 -- Data pages, by their indices.
-use Rattle.std.proofs.lemmas.Grind.{common_steps}
-use Rattle.std.proofs.lemmas.Bool.Decides.{nat_tests}
 use Rattle.std.proofs.Common.{◌≡◌, ◌∙◌, ℕ, zero, suc, ◌+◌, ◌-◌, ◌*◌, ◌<◌, ◌≤◌, ◌++◌, ◌∷◌, [], append-nil, ap, arith}
 use Rattle.std.proofs.Common.{length, refl, sym}
-use Rattle.std.specs.Int.{div_ceil}
-use Rattle.std.proofs.Math.Nat.{mul-le-mul, mul-le-mul_right}
-use Rattle.std.proofs.lemmas.Bool.{le-ltb}
-use Rattle.std.proofs.lemmas.Grind.{div_ceil_times, flat_map-append}
-use Rattle.std.proofs.lemmas.Nat.{div-mul-add, mod-mul-add}
-use Rattle.nv_host.specs.Pages.{IsPageSize}
-use Rattle.nv_host.proofs.PageLaws.{page_size_bounds}
-use Rattle.nv_prp.specs.Place.{places, span_places, table}
+use Rattle.nv_prp.specs.Place.{places, span_places}
+use Rattle.nv_prp.specs.Transfer.{page_base, place_of, span_of, spans_of, transfer_places}
+use Rattle.nv_prp.proofs.Words.{common_steps, data_pages, div-mul-add, div_ceil, div_ceil_times, first_byte}
+use Rattle.nv_prp.proofs.Words.{flat_map-append, IsPageSize, le-ltb, mod-mul-add, most_bytes, mul-le-mul}
+use Rattle.nv_prp.proofs.Words.{mul-le-mul_right, nat_tests, offset, page_size_bounds, PrpTransfer, Span, table}
 use Rattle.nv_prp.proofs.PlaceLaws.{length-table, table-append, table-more, table-same}
-use Rattle.nv_prp.specs.declared.spans.Span.{Span}
-use Rattle.nv_prp.specs.Transfer.{PrpTransfer, data_pages, first_byte, offset, page_base, place_of, span_of, spans_of}
-use Rattle.nv_prp.specs.Transfer.{most_bytes, transfer_places}
 
 -- the data ends in the last data page
 pub pages_span : (t : PrpTransfer) → 0 < t.page_size

@@ -1,19 +1,13 @@
 -- Laws of tables, of places, and of the bytes that are written to them.
-use Rattle.std.proofs.Common.{◌≡◌, ◌≢◌, ◌∙◌, ◌⊎◌, ℕ, zero, suc, ◌+◌, ◌-◌, ◌<◌, ◌≤◌, List, [], ◌∷◌}
-use Rattle.std.proofs.Common.{◌++◌, append_assoc, append-nil, ap, arith, drop, get_or, inl, inr}
-use Rattle.std.proofs.Common.{length, length-append, length-drop, length-take, min, refl, set}
-use Rattle.std.proofs.Common.{subst, sym}
-use Rattle.std.proofs.lemmas.Grind.{common_steps}
-use Rattle.std.specs.List.{All}
+use Rattle.std.proofs.Common.{◌≡◌, ◌≢◌, ◌∙◌, ◌⊎◌, ℕ, zero, suc, ◌+◌, ◌-◌, ◌<◌, ◌≤◌, List, [], ◌∷◌, ◌++◌, append_assoc}
+use Rattle.std.proofs.Common.{append-nil, ap, arith, drop, get_or, inl, inr, length, length-append, length-drop}
+use Rattle.std.proofs.Common.{length-take, min, refl, set, subst, sym}
 use Rattle.std.proofs.Math.ListN.{length-set}
-use Rattle.std.proofs.lemmas.Bool.{cases_lt}
-use Rattle.std.proofs.lemmas.Grind.{same_number_lists}
-use Rattle.std.proofs.lemmas.List.{get_or-append_right, get_or-drop, get_or-map, get_or-set_other}
-use Rattle.std.proofs.lemmas.List.{get_or-set_same, get_or-take, get_or_append_left, get_or_push}
-use Rattle.std.proofs.lemmas.List.{length-map}
+use Rattle.std.proofs.lemmas.List.{get_or-append_right, get_or-drop, get_or-map, get_or-set_other, get_or-set_same}
+use Rattle.std.proofs.lemmas.List.{get_or-take, get_or_append_left, get_or_push, length-map}
 use Rattle.nv_host.specs.Bytes.{bytes_at}
-use Rattle.nv_prp.specs.Place.{AreDistinct, LieIn, places, read_at, span_places, table, written_at}
-use Rattle.nv_prp.specs.declared.spans.Span.{Span}
+use Rattle.nv_prp.specs.Place.{LieIn, places, read_at, span_places, written_at}
+use Rattle.nv_prp.proofs.Words.{All, AreDistinct, cases_lt, common_steps, same_number_lists, Span, table}
 
 -- ---- tables
 

@@ -1,12 +1,10 @@
 -- The spans of a legal transfer.
 use Rattle.std.proofs.Common.{None, ◌≡◌, ℕ, ◌+◌, ◌<◌, ◌≤◌, arith, inl, inr, length}
-use Rattle.std.proofs.lemmas.Bool.Decides.{nat_tests}
-use Rattle.std.proofs.lemmas.Bool.{cases_lt}
-use Rattle.nv_host.proofs.PageLaws.{page_size_bounds}
 use Rattle.nv_prp.specs.Place.{LieIn}
+use Rattle.nv_prp.specs.Transfer.{entry_fault, naming_qword, page_base, prp2_fault, qword_fault, qwords, span_of}
+use Rattle.nv_prp.specs.Transfer.{spans_of}
+use Rattle.nv_prp.proofs.Words.{cases_lt, data_pages, IsLegal, nat_tests, page_size_bounds, PrpTransfer}
 use Rattle.nv_prp.proofs.PlaceLaws.{All-table}
-use Rattle.nv_prp.specs.Transfer.{IsLegal, PrpTransfer, data_pages, entry_fault, naming_qword, page_base, prp2_fault}
-use Rattle.nv_prp.specs.Transfer.{qword_fault, qwords, span_of, spans_of}
 use Rattle.nv_prp.proofs.FaultLaws.{from_no_fault, legal_from_none, none_from_legal}
 use Rattle.nv_prp.proofs.ListLaws.{base_by_list}
 use Rattle.nv_prp.proofs.PageLaws.{base_of_two, first_span, later_span, length_transfer_places, next_page}

@@ -1,19 +1,15 @@
 -- Qwords that are written, and lists of them.
 use Rattle.std.proofs.Common.{◌≡◌, ◌≢◌, ◌∙◌, ◌⊎◌, ℕ, ◌+◌, ◌-◌, ◌*◌, ◌/◌, ◌%◌, ◌<◌, ◌≤◌, ◌^◌, List, ap, arith, get_or}
 use Rattle.std.proofs.Common.{inl, inr, length, refl, subst, sym}
-use Rattle.std.specs.Int.{from_le_bytes, to_le_bytes, w64}
-use Rattle.std.proofs.lemmas.Bool.Decides.{nat_tests}
-use Rattle.std.proofs.lemmas.Bool.{cases_lt}
-use Rattle.std.proofs.lemmas.Nat.{from_le_bytes-to_le_bytes_8, mod-mul-add}
 use Rattle.nv_host.specs.Bytes.{with_bytes}
 use Rattle.nv_host.proofs.BytesLaws.{bytes_at-with_after, bytes_at-with_before, bytes_at-with_same}
-use Rattle.nv_host.specs.Pages.{IsPageSize}
-use Rattle.nv_host.proofs.PageLaws.{page_size_bounds, page_size_in_qwords, pages_apart}
-use Rattle.nv_prp.specs.inner.Buffer.{ChangesOnly, NamesPages}
 use Rattle.nv_prp.specs.Buffer.{IsApart, IsListPlace, KeepsOutside, KeepsOutsideList}
+use Rattle.nv_prp.specs.Transfer.{qword}
+use Rattle.nv_prp.proofs.Words.{cases_lt, ChangesOnly, from_le_bytes, from_le_bytes-to_le_bytes_8, IsPageSize}
+use Rattle.nv_prp.proofs.Words.{list_place, list_qwords, mod-mul-add, NamesPages, naming_number, nat_tests}
+use Rattle.nv_prp.proofs.Words.{page_size_bounds, page_size_in_qwords, pages_apart, to_le_bytes, w64}
 use Rattle.nv_prp.proofs.FaultLaws.{multiple_stays}
 use Rattle.nv_prp.proofs.ListLaws.{whole_room}
-use Rattle.nv_prp.specs.Transfer.{list_place, list_qwords, naming_number, qword}
 
 -- ---- one Qword
 

@@ -1,15 +1,10 @@
 -- Whole numbers, and how a ring keeps them.
-use Rattle.std.proofs.Common.{◌≡◌, ◌≢◌, ℕ, ◌+◌, ◌-◌, ◌*◌, ◌/◌, ◌%◌, ◌==◌, ◌<◌, ◌≤◌, ◌⊎◌, not, inl}
-use Rattle.std.proofs.Common.{inr, sym, ap, ◌∙◌, arith}
-use Rattle.std.proofs.lemmas.Grind.{common_steps}
-use Rattle.std.proofs.lemmas.Bool.{cases_lt}
-use Rattle.std.proofs.lemmas.Nat.{mod_below}
-use Rattle.std.proofs.Math.Nat.{add-mod_right, add-mul-mod_self_left, div-add-mod, mod-add-mod}
-use Rattle.std.proofs.Math.Nat.{zero-mod}
-use Rattle.nv_queue.specs.Numbers.{IsSlotBetween, ahead, distance, first_in_slot, kept_number, next}
-use Rattle.nv_queue.specs.Numbers.{phase_of, slot_of}
-use Rattle.nv_queue.proofs.NumberLaws.{ahead_slot, distance_cases, rest_is, slot_below, slot_cases}
-use Rattle.nv_queue.proofs.NumberLaws.{times_is}
+use Rattle.std.proofs.Common.{◌≡◌, ◌≢◌, ℕ, ◌+◌, ◌-◌, ◌*◌, ◌/◌, ◌%◌, ◌==◌, ◌<◌, ◌≤◌, ◌⊎◌, not, inl, inr, sym, ap, ◌∙◌}
+use Rattle.std.proofs.Common.{arith}
+use Rattle.std.proofs.Math.Nat.{add-mod_right, add-mul-mod_self_left, div-add-mod, mod-add-mod, zero-mod}
+use Rattle.nv_queue.specs.Numbers.{IsSlotBetween, ahead, distance, first_in_slot, kept_number, next, phase_of, slot_of}
+use Rattle.nv_queue.proofs.Words.{cases_lt, common_steps, mod_below}
+use Rattle.nv_queue.proofs.NumberLaws.{ahead_slot, distance_cases, rest_is, slot_below, slot_cases, times_is}
 
 -- ---- whole numbers
 

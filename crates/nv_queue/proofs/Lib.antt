@@ -1,3 +1,4 @@
+pub mod Words
 pub mod PlaceLaws
 pub mod RunLaws
 pub mod ZeroLaws

@@ -1,13 +1,8 @@
 -- Slots, phases and distances of numbers below twice the depth.
-use Rattle.std.proofs.Common.{◌≡◌, ◌≢◌, ℕ, ◌+◌, ◌-◌, ◌*◌, ◌/◌, ◌%◌, ◌<◌, ◌≤◌, true, false}
-use Rattle.std.proofs.Common.{arith}
-use Rattle.std.proofs.Common.{inl, inr, ◌⊎◌, ◌↔◌}
-use Rattle.std.proofs.lemmas.Grind.{common_steps}
-use Rattle.std.proofs.lemmas.Nat.{mod-mul-add, div-mul-add}
-use Rattle.std.proofs.lemmas.Bool.{cases_lt}
-use Rattle.nv_queue.specs.Numbers.{IsDepth, IsFull, IsSlotBetween, IsWithinRing, ahead, distance}
-use Rattle.nv_queue.specs.Numbers.{first_in_slot, next}
+use Rattle.std.proofs.Common.{◌≡◌, ◌≢◌, ℕ, ◌+◌, ◌-◌, ◌*◌, ◌/◌, ◌%◌, ◌<◌, ◌≤◌, true, false, arith, inl, inr, ◌⊎◌, ◌↔◌}
+use Rattle.nv_queue.specs.Numbers.{IsDepth, IsFull, IsSlotBetween, IsWithinRing, ahead, distance, first_in_slot, next}
 use Rattle.nv_queue.specs.Numbers.{phase_of, slot_of}
+use Rattle.nv_queue.proofs.Words.{cases_lt, common_steps, div-mul-add, mod-mul-add}
 
 -- the remainder of q * d + r by d is r, if r is below d
 pub rest_is : (x q d r : ℕ) → x ≡ q * d + r → r < d → x % d ≡ r

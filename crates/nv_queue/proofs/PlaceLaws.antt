@@ -1,10 +1,9 @@
 -- The numbers of places in a ring.
 use Rattle.std.proofs.Common.{◌≡◌, ℕ, ◌+◌, ◌-◌, ◌*◌, ◌<◌, ◌≤◌, Bool, true, false, not, arith}
-use Rattle.nv_host.proofs.BytesLaws.{length_with_bytes}
 use Rattle.nv_queue.specs.Numbers.{ahead, distance, first_in_slot, next, number_of, phase_of, slot_of}
+use Rattle.nv_queue.proofs.Words.{length_with_bytes}
 use Rattle.nv_queue.proofs.NumberLaws.{ahead_cases, ahead_slot, full_slots, next_cases, phase_high, phase_low}
-use Rattle.nv_queue.proofs.NumberLaws.{slot_high, slot_low}
-use Rattle.nv_queue.proofs.NumberLaws.{within_filled, within_freed, within_more, within_taken}
+use Rattle.nv_queue.proofs.NumberLaws.{slot_high, slot_low, within_filled, within_freed, within_more, within_taken}
 
 -- the number of a place is below twice the depth
 pub number_below : (d s : ℕ) (b : Bool) → s < d → number_of d s b < 2 * d

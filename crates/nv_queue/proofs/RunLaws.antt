@@ -1,23 +1,14 @@
 -- Every run over a completion ring is in order.
-use Rattle.std.proofs.Common.{◌≡◌, ◌↔◌, ℕ, ◌+◌, ◌-◌, ◌*◌, ◌<◌, ◌≤◌, inl, inr, Bool, false, true}
-use Rattle.std.proofs.Common.{List, [], ◌∷◌, ◌++◌}
-use Rattle.std.proofs.Common.{length, get_or, refl, sym, ap, subst, ◌∙◌, arith, append_assoc}
-use Rattle.std.proofs.Common.{length-append}
-use Rattle.std.proofs.lemmas.Bool.{cases_lt}
-use Rattle.std.proofs.lemmas.List.{length_push}
+use Rattle.std.proofs.Common.{◌≡◌, ◌↔◌, ℕ, ◌+◌, ◌-◌, ◌*◌, ◌<◌, ◌≤◌, inl, inr, Bool, false, true, List, [], ◌∷◌, ◌++◌}
+use Rattle.std.proofs.Common.{length, get_or, refl, sym, ap, subst, ◌∙◌, arith, append_assoc, length-append}
 use Rattle.std.proofs.Math.Seq.{get_or-append_seam}
-use Rattle.nv_layout.specs.Cqe.{CqeFits}
-use Rattle.nv_layout.specs.declared.cqe.Cqe.{Cqe}
 use Rattle.nv_queue.specs.Numbers.{IsDepth, kept_number}
+use Rattle.nv_queue.specs.Slots.{HoldsPosted, IsAwaitedThere, awaited_completion, put_as, with_completion}
+use Rattle.nv_queue.specs.Runs.{EveryRunIsInOrder, Event, Exchange, Happens, IsHeadTaken, IsInOrder, IsNew, Poll, Put}
+use Rattle.nv_queue.specs.Runs.{Runs, Tell, with_head, with_polled, with_put, with_told}
+use Rattle.nv_queue.proofs.Words.{cases_lt, Cqe, CqeFits, IsPostFull, length_push}
 use Rattle.nv_queue.proofs.KeptLaws.{between_kept, distance_kept, first_kept, kept_next, kept_zero}
-use Rattle.nv_queue.specs.Rings.{IsPostFull}
-use Rattle.nv_queue.specs.Slots.{HoldsPosted, IsAwaitedThere, awaited_completion}
-use Rattle.nv_queue.specs.Slots.{put_as, with_completion}
-use Rattle.nv_queue.proofs.SlotLaws.{awaited_posted, awaited_stands, holds_one_more}
-use Rattle.nv_queue.proofs.SlotLaws.{length-with_completion}
-use Rattle.nv_queue.specs.Runs.{EveryRunIsInOrder, Event, Exchange, Happens, IsHeadTaken, IsInOrder}
-use Rattle.nv_queue.specs.Runs.{IsNew, Poll, Put, Runs, Tell}
-use Rattle.nv_queue.specs.Runs.{with_head, with_polled, with_put, with_told}
+use Rattle.nv_queue.proofs.SlotLaws.{awaited_posted, awaited_stands, holds_one_more, length-with_completion}
 
 -- a moment of a run: `rest` was not polled yet, and the device knows of `known`
 record Moment : Type 0 where

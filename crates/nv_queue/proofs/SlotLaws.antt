@@ -1,29 +1,21 @@
 -- The contents of a ring's slots as entries are written.
-use Rattle.std.proofs.Common.{◌≡◌, ◌≢◌, ℕ, ◌+◌, ◌-◌, ◌*◌, ◌<◌, ◌≤◌, inl, inr, Bool}
-use Rattle.std.proofs.Common.{not}
-use Rattle.std.proofs.Common.{List, [], ◌∷◌, ◌++◌, length, slice_index_or, None, Some}
-use Rattle.std.proofs.Common.{◌↔◌, refl, ap, ◌∙◌, arith}
-use Rattle.std.proofs.lemmas.Grind.{common_steps}
-use Rattle.std.proofs.lemmas.Bool.{cases_lt}
-use Rattle.std.proofs.lemmas.Nat.{mod_below}
-use Rattle.std.proofs.lemmas.List.{get_or_append_left, get_or_push, length_push}
+use Rattle.std.proofs.Common.{◌≡◌, ◌≢◌, ℕ, ◌+◌, ◌-◌, ◌*◌, ◌<◌, ◌≤◌, inl, inr, Bool, not, List, [], ◌∷◌, ◌++◌, length}
+use Rattle.std.proofs.Common.{slice_index_or, None, Some, ◌↔◌, refl, ap, ◌∙◌, arith}
+use Rattle.std.proofs.lemmas.List.{get_or_append_left, get_or_push}
 use Rattle.std.proofs.Math.Nat.{mul-le-mul_left}
 use Rattle.nv_host.specs.Bytes.{bytes_at, with_bytes}
-use Rattle.nv_host.proofs.BytesLaws.{bytes_at-with_after, bytes_at-with_before, bytes_at-with_same}
-use Rattle.nv_host.proofs.BytesLaws.{length-with_bytes}
-use Rattle.nv_layout.specs.Cqe.{CqeFits, bytes_of_cqe}
 use Rattle.nv_layout.specs.Sqe.{SqeFits}
-use Rattle.nv_layout.specs.declared.cqe.Cqe.{Cqe}
 use Rattle.nv_layout.specs.declared.sqe.Sqe.{Sqe}
 use Rattle.nv_layout.proofs.RecordLaws.{cqe_back, length-bytes_of_cqe, length-bytes_of_sqe, sqe_back}
 use Rattle.nv_queue.specs.Numbers.{kept_number, phase_of, slot_of}
+use Rattle.nv_queue.specs.Slots.{CollectsPosted, HoldsOneMore, HoldsPosted, IsAwaitedThere, awaited_completion}
+use Rattle.nv_queue.specs.Slots.{completion_at, posted_as, put_as, with_completion, with_submission}
+use Rattle.nv_queue.specs.inner.Slots.{WritesCompletion, WritesSubmission}
+use Rattle.nv_queue.proofs.Words.{bytes_at-with_after, bytes_at-with_before, bytes_at-with_same, bytes_of_cqe, cases_lt}
+use Rattle.nv_queue.proofs.Words.{CollectNumbers, common_steps, Cqe, CqeFits, IsCollectRing, length-with_bytes}
+use Rattle.nv_queue.proofs.Words.{length_push, mod_below, PostNumbers, SubmitNumbers}
 use Rattle.nv_queue.proofs.NumberLaws.{phase_low, slot_low}
 use Rattle.nv_queue.proofs.KeptLaws.{phase_again, phase_kept, slot_again, slot_kept, slots_apart}
-use Rattle.nv_queue.specs.Rings.{CollectNumbers, IsCollectRing, PostNumbers, SubmitNumbers}
-use Rattle.nv_queue.specs.Slots.{CollectsPosted, HoldsOneMore, HoldsPosted, IsAwaitedThere}
-use Rattle.nv_queue.specs.Slots.{awaited_completion, completion_at, posted_as}
-use Rattle.nv_queue.specs.Slots.{put_as, with_completion, with_submission}
-use Rattle.nv_queue.specs.inner.Slots.{WritesCompletion, WritesSubmission}
 
 -- ---- the awaited slot
 

@@ -1,19 +1,13 @@
 -- The phase tags of a completion ring's slots, by the number of the next completion.
-use Rattle.std.proofs.Common.{if◌then◌else◌, ◌≡◌, ◌≢◌, ℕ, ◌-◌, ◌*◌, ◌<◌, ◌≤◌, Bool, true}
-use Rattle.std.proofs.Common.{false}
-use Rattle.std.proofs.Common.{not, nat_lt, List, refl, arith, inl, inr, ◌⊎◌}
-use Rattle.std.proofs.Common.{None, Some}
-use Rattle.std.proofs.lemmas.Grind.{common_steps}
-use Rattle.std.proofs.lemmas.Bool.{cases_eq, cases_lt}
+use Rattle.std.proofs.Common.{if◌then◌else◌, ◌≡◌, ◌≢◌, ℕ, ◌-◌, ◌*◌, ◌<◌, ◌≤◌, Bool, true, false, not, nat_lt, List}
+use Rattle.std.proofs.Common.{refl, arith, inl, inr, ◌⊎◌, None, Some}
 use Rattle.std.proofs.lemmas.Bool.Decides.{nat_tests}
-use Rattle.nv_layout.specs.declared.cqe.Cqe.{Cqe}
 use Rattle.nv_queue.specs.Numbers.{distance, next, phase_of, slot_of, tag_below}
-use Rattle.nv_queue.proofs.NumberLaws.{distance_cases, next_below, next_cases, phase_high, phase_low}
-use Rattle.nv_queue.proofs.NumberLaws.{slot_below, slot_cases, slot_high, slot_low}
-use Rattle.nv_queue.specs.Rings.{CollectNumbers, IsCollectRing, PostNumbers}
-use Rattle.nv_queue.specs.Slots.{FindsByTags, HoldsTags, IsAwaitedThere, KeepsTags}
-use Rattle.nv_queue.specs.Slots.{posted_as, with_completion}
+use Rattle.nv_queue.specs.Slots.{FindsByTags, HoldsTags, IsAwaitedThere, KeepsTags, posted_as, with_completion}
 use Rattle.nv_queue.specs.inner.Slots.{WritesCompletion}
+use Rattle.nv_queue.proofs.Words.{cases_eq, cases_lt, CollectNumbers, common_steps, Cqe, IsCollectRing, PostNumbers}
+use Rattle.nv_queue.proofs.NumberLaws.{distance_cases, next_below, next_cases, phase_high, phase_low, slot_below}
+use Rattle.nv_queue.proofs.NumberLaws.{slot_cases, slot_high, slot_low}
 use Rattle.nv_queue.proofs.SlotLaws.{not_own, put_written}
 
 -- in the first pass, the slots below n have tag 1, and in the second pass, the slots from its slot on

@@ -1,19 +1,18 @@
 -- A completion ring whose slots were zeroed.
-use Rattle.std.proofs.Common.{◌≡◌, ◌∙◌, ℕ, ◌+◌, ◌-◌, ◌*◌, ◌<◌, ◌≤◌, List, ◌++◌, length, take, drop}
-use Rattle.std.proofs.Common.{ap, ap₂, append_assoc, arith, false, length-append, refl, sym}
-use Rattle.std.proofs.lemmas.Grind.{common_steps}
+use Rattle.std.proofs.Common.{◌≡◌, ◌∙◌, ℕ, ◌+◌, ◌-◌, ◌*◌, ◌<◌, ◌≤◌, List, ◌++◌, length, take, drop, ap, ap₂}
+use Rattle.std.proofs.Common.{append_assoc, arith, false, length-append, refl, sym}
 use Rattle.std.specs.Prelude.{replicate}
 use Rattle.std.proofs.lemmas.Bool.Decides.{nat_tests}
-use Rattle.std.proofs.lemmas.List.{drop-replicate, length-replicate, replicate-append-replicate}
-use Rattle.std.proofs.lemmas.List.{length-take-le, take-append-drop, take-replicate, take_at}
+use Rattle.std.proofs.lemmas.List.{drop-replicate, replicate-append-replicate, length-take-le, take-append-drop}
+use Rattle.std.proofs.lemmas.List.{take-replicate, take_at}
 use Rattle.std.proofs.lemmas.Slice.{drop-append-drop}
 use Rattle.nv_host.specs.Bytes.{bytes_at, with_bytes}
-use Rattle.nv_host.proofs.BytesLaws.{bytes_at-bytes_at, bytes_at-with_same}
 use Rattle.nv_layout.specs.Cqe.{cqe_of_bytes}
 use Rattle.nv_layout.specs.Parts.{number_at}
-use Rattle.nv_queue.proofs.NumberLaws.{phase_low, slot_low}
 use Rattle.nv_queue.specs.Numbers.{tag_below}
 use Rattle.nv_queue.specs.Slots.{HoldsTags}
+use Rattle.nv_queue.proofs.Words.{bytes_at-bytes_at, bytes_at-with_same, common_steps, length-replicate}
+use Rattle.nv_queue.proofs.NumberLaws.{phase_low, slot_low}
 
 -- ---- zeros
 

@@ -1,8 +1,7 @@
 -- Submissions and completions are numbered from 0, since their rings were created or renewed. A
 -- ring keeps a number modulo twice its depth. This determines the number's slot and phase tag, and
 -- how far two numbers are apart that differ by less than twice the depth.
-use Rattle.std.specs.Prelude.{◌≡◌, ℕ, ◌+◌, ◌-◌, ◌*◌, ◌/◌, ◌%◌, ◌==◌, ◌<◌, ◌≤◌, Bool, if◌then◌else◌}
-use Rattle.std.specs.Prelude.{nat_lt, not}
+use Rattle.std.specs.Prelude.{◌≡◌, ℕ, ◌+◌, ◌-◌, ◌*◌, ◌/◌, ◌%◌, ◌==◌, ◌<◌, ◌≤◌, Bool, if◌then◌else◌, nat_lt, not}
 
 -- the number of slots that a ring can have
 abbrev pub IsDepth : ℕ → Type 0

@@ -1,13 +1,10 @@
 -- Runs over one completion ring: what the device posts to it, and the host polls.
-use Rattle.std.specs.Prelude.{◌≡◌, ◌↔◌, ◌⊎◌, ℕ, ◌+◌, ◌*◌, ◌<◌, ◌≤◌, false, true, List, [], ◌∷◌}
-use Rattle.std.specs.Prelude.{◌++◌, length}
+use Rattle.std.specs.Prelude.{◌≡◌, ◌↔◌, ◌⊎◌, ℕ, ◌+◌, ◌*◌, ◌<◌, ◌≤◌, false, true, List, [], ◌∷◌, ◌++◌, length}
 use Rattle.nv_layout.specs.Cqe.{CqeFits}
 use Rattle.nv_layout.specs.declared.cqe.Cqe.{Cqe}
 use Rattle.nv_queue.specs.Numbers.{IsDepth, IsSlotBetween, slot_of}
-use Rattle.nv_queue.specs.Rings.{CollectNumbers, IsPostFull, PostNumbers, collected_one, posted_one}
-use Rattle.nv_queue.specs.Rings.{told_all, told_to}
-use Rattle.nv_queue.specs.Slots.{IsAwaitedThere, awaited_completion, completion_at, put_as}
-use Rattle.nv_queue.specs.Slots.{with_completion}
+use Rattle.nv_queue.specs.Rings.{CollectNumbers, IsPostFull, PostNumbers, collected_one, posted_one, told_all, told_to}
+use Rattle.nv_queue.specs.Slots.{IsAwaitedThere, awaited_completion, completion_at, put_as, with_completion}
 
 -- the device puts a completion, the host polls, the host writes its head to the doorbell
 pub data Event : Type 0 where

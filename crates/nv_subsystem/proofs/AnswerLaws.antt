@@ -1,16 +1,11 @@
 -- What an answer, and what is told of it, say of the refusal and the reply.
 use Rattle.std.proofs.Common.{◌≡◌, ℕ, false, not, Option, Some, None, Ok, Err, is_some, refl}
-use Rattle.std.specs.Prelude.{unwrap_or}
 use Rattle.nv_command.specs.Reply.{dword0_of}
-use Rattle.nv_command.specs.declared.refusal.Refusal.{Refusal}
-use Rattle.nv_command.specs.declared.reply.Reply.{Reply}
 use Rattle.nv_layout.specs.declared.new_namespace.NewNamespace.{NewNamespace}
-use Rattle.nv_model.specs.Answer.{answer_by}
 use Rattle.nv_model.specs.Conditions.{first_refusal, free_nsid}
 use Rattle.nv_model.specs.Management.{create_rows, created_nsid}
-use Rattle.nv_model.specs.State.{State}
-use Rattle.nv_model.proofs.ManagementLaws.{none_holds}
 use Rattle.nv_subsystem.specs.Answer.{dword0_in}
+use Rattle.nv_subsystem.proofs.Words.{answer_by, none_holds, Refusal, Reply, State, unwrap_or}
 
 -- a command that is answered by a reply isn't refused
 pub accepted_answer : (o : Option Refusal) (r x : Reply) → answer_by o r ≡ Ok x → (o ≡ None) × (r ≡ x)

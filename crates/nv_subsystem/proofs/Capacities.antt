@@ -1,16 +1,8 @@
 -- The sum of the capacities of a file's namespaces.
 use Rattle.std.proofs.Common.{◌≡◌, ◌≢◌, ◌∙◌, zero, suc, ◌+◌, List, [], ◌∷◌, get_or, None, sym, arith}
-use Rattle.std.specs.Prelude.{All, AllPairs, sum_by}
-use Rattle.std.specs.List.{fold}
 use Rattle.std.specs.FinMap as map_of
-use Rattle.std.proofs.lemmas.Bool.{ne_eqb}
-use Rattle.std.proofs.lemmas.List.Sums.{sum_by-cons}
-use Rattle.nv_bits.proofs.NumberLaws.{get_of_insert}
-use Rattle.nv_model.specs.WellFormed.{used}
-use Rattle.nv_model.proofs.UsedLaws.{used-insert}
-use Rattle.nv_file.specs.FileValue.{NamespaceValue}
-use Rattle.nv_subsystem.specs.FromFile.{with_namespace}
-use Rattle.nv_model.specs.State.{Namespaces}
+use Rattle.nv_subsystem.proofs.Words.{All, AllPairs, fold, get_of_insert, Namespaces, NamespaceValue, ne_eqb, sum_by}
+use Rattle.nv_subsystem.proofs.Words.{sum_by-cons, used, used-insert, with_namespace}
 
 -- adding the namespaces of a file, whose NSIDs differ and are new, uses their capacities
 pub used-all : (m : Namespaces) (ns : List NamespaceValue) → AllPairs (λ a b. a.nsid ≢ b.nsid) ns

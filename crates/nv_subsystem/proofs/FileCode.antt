@@ -1,31 +1,18 @@
 -- The parts of the subsystem that are made from a file.
 use Rattle.std.proofs.Common.{◌≡◌, ◌∙◌, ℕ, ◌+◌, ◌<◌, ◌≤◌, List, [], ◌∷◌, refl, map, length, get_or, Some, sym, ap}
 use Rattle.std.proofs.Common.{subst, arith}
-use Rattle.std.specs.Prelude.{All, sum_by}
-use Rattle.std.specs.Ordering.{nat_cmp}
-use Rattle.std.specs.FinMap.{get-empty}
-use Rattle.std.proofs.lemmas.List.Sums.{sum_by-cons}
-use Rattle.nv_model.specs.WellFormed.{used}
-use Rattle.nv_model.proofs.UsedLaws.{used-empty}
-use Rattle.nv_subsystem.proofs.Capacities.{used-all}
 use Rattle.std.specs.FinMap as map_of
-use Rattle.std.proofs.lemmas.List.{get_or-map, length-map}
-use Rattle.std.proofs.lemmas.List.Elements.{All-weaker}
-use Rattle.nv_subsystem.specs.inner.ControllerView.{controller_view}
-use Rattle.nv_file.specs.FileValue.{controller_entry_view, file_view, namespace_entry_view}
-use Rattle.nv_subsystem.specs.FromFile.{controller_of, state_of}
-use Rattle.nv_file.specs.IsFile.{IsFile}
-use Rattle.nv_model.specs.Ranges.{IsFeatureRule, IsFormat}
-use Rattle.nv_bits.specs.Numbers.{IsOf}
-use Rattle.nv_bits.specs.Slots.{RangeMap}
-use Rattle.nv_subsystem.specs.Sound.{IsSized, IsSound}
 use Rattle.nv_subsystem.specs.declared.controller.Controller.{Controller}
 use Rattle.nv_file.specs.declared.file.File.{File}
 use Rattle.nv_file.specs.declared.namespace.NamespaceEntry.{NamespaceEntry}
-use Rattle.nv_model.specs.declared.namespace.Namespace.{Namespace}
-use Rattle.nv_subsystem.proofs.FileStates.{state_ok}
 use Rattle.nv_model.proofs.InFormatLaws.{format_below}
 use Rattle.nv_layout.specs.Limits.{most_nsids}
+use Rattle.nv_subsystem.proofs.Words.{All, All-weaker, controller_entry_view, controller_of, controller_view, file_view}
+use Rattle.nv_subsystem.proofs.Words.{get-empty, get_or-map, IsFeatureRule, IsFile, IsFormat, IsOf, IsSized, IsSound}
+use Rattle.nv_subsystem.proofs.Words.{length-map, Namespace, namespace_entry_view, nat_cmp, RangeMap, state_of, sum_by}
+use Rattle.nv_subsystem.proofs.Words.{sum_by-cons, used, used-empty}
+use Rattle.nv_subsystem.proofs.Capacities.{used-all}
+use Rattle.nv_subsystem.proofs.FileStates.{state_ok}
 
 -- the NSIDs of a file's namespaces are from 1 to NN
 pub nsids_within : (f : File) → IsFile (file_view f) → (k : ℕ) (d : NamespaceEntry)

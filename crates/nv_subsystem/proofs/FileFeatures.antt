@@ -1,31 +1,16 @@
 -- The rules and the values of features in a file.
 use Rattle.std.proofs.Common.{◌≡◌, ◌∙◌, ℕ, zero, suc, ◌==◌, ◌&&◌, ◌||◌, Bool, true, false, not, cond, List, [], ◌∷◌}
 use Rattle.std.proofs.Common.{Some, is_some, refl, sym, ap, subst, arith}
-use Rattle.std.specs.Prelude.{All, find, map, if◌then◌else◌}
-use Rattle.std.specs.List.{fold, list_any}
-use Rattle.std.specs.Ordering.{nat_cmp}
-use Rattle.std.specs.Cmp.{both_ways}
-use Rattle.std.specs.Option.{option_map_or}
 use Rattle.std.specs.FinMap as map_of
-use Rattle.std.specs.FinMap.{get-empty}
-use Rattle.std.proofs.lemmas.Bool.Decides.{nat_tests}
-use Rattle.nv_bits.proofs.NumberLaws.{get_of_insert}
-use Rattle.nv_layout.specs.Feature.{feature_of, features, is_selector, row_of}
-use Rattle.nv_layout.proofs.FeatureTableLaws.{feature_at}
-use Rattle.nv_layout.specs.declared.feature.Feature.{Feature}
-use Rattle.nv_file.specs.FileValue.{NamespaceValue, is_attached_to}
-use Rattle.nv_model.specs.Ranges.{IsFeatureRule}
 use Rattle.nv_model.specs.declared.feature_rule.FeatureRule.{FeatureRule}
-use Rattle.nv_model.specs.Change.{changed}
 use Rattle.nv_model.proofs.FeatureLaws.{AreSound, first_is_sound, has_inserted, sound-insert, values-with}
-use Rattle.nv_model.specs.Values.{FeatureRules, first_value}
-use Rattle.nv_subsystem.specs.FromFile.{defaults_of, fill, rules_of, with_attachment, with_default, with_recovery}
-use Rattle.nv_subsystem.specs.FromFile.{with_rule}
-use Rattle.nv_model.specs.State.{Nsids}
-use Rattle.nv_model.specs.WellFormed.{is_supported}
-use Rattle.nv_model.specs.Values.{FeatureValues, ValueKey, key_cmp, key_of, recovery_key}
 use Rattle.nv_model.proofs.ValueLaws.{by_numbers, is_key}
-use Rattle.nv_model.specs.WellFormed.{AreRules, AreValues}
+use Rattle.nv_subsystem.proofs.Words.{All, AreRules, AreValues, both_ways, changed, defaults_of, Feature, feature_at}
+use Rattle.nv_subsystem.proofs.Words.{feature_of, FeatureRules, features, FeatureValues, fill, find, first_value, fold}
+use Rattle.nv_subsystem.proofs.Words.{get-empty, get_of_insert, if◌then◌else◌, is_attached_to, is_selector}
+use Rattle.nv_subsystem.proofs.Words.{is_supported, IsFeatureRule, key_cmp, key_of, list_any, map, NamespaceValue}
+use Rattle.nv_subsystem.proofs.Words.{nat_cmp, nat_tests, Nsids, option_map_or, recovery_key, row_of, rules_of}
+use Rattle.nv_subsystem.proofs.Words.{ValueKey, with_attachment, with_default, with_recovery, with_rule}
 
 -- ---- rules
 
@@ -70,17 +55,8 @@ module _ (rules : FeatureRules) (vwc : ℕ) where
       ≡ (list_any (λ s. is_key q (key_of f 0 s)) ss || map_of.contains_key m q)
   filled f [] m q = refl
   filled f (s ∷ ss) m q =
-      filled f ss (map_of.insert m (key_of f 0 s) (first_value rules (key_of f 0 s))) q
-      ∙ ap (λ b. list_any (λ s. is_key q (key_of f 0 s)) ss || b)
-      (has_inserted m (key_of f 0 s) (first_value rules (key_of f 0 s)) q)
-      ∙ moved (list_any (λ s. is_key q (key_of f 0 s)) ss) (is_key q (key_of f 0 s))
-      (map_of.contains_key m q)
-    where
-      moved : (l k c : Bool) → (l || cond k true c) ≡ ((k || l) || c)
-      moved true true c = refl
-      moved true false c = refl
-      moved false true c = refl
-      moved false false c = refl
+      let v = first_value rules (key_of f 0 s) in
+      filled f ss (map_of.insert m (key_of f 0 s) v) q ∙ grind (arith, has_inserted m (key_of f 0 s) v q)
 
   -- after a feature's defaults are filled in, its keys have values if it has defaults, and so have the keys before
   one_default : (m : FeatureValues) (f : Feature) (q : ValueKey)
@@ -102,15 +78,7 @@ module _ (rules : FeatureRules) (vwc : ℕ) where
       ≡ (list_any (is_default rules vwc q) fs || map_of.contains_key m q)
   some_defaults m [] q = refl
   some_defaults m (f ∷ fs) q =
-      some_defaults (with_default rules vwc m f) fs q
-      ∙ ap (λ b. list_any (is_default rules vwc q) fs || b) (one_default m f q)
-      ∙ moved (list_any (is_default rules vwc q) fs) (is_default rules vwc q f) (map_of.contains_key m q)
-    where
-      moved : (l p c : Bool) → (l || (p || c)) ≡ ((p || l) || c)
-      moved true true c = refl
-      moved true false c = refl
-      moved false true c = refl
-      moved false false c = refl
+      some_defaults (with_default rules vwc m f) fs q ∙ grind (arith, one_default m f q)
 
   -- ---- the values are sound
 
@@ -155,16 +123,8 @@ module _ (rules : FeatureRules) (vwc : ℕ) where
   -- a test of numbers, of which only the last part depends on the number, is true if that part is true of one
   some_key : (a b : Bool) (n : ℕ) (ss : List ℕ) → list_any (λ s. a && (b && (n == s))) ss
       ≡ (a && (b && list_any (λ s. s == n) ss))
-  some_key a b n [] = elim a as (λ a. false ≡ (a && (b && false)))
-      [ true ↦ elim b as (λ b. false ≡ (b && false)) [ true ↦ refl | false ↦ refl ] | false ↦ refl ]
-  some_key a b n (s ∷ ss) =
-      (λ i. (a && (b && turned n s i)) || some_key a b n ss i)
-      ∙ together a b (s == n) (list_any (λ s. s == n) ss)
-    where
-      together : (a b c d : Bool) → ((a && (b && c)) || (a && (b && d))) ≡ (a && (b && (c || d)))
-      together true true c d = refl
-      together true false c d = refl
-      together false b c d = refl
+  some_key a b n [] = grind arith
+  some_key a b n (s ∷ ss) = grind (arith, nat_tests, some_key a b n ss)
 
   -- two tests that agree on each element agree on whether one of a list passes
   any_alike : {A : Type 0} (p r : A → Bool) → ((x : A) → p x ≡ r x) → (xs : List A)
@@ -198,21 +158,8 @@ module _ (rules : FeatureRules) (vwc : ℕ) where
       by_kind : (s p a h z : Bool) → ((s && not p) && (a && (z && h)))
           ≡ (a && (s && (h && (if p
           then map_of.contains_key no_nsids q.nsid else z))))
-      by_kind s true a h z = none s a h ∙ λ i. a && (s && (h && sym nowhere i))
-        where
-          none : (s a h : Bool) → ((s && false) && (a && (z && h))) ≡ (a && (s && (h && false)))
-          none true true true = refl
-          none true true false = refl
-          none true false h = refl
-          none false true h = refl
-          none false false h = refl
-      by_kind true false true true true = refl
-      by_kind true false true true false = refl
-      by_kind true false true false true = refl
-      by_kind true false true false false = refl
-      by_kind true false false h z = refl
-      by_kind false false true h z = refl
-      by_kind false false false h z = refl
+      by_kind s true a h z = grind (arith, nowhere)
+      by_kind s false a h z = grind arith
 
   -- features with the same identifier are the same
   same_feature : (f g : Feature) → (row_of f).fid ≡ (row_of g).fid → f ≡ g

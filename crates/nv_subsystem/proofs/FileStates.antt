@@ -1,26 +1,14 @@
 -- The subsystem of a file is well formed.
 use Rattle.std.proofs.Common.{◌≡◌, ◌≢◌, ◌∙◌, ℕ, zero, suc, ◌≤◌, ◌==◌, ◌||◌, ℤ, pos, Bool, true, false, cond, List, []}
 use Rattle.std.proofs.Common.{◌∷◌, length, get_or, Option, Some, None, is_some, refl, sym, ap, subst, arith, int_eq}
-use Rattle.std.specs.Prelude.{All, AllPairs, if◌then◌else◌, count_by}
-use Rattle.std.specs.List.{fold, list_any}
-use Rattle.std.specs.Ordering.{nat_cmp}
-use Rattle.nv_bits.proofs.NumberLaws.{get_of_insert}
 use Rattle.std.specs.FinMap as map_of
-use Rattle.std.specs.FinMap.{get-empty}
-use Rattle.std.proofs.lemmas.Bool.{ne_eqb}
-use Rattle.std.proofs.lemmas.Bool.Decides.{Decides-int_eq, nat_tests}
-use Rattle.std.proofs.lemmas.List.{length-map}
-use Rattle.std.proofs.lemmas.List.Elements.{All-map, All-weaker}
-use Rattle.std.proofs.lemmas.List.Sums.{sum_by-cons}
-use Rattle.nv_file.specs.FileValue.{ControllerValue, FileValue, NamespaceValue, is_attached_to}
-use Rattle.nv_subsystem.specs.FromFile.{controller_of, rules_of, state_of, with_attachment, with_namespace}
-use Rattle.nv_file.specs.IsFile.{IsAttached, IsControllerEntry, IsFile, IsNamespaceEntry}
+use Rattle.nv_subsystem.proofs.Words.{All, All-map, All-weaker, AllPairs, controller_of, ControllerValue, count_by}
+use Rattle.nv_subsystem.proofs.Words.{Decides-int_eq, FileValue, fold, get-empty, get_of_insert, if◌then◌else◌}
+use Rattle.nv_subsystem.proofs.Words.{is_attached_to, IsAttached, IsController, IsControllerEntry, IsFile, IsNamespace}
+use Rattle.nv_subsystem.proofs.Words.{IsNamespaceEntry, IsWellFormed, length-map, list_any, Namespace, Namespaces}
+use Rattle.nv_subsystem.proofs.Words.{NamespaceValue, nat_cmp, nat_tests, ne_eqb, none_pass, Nsids, pairs_map, rules_of}
+use Rattle.nv_subsystem.proofs.Words.{state_of, sum_by-cons, untrue, used-empty, with_attachment, with_namespace}
 use Rattle.nv_subsystem.proofs.FileFeatures.{are_rules, attached_values, start_values}
-use Rattle.nv_model.specs.State.{Namespaces, Nsids}
-use Rattle.nv_model.specs.WellFormed.{IsController, IsNamespace, IsWellFormed}
-use Rattle.nv_model.specs.declared.namespace.Namespace.{Namespace}
-use Rattle.nv_model.proofs.MappedLaws.{none_pass, pairs_map, untrue}
-use Rattle.nv_model.proofs.UsedLaws.{used-empty}
 use Rattle.nv_subsystem.proofs.Capacities.{used-all}
 
 -- the namespace of a file with an NSID
@@ -136,11 +124,7 @@ one_number [] a b h i j = absurd (cc i)
 one_number (z ∷ []) a b h i j = same (sym (is_number z a i) ∙ is_number z b j)
   where
     is_number : (z : ℤ) (a : ℕ) → list_any (λ z. int_eq z (pos a)) (z ∷ []) ≡ true → z ≡ pos a
-    is_number z a i = (Decides-int_eq z (pos a)).0 (or_one (int_eq z (pos a)) i)
-      where
-        or_one : (b : Bool) → (b || false) ≡ true → b ≡ true
-        or_one true h = refl
-        or_one false h = absurd (cc h)
+    is_number z a i = (Decides-int_eq z (pos a)).0 (grind (arith, i))
 
     same : pos a ≡ pos b → a ≡ b
     same e = cc e
@@ -173,11 +157,6 @@ namespaces_of : (ns : List NamespaceValue) (q : ℕ) → AllPairs (λ a b. a.nsi
 unfolding Distinct
 namespaces_of ns q d = found map_of.empty ns q d ∙ ap (or_else (entry_at ns q)) (get-empty nat_cmp q)
 
--- a disjunction with false is the other value
-or_none : (b : Bool) → (b || false) ≡ b
-or_none true = refl
-or_none false = refl
-
 -- a controller of the state has an NSID attached if the namespace of the file with it says so
 attached_of : (ns : List NamespaceValue) (cntlid q : ℕ) → AllPairs (λ a b. a.nsid ≢ b.nsid) ns
     → map_of.contains_key (fold (with_attachment cntlid) map_of.empty ns) q ≡ says
@@ -185,7 +164,7 @@ attached_of : (ns : List NamespaceValue) (cntlid q : ℕ) → AllPairs (λ a b. 
 unfolding Distinct
 attached_of ns cntlid q d = marked map_of.empty ns cntlid q d
     ∙ ap (λ o. says (is_attached_to cntlid) (entry_at ns q) || is_some o) (get-empty nat_cmp q)
-    ∙ or_none _
+    ∙ grind arith
 
 -- an NSID whose entry passes a test has a namespace
 only_allocated : (o : Option NamespaceValue) (p : NamespaceValue → Bool) → says p o ≡ true

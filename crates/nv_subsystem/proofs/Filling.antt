@@ -1,8 +1,7 @@
 -- A list of copies of one element that is filled from its beginning.
 use Rattle.std.proofs.Common.{◌≡◌, ℕ, suc, ◌+◌, ◌-◌, ◌<◌, ◌∙◌, sym, ap, refl, arith, List, [], ◌∷◌, ◌++◌, length, map}
 use Rattle.std.proofs.Common.{take, set, get_or}
-use Rattle.std.specs.Prelude.{replicate}
-use Rattle.std.proofs.lemmas.List.{length-map, length-take-le, map-append, take_more}
+use Rattle.nv_subsystem.proofs.Words.{length-map, length-take-le, map-append, replicate, take_more}
 
 -- the first copy after the elements is replaced by one more element
 put_first : {Y : Type 0} (ys : List Y) (n : ℕ) (z y : Y)

@@ -1,12 +1,9 @@
 -- The lowest number without a slot's value is the least free NSID.
 use Rattle.std.proofs.Common.{◌≡◌, ℕ, zero, suc, ◌+◌, ◌<◌, Bool, true, false, not, Option, Some, None, MatchOption}
 use Rattle.std.proofs.Common.{refl, sym, ap, arith, inl, inr}
-use Rattle.std.proofs.lemmas.Bool.{cases_eq}
-use Rattle.std.specs.List.{find, range_with_len}
 use Rattle.std.specs.FinMap as map_of
-use Rattle.nv_bits.specs.Numbers.{IsOf}
-use Rattle.nv_bits.specs.Slots.{IsLowestFree, RangeMap}
-use Rattle.nv_model.specs.declared.namespace.Namespace.{Namespace}
+use Rattle.std.specs.List.{find}
+use Rattle.nv_subsystem.proofs.Words.{cases_eq, IsLowestFree, IsOf, Namespace, range_with_len, RangeMap}
 
 -- if no number of a range passes a test, none is found
 none_found : (p : ℕ → Bool) (first count : ℕ) → ((q : ℕ) → IsOf first count q → p q ≡ false)

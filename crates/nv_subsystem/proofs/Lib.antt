@@ -1,3 +1,4 @@
+pub mod Words
 pub mod TaggedLaws
 pub mod AnswerLaws
 pub mod Filling

@@ -2,12 +2,10 @@
 use Rattle.std.proofs.Common.{append_assoc, append-nil, ◌≡◌, ◌∙◌, ℕ, ◌+◌, ◌≤◌, ap, sym, refl, arith, List, [], ◌∷◌}
 use Rattle.std.proofs.Common.{◌++◌, length, nat_lt}
 use Rattle.std.specs.FinMap as map_of
-use Rattle.std.specs.FinMap.{len-entries}
-use Rattle.std.proofs.lemmas.List.{length-append, length-map}
-use Rattle.std.proofs.lemmas.List.Sums.{count_by-le-length, length-filter}
-use Rattle.nv_bits.specs.Numbers.{NumberMap}
 use Rattle.nv_bits.specs.Above.{above}
 use Rattle.nv_layout.specs.NsList.{bytes_of_ns_list}
+use Rattle.nv_subsystem.proofs.Words.{count_by-le-length, len-entries, length-append, length-filter, length-map}
+use Rattle.nv_subsystem.proofs.Words.{NumberMap}
 
 -- a map has as many numbers as it lists
 pub length-keys : {A : Type 0} (m : NumberMap A) → map_of.len m ≡ length (map_of.keys m)

@@ -1,19 +1,12 @@
 -- Slots and the running total when a namespace is added or removed.
 use Rattle.std.proofs.Common.{◌≡◌, ◌∙◌, ℕ, ◌+◌, ◌-◌, ◌==◌, ◌<◌, ◌≤◌, Bool, true, false, cond, List, length, Option}
 use Rattle.std.proofs.Common.{Some, None, is_some, refl, sym, ap, arith}
-use Rattle.std.specs.Prelude.{All}
 use Rattle.std.specs.FinMap as map_of
-use Rattle.std.specs.FinMap.{get-empty}
-use Rattle.std.specs.Ordering.{nat_cmp}
-use Rattle.nv_bits.proofs.NumberLaws.{get_of_insert, get_of_remove, remove_absent}
-use Rattle.nv_bits.specs.Slots.{RangeMap}
 use Rattle.nv_model.specs.declared.format.Format.{Format}
-use Rattle.nv_model.specs.declared.namespace.Namespace.{Namespace}
-use Rattle.nv_model.specs.WellFormed.{used}
-use Rattle.nv_model.proofs.ManagementLaws.{left}
-use Rattle.nv_subsystem.specs.Sound.{IsSized, IsSound}
-use Rattle.nv_model.proofs.UsedLaws.{used-change, used-empty, used-insert, used-remove}
 use Rattle.nv_subsystem.specs.declared.controller.Controller.{Controller}
+use Rattle.nv_subsystem.proofs.Words.{All, get-empty, get_of_insert, get_of_remove, IsSized, IsSound, left, Namespace}
+use Rattle.nv_subsystem.proofs.Words.{nat_cmp, NumberMap, RangeMap, remove_absent, used, used-change, used-empty}
+use Rattle.nv_subsystem.proofs.Words.{used-insert, used-remove}
 
 -- slots, formats and controllers are sound, and the running total and the used capacity are TNVMCAP
 abbrev AddsUp : RangeMap Namespace → List Format → List Controller → ℕ → ℕ → Type 0
@@ -29,15 +22,10 @@ module _ (m : RangeMap Namespace) (fs : List Format) (cs : List Controller)
   -- the slots stay sound if a slot gets a namespace in one of the first 16 formats
   sound-slot : (x : Namespace) → x.format < 16
       → IsSound (record m { values = map_of.insert m.values n x }) fs cs
-  sound-slot x small = record {
-    first = is.0.first;
-    count = is.0.count;
-    formats = is.0.formats;
-    block_sizes = is.0.block_sizes;
-    few = is.0.few;
-    controllers = is.0.controllers;
-    in_formats = λ q y e. at_test q y (q == n) (sym (get_of_insert m.values n x q) ∙ e);
-  }
+  sound-slot x small =
+      let in_formats : (q : ℕ) (y : Namespace) → map_of.get (map_of.insert m.values n x) q ≡ Some y → y.format < 16 =
+      λ q y e. at_test q y (q == n) (sym (get_of_insert m.values n x q) ∙ e) in
+      assumption (in_formats, is.0)
     where
       at_test : (q : ℕ) (y : Namespace) (b : Bool) → cond b (Some x) (map_of.get m.values q)
           ≡ Some y → y.format < 16
@@ -66,20 +54,12 @@ module _ (m : RangeMap Namespace) (fs : List Format) (cs : List Controller)
   -- removing what NSID n has keeps the slots sound, with a total that adds up
   sound-without : (total : ℕ) → total + used (map_of.remove m.values n) ≡ tnvmcap
       → AddsUp (record m { values = map_of.remove m.values n }) fs cs total tnvmcap
-  sound-without total adds = (
-    record {
-      first = is.0.first;
-      count = is.0.count;
-      formats = is.0.formats;
-      block_sizes = is.0.block_sizes;
-      few = is.0.few;
-      controllers = is.0.controllers;
-      in_formats = λ q y e. is.0.in_formats q y
-          (sym (ap (λ b. cond b None (map_of.get m.values q)) (left m.values n q (ap is_some e)).0)
-          ∙ sym (get_of_remove m.values n q) ∙ e);
-    },
-    adds,
-  )
+  sound-without total adds =
+      let in_formats : (q : ℕ) (y : Namespace) → map_of.get (map_of.remove m.values n) q ≡ Some y → y.format < 16 =
+      λ q y e. is.0.in_formats q y
+      (sym (ap (λ b. cond b None (map_of.get m.values q)) (left m.values n q (ap is_some e)).0)
+      ∙ sym (get_of_remove m.values n q) ∙ e) in
+      (assumption (in_formats, is.0), adds)
 
   -- removing a namespace adds its capacity to the total
   pub sound-remove : (x : Namespace) → map_of.get m.values n ≡ Some x
@@ -98,33 +78,15 @@ module _ (m : RangeMap Namespace) (fs : List Format) (cs : List Controller)
 pub sound-clear : (m : RangeMap Namespace) (fs : List Format) (cs : List Controller)
     (unallocated tnvmcap : ℕ) → AddsUp m fs cs unallocated tnvmcap
     → AddsUp (record m { values = map_of.empty }) fs cs tnvmcap tnvmcap
-sound-clear m fs cs unallocated tnvmcap is = (
-  record {
-    first = is.0.first;
-    count = is.0.count;
-    formats = is.0.formats;
-    block_sizes = is.0.block_sizes;
-    few = is.0.few;
-    controllers = is.0.controllers;
-    in_formats = λ q y e. let both : None ≡ Some y = sym (get-empty nat_cmp q)
-        ∙ e in absurd (cc both);
-  },
-  omega (arith, used-empty),
-)
+sound-clear m fs cs unallocated tnvmcap is =
+    let none : NumberMap Namespace = map_of.empty in
+    let in_formats : (q : ℕ) (y : Namespace) → map_of.get none q ≡ Some y → y.format < 16 =
+    λ q y e. let both : None ≡ Some y = sym (get-empty nat_cmp q) ∙ e in absurd (cc both) in
+    (assumption (in_formats, is.0), omega (arith, used-empty))
 
 -- the slots and the total stay right if the controllers keep their number and sizes
 pub sound-controllers : (m : RangeMap Namespace) (fs : List Format) (old new : List Controller)
     (unallocated tnvmcap : ℕ) → AddsUp m fs old unallocated tnvmcap
     → length new ≡ length old → All (IsSized m.count) new → AddsUp m fs new unallocated tnvmcap
-sound-controllers m fs old new unallocated tnvmcap is len sized = (
-  record {
-    first = is.0.first;
-    count = is.0.count;
-    formats = is.0.formats;
-    block_sizes = is.0.block_sizes;
-    in_formats = is.0.in_formats;
-    few = omega (arith, is.0.few);
-    controllers = sized;
-  },
-  is.1,
-)
+sound-controllers m fs old new unallocated tnvmcap is len sized =
+    let few : length new ≤ 16 = omega (arith, is.0.few) in (assumption (few, sized, is.0), is.1)

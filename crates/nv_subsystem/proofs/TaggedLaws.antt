@@ -1,63 +1,42 @@
 -- A subsystem with the phase tags of its logs, and the same without them.
 use Rattle.std.proofs.Common.{◌≡◌, ◌≢◌, ◌∙◌, ℕ, zero, suc, ◌+◌, ◌-◌, ◌≤◌, ◌==◌, ◌&&◌, not, Bool, true, false, ap, arith}
 use Rattle.std.proofs.Common.{List, [], ◌∷◌, ◌++◌, get_or, length, map, Option, None, Some, refl, subst, sym, take}
-use Rattle.std.proofs.lemmas.List.{get_or-map, length-map, map-append, take-map}
-use Rattle.std.proofs.lemmas.List.Elements.{All-map}
 use Rattle.std.specs.FinMap as map_of
-use Rattle.std.specs.List.{All, list_all}
-use Rattle.std.specs.Option.{option_map_or}
-use Rattle.std.specs.Prelude.{if◌then◌else◌, nat_le, nat_lt, replicate, slice_get}
+use Rattle.nv_command.specs.declared.reply.Reply.TheVariants as reply
+use Rattle.std.specs.List.{All}
 use Rattle.nv_command.specs.LogPage.{log_asked}
 use Rattle.nv_command.specs.declared.log_page.LogPage.{LogPage}
 use Rattle.nv_command.specs.declared.log_page.LogPage.TheVariants.{ErrorInformation, Health}
 use Rattle.nv_command.specs.Logs.{without_phases}
 use Rattle.nv_command.specs.Nsid.{broadcast_nsid}
 use Rattle.nv_command.specs.declared.command.Command.{Command}
-use Rattle.nv_command.specs.declared.command.Command.TheVariants.{IdentifyController}
-use Rattle.nv_command.specs.declared.command.Command.TheVariants.{Create, Delete, Attachment}
+use Rattle.nv_command.specs.declared.command.Command.TheVariants.{IdentifyController, Create, Delete, Attachment}
 use Rattle.nv_command.specs.declared.command.Command.TheVariants.{Format, SetFeature, GetLog}
-use Rattle.nv_command.specs.declared.refusal.Refusal.{Refusal}
-use Rattle.nv_command.specs.declared.reply.Reply.{Reply}
-use Rattle.nv_command.specs.declared.reply.Reply.TheVariants as reply
-use Rattle.nv_command.specs.declared.status_code.StatusCode.TheVariants.{ControllerListInvalid}
-use Rattle.nv_command.specs.declared.status_code.StatusCode.TheVariants.{InvalidFieldInCommand}
+use Rattle.nv_command.specs.declared.status_code.StatusCode.TheVariants.{ControllerListInvalid, InvalidFieldInCommand}
 use Rattle.nv_command.specs.declared.status_code.StatusCode.TheVariants.{InvalidNamespaceOrFormat}
-use Rattle.nv_command.specs.declared.status_code.StatusCode.TheVariants.{NamespaceAlreadyAttached}
-use Rattle.nv_command.specs.declared.status_code.StatusCode.TheVariants.{NamespaceIsPrivate}
+use Rattle.nv_command.specs.declared.status_code.StatusCode.TheVariants.{NamespaceAlreadyAttached, NamespaceIsPrivate}
 use Rattle.nv_command.specs.declared.status_code.StatusCode.TheVariants.{NamespaceNotAttached}
-use Rattle.nv_layout.specs.ErrorEntry.{ErrorEntryFits, no_entry}
 use Rattle.nv_layout.specs.ErrorEntryBytes.{without_phase}
 use Rattle.nv_layout.proofs.LogLaws.{fits_with_phase}
-use Rattle.nv_layout.specs.declared.error_entry.ErrorEntry.{ErrorEntry}
-use Rattle.nv_layout.specs.declared.feature.Feature.{Feature}
 use Rattle.nv_layout.specs.declared.id_ctrl.IdCtrl.{IdCtrl}
 use Rattle.nv_layout.specs.declared.smart.Smart.{Smart}
-use Rattle.nv_model.proofs.MappedLaws.{count_by-map, list_any-map, pairs_map}
 use Rattle.nv_model.specs.Attachment.{attach_rows, attachment_rows, count_with, detach_rows, fewer, first_rows}
-use Rattle.nv_model.specs.Attachment.{has_attached, has_one_attached, is_ascending, is_known, is_listed}
-use Rattle.nv_model.specs.Attachment.{is_private, lacks_one_attached, more}
-use Rattle.nv_model.specs.Change.{changed_at_keys}
-use Rattle.nv_model.specs.Meaning.{effect_of}
-use Rattle.nv_model.specs.Step.{log_entry}
-use Rattle.nv_model.specs.Features.{changed_nsids, with_values}
-use Rattle.nv_layout.specs.Feature.{feature_of}
+use Rattle.nv_model.specs.Attachment.{has_one_attached, is_ascending, is_private, lacks_one_attached, more}
+use Rattle.nv_model.specs.Meaning.{effect_of, refusal_of, rows_of, reply_of}
 use Rattle.nv_model.specs.Format.{in_format}
-use Rattle.nv_model.specs.IdentifyController.{id_ctrl_of, no_controller}
-use Rattle.nv_model.specs.Conditions.{limit_of}
+use Rattle.nv_model.specs.Conditions.{limit_of, concerned, free_nsid, is_allocated, is_valid, Row, first_refusal, row}
 use Rattle.nv_model.specs.Logs.{log_reply, errors_of, no_health, smart_of}
-use Rattle.nv_model.specs.Management.{Attached, new_namespace, with_nsids, without, without_all, without_any}
-use Rattle.nv_model.specs.Management.{without_one}
-use Rattle.nv_model.specs.Conditions.{concerned, free_nsid, is_allocated, is_valid}
-use Rattle.nv_model.specs.Meaning.{refusal_of, rows_of}
-use Rattle.nv_model.specs.Meaning.{reply_of}
-use Rattle.nv_model.specs.Step.{reset}
-use Rattle.nv_model.specs.Conditions.{Row, first_refusal, row}
-use Rattle.nv_model.specs.State.{Controller, Namespaces, State, changed_at, controller_at, with_controller}
-use Rattle.nv_model.specs.Answer.{answer_by, answer_to, answer_without_phases}
-use Rattle.nv_model.specs.Step.{next_count, refused, step, step_by, with_command, with_refusal}
-use Rattle.nv_model.specs.WellFormed.{IsController, IsWellFormed}
+use Rattle.nv_model.specs.Management.{Attached, new_namespace, without, without_all, without_any, without_one}
 use Rattle.nv_model.specs.declared.origin.Origin.{Origin}
-use Rattle.nv_subsystem.specs.Tagged.{booked, newest_tagged, settled, untagged, untagged_log, with_booked, with_phase}
+use Rattle.nv_subsystem.proofs.Words.{All-map, answer_by, answer_to, answer_without_phases, booked, changed_at}
+use Rattle.nv_subsystem.proofs.Words.{changed_at_keys, changed_nsids, Controller, controller_at, count_by-map}
+use Rattle.nv_subsystem.proofs.Words.{ErrorEntry, ErrorEntryFits, Feature, feature_of, get_or-map, has_attached}
+use Rattle.nv_subsystem.proofs.Words.{id_ctrl_of, if◌then◌else◌, is_known, is_listed, IsController, IsWellFormed}
+use Rattle.nv_subsystem.proofs.Words.{length-map, list_all, list_any-map, log_entry, map-append, Namespaces, nat_le}
+use Rattle.nv_subsystem.proofs.Words.{nat_lt, newest_tagged, next_count, no_controller, no_entry, option_map_or}
+use Rattle.nv_subsystem.proofs.Words.{pairs_map, Refusal, refused, replicate, Reply, reset, settled, slice_get, State}
+use Rattle.nv_subsystem.proofs.Words.{step, step_by, take-map, untagged, untagged_log, with_booked, with_command}
+use Rattle.nv_subsystem.proofs.Words.{with_controller, with_nsids, with_phase, with_refusal, with_values}
 
 -- ---- logs
 
@@ -350,17 +329,7 @@ settled_untagged s c k origin o is =
 -- a controller with another log of the same length, whose entries fit, is still one that IsController allows
 with_log : (ns : Namespaces) (x : Controller) (log : List ErrorEntry) → length log ≡ length x.log
     → All ErrorEntryFits log → IsController ns x → IsController ns (record x { log = log })
-with_log ns x log same fit is = record {
-  identity = is.identity;
-  rules = is.rules;
-  smart = is.smart;
-  log = same ∙ is.log;
-  entries = fit;
-  refusals = is.refusals;
-  commands = is.commands;
-  attached = is.attached;
-  values = is.values;
-}
+with_log ns x log same fit is = assumption (same ∙ is.log, fit, is)
 
 -- a controller that IsController allows is also allowed without phase tags
 controller_keeps : (ns : Namespaces) (x : Controller) → IsController ns x → IsController ns (untagged_log x)

@@ -1,32 +1,20 @@
 -- Laws of the tables that hold the values of features.
-use Rattle.std.proofs.Common.{◌≡◌, ◌≢◌, ◌∙◌, ℕ, ◌+◌, ◌*◌, ◌/◌, ◌%◌, ◌==◌, ◌&&◌, Bool, true, false, cond}
-use Rattle.std.proofs.Common.{List, [], ◌∷◌, ◌++◌, map, Option, Some, None, is_some, refl, sym, ap, subst, arith}
-use Rattle.std.specs.Prelude.{nat_lt, option_map, if◌then◌else◌}
-use Rattle.std.specs.Option.{option_map_or, option_or}
-use Rattle.std.proofs.lemmas.Bool.Decides.{nat_tests}
-use Rattle.std.specs.Ordering.{nat_cmp}
-use Rattle.std.specs.Cmp.{unsigned_tied}
+use Rattle.std.proofs.Common.{◌≡◌, ◌≢◌, ◌∙◌, ℕ, ◌+◌, ◌*◌, ◌/◌, ◌%◌, ◌==◌, ◌&&◌, Bool, true, false, cond, List, [], ◌∷◌}
+use Rattle.std.proofs.Common.{◌++◌, map, Option, Some, None, is_some, refl, sym, ap, subst, arith}
 use Rattle.std.specs.FinMap as map_of
-use Rattle.std.specs.FinMap.{get-empty, get-entries, get-from_entries}
 use Rattle.std.specs.FinMap.Entries.{find}
-use Rattle.nv_bits.proofs.NumberLaws.{get_of_insert, get_of_remove}
-use Rattle.nv_bits.specs.Numbers.{IsOf, NumberMap}
-use Rattle.nv_bits.specs.Slots.{RangeMap}
-use Rattle.nv_layout.specs.Feature.{is_selector, row_of}
-use Rattle.nv_layout.proofs.FeatureTableLaws.{of_namespaces, other_identifier, selector_below}
-use Rattle.nv_layout.specs.declared.feature.Feature.{Feature}
 use Rattle.nv_layout.specs.declared.feature.Feature.TheVariants.{ErrorRecovery}
-use Rattle.nv_model.specs.Values.{FeatureRules, FeatureValues, ValueKey, first_value, is_alone, key_cmp, key_of}
-use Rattle.nv_model.specs.Values.{default_of, recovery_key, restored, rule_for}
 use Rattle.nv_model.specs.Change.{changed_at}
-use Rattle.nv_model.specs.Features.{is_set, write}
-use Rattle.nv_model.specs.Step.{all_restored}
-use Rattle.nv_model.proofs.ResetLaws.{get-all_restored}
 use Rattle.nv_model.proofs.ValueLaws.{by_numbers, is_key, key_cmp_total, put_back, removed_absent, same_values}
 use Rattle.nv_model.proofs.ValueLaws.{value_of_insert, value_of_remove, value_of_retain}
-use Rattle.nv_subsystem.specs.ValueTable.{AreTables, IsOver, ValueTable, key_at, keyed, values_of}
-use Rattle.nv_subsystem.specs.inner.ValueTable.{AreRestored, restored_at}
 use Rattle.nv_model.specs.declared.feature_value.FeatureValue.{FeatureValue}
+use Rattle.nv_subsystem.proofs.Words.{all_restored, AreRestored, AreTables, default_of, Feature, FeatureRules}
+use Rattle.nv_subsystem.proofs.Words.{FeatureValues, first_value, get-all_restored, get-empty, get-entries}
+use Rattle.nv_subsystem.proofs.Words.{get-from_entries, get_of_insert, get_of_remove, if◌then◌else◌, is_alone}
+use Rattle.nv_subsystem.proofs.Words.{is_selector, is_set, IsOf, IsOver, key_at, key_cmp, key_of, keyed, nat_cmp}
+use Rattle.nv_subsystem.proofs.Words.{nat_lt, nat_tests, NumberMap, of_namespaces, option_map, option_map_or, option_or}
+use Rattle.nv_subsystem.proofs.Words.{other_identifier, RangeMap, recovery_key, restored, restored_at, row_of, rule_for}
+use Rattle.nv_subsystem.proofs.Words.{selector_below, unsigned_tied, ValueKey, values_of, ValueTable, write}
 
 -- a map from numbers to values of features
 abbrev Table : Type 0

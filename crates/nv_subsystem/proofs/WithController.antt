@@ -1,10 +1,8 @@
 -- A subsystem with one controller changed.
 use Rattle.std.proofs.Common.{◌≡◌, ◌∙◌, ℕ, ◌<◌, ap, sym, arith, List, length, map, set, get_or}
-use Rattle.std.proofs.lemmas.List.{length-map}
-use Rattle.nv_subsystem.specs.inner.ControllerView.{controller_view}
-use Rattle.nv_model.specs.State.{Controller, State, with_controller}
 use Rattle.nv_subsystem.specs.declared.controller.Controller as code
 use Rattle.nv_model.proofs.ChangedAtLaws.{views_changed}
+use Rattle.nv_subsystem.proofs.Words.{Controller, controller_view, length-map, State, with_controller}
 
 -- the state with these controllers
 abbrev pub with_controllers : State → List Controller → State

@@ -10,10 +10,9 @@ use Rattle.nv_layout.specs.Feature.{features, row_of}
 use Rattle.nv_layout.specs.declared.feature.Feature.{Feature}
 use Rattle.nv_model.specs.declared.feature_rule.FeatureRule.{FeatureRule}
 use Rattle.nv_model.specs.Change.{Change, changed}
-use Rattle.nv_model.specs.Values.{FeatureRules, first_value}
+use Rattle.nv_model.specs.Values.{FeatureRules, first_value, FeatureValues, keys_of, recovery_key}
 use Rattle.nv_model.specs.WellFormed.{is_supported}
 use Rattle.nv_model.specs.State.{Controller, Namespaces, Nsids, State}
-use Rattle.nv_model.specs.Values.{FeatureValues, keys_of, recovery_key}
 
 -- the namespaces with one more of the file
 abbrev pub with_namespace : Namespaces → NamespaceValue → Namespaces

@@ -1,15 +1,15 @@
 //! Namespace Attachment: when an attach or a detach is refused, and what it changes. Section
 //! "Namespace Attachment command".
 
-ghost use Rattle.std.specs.Prelude.{◌≡◌, ℕ, false, true, map, All};
-ghost use Rattle.nv_bits.specs.Numbers.{IsOf};
-ghost use Rattle.nv_model.specs.Attachment.{attach_rows, attached, attachment_rows, count_with};
-ghost use Rattle.nv_model.specs.Attachment.{detach_rows, detached, fewer};
-ghost use Rattle.nv_model.specs.Attachment.{has_one_attached, is_ascending, is_known};
-ghost use Rattle.nv_model.specs.Attachment.{is_list_of, is_listed, is_private};
-ghost use Rattle.nv_model.specs.Attachment.{lacks_one_attached, more, with_attachments};
-ghost use Rattle.nv_subsystem.specs.inner.ControllerView.{controller_view};
-ghost use Rattle.nv_model.specs.Management.{with_nsids, without, without_any};
+ghost use Rattle.std.specs.Prelude.{◌≡◌, ℕ, false, true, All};
+ghost use Rattle.nv_model.specs.Attachment.{attach_rows, attachment_rows, count_with, detach_rows};
+ghost use Rattle.nv_model.specs.Attachment.{has_one_attached};
+ghost use Rattle.nv_model.specs.Attachment.{is_ascending, is_known, is_list_of, is_listed};
+ghost use Rattle.nv_model.specs.Attachment.{is_private};
+ghost use Rattle.nv_model.specs.Attachment.{lacks_one_attached, with_attachments};
+ghost use Rattle.nv_subsystem.specs.inner.Attachments.{HasPlace, changed_by};
+ghost use Rattle.nv_subsystem.specs.inner.ControllerView.{Becomes, EachBecomes, controller_view};
+ghost use Rattle.nv_model.specs.Management.{with_attached, with_nsids};
 ghost use Rattle.nv_model.specs.Conditions.{is_valid};
 ghost use Rattle.nv_model.specs.inner.Conditions.{Checks};
 ghost use Rattle.nv_subsystem.specs.Sound.{IsSized};
@@ -34,56 +34,49 @@ fn is_ascending(ids: &[u16]) -> bool
         .all(|(id, next)| *id < *next)
 }
 
-/// Attaches a namespace to the listed controllers.
-fn attach_listed(controllers: &mut [Controller], nsid: u32, ids: &[u16])
-    requires { (nn : ℕ) × All (IsSized nn) controllers.old × IsOf 1 nn nsid }
-    ensures value { map controller_view controllers.new
-        ≡ map (with_nsids (more nsid ids.now)) (map controller_view controllers.old) }
-    ensures sized { (nn : ℕ)
-        → All (IsSized nn) controllers.old → All (IsSized nn) controllers.new }
-{
-    for controller in controllers.iter_mut() {
-        if is_listed(ids, controller) {
-            controller.attach(nsid);
+/// A change of what each controller has attached.
+#[derive(Clone, Copy)]
+pub(crate) enum AttachmentChange<'a> {
+    /// Attaches a namespace to the listed controllers.
+    Attach { nsid: u32, ids: &'a [u16] },
+    /// Detaches a namespace from the listed controllers.
+    Detach { nsid: u32, ids: &'a [u16] },
+    /// Detaches a namespace from each controller.
+    DetachEverywhere { nsid: u32 },
+    /// Detaches all namespaces from each controller.
+    DetachAll,
+}
+
+impl Controller {
+    /// Changes what the controller has attached.
+    fn change(&mut self, change: AttachmentChange<'_>)
+        requires { (nn : ℕ) × IsSized nn self.old × HasPlace nn change }
+        ensures { Becomes (with_nsids (changed_by change.entry)) self.old self.new }
+    {
+        match change {
+            AttachmentChange::Attach { nsid, ids } => {
+                if is_listed(ids, self) {
+                    self.attach(nsid);
+                }
+            }
+            AttachmentChange::Detach { nsid, ids } => {
+                if is_listed(ids, self) {
+                    self.detach(nsid);
+                }
+            }
+            AttachmentChange::DetachEverywhere { nsid } => self.detach(nsid),
+            AttachmentChange::DetachAll => self.detach_all(),
         }
     }
 }
 
-/// Detaches a namespace from the listed controllers.
-fn detach_listed(controllers: &mut [Controller], nsid: u32, ids: &[u16])
-    ensures value { map controller_view controllers.new
-        ≡ map (with_nsids (fewer nsid ids.now)) (map controller_view controllers.old) }
-    ensures sized { (nn : ℕ)
-        → All (IsSized nn) controllers.old → All (IsSized nn) controllers.new }
+/// Changes what each controller has attached.
+fn change_each(controllers: &mut [Controller], change: AttachmentChange<'_>)
+    requires { (nn : ℕ) × All (IsSized nn) controllers.old × HasPlace nn change }
+    ensures { EachBecomes (with_nsids (changed_by change.entry)) controllers.old controllers.new }
 {
     for controller in controllers.iter_mut() {
-        if is_listed(ids, controller) {
-            controller.detach(nsid);
-        }
-    }
-}
-
-/// Detaches a namespace from each controller.
-pub(crate) fn detach_everywhere(controllers: &mut [Controller], nsid: u32)
-    ensures value { map controller_view controllers.new
-        ≡ map (with_nsids (without nsid)) (map controller_view controllers.old) }
-    ensures sized { (nn : ℕ)
-        → All (IsSized nn) controllers.old → All (IsSized nn) controllers.new }
-{
-    for controller in controllers.iter_mut() {
-        controller.detach(nsid);
-    }
-}
-
-/// Detaches all namespaces from each controller.
-pub(crate) fn detach_all(controllers: &mut [Controller])
-    ensures value { map controller_view controllers.new
-        ≡ map (with_nsids without_any) (map controller_view controllers.old) }
-    ensures sized { (nn : ℕ)
-        → All (IsSized nn) controllers.old → All (IsSized nn) controllers.new }
-{
-    for controller in controllers.iter_mut() {
-        controller.detach_all();
+        controller.change(change);
     }
 }
 
@@ -199,19 +192,12 @@ impl Subsystem {
         }
     }
 
-    /// Attaches a namespace to all listed controllers.
-    fn attach(&mut self, nsid: u32, ids: &[u16])
-        requires { is_valid self.old nsid ≡ true }
-        ensures { self.new ≡ attached self.old nsid ids.now }
+    /// Changes what each controller has attached.
+    pub(crate) fn change_each(&mut self, change: AttachmentChange<'_>)
+        requires { HasPlace self.old.nn change }
+        ensures { self.new ≡ with_attached self.old (changed_by change.entry) }
     {
-        attach_listed(&mut self.controllers, nsid, ids);
-    }
-
-    /// Detaches a namespace from all listed controllers.
-    fn detach(&mut self, nsid: u32, ids: &[u16])
-        ensures { self.new ≡ detached self.old nsid ids.now }
-    {
-        detach_listed(&mut self.controllers, nsid, ids);
+        change_each(&mut self.controllers, change);
     }
 
     /// Attaches a namespace to all listed controllers, or detaches it from them.
@@ -220,9 +206,9 @@ impl Subsystem {
         ensures { self.new ≡ with_attachments self.old nsid detach ids.now }
     {
         if detach {
-            self.detach(nsid, ids);
+            self.change_each(AttachmentChange::Detach { nsid, ids });
         } else {
-            self.attach(nsid, ids);
+            self.change_each(AttachmentChange::Attach { nsid, ids });
         }
     }
 }

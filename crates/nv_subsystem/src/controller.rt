@@ -1,7 +1,7 @@
 //! A controller of a subsystem.
 
 ghost use Rattle.std.specs.Prelude.{◌≡◌, ◌+◌, ◌<◌, ◌^◌, ℕ};
-ghost use Rattle.nv_subsystem.specs.inner.ControllerView.{controller_view};
+ghost use Rattle.nv_subsystem.specs.inner.ControllerView.{Becomes};
 ghost use Rattle.nv_bits.specs.Numbers.{IsOf};
 ghost use Rattle.nv_model.specs.Attachment.{with_one};
 ghost use Rattle.nv_model.specs.Management.{with_nsids, without, without_any};
@@ -54,9 +54,7 @@ impl Controller {
     /// Attaches a namespace, with its Error Recovery at the default.
     pub(crate) fn attach(&mut self, nsid: u32)
         requires { (nn : ℕ) × IsSized nn self.old × IsOf 1 nn nsid }
-        ensures view { controller_view self.new
-            ≡ with_nsids (with_one nsid) (controller_view self.old) }
-        ensures sized { (nn : ℕ) → IsSized nn self.old → IsSized nn self.new }
+        ensures { Becomes (with_nsids (with_one nsid)) self.old self.new }
     {
         let rule = rule_of(&self.rules, Feature::ErrorRecovery);
         self.attached.insert(nsid);
@@ -70,9 +68,7 @@ impl Controller {
 
     /// Detaches a namespace and removes its Error Recovery.
     pub(crate) fn detach(&mut self, nsid: u32)
-        ensures view { controller_view self.new
-            ≡ with_nsids (without nsid) (controller_view self.old) }
-        ensures sized { (nn : ℕ) → IsSized nn self.old → IsSized nn self.new }
+        ensures { Becomes (with_nsids (without nsid)) self.old self.new }
     {
         self.attached.remove(nsid);
         self.values.remove(nsid);
@@ -80,9 +76,7 @@ impl Controller {
 
     /// Detaches all namespaces.
     pub(crate) fn detach_all(&mut self)
-        ensures view { controller_view self.new
-            ≡ with_nsids without_any (controller_view self.old) }
-        ensures sized { (nn : ℕ) → IsSized nn self.old → IsSized nn self.new }
+        ensures { Becomes (with_nsids without_any) self.old self.new }
     {
         self.attached.clear();
         self.values.clear();
@@ -91,10 +85,8 @@ impl Controller {
     /// Records a refusal as the newest entry of the error log, with its phase tag.
     pub(crate) fn book(&mut self, origin: Origin, nsid: u32, refusal: Refusal)
         requires { self.old.log.most ≡ self.old.identity.numbers.elpe + 1 }
-        ensures refusal { controller_view self.new
-            ≡ with_booked nsid origin refusal (controller_view self.old) }
+        ensures refusal { Becomes (with_booked nsid origin refusal) self.old self.new }
         ensures range { origin.cid < 2 ^ 16 }
-        ensures sized { (nn : ℕ) → IsSized nn self.old → IsSized nn self.new }
     {
         self.refusals = self.refusals.saturating_add(1);
         self.log.book(self.refusals, origin, nsid, refusal);

@@ -1,17 +1,17 @@
 //! Get Features and Set Features: when they are refused, what they return, and what they change.
 //! Sections "Get Features command" and "Set Features command".
 
-ghost use Rattle.std.specs.Prelude.{◌≡◌, ◌<◌, ℕ, true, length, map, All};
+ghost use Rattle.std.specs.Prelude.{◌≡◌, ◌<◌, true, length, map, All};
 ghost use Rattle.std.specs.List.{fold};
 ghost use Rattle.nv_layout.specs.Feature.{is_selector};
 ghost use Rattle.nv_model.specs.Change.{changed};
-ghost use Rattle.nv_subsystem.specs.inner.ControllerView.{controller_view};
-ghost use Rattle.nv_model.specs.Features.{capabilities, feature_number, get_feature_rows};
-ghost use Rattle.nv_model.specs.Features.{get_rows, rule_at, selected, set_feature_rows};
-ghost use Rattle.nv_model.specs.Features.{set_rows, supported_at, told, with_feature};
-ghost use Rattle.nv_model.specs.Features.{with_value, with_values, write};
+ghost use Rattle.nv_subsystem.specs.inner.ControllerView.{Becomes, controller_view};
+ghost use Rattle.nv_model.specs.Features.{capabilities, feature_number, get_feature_rows, get_rows};
+ghost use Rattle.nv_model.specs.Features.{rule_at, selected};
+ghost use Rattle.nv_model.specs.Features.{set_feature_rows, set_rows, supported_at, told};
+ghost use Rattle.nv_model.specs.Features.{with_feature, with_value};
+ghost use Rattle.nv_model.specs.Features.{with_values, write};
 ghost use Rattle.nv_model.specs.inner.Conditions.{Checks};
-ghost use Rattle.nv_subsystem.specs.Sound.{IsSized};
 ghost use Rattle.nv_model.specs.State.{with_controller};
 ghost use Rattle.nv_model.specs.Values.{key_of};
 
@@ -101,9 +101,7 @@ impl Controller {
 
     /// Overwrites those of a feature's values for some namespaces that exist.
     fn write(&mut self, feature: Feature, asked: FeatureSetting, nsids: &[u32])
-        ensures view { controller_view self.new
-            ≡ with_values feature asked.value asked.save nsids.now (controller_view self.old) }
-        ensures sized { (nn : ℕ) → IsSized nn self.old → IsSized nn self.new }
+        ensures { Becomes (with_values feature asked.value asked.save nsids.now) self.old self.new }
     {
         write_each(&mut self.values, feature, asked, nsids);
     }

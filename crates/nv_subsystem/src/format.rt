@@ -3,8 +3,8 @@
 ghost use Rattle.std.specs.Prelude.{◌≡◌, ◌<◌, length};
 ghost use Rattle.std.specs.List.{list_any};
 ghost use Rattle.nv_model.specs.Change.{changed_at_keys};
-ghost use Rattle.nv_model.specs.Format.{can_erase_by_key, format_rows, formatted};
-ghost use Rattle.nv_model.specs.Format.{has_one_below, in_format, is_below};
+ghost use Rattle.nv_model.specs.Format.{can_erase_by_key, format_rows, formatted, has_one_below};
+ghost use Rattle.nv_model.specs.Format.{in_format, is_below};
 ghost use Rattle.nv_model.specs.Conditions.{concerned};
 ghost use Rattle.nv_model.specs.inner.Conditions.{Checks};
 ghost use Rattle.nv_model.specs.inner.Format.{with_format};

@@ -11,8 +11,9 @@ ghost use Rattle.nv_model.specs.Values.{key_of};
 ghost use Rattle.nv_subsystem.specs.inner.ControllerView.{controller_view};
 ghost use Rattle.nv_file.specs.FileValue.{controller_entry_view, namespace_entry_view};
 ghost use Rattle.nv_subsystem.specs.FromFile.{controller_of, defaults_of, fill, rules_of};
-ghost use Rattle.nv_subsystem.specs.FromFile.{with_attachment, with_default, with_namespace};
-ghost use Rattle.nv_subsystem.specs.FromFile.{with_recovery, with_rule};
+ghost use Rattle.nv_subsystem.specs.FromFile.{with_attachment};
+ghost use Rattle.nv_subsystem.specs.FromFile.{with_default, with_namespace, with_recovery};
+ghost use Rattle.nv_subsystem.specs.FromFile.{with_rule};
 ghost use Rattle.nv_subsystem.specs.Sound.{IsSized};
 ghost use Rattle.nv_layout.specs.Limits.{most_nsids};
 

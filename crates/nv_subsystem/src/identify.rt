@@ -3,10 +3,11 @@
 ghost use Rattle.std.specs.Prelude.{◌≡◌, ◌≤◌, ◌<◌, ◌∷◌, [], length, All};
 ghost use Rattle.nv_command.specs.declared.reply.Reply.TheVariants as reply;
 ghost use Rattle.nv_model.specs.WellFormed.{blocks};
-ghost use Rattle.nv_model.specs.Identify.{active_namespace, active_reply};
-ghost use Rattle.nv_model.specs.Identify.{active_rows, allocated_namespace, allocated_reply, allocated_rows};
-ghost use Rattle.nv_model.specs.Identify.{blank, common_of, flbas_of, id_ns_of, lbaf_of};
-ghost use Rattle.nv_model.specs.Identify.{lbafs_of, list_rows};
+ghost use Rattle.nv_model.specs.Identify.{active_namespace, active_reply, active_rows};
+ghost use Rattle.nv_model.specs.Identify.{allocated_namespace};
+ghost use Rattle.nv_model.specs.Identify.{allocated_reply, allocated_rows, blank, common_of};
+ghost use Rattle.nv_model.specs.Identify.{flbas_of, id_ns_of};
+ghost use Rattle.nv_model.specs.Identify.{lbaf_of, lbafs_of, list_rows};
 ghost use Rattle.nv_model.specs.Conditions.{is_active, row};
 ghost use Rattle.nv_command.specs.declared.status_code.StatusCode.TheVariants.{InvalidNamespaceOrFormat};
 ghost use Rattle.nv_model.specs.inner.Conditions.{Checks};

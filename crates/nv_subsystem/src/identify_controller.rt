@@ -2,8 +2,8 @@
 
 ghost use Rattle.std.specs.Prelude.{◌≡◌, ◌<◌, length};
 ghost use Rattle.nv_subsystem.specs.inner.ControllerView.{controller_view};
-ghost use Rattle.nv_model.specs.IdentifyController.{cmic_of, fna_of};
-ghost use Rattle.nv_model.specs.IdentifyController.{controller_reply, id_ctrl_of, padded};
+ghost use Rattle.nv_model.specs.IdentifyController.{cmic_of, fna_of, controller_reply, id_ctrl_of};
+ghost use Rattle.nv_model.specs.IdentifyController.{padded};
 
 use crate::controller::Controller;
 use crate::reply_place::ReplyPlace;

@@ -3,13 +3,13 @@
 
 ghost use Rattle.std.specs.Prelude.{◌≡◌, ◌≤◌, None, Some, IfOk, IfSome};
 ghost use Rattle.std.specs.FinMap as map_of;
-ghost use Rattle.nv_model.specs.Management.{bytes_needed, create_rows};
-ghost use Rattle.nv_model.specs.Management.{created, created_nsid, delete_rows, deleted};
+ghost use Rattle.nv_model.specs.Management.{bytes_needed, create_rows, created, created_nsid};
+ghost use Rattle.nv_model.specs.Management.{delete_rows, deleted};
 ghost use Rattle.nv_model.specs.Management.{without_all, without_one};
 ghost use Rattle.nv_model.specs.Conditions.{can_have, first_refusal, format_at, free_nsid};
 ghost use Rattle.nv_model.specs.inner.Conditions.{Checks};
 
-use crate::attachment::{detach_all, detach_everywhere};
+use crate::attachment::AttachmentChange;
 use crate::subsystem::Subsystem;
 use nv_command::{BROADCAST_NSID, NewNamespace, Refusal, StatusCode};
 use nv_model::{Format, Namespace};
@@ -148,7 +148,7 @@ impl Subsystem {
     fn delete_one(&mut self, nsid: u32)
         ensures { self.new ≡ without_one self.old nsid }
     {
-        detach_everywhere(&mut self.controllers, nsid);
+        self.change_each(AttachmentChange::DetachEverywhere { nsid });
         self.remove_namespace(nsid);
     }
 
@@ -156,7 +156,7 @@ impl Subsystem {
     fn delete_all(&mut self)
         ensures { self.new ≡ without_all self.old }
     {
-        detach_all(&mut self.controllers);
+        self.change_each(AttachmentChange::DetachAll);
         self.clear_namespaces();
     }
 

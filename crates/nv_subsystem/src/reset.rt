@@ -1,9 +1,8 @@
 //! The reset of a controller. Section "Controller Level Reset".
 
-ghost use Rattle.std.specs.Prelude.{◌≡◌, ◌<◌, ℕ, length};
-ghost use Rattle.nv_subsystem.specs.inner.ControllerView.{controller_view};
+ghost use Rattle.std.specs.Prelude.{◌≡◌, ◌<◌, length};
+ghost use Rattle.nv_subsystem.specs.inner.ControllerView.{Becomes};
 ghost use Rattle.nv_model.specs.Step.{reset, with_restored};
-ghost use Rattle.nv_subsystem.specs.Sound.{IsSized};
 ghost use Rattle.nv_model.specs.WellFormed.{IsWellFormed};
 
 use crate::controller::Controller;
@@ -12,8 +11,7 @@ use crate::subsystem::Subsystem;
 impl Controller {
     /// Restores each feature to its saved value, or to its default.
     fn reset(&mut self)
-        ensures view { controller_view self.new ≡ with_restored (controller_view self.old) }
-        ensures sized { (nn : ℕ) → IsSized nn self.old → IsSized nn self.new }
+        ensures { Becomes with_restored self.old self.new }
     {
         self.values.restore(&self.rules);
     }

@@ -1,3 +1,4 @@
+pub mod Walks
 pub mod AsBox
 pub mod CountLaws
 pub mod LogLaws

@@ -1,6 +1,5 @@
 -- The text of a fault, as a program in C gets it.
-use Rattle.std.specs.Prelude.{◌≡◌, ◌-◌, ◌++◌, ℕ, ℤ, pos, List, [], length, replicate, take}
-use Rattle.std.specs.Prelude.{Result, Ok, Err, ◌⊎◌}
+use Rattle.std.specs.Prelude.{◌≡◌, ◌-◌, ◌++◌, ℕ, ℤ, pos, List, [], length, replicate, take, Result, Ok, Err, ◌⊎◌}
 use Rattle.nv_file.specs.FaultText.{fault_text}
 use Rattle.nv_file.specs.declared.error.SubsystemError.{SubsystemError}
 use Rattle.nv_file.specs.declared.error.SubsystemError.TheVariants as fault

@@ -6,8 +6,8 @@ ghost use Rattle.nv_host.specs.Pages.{are_pages};
 ghost use Rattle.nv_blocks.specs.Turn.{after_answer, after_turn, next_entry, scene, taken_in, taken_with};
 ghost use Rattle.nv_blocks.specs.declared.terms.Terms.{Terms};
 ghost use Rattle.nvme_controller.specs.Blocks.{AreTerms, CanServe, IsLent, Leaves, answer_told};
-ghost use Rattle.nvme_controller.specs.Blocks.{next_bytes, next_number, scene_of, status_number};
-ghost use Rattle.nvme_controller.specs.Blocks.{taken_number};
+ghost use Rattle.nvme_controller.specs.Blocks.{next_bytes};
+ghost use Rattle.nvme_controller.specs.Blocks.{next_number, scene_of, status_number, taken_number};
 ghost use Rattle.nvme_controller.specs.Queues.{fetch_of, post_of};
 
 use crate::caller::Answer;
@@ -115,16 +115,6 @@ fn look<'a, L: Loan>(pair: &QueuePair, memory: &'a mut [u8], page_size: u32) -> 
     }
 }
 
-/// Does what `look` does, with a loan of the reference to the bytes.
-fn lent_look<'a>(pair: &QueuePair, memory: &'a mut [u8], page_size: u32) -> Seen<'a>
-    requires pages { IsTrue (are_pages page_size (length memory.old)) }
-    ensures same_reference { result.memory.ghost_name ≡ memory.entry.ghost_name }
-    ensures next { result.next ≡ next_entry pair.now.fetch pair.now.post memory.old }
-    ensures memory { result.memory.now ≡ memory.old }
-{
-    look::<Brand>(pair, memory, page_size)
-}
-
 /// Copies an entry if there is one, and returns the number for it or for why there is none.
 fn show(next: Result<Sqe, Stop>, entry: &mut [u8; 64]) -> i32
     ensures number { result ≡ next_number next }
@@ -162,7 +152,7 @@ pub extern "C" fn nvme_lent_next(
     ensures memory { memory.new ≡ memory.old }
 {
     match rings(submissions, completions, page_size, memory.len()) {
-        Some(pair) => show(lent_look(&pair, memory, page_size).next, entry),
+        Some(pair) => show(look::<Brand>(&pair, memory, page_size).next, entry),
         None => -1,
     }
 }
@@ -200,24 +190,6 @@ fn answer<'a, L: Loan>(
         taken,
         memory: bytes,
     }
-}
-
-/// Does what `answer` does, with a loan of the reference to the bytes.
-fn lent_answer<'a>(
-    pair: &mut QueuePair,
-    memory: &'a mut [u8],
-    page_size: u32,
-    sqid: u16,
-    told: Told,
-) -> Served<'a>
-    requires pages { IsTrue (are_pages page_size (length memory.old)) }
-    ensures same_reference { result.memory.ghost_name ≡ memory.entry.ghost_name }
-    ensures taken { result.taken ≡ taken_with sqid page_size told []
-        (scene pair.old.fetch pair.old.post [] memory.old) }
-    ensures scene { scene pair.new.fetch pair.new.post [] result.memory.now ≡ after_answer sqid
-        page_size told [] (scene pair.old.fetch pair.old.post [] memory.old) }
-{
-    answer::<Brand>(pair, memory, page_size, sqid, told)
 }
 
 /// Returns 1 for what was taken, or the number for why nothing was.
@@ -259,7 +231,7 @@ pub extern "C" fn nvme_lent_complete(
         dword0: given.dword0,
         status: Status::from_number(given.status),
     };
-    let served = lent_answer(&mut pair, memory, page_size, submissions.sqid, told);
+    let served = answer::<Brand>(&mut pair, memory, page_size, submissions.sqid, told);
     submissions.keep(&pair.fetch);
     completions.keep(&pair.post);
     number(served.taken)
@@ -288,24 +260,6 @@ fn serve<'a, L: Loan>(
         taken,
         memory: bytes,
     }
-}
-
-/// Does what `serve` does, with a loan of the reference to the bytes.
-fn lent_serve<'a>(
-    pair: &mut QueuePair,
-    memory: &'a mut [u8],
-    page_size: u32,
-    stored: &mut [u8],
-    terms: &Terms,
-) -> Served<'a>
-    requires pages { IsTrue (are_pages page_size (length memory.old)) }
-    ensures same_reference { result.memory.ghost_name ≡ memory.entry.ghost_name }
-    ensures taken { result.taken ≡ taken_in terms.now page_size
-        (scene pair.old.fetch pair.old.post stored.old memory.old) }
-    ensures scene { scene pair.new.fetch pair.new.post stored.new result.memory.now ≡ after_turn
-        terms.now page_size (scene pair.old.fetch pair.old.post stored.old memory.old) }
-{
-    serve::<Brand>(pair, memory, page_size, stored, terms)
 }
 
 /// Returns the status of what was taken, or -1.
@@ -345,7 +299,7 @@ pub extern "C" fn nvme_lent_turn(
         return -1;
     };
     let terms = lent.terms(submissions.sqid);
-    let served = lent_serve(&mut pair, memory, page_size, stored, &terms);
+    let served = serve::<Brand>(&mut pair, memory, page_size, stored, &terms);
     submissions.keep(&pair.fetch);
     completions.keep(&pair.post);
     status(served.taken)

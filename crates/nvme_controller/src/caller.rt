@@ -5,9 +5,10 @@ ghost use Rattle.nv_bus.specs.Bus.{IsBus};
 ghost use Rattle.nv_controller.specs.Caller.{can_post, entry_of};
 ghost use Rattle.nv_controller.specs.Machine.{bus_of};
 ghost use Rattle.nv_host.specs.Pages.{are_pages};
-ghost use Rattle.nvme_controller.specs.Caller.{bytes_after, bytes_posted, done_number, found_number};
-ghost use Rattle.nvme_controller.specs.Caller.{machine_after, machine_posted, next_over, posts_over};
-ghost use Rattle.nvme_controller.specs.Caller.{shown_bytes, told_of};
+ghost use Rattle.nvme_controller.specs.Caller.{bytes_after, bytes_posted, done_number};
+ghost use Rattle.nvme_controller.specs.Caller.{found_number, machine_after};
+ghost use Rattle.nvme_controller.specs.Caller.{machine_posted, next_over, posts_over, shown_bytes};
+ghost use Rattle.nvme_controller.specs.Caller.{told_of};
 ghost use Rattle.nvme_controller.specs.Open.{Goes, IsOpen};
 
 use crate::handle::Handle;
@@ -110,27 +111,6 @@ fn act<'a, L: Loan>(
     }
 }
 
-/// Does what `act` does, with a loan of the reference to the bytes.
-fn lent_act<'a>(
-    machine: &mut Machine,
-    ctrl: u16,
-    memory: &'a mut [u8],
-    page_size: u32,
-    handling: Handling,
-) -> Acted<'a>
-    requires bus { IsBus (bus_of machine.old) }
-    requires ctrl { ctrl < length machine.old.banks }
-    requires pages { IsTrue (are_pages page_size (length memory.old)) }
-    ensures same_reference { result.memory.ghost_name ≡ memory.entry.ghost_name }
-    ensures entry { result.entry ≡ entry_of machine.old ctrl page_size memory.old }
-    ensures machine { machine.new ≡ machine_after result.entry handling ctrl machine.old }
-    ensures bytes { result.memory.now
-        ≡ bytes_after result.entry handling ctrl machine.old memory.old }
-    ensures bus { IsBus (bus_of machine.new) }
-{
-    act::<Brand>(machine, ctrl, memory, page_size, handling)
-}
-
 /// Does this with the next entry that the controller would take over these bytes, if there is one,
 /// and returns it. There is none if there is no such controller, or the bytes aren't whole pages.
 fn act_over(
@@ -147,7 +127,7 @@ fn act_over(
     ensures bus { IsBus (bus_of machine.new) }
 {
     if ctrl < machine.controllers() && are_pages(page_size, memory.len()) {
-        lent_act(machine, ctrl, memory, page_size, handling).entry
+        act::<Brand>(machine, ctrl, memory, page_size, handling).entry
     } else {
         None
     }
@@ -283,27 +263,6 @@ fn post<'a, L: Loan>(
     }
 }
 
-/// Does what `post` does, with a loan of the reference to the bytes.
-fn lent_post<'a>(
-    machine: &mut Machine,
-    ctrl: u16,
-    memory: &'a mut [u8],
-    page_size: u32,
-    answer: &Answer,
-) -> Posted<'a>
-    requires bus { IsBus (bus_of machine.old) }
-    requires ctrl { ctrl < length machine.old.banks }
-    requires pages { IsTrue (are_pages page_size (length memory.old)) }
-    ensures same_reference { result.memory.ghost_name ≡ memory.entry.ghost_name }
-    ensures posted { result.is_posted ≡ can_post machine.old ctrl page_size (length memory.old) }
-    ensures machine { machine.new ≡ machine_posted result.is_posted ctrl machine.old }
-    ensures bytes { result.memory.now ≡ bytes_posted result.is_posted ctrl machine.old
-        answer.now.cid (told_of answer.now) memory.old }
-    ensures bus { IsBus (bus_of machine.new) }
-{
-    post::<Brand>(machine, ctrl, memory, page_size, answer)
-}
-
 /// Posts the completion of an entry that was taken before, if the controller exists, the bytes are
 /// whole pages, and the completion queue has a free slot in them. Returns whether it was posted.
 fn post_over(
@@ -321,7 +280,7 @@ fn post_over(
     ensures bus { IsBus (bus_of machine.new) }
 {
     if ctrl < machine.controllers() && are_pages(page_size, memory.len()) {
-        lent_post(machine, ctrl, memory, page_size, answer).is_posted
+        post::<Brand>(machine, ctrl, memory, page_size, answer).is_posted
     } else {
         false
     }

@@ -9,8 +9,8 @@ ghost use Rattle.nv_file.specs.File.{IsBlankText, no_version};
 ghost use Rattle.nv_host.specs.Pages.{are_pages};
 ghost use Rattle.nv_model.specs.LogEntry.{counts_of, log_entry_of};
 ghost use Rattle.nv_subsystem.specs.FromFile.{subsystem};
-ghost use Rattle.nvme_controller.specs.Calls.{BytesTurn, EntryTold, Opens};
-ghost use Rattle.nvme_controller.specs.Calls.{Turned, Written, read_of};
+ghost use Rattle.nvme_controller.specs.Calls.{BytesTurn, EntryTold, Opens, Turned, Written};
+ghost use Rattle.nvme_controller.specs.Calls.{read_of};
 ghost use Rattle.nvme_controller.specs.FaultText.{Tells, TellsFault, c_text};
 ghost use Rattle.nvme_controller.specs.inner.FaultText.{IsFaultOf};
 ghost use Rattle.nvme_controller.specs.Open.{Goes, IsOpen};
@@ -202,25 +202,6 @@ fn turn<'a, L: Loan>(
     }
 }
 
-/// Does what `turn` does, with a loan of the reference to the bytes.
-fn lent_turn<'a>(
-    machine: &mut Machine,
-    ctrl: u16,
-    memory: &'a mut [u8],
-    page_size: u32,
-    most: u16,
-) -> TurnTaken<'a>
-    requires bus { IsBus (bus_of machine.old) }
-    requires ctrl { ctrl < length machine.old.banks }
-    requires pages { IsTrue (are_pages page_size (length memory.old)) }
-    ensures same_reference { result.memory.ghost_name ≡ memory.entry.ghost_name }
-    ensures turn { BytesTurn page_size ctrl most result.count
-        machine.old memory.old machine.new result.memory.now }
-    ensures bus { IsBus (bus_of machine.new) }
-{
-    turn::<Brand>(machine, ctrl, memory, page_size, most)
-}
-
 /// Gives a controller a turn over these bytes, and returns how many entries it took. Nothing
 /// changes if there is no such controller, or the bytes aren't whole pages.
 fn turn_over(machine: &mut Machine, ctrl: u16, memory: &mut [u8], page_size: u32, most: u16) -> u16
@@ -230,7 +211,7 @@ fn turn_over(machine: &mut Machine, ctrl: u16, memory: &mut [u8], page_size: u32
     ensures bus { IsBus (bus_of machine.new) }
 {
     if ctrl < machine.controllers() && are_pages(page_size, memory.len()) {
-        lent_turn(machine, ctrl, memory, page_size, most).count
+        turn::<Brand>(machine, ctrl, memory, page_size, most).count
     } else {
         0
     }

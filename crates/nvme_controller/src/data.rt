@@ -45,19 +45,6 @@ fn write<'a, L: Loan>(entry: &Sqe, memory: &'a mut [u8], page_size: u32, bytes: 
     }
 }
 
-/// Does what `write` does, with a loan of the reference to the memory.
-fn lent_write<'a>(entry: &Sqe, memory: &'a mut [u8], page_size: u32, bytes: &[u8]) -> Sent<'a>
-    requires pages { IsTrue (are_pages page_size (length memory.old)) }
-    requires few { length bytes.now ≤ most_bytes }
-    ensures same_reference { result.memory.ghost_name ≡ memory.entry.ghost_name }
-    ensures status { result.status
-        ≡ sent_status (sent page_size entry.now bytes.now memory.old) }
-    ensures memory { result.memory.now
-        ≡ sent_memory (sent page_size entry.now bytes.now memory.old) memory.old }
-{
-    write::<Brand>(entry, memory, page_size, bytes)
-}
-
 /// Writes bytes to where the data pointer of an entry says, and returns 0, or the status with which
 /// to refuse the entry. Then nothing is written.
 #[unsafe(no_mangle)]
@@ -77,5 +64,5 @@ pub extern "C" fn nvme_lent_write(
     if !are_pages(page_size, memory.len()) || bytes.len() > MOST_BYTES {
         return Refusal::DataTransferError.status().number();
     }
-    lent_write(&Sqe::get(entry), memory, page_size, bytes).status
+    write::<Brand>(&Sqe::get(entry), memory, page_size, bytes).status
 }

@@ -56,24 +56,6 @@ fn find<'a, L: Loan>(
     }
 }
 
-/// Does what `find` does, with a loan of the reference to the memory.
-fn lent_find<'a>(
-    entry: &Sqe,
-    memory: &'a mut [u8],
-    page_size: u32,
-    terms: &Terms,
-    size: usize,
-    extents: &mut Extents,
-) -> Accepted<'a>
-    requires pages { IsTrue (are_pages page_size (length memory.old)) }
-    ensures same_reference { result.memory.ghost_name ≡ memory.entry.ghost_name }
-    ensures memory { result.memory.now ≡ memory.old }
-    ensures found { let found = zeroing terms.now page_size size memory.old entry.now in
-        MatchBool result.is_accepted (found ≡ Ok extents.new) (is_accepted found ≡ false) }
-{
-    find::<Brand>(entry, memory, page_size, terms, size, extents)
-}
-
 /// Copies extents to the first ranges, and returns how many they are.
 fn put_ranges(extents: &[Extent], ranges: &mut [ByteRange]) -> i32
     requires few { length extents.now ≤ 256 }
@@ -112,7 +94,7 @@ pub extern "C" fn nvme_lent_zeroing(
     }
     let terms = lent.terms(0);
     let mut extents = Extents::new();
-    if !lent_find(
+    if !find::<Brand>(
         &Sqe::get(entry),
         memory,
         page_size,

@@ -1,11 +1,7 @@
 use Rattle.std.proofs.Common.{◌≡◌, ◌++◌, ◌∷◌, [], Err, map, arith, refl, rules}
-use Rattle.std.proofs.lemmas.Grind.{common_steps}
-use Rattle.std.proofs.lemmas.List.{map_push}
-use Rattle.std.proofs.lemmas.List.Elements.{All-push}
-use Rattle.toml.specs.Data.{Members}
-use Rattle.nv_file.specs.FileValue.{ControllerValue, controller_entry_view}
-use Rattle.nv_file.specs.IsFile.{IsControllerEntry}
-use Rattle.nv_file.specs.TableChecks.{cntlid_of, controller_value, identity_value}
+use Rattle.nv_file.specs.TableChecks.{controller_value, identity_value}
+use Rattle.nv_file.proofs.Words.{All-push, cntlid_of, common_steps, controller_entry_view, ControllerValue}
+use Rattle.nv_file.proofs.Words.{IsControllerEntry, map_push, Members}
 use Rattle.nv_file.proofs.Distinct.{fresh_controller}
 use Rattle.nv_file.proofs.ReadTo.{numbers_viewed, read_all, read_fails_unless_memory, read_more}
 use Rattle.nv_file.proofs.controller.controller_entries_of.Goals as goal

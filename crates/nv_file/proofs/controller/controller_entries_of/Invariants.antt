@@ -1,8 +1,6 @@
 use Rattle.std.proofs.Common.{◌≡◌, ◌≢◌, length, map}
-use Rattle.std.specs.Prelude.{All, AllPairs}
-use Rattle.nv_file.specs.FileValue.{controller_entry_view}
-use Rattle.nv_file.specs.IsFile.{IsControllerEntry}
-use Rattle.nv_file.specs.TableChecks.{cntlid_of, controller_checks, controller_value}
+use Rattle.nv_file.specs.TableChecks.{controller_checks, controller_value}
+use Rattle.nv_file.proofs.Words.{All, AllPairs, cntlid_of, controller_entry_view, IsControllerEntry}
 use Rattle.nv_file.proofs.ReadTo.{IsReadTo}
 use Rattle.nv_file.proofs.controller.controller_entries_of.Given as goal
 

@@ -1,16 +1,12 @@
 use Rattle.std.proofs.Common.{◌≡◌, ◌∙◌, inl, inr, Err, List, ap, map, refl, rules}
-use Rattle.toml.specs.Data.{Members}
-use Rattle.toml.specs.View.{table_view}
+use Rattle.nv_file.specs.declared.key.Key.TheVariants as key
 use Rattle.nv_model.specs.IdentityView.{identity_view}
 use Rattle.nv_model.specs.State.{Identity}
-use Rattle.nv_model.specs.declared.feature_rule.FeatureRule.{FeatureRule}
 use Rattle.nv_model.specs.declared.identity.Identity.{Identity as CodeIdentity}
 use Rattle.nv_model.specs.declared.smart_base.SmartBase.{SmartBase}
-use Rattle.nv_file.specs.declared.key.Key.TheVariants as key
-use Rattle.nv_file.specs.FileValue.{ControllerValue}
 use Rattle.nv_file.specs.KeyChecks.{number_at, table_at, tables_at}
-use Rattle.nv_file.specs.TableChecks.{controller_checks, controller_value, feature_value, identity_value}
-use Rattle.nv_file.specs.TableChecks.{numbers_value}
+use Rattle.nv_file.specs.TableChecks.{controller_checks, controller_value, feature_value, identity_value, numbers_value}
+use Rattle.nv_file.proofs.Words.{ControllerValue, FeatureRule, Members, table_view}
 use Rattle.nv_file.proofs.CheckLaws.{past}
 use Rattle.nv_file.proofs.controller.controller_entry_of.Goals as goal
 

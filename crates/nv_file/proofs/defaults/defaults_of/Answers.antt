@@ -1,7 +1,7 @@
 use Rattle.std.proofs.Common.{◌≡◌, ℕ, true, Option, Some, None}
-use Rattle.std.specs.Prelude.{IsSomeAnd}
 use Rattle.nv_layout.specs.Feature.{is_value}
 use Rattle.nv_layout.specs.declared.feature.Feature.{Feature}
+use Rattle.nv_file.proofs.Words.{IsSomeAnd}
 use Rattle.nv_file.proofs.defaults.defaults_of.Goals as goal
 
 -- one value for each selector

@@ -1,9 +1,7 @@
 use Rattle.std.proofs.Common.{◌≡◌, ◌++◌, None, Ok, arith, map, refl, rules}
-use Rattle.std.proofs.lemmas.Grind.{common_steps}
-use Rattle.toml.specs.View.{table_view}
 use Rattle.nv_file.specs.Check.{first_error}
-use Rattle.nv_file.specs.TableChecks.{first_feature_checks}
 use Rattle.nv_file.specs.inner.FirstChecks.{first_defaults_checks}
+use Rattle.nv_file.proofs.Words.{common_steps, first_feature_checks, table_view}
 use Rattle.nv_file.proofs.CheckLaws.{faults, none_told, past, told_none}
 use Rattle.nv_file.proofs.feature_rule.feature_of.Goals as goal
 

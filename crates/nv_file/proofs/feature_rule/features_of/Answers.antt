@@ -1,9 +1,6 @@
 use Rattle.std.proofs.Common.{◌≡◌, ℕ, ◌++◌, ◌∷◌, [], Err, refl, rules}
-use Rattle.std.proofs.lemmas.List.Elements.{All-push}
-use Rattle.nv_model.specs.Ranges.{IsFeatureRule}
-use Rattle.nv_model.specs.declared.feature_rule.FeatureRule.{FeatureRule}
-use Rattle.toml.specs.Data.{Members}
-use Rattle.nv_file.specs.TableChecks.{feature_value, fid_of}
+use Rattle.nv_file.specs.TableChecks.{feature_value}
+use Rattle.nv_file.proofs.Words.{All-push, FeatureRule, fid_of, IsFeatureRule, Members}
 use Rattle.nv_file.proofs.Distinct.{fresh_rule}
 use Rattle.nv_file.proofs.ReadTo.{numbers_read, read_all, read_fails_unless_memory, read_more}
 use Rattle.nv_file.proofs.feature_rule.features_of.Goals as goal

@@ -1,7 +1,6 @@
 use Rattle.std.proofs.Common.{◌≢◌}
-use Rattle.std.specs.Prelude.{All, AllPairs}
-use Rattle.nv_model.specs.Ranges.{IsFeatureRule}
-use Rattle.nv_file.specs.TableChecks.{feature_checks, feature_value, fid_of}
+use Rattle.nv_file.specs.TableChecks.{feature_checks, feature_value}
+use Rattle.nv_file.proofs.Words.{All, AllPairs, fid_of, IsFeatureRule}
 use Rattle.nv_file.proofs.ReadTo.{IsReadTo}
 use Rattle.nv_file.proofs.feature_rule.features_of.Given as goal
 

@@ -1,6 +1,5 @@
 use Rattle.std.proofs.Common.{rules, tests}
-use Rattle.std.proofs.lemmas.Iterator.{YieldsList-from_slice}
-use Rattle.nv_model.specs.declared.feature_rule.FeatureRule.{FeatureRule}
+use Rattle.nv_file.proofs.Words.{FeatureRule, YieldsList-from_slice}
 use Rattle.nv_file.proofs.Among.{any_is_among}
 use Rattle.nv_file.proofs.feature_rule.has_fid.Goals as goal
 

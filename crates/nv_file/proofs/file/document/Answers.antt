@@ -1,10 +1,6 @@
 use Rattle.std.proofs.Common.{◌∙◌, inr, refl, sym, subst}
-use Rattle.std.proofs.lemmas.Bool.{false≢true}
-use Rattle.std.proofs.lemmas.Str.{IsUtf8-from_is_utf8, is_utf8-from_IsUtf8}
-use Rattle.toml.specs.Errors.{IsBlank}
-use Rattle.toml.specs.View.{table_view}
 use Rattle.nv_layout.specs.UnlessMemory.{IsUnlessMemory}
-use Rattle.nv_file.specs.declared.error.SubsystemError.TheVariants.{Memory}
+use Rattle.nv_file.proofs.Words.{false≢true, is_utf8-from_IsUtf8, IsBlank, IsUtf8-from_is_utf8, Memory, table_view}
 use Rattle.nv_file.proofs.TextLaws.{no_text, text_document}
 use Rattle.nv_file.proofs.file.document.Goals as goal
 

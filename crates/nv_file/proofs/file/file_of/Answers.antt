@@ -1,6 +1,5 @@
 use Rattle.std.proofs.Common.{◌≡◌, ap, sym, ◌∙◌, length}
-use Rattle.std.proofs.lemmas.Bool.{leb-true}
-use Rattle.std.proofs.lemmas.List.{length-map}
+use Rattle.nv_file.proofs.Words.{leb-true, length-map}
 use Rattle.nv_file.proofs.Attached.{attached}
 use Rattle.nv_file.proofs.Fused.{capacities}
 use Rattle.nv_file.proofs.file.file_of.Goals as goal

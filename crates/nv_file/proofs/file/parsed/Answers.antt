@@ -1,8 +1,6 @@
 use Rattle.std.proofs.Common.{◌≡◌, ◌∙◌, None, ap, inr, sym}
-use Rattle.std.proofs.lemmas.Bool.{false≢true}
-use Rattle.std.specs.Option.{ok_or}
 use Rattle.toml.specs.Parse.{parse_document}
-use Rattle.nv_file.specs.declared.error.SubsystemError.TheVariants.{NotToml}
+use Rattle.nv_file.proofs.Words.{false≢true, NotToml, ok_or}
 use Rattle.nv_file.proofs.TextLaws.{blank_document}
 use Rattle.nv_file.proofs.file.parsed.Goals as goal
 

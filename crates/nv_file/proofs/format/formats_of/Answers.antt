@@ -1,7 +1,5 @@
 use Rattle.std.proofs.Common.{◌≡◌, ◌++◌, ◌∷◌, [], Err, arith, inr, rules}
-use Rattle.std.proofs.lemmas.Grind.{common_steps}
-use Rattle.std.proofs.lemmas.List.Elements.{All-push}
-use Rattle.nv_model.specs.Ranges.{IsFormat}
+use Rattle.nv_file.proofs.Words.{All-push, common_steps, IsFormat}
 use Rattle.nv_file.proofs.ReadTo.{read_all, read_fails, read_more}
 use Rattle.nv_file.proofs.format.formats_of.Goals as goal
 

@@ -1,7 +1,6 @@
 use Rattle.std.proofs.Common.{◌≡◌, length}
-use Rattle.std.specs.Prelude.{All}
-use Rattle.nv_model.specs.Ranges.{IsFormat}
 use Rattle.nv_file.specs.TableChecks.{format_checks, format_value}
+use Rattle.nv_file.proofs.Words.{All, IsFormat}
 use Rattle.nv_file.proofs.ReadTo.{IsReadTo}
 use Rattle.nv_file.proofs.format.formats_of.Given as goal
 

@@ -1,6 +1,5 @@
 use Rattle.std.proofs.Common.{rules, tests}
-use Rattle.std.proofs.lemmas.Iterator.{YieldsList-from_slice}
-use Rattle.nv_file.specs.declared.controller.ControllerEntry.{ControllerEntry}
+use Rattle.nv_file.proofs.Words.{ControllerEntry, YieldsList-from_slice}
 use Rattle.nv_file.proofs.Among.{any_is_among}
 use Rattle.nv_file.proofs.identity.has_cntlid.Goals as goal
 

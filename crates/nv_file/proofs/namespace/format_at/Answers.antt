@@ -1,6 +1,6 @@
 use Rattle.std.proofs.Common.{◌≡◌, None, Some, arith, slice_get}
-use Rattle.std.proofs.lemmas.Grind.{common_steps}
 use Rattle.std.proofs.lemmas.Option.{gets}
+use Rattle.nv_file.proofs.Words.{common_steps}
 use Rattle.nv_file.proofs.KeyLaws.{is_not_of_kind, is_there}
 use Rattle.nv_file.proofs.namespace.format_at.Goals as goal
 

@@ -1,6 +1,5 @@
 use Rattle.std.proofs.Common.{rules, tests}
-use Rattle.std.proofs.lemmas.Iterator.{YieldsList-from_slice}
-use Rattle.nv_file.specs.declared.namespace.NamespaceEntry.{NamespaceEntry}
+use Rattle.nv_file.proofs.Words.{NamespaceEntry, YieldsList-from_slice}
 use Rattle.nv_file.proofs.Among.{any_is_among}
 use Rattle.nv_file.proofs.namespace.has_nsid.Goals as goal
 

@@ -1,11 +1,7 @@
 use Rattle.std.proofs.Common.{◌≡◌, ◌++◌, ◌∷◌, [], Err, map, arith, refl, rules}
-use Rattle.std.proofs.lemmas.Grind.{common_steps}
-use Rattle.std.proofs.lemmas.List.{map_push}
-use Rattle.std.proofs.lemmas.List.Elements.{All-push}
-use Rattle.toml.specs.Data.{Members}
-use Rattle.nv_file.specs.FileValue.{NamespaceValue, namespace_entry_view}
-use Rattle.nv_file.specs.IsFile.{IsNamespaceEntry}
-use Rattle.nv_file.specs.TableChecks.{namespace_value, nsid_of}
+use Rattle.nv_file.specs.TableChecks.{namespace_value}
+use Rattle.nv_file.proofs.Words.{All-push, common_steps, IsNamespaceEntry, map_push, Members, namespace_entry_view}
+use Rattle.nv_file.proofs.Words.{NamespaceValue, nsid_of}
 use Rattle.nv_file.proofs.Distinct.{fresh_namespace}
 use Rattle.nv_file.proofs.ReadTo.{numbers_viewed, read_all, read_fails_unless_memory, read_more}
 use Rattle.nv_file.proofs.namespace.namespace_entries_of.Goals as goal

@@ -1,8 +1,6 @@
 use Rattle.std.proofs.Common.{◌≡◌, ◌≢◌, length, map}
-use Rattle.std.specs.Prelude.{All, AllPairs}
-use Rattle.nv_file.specs.FileValue.{namespace_entry_view}
-use Rattle.nv_file.specs.IsFile.{IsNamespaceEntry}
-use Rattle.nv_file.specs.TableChecks.{namespace_checks, namespace_value, nsid_of}
+use Rattle.nv_file.specs.TableChecks.{namespace_checks, namespace_value}
+use Rattle.nv_file.proofs.Words.{All, AllPairs, IsNamespaceEntry, namespace_entry_view, nsid_of}
 use Rattle.nv_file.proofs.ReadTo.{IsReadTo}
 use Rattle.nv_file.proofs.namespace.namespace_entries_of.Given as goal
 

@@ -1,5 +1,5 @@
 use Rattle.std.proofs.Common.{arith}
-use Rattle.std.proofs.lemmas.Grind.{common_steps}
+use Rattle.nv_file.proofs.Words.{common_steps}
 use Rattle.nv_file.proofs.namespace.namespace_entry_of.Goals as goal
 
 pub returns-clause-sound : goal.returns-clause-sound

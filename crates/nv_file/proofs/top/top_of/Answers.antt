@@ -1,11 +1,8 @@
 use Rattle.std.proofs.Common.{◌≡◌, ◌≤◌, Err, arith, false, inr, le-leb, length, nat_le, refl, rules, true}
-use Rattle.std.proofs.lemmas.Grind.{common_steps}
-use Rattle.std.proofs.lemmas.List.{length-map}
-use Rattle.toml.specs.View.{table_view}
 use Rattle.nv_file.specs.declared.key.Key.TheVariants as key
 use Rattle.nv_file.specs.File.{nn_of, top_checks}
 use Rattle.nv_file.specs.KeyChecks.{tables_at}
-use Rattle.nv_file.specs.inner.SectionView.{tables_view}
+use Rattle.nv_file.proofs.Words.{common_steps, length-map, table_view, tables_view}
 use Rattle.nv_file.proofs.CheckLaws.{fails_first, past}
 use Rattle.nv_file.proofs.KeyLaws.{is_in_limits, same_fault, was_out_of_limits}
 use Rattle.nv_file.proofs.top.top_of.Goals as goal

@@ -1,10 +1,7 @@
 use Rattle.std.proofs.Common.{◌≡◌, ◌∙◌, ℕ, ◌+◌, ◌*◌, ◌<◌, List, arith, get_or, subst, sym, refl}
-use Rattle.nv_host.specs.Pages.{IsPageSize}
-use Rattle.nv_host.proofs.PageLaws.{page_size_bounds}
 use Rattle.nv_prp.specs.Buffer.{IsBuffer, StaysFor}
-use Rattle.nv_prp.specs.inner.Buffer.{NamesPages}
+use Rattle.nv_prp.proofs.Words.{data_pages, IsPageSize, NamesPages, page_size_bounds, room, transfer}
 use Rattle.nv_prp.proofs.BufferLaws.{buffer_kept, list_place_kept}
-use Rattle.nv_prp.specs.Transfer.{data_pages, room, transfer}
 use Rattle.nv_prp.proofs.BuiltLaws.{Begins, keeps_itself, many_pages, names_kept, few_pages, pages_enough}
 use Rattle.nv_prp.proofs.PageLaws.{at_least_one}
 use Rattle.nv_prp.proofs.WriteLaws.{lies_at, pages_kept}

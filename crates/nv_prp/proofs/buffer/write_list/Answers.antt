@@ -1,6 +1,6 @@
 use Rattle.std.proofs.Common.{◌<◌, ◌∙◌, ◌*◌, ◌+◌, ap, arith, get_or, refl, subst}
 use Rattle.nv_prp.specs.Buffer.{KeepsOutsideList}
-use Rattle.nv_prp.specs.inner.Buffer.{NamesPages}
+use Rattle.nv_prp.proofs.Words.{NamesPages}
 use Rattle.nv_prp.proofs.WriteLaws.{chain_kept, chain_names, lies_at, naming_kept, one_named}
 use Rattle.nv_prp.proofs.buffer.write_list.Goals as goal
 

@@ -1,4 +1,5 @@
-use Rattle.std.proofs.Common.{◌≡◌, ◌∙◌, ◌+◌, ◌*◌, ◌≤◌, ap, arith, drop, length, length-drop, length-take, refl, sym, take}
+use Rattle.std.proofs.Common.{◌≡◌, ◌∙◌, ◌+◌, ◌*◌, ◌≤◌, ap, arith, drop, length, length-drop, length-take, refl, sym}
+use Rattle.std.proofs.Common.{take}
 use Rattle.std.proofs.lemmas.List.{drop-drop}
 use Rattle.nv_host.specs.Bytes.{with_bytes}
 use Rattle.nv_host.proofs.BytesLaws.{length-with_bytes}

@@ -1,6 +1,5 @@
 use Rattle.std.proofs.Common.{◌∙◌, arith}
-use Rattle.std.proofs.lemmas.Bool.Decides.{nat_tests}
-use Rattle.std.proofs.lemmas.Result.{err_from_is_err_and}
+use Rattle.nv_prp.proofs.Words.{err_from_is_err_and, nat_tests}
 use Rattle.nv_prp.proofs.ListLaws.{chain, fault_found, next_inside, turn_behind, turn_here}
 use Rattle.nv_prp.proofs.walker.naming_qword.Goals as goal
 

@@ -1,5 +1,5 @@
 use Rattle.std.proofs.Common.{arith, refl}
-use Rattle.nv_host.proofs.PageLaws.{page_size_bounds}
+use Rattle.nv_prp.proofs.Words.{page_size_bounds}
 use Rattle.nv_prp.proofs.FaultLaws.{legal_from_none}
 use Rattle.nv_prp.proofs.SpanLaws.{spans_lie_in}
 use Rattle.nv_prp.proofs.walker.walk.Goals as goal

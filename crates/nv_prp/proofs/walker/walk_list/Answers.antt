@@ -1,10 +1,7 @@
 use Rattle.std.proofs.Common.{◌≡◌, ◌∙◌, ◌+◌, ap, arith, length, sym}
-use Rattle.std.proofs.lemmas.Result.{err_from_is_err_and}
-use Rattle.nv_prp.specs.inner.ListWalk.{used_of}
-use Rattle.nv_prp.specs.Place.{table}
-use Rattle.nv_prp.proofs.PlaceLaws.{length-table}
 use Rattle.nv_prp.specs.Transfer.{span_of}
-use Rattle.nv_prp.specs.inner.Transfer.{transfer_of}
+use Rattle.nv_prp.proofs.Words.{err_from_is_err_and, table, transfer_of, used_of}
+use Rattle.nv_prp.proofs.PlaceLaws.{length-table}
 use Rattle.nv_prp.proofs.ListLaws.{comes_first, fault_found, is_list}
 use Rattle.nv_prp.proofs.PageLaws.{spans}
 use Rattle.nv_prp.proofs.walker.walk_list.Goals as goal

@@ -1,8 +1,6 @@
 use Rattle.std.proofs.Common.{◌≡◌, length}
-use Rattle.nv_prp.specs.inner.ListWalk.{Comes, IsList}
-use Rattle.nv_prp.specs.Place.{table}
 use Rattle.nv_prp.specs.Transfer.{span_of}
-use Rattle.nv_prp.specs.inner.Transfer.{transfer_of}
+use Rattle.nv_prp.proofs.Words.{Comes, IsList, table, transfer_of}
 use Rattle.nv_prp.proofs.walker.walk_list.Given as goal
 
 -- the Qwords so far have no fault, and the spans are those of the data pages whose addresses they hold

@@ -1,7 +1,5 @@
 use Rattle.std.proofs.Common.{◌≡◌, ◌+◌, ℕ, arith, subst}
-use Rattle.nv_model.specs.Values.{first_value}
-use Rattle.nv_subsystem.specs.ValueTable.{key_at}
-use Rattle.nv_subsystem.specs.inner.ValueTable.{AreRestored}
+use Rattle.nv_subsystem.proofs.Words.{AreRestored, first_value, key_at}
 use Rattle.nv_subsystem.proofs.ValueTableLaws.{next_restored, none_restored}
 use Rattle.nv_subsystem.proofs.feature_values.restore_features.Goals as goal
 

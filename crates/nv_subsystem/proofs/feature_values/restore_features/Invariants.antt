@@ -1,6 +1,4 @@
-use Rattle.nv_model.specs.Values.{first_value}
-use Rattle.nv_subsystem.specs.ValueTable.{key_at}
-use Rattle.nv_subsystem.specs.inner.ValueTable.{AreRestored}
+use Rattle.nv_subsystem.proofs.Words.{AreRestored, first_value, key_at}
 use Rattle.nv_subsystem.proofs.feature_values.restore_features.Given as goal
 
 abbrev pub invariant-loop-place : goal.invariant-loop-place

@@ -1,5 +1,5 @@
 use Rattle.std.proofs.Common.{◌≡◌, ◌∙◌, ◌+◌, ap, arith, refl, subst}
-use Rattle.nv_subsystem.specs.inner.ValueTable.{AreRestored}
+use Rattle.nv_subsystem.proofs.Words.{AreRestored}
 use Rattle.nv_subsystem.proofs.ValueTableLaws.{next_restored, none_restored}
 use Rattle.nv_subsystem.proofs.feature_values.restore_recoveries.Goals as goal
 

@@ -1,4 +1,4 @@
-use Rattle.nv_subsystem.specs.inner.ValueTable.{AreRestored}
+use Rattle.nv_subsystem.proofs.Words.{AreRestored}
 use Rattle.nv_subsystem.proofs.feature_values.restore_recoveries.Given as goal
 
 abbrev pub invariant-loop-k : goal.invariant-loop-k

@@ -1,6 +1,5 @@
 use Rattle.std.proofs.Common.{◌≡◌, drop}
-use Rattle.std.specs.List.{fold}
-use Rattle.nv_model.specs.Features.{with_value}
+use Rattle.nv_subsystem.proofs.Words.{fold, with_value}
 use Rattle.nv_subsystem.proofs.features.write_each.Given as goal
 
 abbrev pub invariant-loop-nsid : goal.invariant-loop-nsid

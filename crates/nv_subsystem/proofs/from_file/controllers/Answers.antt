@@ -1,11 +1,6 @@
 use Rattle.std.proofs.Common.{◌≡◌, ◌∙◌, ◌++◌, ◌∷◌, [], ap, sym, map, subst}
-use Rattle.std.specs.Prelude.{All}
-use Rattle.std.proofs.lemmas.List.{map_push}
-use Rattle.std.proofs.lemmas.List.Elements.{All-push}
-use Rattle.nv_subsystem.specs.inner.ControllerView.{controller_view}
-use Rattle.nv_file.specs.FileValue.{controller_entry_view, namespace_entry_view}
-use Rattle.nv_subsystem.specs.FromFile.{controller_of}
-use Rattle.nv_subsystem.specs.Sound.{IsSized}
+use Rattle.nv_subsystem.proofs.Words.{All, All-push, controller_entry_view, controller_of, controller_view, IsSized}
+use Rattle.nv_subsystem.proofs.Words.{map_push, namespace_entry_view}
 use Rattle.nv_subsystem.proofs.from_file.controllers.Goals as goal
 
 pub loop-entry-preserved : goal.loop-entry-preserved

@@ -1,9 +1,6 @@
 use Rattle.std.proofs.Common.{◌≡◌, map}
-use Rattle.std.specs.Prelude.{All}
-use Rattle.nv_subsystem.specs.inner.ControllerView.{controller_view}
-use Rattle.nv_file.specs.FileValue.{controller_entry_view, namespace_entry_view}
-use Rattle.nv_subsystem.specs.FromFile.{controller_of}
-use Rattle.nv_subsystem.specs.Sound.{IsSized}
+use Rattle.nv_subsystem.proofs.Words.{All, controller_entry_view, controller_of, controller_view, IsSized}
+use Rattle.nv_subsystem.proofs.Words.{namespace_entry_view}
 use Rattle.nv_subsystem.proofs.from_file.controllers.Given as goal
 
 abbrev pub invariant-loop-entry : goal.invariant-loop-entry

@@ -1,7 +1,5 @@
 use Rattle.std.proofs.Common.{◌≡◌, drop, map}
-use Rattle.std.specs.List.{fold}
-use Rattle.nv_file.specs.FileValue.{namespace_entry_view}
-use Rattle.nv_subsystem.specs.FromFile.{with_namespace}
+use Rattle.nv_subsystem.proofs.Words.{fold, namespace_entry_view, with_namespace}
 use Rattle.nv_subsystem.proofs.from_file.fill.Given as goal
 
 abbrev pub invariant-loop-entry : goal.invariant-loop-entry

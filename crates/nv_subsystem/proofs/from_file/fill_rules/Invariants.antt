@@ -1,6 +1,5 @@
 use Rattle.std.proofs.Common.{◌≡◌, drop}
-use Rattle.std.specs.List.{fold}
-use Rattle.nv_subsystem.specs.FromFile.{with_rule}
+use Rattle.nv_subsystem.proofs.Words.{fold, with_rule}
 use Rattle.nv_subsystem.proofs.from_file.fill_rules.Given as goal
 
 abbrev pub invariant-loop-rule : goal.invariant-loop-rule

@@ -1,7 +1,5 @@
 use Rattle.std.proofs.Common.{◌≡◌, drop, map}
-use Rattle.nv_model.specs.Change.{changed}
-use Rattle.nv_subsystem.specs.FromFile.{fill}
-use Rattle.nv_model.specs.Values.{key_of}
+use Rattle.nv_subsystem.proofs.Words.{changed, fill, key_of}
 use Rattle.nv_subsystem.proofs.from_file.fill_selectors.Given as goal
 
 abbrev pub invariant-loop-selector : goal.invariant-loop-selector

@@ -1,7 +1,5 @@
 use Rattle.std.proofs.Common.{◌≡◌, ◌∙◌, ◌-◌, ◌++◌, ap, arith, map, length, set}
-use Rattle.std.specs.Prelude.{replicate}
-use Rattle.std.proofs.lemmas.List.{take_all}
-use Rattle.nv_model.specs.Identify.{lbaf_of, no_lbaf}
+use Rattle.nv_subsystem.proofs.Words.{lbaf_of, no_lbaf, replicate, take_all}
 use Rattle.nv_subsystem.proofs.Filling.{filled}
 use Rattle.nv_subsystem.proofs.identify.lbafs.Goals as goal
 

@@ -1,6 +1,5 @@
 use Rattle.std.proofs.Common.{◌≡◌, ◌-◌, ◌++◌, map, take}
-use Rattle.std.specs.Prelude.{replicate}
-use Rattle.nv_model.specs.Identify.{lbaf_of, no_lbaf}
+use Rattle.nv_subsystem.proofs.Words.{lbaf_of, no_lbaf, replicate}
 use Rattle.nv_subsystem.proofs.identify.lbafs.Given as goal
 
 abbrev pub invariant-loop-i : goal.invariant-loop-i

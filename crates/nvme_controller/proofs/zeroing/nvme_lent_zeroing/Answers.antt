@@ -4,8 +4,8 @@ use Rattle.nv_layout.specs.Sqe.{sqe_of_bytes}
 use Rattle.nvme_controller.proofs.ZeroingLaws.{accepted, refused}
 use Rattle.nvme_controller.proofs.zeroing.nvme_lent_zeroing.Goals as goal
 
-pub returns-then-not-lent_find-clause-zeroing : goal.returns-then-not-lent_find-clause-zeroing
-returns-then-not-lent_find-clause-zeroing c pages =
+pub returns-then-not-find-clause-zeroing : goal.returns-then-not-find-clause-zeroing
+returns-then-not-find-clause-zeroing c pages =
     (c.terms-terms.result, c.terms-terms.ensures, refused _ _ (search rules))
 
 pub returns-clause-zeroing : goal.returns-clause-zeroing

@@ -1,6 +1,5 @@
-use Rattle.toml.specs.View.{table_view}
 use Rattle.nv_file.specs.File.{file, file_checks, file_value}
-use Rattle.nv_file.specs.FileValue.{file_view}
+use Rattle.nv_file.proofs.Words.{file_view, table_view}
 use Rattle.nv_file.proofs.CheckLaws.{answers}
 use Rattle.nv_file.proofs.file.File.from_toml.Goals as goal
 

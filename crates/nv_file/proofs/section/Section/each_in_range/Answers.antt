@@ -1,11 +1,9 @@
 use Rattle.std.proofs.Common.{◌≡◌, ◌∙◌, ◌&&◌, ◌++◌, ◌∷◌, [], ap, Err, get_or, inr, map, pos, refl, rules, take, w64}
 use Rattle.std.proofs.lemmas.Int.{to_z-of_z}
-use Rattle.std.proofs.lemmas.List.{map_push, take_all, take_more}
-use Rattle.std.proofs.lemmas.List.Folds.{list_all_at, list_all_more}
-use Rattle.nv_file.specs.KeyChecks.{is_within, number}
+use mir.Val.{SFits}
+use Rattle.nv_file.proofs.Words.{is_within, list_all_at, list_all_more, map_push, number, take_all, take_more}
 use Rattle.nv_file.proofs.KeyLaws.{is_in_limits, same_fault, was_in_limits, was_out_of_limits}
 use Rattle.nv_file.proofs.section.Section.each_in_range.Goals as goal
-use mir.Val.{SFits}
 
 pub returns-in_err-number : goal.returns-in_err-number
 returns-in_err-number c =

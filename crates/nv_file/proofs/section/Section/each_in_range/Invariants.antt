@@ -1,6 +1,5 @@
 use Rattle.std.proofs.Common.{◌≡◌, true, map, take}
-use Rattle.std.specs.List.{list_all}
-use Rattle.nv_file.specs.KeyChecks.{is_within, number}
+use Rattle.nv_file.proofs.Words.{is_within, list_all, number}
 use Rattle.nv_file.proofs.section.Section.each_in_range.Given as goal
 
 abbrev pub invariant-loop-integer : goal.invariant-loop-integer

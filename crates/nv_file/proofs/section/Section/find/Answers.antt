@@ -1,7 +1,6 @@
 use Rattle.std.proofs.Common.{ap, ◌∙◌}
-use Rattle.toml.specs.Data.{get_member}
-use Rattle.toml.specs.View.{table_view}
 use Rattle.toml.proofs.Views.{table_get}
+use Rattle.nv_file.proofs.Words.{get_member, table_view}
 use Rattle.nv_file.proofs.section.Section.find.Goals as goal
 
 pub returns : goal.returns

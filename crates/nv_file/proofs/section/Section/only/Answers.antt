@@ -1,7 +1,6 @@
 use Rattle.std.proofs.Common.{Bool, ◌∙◌, subst}
-use Rattle.nv_file.specs.declared.error.SubsystemError.TheVariants.{Unknown}
 use Rattle.nv_file.specs.Check.{check}
-use Rattle.nv_file.specs.inner.Reading.{IsPassed}
+use Rattle.nv_file.proofs.Words.{IsPassed, Unknown}
 use Rattle.nv_file.proofs.Keys.{known_keys}
 use Rattle.nv_file.proofs.section.Section.only.Goals as goal
 

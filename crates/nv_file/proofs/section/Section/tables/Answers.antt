@@ -1,10 +1,5 @@
 use Rattle.std.proofs.Common.{◌≡◌, ◌∙◌, ◌&&◌, Some, ap, arith, inr, length, nat_le, sym, rules}
-use Rattle.std.proofs.lemmas.Grind.{common_steps}
-use Rattle.toml.specs.Data.{get_member}
-use Rattle.toml.specs.View.{view, table_view}
-use Rattle.nv_file.specs.declared.error.SubsystemError.{SubsystemError}
-use Rattle.nv_file.specs.Names.{key_text}
-use Rattle.nv_file.specs.inner.SectionView.{tables_view}
+use Rattle.nv_file.proofs.Words.{common_steps, get_member, key_text, SubsystemError, table_view, tables_view, view}
 use Rattle.nv_file.proofs.KeyLaws.{is_in_limits, is_out_of_limits, list_of_kind, tables_there}
 use Rattle.nv_file.proofs.section.Section.tables.Goals as goal
 

@@ -1,10 +1,5 @@
 use Rattle.std.proofs.Common.{◌≡◌, ◌∙◌, Err, Some, None, ap, inr, refl, arith, rules}
-use Rattle.std.proofs.lemmas.Grind.{common_steps}
-use Rattle.toml.specs.View.{view}
-use Rattle.nv_file.specs.declared.error.SubsystemError.{SubsystemError}
-use Rattle.nv_file.specs.declared.error.SubsystemError.TheVariants.{Kind}
-use Rattle.nv_file.specs.KeyChecks.{as_tables}
-use Rattle.nv_file.specs.inner.SectionView.{tables_view}
+use Rattle.nv_file.proofs.Words.{as_tables, common_steps, Kind, SubsystemError, tables_view, view}
 use Rattle.nv_file.proofs.KeyLaws.{is_of_kind, is_not_of_kind}
 use Rattle.nv_file.proofs.section.Section.tables_in.Goals as goal
 

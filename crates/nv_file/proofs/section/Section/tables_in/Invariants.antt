@@ -1,8 +1,5 @@
 use Rattle.std.proofs.Common.{◌≡◌, [], drop}
-use Rattle.toml.specs.Data.{as_table}
-use Rattle.toml.specs.View.{items_view}
-use Rattle.nv_file.specs.KeyChecks.{items_as}
-use Rattle.nv_file.specs.inner.SectionView.{tables_view}
+use Rattle.nv_file.proofs.Words.{as_table, items_as, items_view, tables_view}
 use Rattle.nv_file.proofs.section.Section.tables_in.Given as goal
 
 abbrev pub invariant-loop-item : goal.invariant-loop-item

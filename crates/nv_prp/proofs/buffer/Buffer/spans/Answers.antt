@@ -1,7 +1,7 @@
 use Rattle.std.proofs.Common.{◌≡◌, ◌∙◌, ◌+◌, ◌-◌, ◌%◌, ◌∷◌, [], ap, arith, length, length-append, min, subst, sym}
 use Rattle.nv_prp.specs.Buffer.{IsBuffer, buffer_place}
 use Rattle.nv_prp.specs.Place.{LieIn, places}
-use Rattle.nv_prp.specs.declared.spans.Span.{Span}
+use Rattle.nv_prp.proofs.Words.{Span}
 use Rattle.nv_prp.proofs.BufferSpanLaws.{address_of, inside_more, next_page_begins, places_more, rest_inside}
 use Rattle.nv_prp.proofs.buffer.Buffer.spans.Goals as goal
 

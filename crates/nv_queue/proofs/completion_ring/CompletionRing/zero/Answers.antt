@@ -1,6 +1,5 @@
 use Rattle.std.proofs.Common.{◌∙◌, ◌+◌, ◌*◌, ap, arith, refl}
-use Rattle.std.proofs.lemmas.List.{length-replicate}
-use Rattle.nv_host.proofs.BytesLaws.{length_with_bytes}
+use Rattle.nv_queue.proofs.Words.{length-replicate, length_with_bytes}
 use Rattle.nv_queue.proofs.ZeroLaws.{zeroed_more, zeroed_none}
 use Rattle.nv_queue.proofs.completion_ring.CompletionRing.zero.Goals as goal
 

@@ -1,6 +1,5 @@
 use Rattle.std.proofs.Common.{◌∷◌, take}
-use Rattle.nv_layout.specs.declared.error_entry.ErrorEntry.{ErrorEntry}
-use Rattle.nv_model.specs.ErrorLog.{Log}
+use Rattle.nv_subsystem.proofs.Words.{ErrorEntry, Log}
 use Rattle.nv_subsystem.proofs.error_log.ErrorLog.book.Goals as goal
 
 abbrev with_newest : ErrorEntry → Log → Log

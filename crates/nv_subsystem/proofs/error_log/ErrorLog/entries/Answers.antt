@@ -1,9 +1,5 @@
 use Rattle.std.proofs.Common.{◌∙◌, ℕ, ◌-◌, List, ◌++◌, ap, length, sym}
-use Rattle.std.specs.Prelude.{replicate}
-use Rattle.std.proofs.lemmas.List.{length-append}
-use Rattle.nv_layout.specs.ErrorEntry.{no_entry}
-use Rattle.nv_layout.specs.declared.error_entry.ErrorEntry.{ErrorEntry}
-use Rattle.nv_model.specs.ErrorLog.{Log}
+use Rattle.nv_subsystem.proofs.Words.{ErrorEntry, length-append, Log, no_entry, replicate}
 use Rattle.nv_subsystem.proofs.error_log.ErrorLog.entries.Goals as goal
 
 -- entries, filled up to this number with entries without an error

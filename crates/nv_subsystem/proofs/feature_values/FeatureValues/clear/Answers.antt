@@ -1,7 +1,6 @@
 use Rattle.std.proofs.Common.{◌∙◌, ap, refl}
 use Rattle.std.specs.FinMap as map_of
-use Rattle.nv_subsystem.specs.ValueTable.{ValueTable}
-use Rattle.nv_model.specs.Values.{is_alone}
+use Rattle.nv_subsystem.proofs.Words.{is_alone, ValueTable}
 use Rattle.nv_subsystem.proofs.ValueTableLaws.{cleared, in_values, no_nsid_zero, over-empty}
 use Rattle.nv_subsystem.proofs.feature_values.FeatureValues.clear.Goals as goal
 

@@ -1,7 +1,6 @@
 use Rattle.std.proofs.Common.{◌∙◌, ap, sym}
 use Rattle.std.specs.FinMap as map_of
-use Rattle.nv_subsystem.specs.ValueTable.{ValueTable}
-use Rattle.nv_model.specs.Values.{key_of}
+use Rattle.nv_subsystem.proofs.Words.{key_of, ValueTable}
 use Rattle.nv_subsystem.proofs.ValueTableLaws.{got_feature, got_recovery}
 use Rattle.nv_subsystem.proofs.feature_values.FeatureValues.get.Goals as goal
 

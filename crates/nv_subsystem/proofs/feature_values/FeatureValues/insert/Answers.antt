@@ -1,9 +1,6 @@
 use Rattle.std.proofs.Common.{◌≡◌, ◌∙◌, ap, sym, subst, arith, true}
 use Rattle.std.specs.FinMap as map_of
-use Rattle.nv_bits.specs.Numbers.{IsOf}
-use Rattle.nv_layout.specs.Feature.{row_of}
-use Rattle.nv_model.specs.Values.{key_of}
-use Rattle.nv_subsystem.specs.ValueTable.{ValueTable, values_of}
+use Rattle.nv_subsystem.proofs.Words.{IsOf, key_of, row_of, values_of, ValueTable}
 use Rattle.nv_subsystem.proofs.ValueTableLaws.{in_values, inserted_feature, inserted_recovery, over-insert, still_apart}
 use Rattle.nv_subsystem.proofs.feature_values.FeatureValues.insert.Goals as goal
 

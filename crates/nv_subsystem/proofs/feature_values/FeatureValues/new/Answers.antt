@@ -1,6 +1,5 @@
 use Rattle.std.proofs.Common.{ap, refl}
-use Rattle.std.specs.Ordering.{nat_cmp}
-use Rattle.std.specs.FinMap.{get-empty}
+use Rattle.nv_subsystem.proofs.Words.{get-empty, nat_cmp}
 use Rattle.nv_subsystem.proofs.ValueTableLaws.{in_values, no_values, over-empty}
 use Rattle.nv_subsystem.proofs.feature_values.FeatureValues.new.Goals as goal
 

@@ -1,7 +1,6 @@
 use Rattle.std.proofs.Common.{◌∙◌, ap}
 use Rattle.std.specs.FinMap as map_of
-use Rattle.nv_subsystem.specs.ValueTable.{ValueTable}
-use Rattle.nv_model.specs.Values.{recovery_key}
+use Rattle.nv_subsystem.proofs.Words.{recovery_key, ValueTable}
 use Rattle.nv_subsystem.proofs.ValueTableLaws.{in_values, over-remove, removed_nsid}
 use Rattle.nv_subsystem.proofs.feature_values.FeatureValues.remove.Goals as goal
 

@@ -1,7 +1,5 @@
 use Rattle.std.proofs.Common.{◌≡◌, ◌∙◌, ap}
-use Rattle.nv_model.specs.Values.{default_of, first_value, recovery_key}
-use Rattle.nv_model.specs.Step.{all_restored}
-use Rattle.nv_subsystem.specs.ValueTable.{ValueTable}
+use Rattle.nv_subsystem.proofs.Words.{all_restored, default_of, first_value, recovery_key, ValueTable}
 use Rattle.nv_subsystem.proofs.ValueTableLaws.{in_values, tables_restored, values_restored}
 use Rattle.nv_subsystem.proofs.feature_values.FeatureValues.restore.Goals as goal
 

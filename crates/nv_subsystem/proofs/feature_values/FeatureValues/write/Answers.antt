@@ -1,7 +1,6 @@
 use Rattle.std.proofs.Common.{◌≡◌, ◌∙◌, false, ap, sym}
-use Rattle.nv_model.specs.Values.{key_of}
+use Rattle.nv_subsystem.proofs.Words.{is_set, key_of}
 use Rattle.nv_subsystem.proofs.ValueTableLaws.{in_values, written_absent, written_apart}
-use Rattle.nv_model.specs.Features.{is_set}
 use Rattle.nv_subsystem.proofs.feature_values.FeatureValues.write.Goals as goal
 
 pub returns-in_default : goal.returns-in_default

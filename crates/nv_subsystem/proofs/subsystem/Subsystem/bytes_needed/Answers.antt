@@ -1,6 +1,6 @@
 use Rattle.std.proofs.Common.{◌≡◌, ◌∙◌, ℕ, ◌*◌, ◌%◌, ◌^◌, ◌<◌, ◌≤◌, ap, arith}
 use Rattle.std.proofs.Math.Nat.{mul-le-mul_left, pow-le-pow_right}
-use Rattle.std.specs.Option.{option_map_or}
+use Rattle.nv_subsystem.proofs.Words.{option_map_or}
 use Rattle.nv_subsystem.proofs.subsystem.Subsystem.bytes_needed.Goals as goal
 
 -- a number of 64 bits, shifted by at most 16

@@ -1,6 +1,4 @@
-use Rattle.nv_model.specs.Step.{next_count}
-use Rattle.nv_subsystem.specs.contracts.subsystem.Subsystem.{the_view}
-use Rattle.nv_subsystem.specs.inner.ControllerView.{controller_view}
+use Rattle.nv_subsystem.proofs.Words.{controller_view, next_count, the_view}
 use Rattle.nv_subsystem.proofs.WithController.{controller_written}
 use Rattle.nv_subsystem.proofs.subsystem.Subsystem.count.Goals as goal
 

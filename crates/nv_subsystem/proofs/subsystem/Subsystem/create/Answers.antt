@@ -1,5 +1,5 @@
 use Rattle.std.proofs.Common.{◌≤◌, arith, rules}
-use Rattle.nv_model.proofs.ManagementLaws.{free_is}
+use Rattle.nv_subsystem.proofs.Words.{free_is}
 use Rattle.nv_subsystem.proofs.SoundLaws.{sound-insert}
 use Rattle.nv_subsystem.proofs.subsystem.Subsystem.create.Goals as goal
 

@@ -1,5 +1,5 @@
 use Rattle.std.proofs.Common.{Ok, ◌∙◌, ap}
-use Rattle.nv_model.specs.Answer.{answer_without_phases}
+use Rattle.nv_subsystem.proofs.Words.{answer_without_phases}
 use Rattle.nv_subsystem.proofs.TaggedLaws.{answer_untagged}
 use Rattle.nv_subsystem.proofs.subsystem.Subsystem.execute.Goals as goal
 

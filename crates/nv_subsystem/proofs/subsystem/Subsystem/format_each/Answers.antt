@@ -1,9 +1,7 @@
 use Rattle.std.proofs.Common.{◌∙◌, ap, sym, arith}
 use Rattle.std.proofs.Math.ListN.{drop_of_length-le}
-use Rattle.std.specs.List.{fold}
-use Rattle.nv_model.specs.inner.Format.{with_format}
 use Rattle.nv_model.proofs.FormatLaws.{formatted_each}
-use Rattle.nv_model.specs.State.{Namespaces, State}
+use Rattle.nv_subsystem.proofs.Words.{fold, Namespaces, State, with_format}
 use Rattle.nv_subsystem.proofs.subsystem.Subsystem.format_each.Goals as goal
 
 pub returns : goal.returns

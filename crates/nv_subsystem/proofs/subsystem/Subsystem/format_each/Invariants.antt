@@ -1,6 +1,5 @@
 use Rattle.std.proofs.Common.{◌≡◌, drop}
-use Rattle.std.specs.List.{fold}
-use Rattle.nv_model.specs.inner.Format.{with_format}
+use Rattle.nv_subsystem.proofs.Words.{fold, with_format}
 use Rattle.nv_subsystem.proofs.subsystem.Subsystem.format_each.Given as goal
 
 abbrev pub invariant-loop-nsid : goal.invariant-loop-nsid

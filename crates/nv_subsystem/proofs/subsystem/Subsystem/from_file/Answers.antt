@@ -1,10 +1,7 @@
 use Rattle.std.specs.FinMap as map_of
-use Rattle.std.specs.List.{fold}
-use Rattle.nv_file.specs.FileValue.{controller_entry_view, namespace_entry_view}
-use Rattle.nv_subsystem.specs.FromFile.{controller_of, with_namespace}
 use Rattle.std.proofs.Common.{ap, map, ◌∙◌}
-use Rattle.nv_subsystem.proofs.FileCode.{adds_up, is_sound, mdts_within, nsids_within, rules_within}
-use Rattle.nv_subsystem.proofs.FileCode.{within_capacity}
+use Rattle.nv_subsystem.proofs.Words.{controller_entry_view, controller_of, fold, namespace_entry_view, with_namespace}
+use Rattle.nv_subsystem.proofs.FileCode.{adds_up, is_sound, mdts_within, nsids_within, rules_within, within_capacity}
 use Rattle.nv_subsystem.proofs.subsystem.Subsystem.from_file.Goals as goal
 
 pub unallocated-unallocated-requires : goal.unallocated-unallocated-requires

@@ -1,6 +1,5 @@
 use Rattle.std.proofs.Common.{sym, subst}
-use Rattle.nv_file.specs.FileValue.{file_view}
-use Rattle.nv_model.specs.WellFormed.{IsWellFormed}
+use Rattle.nv_subsystem.proofs.Words.{file_view, IsWellFormed}
 use Rattle.nv_subsystem.proofs.FileStates.{state_ok}
 use Rattle.nv_subsystem.proofs.subsystem.Subsystem.from_toml.Goals as goal
 

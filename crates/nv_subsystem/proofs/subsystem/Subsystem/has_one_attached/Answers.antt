@@ -1,11 +1,6 @@
 use Rattle.std.proofs.Common.{rules, tests, ◌≡◌, ◌∙◌, ◌&&◌, ap, sym}
-use Rattle.std.proofs.lemmas.Iterator.Search.{any_from_yields_List}
-use Rattle.std.proofs.lemmas.Iterator.{YieldsList-from_slice}
-use Rattle.std.specs.List.{list_any}
-use Rattle.nv_model.specs.Attachment.{has_attached, is_listed}
-use Rattle.nv_subsystem.specs.inner.ControllerView.{controller_view}
-use Rattle.nv_model.proofs.MappedLaws.{list_any-map}
-use Rattle.nv_model.specs.State.{Controller}
+use Rattle.nv_subsystem.proofs.Words.{any_from_yields_List, Controller, controller_view, has_attached, is_listed}
+use Rattle.nv_subsystem.proofs.Words.{list_any, list_any-map, YieldsList-from_slice}
 use Rattle.nv_subsystem.proofs.subsystem.Subsystem.has_one_attached.Goals as goal
 
 pub returns : goal.returns

@@ -1,8 +1,5 @@
 use Rattle.std.proofs.Common.{◌≡◌, ◌-◌, ap, arith}
-use Rattle.nv_subsystem.specs.inner.ControllerView.{controller_view}
-use Rattle.nv_model.specs.IdentifyController.{id_ctrl_of, padded}
-use Rattle.nv_model.specs.State.{State}
-use Rattle.nv_model.specs.WellFormed.{unallocated, used}
+use Rattle.nv_subsystem.proofs.Words.{controller_view, id_ctrl_of, padded, State, unallocated, used}
 use Rattle.nv_subsystem.proofs.subsystem.Subsystem.id_ctrl.Goals as goal
 
 pub returns : goal.returns

@@ -1,7 +1,5 @@
 use Rattle.std.proofs.Common.{rules, tests}
-use Rattle.std.proofs.lemmas.Iterator.{YieldsList-from_slice}
-use Rattle.std.proofs.lemmas.Iterator.Search.{all_from_yields_List}
-use Rattle.nv_model.specs.Attachment.{is_known}
+use Rattle.nv_subsystem.proofs.Words.{all_from_yields_List, is_known, YieldsList-from_slice}
 use Rattle.nv_subsystem.proofs.subsystem.Subsystem.is_list_of.Goals as goal
 
 pub returns-then-is_ascending : goal.returns-then-is_ascending

@@ -1,9 +1,7 @@
 use Rattle.std.proofs.Common.{◌∙◌, ap, sym, subst}
-use Rattle.nv_model.specs.Step.{with_command}
-use Rattle.nv_model.specs.WellFormed.{IsWellFormed}
 use Rattle.nv_model.proofs.StepLaws.{refused_keeps}
+use Rattle.nv_subsystem.proofs.Words.{IsWellFormed, untagged, with_command}
 use Rattle.nv_subsystem.proofs.TaggedLaws.{booked_untagged, untagged_back, untagged_keeps}
-use Rattle.nv_subsystem.specs.Tagged.{untagged}
 use Rattle.nv_subsystem.proofs.subsystem.Subsystem.refuse.Goals as goal
 
 pub returns-clause-without_tags : goal.returns-clause-without_tags

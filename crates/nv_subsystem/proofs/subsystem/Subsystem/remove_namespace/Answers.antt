@@ -1,5 +1,5 @@
 use Rattle.std.proofs.Common.{arith, sym}
-use Rattle.nv_model.proofs.UsedLaws.{used-remove}
+use Rattle.nv_subsystem.proofs.Words.{used-remove}
 use Rattle.nv_subsystem.proofs.SoundLaws.{sound-remove, sound-absent}
 use Rattle.nv_subsystem.proofs.subsystem.Subsystem.remove_namespace.Goals as goal
 

@@ -1,8 +1,5 @@
 use Rattle.std.proofs.Common.{sym, subst}
-use Rattle.nv_model.specs.Step.{with_restored}
-use Rattle.nv_model.proofs.ResetLaws.{reset_keeps}
-use Rattle.nv_model.specs.WellFormed.{IsWellFormed}
-use Rattle.nv_subsystem.specs.contracts.subsystem.Subsystem.{the_view}
+use Rattle.nv_subsystem.proofs.Words.{IsWellFormed, reset_keeps, the_view, with_restored}
 use Rattle.nv_subsystem.proofs.WithController.{controller_written}
 use Rattle.nv_subsystem.proofs.subsystem.Subsystem.reset.Goals as goal
 

@@ -1,10 +1,8 @@
 use Rattle.std.proofs.Common.{◌∙◌, ℕ, ap, sym, subst, length, arith, refl}
 use Rattle.nv_model.proofs.StepLaws.{effect_controllers, effect_keeps, refusal_fits, with_command_keeps}
-use Rattle.nv_model.specs.Step.{with_command}
-use Rattle.nv_model.specs.WellFormed.{IsWellFormed}
+use Rattle.nv_subsystem.proofs.Words.{booked, IsWellFormed, settled, untagged, with_command}
 use Rattle.nv_subsystem.proofs.AnswerLaws.{accepted_told, refused_told}
 use Rattle.nv_subsystem.proofs.TaggedLaws.{settled_untagged}
-use Rattle.nv_subsystem.specs.Tagged.{booked, settled, untagged}
 use Rattle.nv_subsystem.proofs.subsystem.Subsystem.settle.Goals as goal
 
 pub apply-requires-clause-accepted : goal.apply-requires-clause-accepted

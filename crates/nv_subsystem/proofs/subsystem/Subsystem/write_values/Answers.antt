@@ -1,5 +1,4 @@
-use Rattle.nv_model.specs.Features.{with_values}
-use Rattle.nv_subsystem.specs.contracts.subsystem.Subsystem.{the_view}
+use Rattle.nv_subsystem.proofs.Words.{the_view, with_values}
 use Rattle.nv_subsystem.proofs.WithController.{controller_written}
 use Rattle.nv_subsystem.proofs.subsystem.Subsystem.write_values.Goals as goal
 

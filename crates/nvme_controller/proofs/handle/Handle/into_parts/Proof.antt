@@ -1,37 +1,20 @@
 -- `into_parts` moves two fields, and what they own moves with them.
-use Rattle.std.specs.Prelude.{Option, Some, None}
-use mathlib.Core.Path.{◌≡◌, refl, sym, subst}
-use mathlib.Core.List.{List, [], ◌∷◌, ◌++◌}
-use seplogic.Ra.Ura.{Ura}
-use mir.Val.{Val}
-use base.Logic.{SProp, ent, id⊢}
-use base.Fml.{ftrue, fsep}
-use prog.Memory.{Memory}
-use prog.Routine.{Routine}
-use prog.Wp.{WpFn, Tables}
-use types.Logic.{Logic}
-use contract.Monad.{Fun}
+use Rattle.nvme_controller.specs.contracts.handle.Handle.into_parts as F
 use contract.Running.{tables, tables_of}
-use sound.WpLaws.{WpFn-mono}
-use types.Kit.{Item, ‵, ◌⊛◌, ◌$◌, ◌∵◌, !, qed, by, move, drop, use1, join, split, rewrite, fsplit, fjoin, suffices, done}
-use types.Part.{whole, sub, agg}
-use types.Run.{stop, fld, no_more, and_then, of_opd, returns, enter}
-use types.ByLocal.{alloc_all, pass_all, free_all, look_at, get, get_in, sets}
-use denote.Exit.{yes}
-use denote.Signature.{type_at}
-use denote.Steps.{nothing}
+use types.Kit.{Item, ‵, ◌⊛◌, ◌$◌, ◌∵◌, !, qed, by, move, drop, use1, join, split, rewrite, fsplit, fjoin, suffices}
+use types.Kit.{done}
 use denote.Triple.Entry.{on_entry}
-use denote.Triple.Spec.{triple_of}
-use denote.Triple.Table.{entered}
-use denote.Triple.Walked.{says, needs, Stays, stay_dropped, walk_of, ends_at, Goes-dropped, walk_Meets}
-use Rattle.std_alloc.proofs.BoxSteps.Form.{D, B, word, box_typed}
-use Rattle.std_alloc.proofs.BoxSteps.Steps.{box_out, box_in}
 use Rattle.nv_controller.specs.Machine.{MachineValue}
 use Rattle.nvme_controller.specs.Held.{holds}
 use Rattle.nvme_controller.specs.Open.{IsOpen}
-use Rattle.nvme_controller.proofs.AsBox.{E, FromHandle as From}
-use Rattle.nvme_controller.specs.contracts.handle.Handle.into_parts as F
 use Rattle.nvme_controller.specs.contracts.handle.Handle.into_parts.Key.{name as #self}
+use Rattle.nvme_controller.proofs.Walks.{[], agg, alloc_all, and_then, B, box_in, box_out, box_typed, D, ends_at, ent}
+use Rattle.nvme_controller.proofs.Walks.{enter, entered, fld, free_all, fsep, ftrue, Fun, get, get_in, Goes-dropped}
+use Rattle.nvme_controller.proofs.Walks.{id⊢, List, Logic, look_at, Memory, needs, no_more, None, nothing, of_opd}
+use Rattle.nvme_controller.proofs.Walks.{Option, pass_all, refl, returns, Routine, says, sets, Some, SProp}
+use Rattle.nvme_controller.proofs.Walks.{stay_dropped, Stays, stop, sub, subst, sym, Tables, triple_of, type_at, Ura}
+use Rattle.nvme_controller.proofs.Walks.{Val, walk_Meets, walk_of, whole, word, WpFn, WpFn-mono, yes, ◌++◌, ◌∷◌, ◌≡◌}
+use Rattle.nvme_controller.proofs.AsBox.{E, FromHandle as From}
 use Rattle.nvme_controller.proofs.handle.Handle.into_parts.Statement as stated
 use Rattle.nvme_controller.proofs.handle.Handle.into_parts.Code as code
 

@@ -1,40 +1,21 @@
 -- `none` makes a handle that owns nothing.
-use Rattle.std.specs.Prelude.{None}
-use mathlib.Core.Path.{refl, sym, subst}
-use mathlib.Core.List.{List, [], ◌∷◌, ◌++◌}
-use lib.Dec.{lit<}
-use seplogic.Ra.Ura.{Ura}
-use mir.Val.{Val, has_ty, vnull, vstruct, vcons, vnil}
-use base.Logic.{SProp, ent, emp, id⊢}
-use base.Fml.{ftrue, fsep}
-use prog.Memory.{Memory}
-use prog.Routine.{Routine}
-use prog.Wp.{WpFn, Tables}
-use types.Logic.{Logic}
-use contract.Monad.{Fun}
+use Rattle.std_heap.specs.contracts.Global as Heap
+use Rattle.nvme_controller.specs.contracts.handle.Handle.none as F
 use contract.Running.{tables, tables_of}
-use sound.WpLaws.{WpFn-mono}
-use types.Kit.{Item, ‵, raw, ◌⊛◌, ◌$◌, ◌∵◌, !, qed, by, move, drop, use1, join, split, fsplit, fjoin, fpack, feq_i, suffices, done}
-use types.Part.{agg}
-use types.Run.{no_more, and_then, lit, returns, enter}
-use types.ByLocal.{alloc_all, pass_all, free_all, look_at, get, sets}
-use denote.Exit.{yes}
-use denote.RattleType.{Valss}
-use denote.RawPtr.{RawPtr, null_ptr, ptr_val}
-use denote.Signature.{type_at, plain}
-use denote.Steps.{nothing}
+use types.Kit.{Item, ‵, raw, ◌⊛◌, ◌$◌, ◌∵◌, !, qed, by, move, drop, use1, join, split, fsplit, fjoin, fpack, feq_i}
+use types.Kit.{suffices, done}
 use denote.Struct.Owning.{shape}
 use denote.Struct.Struct.{within}
-use denote.Triple.Spec.{triple_of}
-use denote.Triple.Table.{entered}
-use denote.Triple.Walked.{says, Stays, stay_dropped, walk_of, ends_at, Goes-dropped, walk_Meets}
-use Rattle.core.proofs.alloc.Calls.{handle_tells, α}
 use Rattle.std_alloc.proofs.ResultValues.{and_tt}
-use Rattle.std_alloc.proofs.BoxSteps.Form.{P, owning}
-use Rattle.std_heap.specs.contracts.Global as Heap
-use Rattle.nvme_controller.proofs.AsBox.{E}
-use Rattle.nvme_controller.specs.contracts.handle.Handle.none as F
 use Rattle.nvme_controller.specs.contracts.handle.Handle.none.Key.{name as #self}
+use Rattle.nvme_controller.proofs.Walks.{[], agg, alloc_all, and_then, emp, ends_at, ent, enter, entered, free_all}
+use Rattle.nvme_controller.proofs.Walks.{fsep, ftrue, Fun, get, Goes-dropped, handle_tells, has_ty, id⊢, List, lit}
+use Rattle.nvme_controller.proofs.Walks.{lit<, Logic, look_at, Memory, no_more, None, nothing, null_ptr, owning, P}
+use Rattle.nvme_controller.proofs.Walks.{pass_all, plain, ptr_val, RawPtr, refl, returns, Routine, says, sets, SProp}
+use Rattle.nvme_controller.proofs.Walks.{stay_dropped, Stays, subst, sym, Tables, triple_of, type_at, Ura, Val, Valss}
+use Rattle.nvme_controller.proofs.Walks.{vcons, vnil, vnull, vstruct, walk_Meets, walk_of, WpFn, WpFn-mono, yes, α}
+use Rattle.nvme_controller.proofs.Walks.{◌++◌, ◌∷◌}
+use Rattle.nvme_controller.proofs.AsBox.{E}
 use Rattle.nvme_controller.proofs.handle.Handle.none.Statement as stated
 use Rattle.nvme_controller.proofs.handle.Handle.none.Code as code
 

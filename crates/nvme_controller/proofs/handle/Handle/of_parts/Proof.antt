@@ -1,33 +1,15 @@
 -- `of_parts` moves two fields, and what they own moves with them.
-use Rattle.std.specs.Prelude.{Some}
-use mathlib.Core.Path.{refl, sym, subst}
-use mathlib.Core.List.{List, [], ◌∷◌, ◌++◌}
-use seplogic.Ra.Ura.{Ura}
-use mir.Val.{Val}
-use base.Logic.{SProp, ent, emp, id⊢}
-use base.Fml.{ftrue, fsep}
-use prog.Memory.{Memory}
-use prog.Routine.{Routine}
-use prog.Wp.{WpFn, Tables}
-use types.Logic.{Logic}
-use contract.Monad.{Fun}
-use contract.Running.{tables, tables_of}
-use sound.WpLaws.{WpFn-mono}
-use types.Kit.{Item, ‵, raw, ◌⊛◌, ◌$◌, ◌∵◌, !, qed, by, move, drop, use1, join, split, fsplit, fjoin, suffices, done}
-use types.Part.{whole, sub, agg}
-use types.Run.{stop, fld, no_more, and_then, of_opd, returns, enter}
-use types.ByLocal.{alloc_all, pass_all, free_all, look_at, get, get_in, sets}
-use denote.Exit.{yes}
-use denote.Signature.{type_at}
-use denote.Steps.{nothing}
-use denote.Triple.Spec.{triple_of}
-use denote.Triple.Table.{entered}
-use denote.Triple.Walked.{says, Stays, stay_dropped, walk_of, ends_at, Goes-dropped, walk_Meets}
-use Rattle.std_alloc.proofs.BoxSteps.Form.{D, B, word, box_typed}
-use Rattle.std_alloc.proofs.BoxSteps.Steps.{box_out, box_in}
-use Rattle.nvme_controller.proofs.AsBox.{E, FromParts as From}
 use Rattle.nvme_controller.specs.contracts.handle.Handle.of_parts as F
+use contract.Running.{tables, tables_of}
+use types.Kit.{Item, ‵, raw, ◌⊛◌, ◌$◌, ◌∵◌, !, qed, by, move, drop, use1, join, split, fsplit, fjoin, suffices, done}
 use Rattle.nvme_controller.specs.contracts.handle.Handle.of_parts.Key.{name as #self}
+use Rattle.nvme_controller.proofs.Walks.{[], agg, alloc_all, and_then, B, box_in, box_out, box_typed, D, emp, ends_at}
+use Rattle.nvme_controller.proofs.Walks.{ent, enter, entered, fld, free_all, fsep, ftrue, Fun, get, get_in}
+use Rattle.nvme_controller.proofs.Walks.{Goes-dropped, id⊢, List, Logic, look_at, Memory, no_more, nothing, of_opd}
+use Rattle.nvme_controller.proofs.Walks.{pass_all, refl, returns, Routine, says, sets, Some, SProp, stay_dropped, Stays}
+use Rattle.nvme_controller.proofs.Walks.{stop, sub, subst, sym, Tables, triple_of, type_at, Ura, Val, walk_Meets}
+use Rattle.nvme_controller.proofs.Walks.{walk_of, whole, word, WpFn, WpFn-mono, yes, ◌++◌, ◌∷◌}
+use Rattle.nvme_controller.proofs.AsBox.{E, FromParts as From}
 use Rattle.nvme_controller.proofs.handle.Handle.of_parts.Statement as stated
 use Rattle.nvme_controller.proofs.handle.Handle.of_parts.Code as code
 

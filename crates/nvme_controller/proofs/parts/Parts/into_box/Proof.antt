@@ -1,46 +1,22 @@
 -- `into_box` passes what the parts own to `from_raw`.
-use mathlib.Core.Path.{◌≡◌, refl, sym, subst, ap}
-use mathlib.Core.List.{List, [], ◌∷◌, ◌++◌}
-use lib.Dec.{T}
-use seplogic.Ra.Ura.{Ura}
-use mir.Syntax.{Fn, Body, place, copy, assign, rv_opd, seq, return}
-use mir.MapTy.{inst_fn}
-use mir.Val.{Val, vptr, has_ty, WT}
-use base.Logic.{SProp, ent, id⊢}
-use base.Fml.{ftrue, fsep, flft}
-use contract.BorrowLft.{◌⊑◌}
-use prog.Memory.{Memory}
-use prog.Routine.{Routine}
-use prog.Wp.{WpFn, Tables}
-use types.Logic.{Logic}
-use contract.Monad.{Fun, fact}
-use contract.Running.{tables, tables_of}
-use sound.WpLaws.{fm_of, WpFn-mono}
-use types.Kit.{Item, at_ret, ‵, raw, ◌⊛◌, some, later, ◌$◌, ◌∵◌, !, qed, by, move, drop, use1, join, split, split3, pick, rewrite, fsplit, fjoin, feq_i, suffices, await, done}
-use types.Part.{whole, sub}
-use types.Run.{stop, fld, no_more, and_then, of_opd, returns, enter, first, blocks, exec}
-use types.ByLocal.{alloc_all, pass_all, free_all, look_at, get, get_in, sets, lands_last, env}
-use denote.RattleType.{RattleType}
-use denote.Exit.{no}
-use denote.RawPtr.{block_ptr}
-use denote.Signature.{plain}
-use denote.Steps.{heard, nothing, only}
-use denote.Triple.Call.{calls_at_last}
-use denote.Triple.Clauses.{Ended, Clauses}
-use denote.Triple.Spec.{triple_of}
-use denote.Triple.Statement.{Triple, Contract}
-use denote.Triple.Table.{entered}
-use denote.Triple.Walked.{says, Stays, stay_dropped, walk_of, ends_at, walk_Meets}
-use Rattle.core.proofs.alloc.Calls.{token, Goes-blank}
-use Rattle.std_alloc.specs.Box.Ownership.{box_owns}
-use Rattle.std_alloc.proofs.BoxSteps.Form.{Bx, D, R, P, B, args, box_ty, word, box_typed}
-use Rattle.std_alloc.proofs.BoxSteps.Steps.{box_out, box_in}
 use Rattle.nvme_controller.specs.contracts.parts.Parts as parts
 use Rattle.std_alloc.specs.contracts.boxed.Box.from_raw as Fr
 use Rattle.std_alloc.proofs.boxed.Box.from_raw.Symbol as raw_sym
 use Rattle.std_alloc.proofs.boxed.Box.from_raw.Met as raw_met
 use Rattle.nvme_controller.specs.contracts.parts.Parts.into_box as F
+use contract.Running.{tables, tables_of}
+use types.Kit.{Item, at_ret, ‵, raw, ◌⊛◌, some, later, ◌$◌, ◌∵◌, !, qed, by, move, drop, use1, join, split, split3}
+use types.Kit.{pick, rewrite, fsplit, fjoin, feq_i, suffices, await, done}
 use Rattle.nvme_controller.specs.contracts.parts.Parts.into_box.Key.{name as #self}
+use Rattle.nvme_controller.proofs.Walks.{[], alloc_all, and_then, ap, args, assign, B, block_ptr, blocks, Body, box_in}
+use Rattle.nvme_controller.proofs.Walks.{box_out, box_owns, box_ty, box_typed, Bx, calls_at_last, Clauses, Contract}
+use Rattle.nvme_controller.proofs.Walks.{copy, D, Ended, ends_at, ent, enter, entered, env, exec, fact, first, fld}
+use Rattle.nvme_controller.proofs.Walks.{flft, fm_of, Fn, free_all, fsep, ftrue, Fun, get, get_in, Goes-blank, has_ty}
+use Rattle.nvme_controller.proofs.Walks.{heard, id⊢, inst_fn, lands_last, List, Logic, look_at, Memory, no, no_more}
+use Rattle.nvme_controller.proofs.Walks.{nothing, of_opd, only, P, pass_all, place, plain, R, RattleType, refl, return}
+use Rattle.nvme_controller.proofs.Walks.{returns, Routine, rv_opd, says, seq, sets, SProp, stay_dropped, Stays, stop}
+use Rattle.nvme_controller.proofs.Walks.{sub, subst, sym, T, Tables, token, Triple, triple_of, Ura, Val, vptr}
+use Rattle.nvme_controller.proofs.Walks.{walk_Meets, walk_of, whole, word, WpFn, WpFn-mono, WT, ◌++◌, ◌∷◌, ◌≡◌, ◌⊑◌}
 use Rattle.nvme_controller.proofs.parts.Parts.into_box.Statement as stated
 use Rattle.nvme_controller.proofs.parts.Parts.into_box.Code as code
 

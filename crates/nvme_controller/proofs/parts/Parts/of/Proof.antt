@@ -1,48 +1,26 @@
 -- `of` takes the box apart, and the parts own what it owned.
-use mathlib.Core.Path.{◌≡◌, refl, sym, subst, ap, ◌∙◌}
-use mathlib.Core.List.{List, [], ◌∷◌, ◌++◌}
-use seplogic.Ra.Ura.{Ura}
-use mir.Syntax.{Fn, Args, Dict, a_type, dcons, dnil}
-use mir.MapTy.{inst_fn}
-use mir.Raw.{raw as bare}
-use mir.Val.{Val, vstruct, of_list}
-use base.Logic.{SProp, ent, id⊢, never, fst∗}
-use base.Fml.{ftrue, fsep, flft}
-use contract.BorrowLft.{◌⊑◌}
-use prog.Memory.{Memory}
-use prog.Routine.{Routine}
-use prog.Wp.{WpFn, Tables}
-use types.Logic.{Logic, sem}
-use contract.Monad.{Fun, fact}
-use contract.Running.{tables, tables_of}
-use sound.WpLaws.{fm_of, WpFn-mono}
-use types.Kit.{Item, ‵, raw, ◌⊛◌, some, later, ◌$◌, ◌∵◌, !, qed, by, move, drop, use1, join, split, split3, pick, rewrite, fsplit, fjoin, fpick, feq_l, suffices, await, done}
-use types.Part.{whole, sub, agg}
-use types.Run.{stop, fld, no_more, and_then, of_opd, returns, enter}
-use types.ByLocal.{alloc_all, pass_all, free_all, look_at, get, get_in, sets, lands_as}
-use denote.RattleType.{RattleType}
-use denote.Exit.{no}
-use denote.Param.{bounded}
-use denote.RawPtr.{Ptr, RawPtr, block_ptr, null_ptr, ptr_val, in_a_block}
-use denote.Signature.{plain}
-use denote.Steps.{heard, nothing, only}
-use denote.Struct.Tuple.{Tuple}
-use denote.Triple.Call.{calls_at}
-use denote.Triple.Clauses.{Ended, Clauses}
-use denote.Triple.Spec.{triple_of}
-use denote.Triple.Statement.{Triple, Contract}
-use denote.Triple.Table.{entered}
-use denote.Triple.Walked.{says, Stays, stay_dropped, walk_of, ends_at, walk_Meets}
-use Rattle.core.proofs.alloc.Calls.{token, handle_tells, Goes-blank}
-use Rattle.std_alloc.specs.Box.Ownership.{box_owns}
-use Rattle.std_alloc.proofs.BoxSteps.Form.{Bx, D, τ, R, P, B, word, box_typed}
-use Rattle.std_alloc.proofs.BoxSteps.Steps.{box_out, box_in}
 use Rattle.nvme_controller.specs.contracts.parts.Parts as parts
 use Rattle.std_alloc.specs.contracts.boxed.Box.into_raw_with_allocator as Ra
 use Rattle.std_alloc.proofs.boxed.Box.into_raw_with_allocator.Symbol as raw_sym
 use Rattle.std_alloc.proofs.boxed.Box.into_raw_with_allocator.Met as raw_met
 use Rattle.nvme_controller.specs.contracts.parts.Parts.of as F
+use mir.Raw.{raw as bare}
+use contract.Running.{tables, tables_of}
+use types.Kit.{Item, ‵, raw, ◌⊛◌, some, later, ◌$◌, ◌∵◌, !, qed, by, move, drop, use1, join, split, split3, pick}
+use types.Kit.{rewrite, fsplit, fjoin, fpick, feq_l, suffices, await, done}
+use denote.Param.{bounded}
+use denote.Struct.Tuple.{Tuple}
 use Rattle.nvme_controller.specs.contracts.parts.Parts.of.Key.{name as #self}
+use Rattle.nvme_controller.proofs.Walks.{[], a_type, agg, alloc_all, and_then, ap, Args, B, block_ptr, box_in, box_out}
+use Rattle.nvme_controller.proofs.Walks.{box_owns, box_typed, Bx, calls_at, Clauses, Contract, D, dcons, Dict, dnil}
+use Rattle.nvme_controller.proofs.Walks.{Ended, ends_at, ent, enter, entered, fact, fld, flft, fm_of, Fn, free_all}
+use Rattle.nvme_controller.proofs.Walks.{fsep, fst∗, ftrue, Fun, get, get_in, Goes-blank, handle_tells, heard, id⊢}
+use Rattle.nvme_controller.proofs.Walks.{in_a_block, inst_fn, lands_as, List, Logic, look_at, Memory, never, no}
+use Rattle.nvme_controller.proofs.Walks.{no_more, nothing, null_ptr, of_list, of_opd, only, P, pass_all, plain, Ptr}
+use Rattle.nvme_controller.proofs.Walks.{ptr_val, R, RattleType, RawPtr, refl, returns, Routine, says, sem, sets, SProp}
+use Rattle.nvme_controller.proofs.Walks.{stay_dropped, Stays, stop, sub, subst, sym, Tables, token, Triple, triple_of}
+use Rattle.nvme_controller.proofs.Walks.{Ura, Val, vstruct, walk_Meets, walk_of, whole, word, WpFn, WpFn-mono, τ, ◌++◌}
+use Rattle.nvme_controller.proofs.Walks.{◌∙◌, ◌∷◌, ◌≡◌, ◌⊑◌}
 use Rattle.nvme_controller.proofs.parts.Parts.of.Statement as stated
 use Rattle.nvme_controller.proofs.parts.Parts.of.Code as code
 

@@ -1,7 +1,0 @@
-use Rattle.nv_model.specs.Management.{without_any}
-use Rattle.nv_subsystem.proofs.EachController.{Changed}
-use Rattle.nv_subsystem.proofs.attachment.detach_all.Given as goal
-
-abbrev pub invariant-loop-controller : goal.invariant-loop-controller
-invariant-loop-controller l =
-    Changed without_any l.initial.controllers l.controllers l.controller-index

@@ -1,5 +1,0 @@
-use Rattle.nvme_controller.proofs.blocks.lent_look.Given as goal
-
--- the reference to the bytes
-abbrev pub ghosts-look : goal.ghosts-look
-ghosts-look a = record { reference = a.memory.ghost_name }

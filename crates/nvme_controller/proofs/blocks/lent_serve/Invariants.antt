@@ -1,5 +1,0 @@
-use Rattle.nvme_controller.proofs.blocks.lent_serve.Given as goal
-
--- the reference to the bytes
-abbrev pub ghosts-serve : goal.ghosts-serve
-ghosts-serve a = record { reference = a.memory.ghost_name }

@@ -1,5 +1,0 @@
-use Rattle.nvme_controller.proofs.caller.lent_act.Given as goal
-
--- the reference to the bytes
-abbrev pub ghosts-act : goal.ghosts-act
-ghosts-act a = record { reference = a.memory.ghost_name }

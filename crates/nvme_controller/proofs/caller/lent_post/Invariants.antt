@@ -1,5 +1,0 @@
-use Rattle.nvme_controller.proofs.caller.lent_post.Given as goal
-
--- the reference to the bytes
-abbrev pub ghosts-post : goal.ghosts-post
-ghosts-post a = record { reference = a.memory.ghost_name }

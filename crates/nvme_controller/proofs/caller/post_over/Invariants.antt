@@ -1,0 +1,5 @@
+use Rattle.nvme_controller.proofs.caller.post_over.Given as goal
+
+-- the reference to the bytes
+abbrev pub ghosts-post : goal.ghosts-post
+ghosts-post a = record { reference = a.memory.ghost_name }

@@ -1,5 +1,0 @@
-use Rattle.nvme_controller.proofs.calls.lent_turn.Given as goal
-
--- the reference to the bytes
-abbrev pub ghosts-turn : goal.ghosts-turn
-ghosts-turn a = record { reference = a.memory.ghost_name }

@@ -1,0 +1,5 @@
+use Rattle.nvme_controller.proofs.calls.turn_over.Given as goal
+
+-- the reference to the bytes
+abbrev pub ghosts-turn : goal.ghosts-turn
+ghosts-turn a = record { reference = a.memory.ghost_name }

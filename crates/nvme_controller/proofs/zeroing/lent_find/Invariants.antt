@@ -1,5 +1,0 @@
-use Rattle.nvme_controller.proofs.zeroing.lent_find.Given as goal
-
--- the reference to the bytes
-abbrev pub ghosts-find : goal.ghosts-find
-ghosts-find a = record { reference = a.memory.ghost_name }
