@@ -12,8 +12,7 @@ use Rattle.nv_driver.proofs.Words.{QueuePair, QueuePairFields, driver_value, dri
 use Rattle.nv_driver.proofs.Words.{length-map, length-map-range_with_len, length-replicate, mul-le-mul_right}
 use Rattle.nv_driver.proofs.Words.{page_size_bounds, pair_of, pair_pages, pair_value, pairs_of, replicate}
 use Rattle.nv_driver.specs.Driver.{page_count, pages_behind}
-use Rattle.nv_host.specs.PageSets.{Pages, consecutive}
-use Rattle.std.specs.FinSet as set
+use Rattle.nv_host.specs.PageSets.{Pages, all_of}
 use Rattle.std.proofs.Common.{◌-◌}
 use Rattle.nv_driver.specs.Layout.{completion_pages, pages_of, set_pages, submission_pages}
 use Rattle.nv_driver.specs.Settled.{IsSettled}
@@ -152,7 +151,7 @@ pub record IsFirst (g : Geometry) (n more : ℕ) (mem : PagedBytes) (pairs : Lis
 -- all pages from this one on
 abbrev pub all_pages_from : (first count : ℕ) → Pages
 all_pages_from first count =
-    record { first = first; count = count; members = set.from_list (consecutive first count) }
+    record { first = first; count = count; members = all_of first count }
 
 -- a new memory with the pages of the queue pairs and others
 module _ {g : Geometry} {n m pages : ℕ} {made : PagedBytes} (more : ℕ) (is : IsGeometry g) (same : m ≡ n)

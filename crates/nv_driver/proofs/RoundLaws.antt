@@ -21,7 +21,7 @@ use Rattle.nv_driver.specs.Submitting.{RequestPlace, place_in}
 use Rattle.nv_driver.specs.declared.command_pages.CommandPages.{CommandPages}
 use Rattle.nv_host.specs.PageSets.{IsOf, Pages}
 use Rattle.nv_prp.specs.Buffer.{IsBuffer, buffer_places}
-use Rattle.std.specs.FinSet as set
+use Rattle.std.specs.FinMap as map_of
 use Rattle.std.proofs.Math.Seq.{drop-cons}
 use Rattle.nv_driver.proofs.CommandPageLaws.{own_is, place_of_set}
 use Rattle.nv_driver.proofs.WindowPageLaws.{given_back, gone, taken_first, taken_rest}
@@ -47,7 +47,7 @@ use Rattle.nv_driver.proofs.OnWayLaws as W
 pub record CanGive (s : Pages) (o : CommandPages) : Type 0 where
   pub few : o.count ≤ 259
   pub own : All (λ p. IsOf s.first s.count p) (all_pages o)
-  pub none : All (λ p. set.contains s.members p ≡ false) (all_pages o)
+  pub none : All (λ p. map_of.contains_key s.members p ≡ false) (all_pages o)
   pub distinct : AllPairs (λ p q. p ≢ q) (all_pages o)
 
 -- dword 0 and status of a completion

@@ -20,15 +20,17 @@ use Rattle.nv_driver.specs.inner.Pace.{IsToldInTime}
 use Rattle.nv_driver.proofs.BatchLaws.{length-from_cid, request_at}
 use Rattle.nv_driver.proofs.CommandPageLaws.{first_two, own_is, place_of_set}
 use Rattle.nv_driver.proofs.ShareLaws.{data_fits}
-use Rattle.nv_driver.proofs.PageSetLaws.{full_length, in_of, is_in}
+use Rattle.nv_driver.proofs.PageSetLaws.{in_of, is_in}
 use Rattle.nv_driver.proofs.WindowPageLaws.{few_pages, fresh, page_of_one, pages-append, taken_also, taken_len}
 use Rattle.nv_driver.proofs.WindowPageLaws.{without_also}
-use Rattle.std.specs.FinSet as set
+use Rattle.std.specs.FinMap as map_of
 use Rattle.std.specs.Prelude.{set}
 use Rattle.std.proofs.Common.{◌≢◌, ◌%◌, ◌-◌, drop, length-drop, length-take, true}
 use Rattle.std.proofs.Math.ListN.{length-set}
 use Rattle.std.proofs.lemmas.Bool.{both_ways}
 use Rattle.std.proofs.lemmas.List.{drop-append-le, get_or-drop, get_or-set_other, get_or-set_same}
+use Rattle.nv_bits.proofs.NumberLaws.{len-all_of}
+use Rattle.nv_bits.specs.Numbers.{NumberSet}
 use Rattle.nv_host.specs.PageSets.{IsOf, Pages}
 use Rattle.nv_queue.proofs.KeptLaws.{slots_apart}
 use Rattle.nv_driver.proofs.Words.{AreApart, mod_below, mul-le-mul_right}
@@ -108,14 +110,14 @@ module _ {B : Type 0} {wrote : Write B} {rang : TailWrite B} {turned : BusTurn B
 
   -- there are enough pages for one more request
   pub set_has : {what : Requests} (of : IsRunOf r what) → b.sent < b.collected + r.geometry.window
-      → b.sent < length r.requests → pages_for of.most r.geometry.page_size ≤ set.len l.pages.members
+      → b.sent < length r.requests → pages_for of.most r.geometry.page_size ≤ map_of.len l.pages.members
   set_has of more below =
       let each = pages_for of.most r.geometry.page_size in
       let pages = r.pair.pages in
       let xs = drop b.collected u.course.sent in
-      let all = ap (set.len) u.begun.quiet.free ∙ full_length pages.first pages.count in
+      let all = ap (λ (m : NumberSet). map_of.len m) u.begun.quiet.free ∙ len-all_of pages.first pages.count in
       let rest = taken_len pages held u.taken in
-      let now_has = ap (λ (p : Pages). set.len p.members) u.left in
+      let now_has = ap (λ (p : Pages). map_of.len p.members) u.left in
       let few = few_pages each xs (λ n d h.
       subst (λ (x : Sent). length (own_pages x) ≤ each) (sym (get_or-drop b.collected u.course.sent n d))
       (let low : b.collected + n < b.sent = omega (arith, h, u.sent, length-drop b.collected u.course.sent) in

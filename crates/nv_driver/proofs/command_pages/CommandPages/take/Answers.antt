@@ -36,7 +36,7 @@ loop-at-preserved c =
           c.take.ensures.taken c.take.ensures.of_these);
       lowest = subst (λ ps. AreLowest c.args.free.now ps) more
           (lowest_next c.args.free.now c.loop-at.free c.take.new.self (take at numbers) c.take.result c.unwrap.result
-          inv.taking.left c.unwrap.ensures c.take.ensures.taken c.take.ensures.lowest inv.lowest);
+          inv.taking.left c.unwrap.ensures c.take.ensures.taken inv.lowest);
       seven = length-set numbers at c.unwrap.result ∙ inv.seven;
     }
 
