@@ -1,14 +1,7 @@
 -- A subsystem and its registers as a bus, which doesn't show phase tags.
 use Rattle.std.proofs.Common.{◌≡◌, ◌∙◌, ℕ, Bool, true, false, length, refl, sym}
-use Rattle.std.proofs.lemmas.List.{length-map}
-use Rattle.std.specs.Prelude.{if◌then◌else◌}
-use Rattle.nv_bus.specs.Bus.{IsBus}
-use Rattle.nv_model.specs.Step.{reset}
-use Rattle.nv_model.specs.State.{State}
-use Rattle.nv_model.specs.WellFormed.{IsWellFormed}
-use Rattle.nv_subsystem.proofs.TaggedLaws.{reset_untagged, untagged_back, untagged_keeps}
-use Rattle.nv_subsystem.specs.Tagged.{untagged, untagged_log}
-use Rattle.nv_controller.specs.Machine.{MachineValue, bus_of}
+use Rattle.nv_controller.proofs.Words.{bus_of, if◌then◌else◌, IsBus, IsWellFormed, length-map, MachineValue, reset}
+use Rattle.nv_controller.proofs.Words.{reset_untagged, State, untagged, untagged_back, untagged_keeps, untagged_log}
 
 -- a machine with a well-formed subsystem and registers for each controller is a lawful bus
 pub is_bus : (m : MachineValue) → IsWellFormed m.state → length m.banks ≡ length m.state.controllers

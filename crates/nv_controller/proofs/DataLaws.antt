@@ -1,22 +1,15 @@
 -- The data of replies.
 use Rattle.std.proofs.Common.{◌≡◌, ◌∙◌, ℕ, ◌+◌, ◌<◌, ◌≤◌, Bool, true, false, ap, arith, drop, min, refl, sym, take}
 use Rattle.std.proofs.Common.{List, [], ◌∷◌, length}
-use Rattle.std.proofs.lemmas.List.{take_all}
+use Rattle.nv_command.specs.declared.reply.Reply.TheVariants as reply
 use Rattle.std.specs.Bool.{MatchBool}
 use Rattle.nv_layout.proofs.LogLaws.{length-bytes_of_smart, length-entries}
-use Rattle.nv_layout.proofs.PartLaws.{part_past}
-use Rattle.nv_layout.specs.Parts.{part}
 use Rattle.nv_prp.specs.Place.{written_at}
-use Rattle.nv_bus.specs.Call.{length_of}
-use Rattle.nv_command.specs.Command.{bytes_to_host}
-use Rattle.nv_command.specs.Reply.{FitsRecord, data_of, log_of, page_of}
-use Rattle.nv_command.specs.declared.command.Command.{Command}
 use Rattle.nv_command.specs.declared.command.Command.TheVariants.{GetLog}
 use Rattle.nv_command.specs.declared.logs.LogQuery.{LogQuery}
-use Rattle.nv_command.specs.declared.reply.Reply.{Reply}
-use Rattle.nv_command.specs.declared.reply.Reply.TheVariants as reply
-use Rattle.nv_command.specs.declared.transfer.Transfer.{Transfer}
 use Rattle.nv_command.specs.declared.transfer.Transfer.TheVariants.{NoData, ToHost, FromHost}
+use Rattle.nv_controller.proofs.Words.{bytes_to_host, Command, data_of, FitsRecord, length_of, log_of, page_of, part}
+use Rattle.nv_controller.proofs.Words.{part_past, Reply, take_all, Transfer}
 
 -- ---- pages
 

@@ -1,7 +1,6 @@
 -- The answer to an entry, and the effect of taking it.
 use Rattle.std.proofs.Common.{◌≡◌, ◌∙◌, ℕ, Bool, ap, ap₂, refl, subst, sym, length, List, Option, Some, None, Result}
 use Rattle.std.proofs.Common.{Ok, Err}
-use Rattle.std.proofs.lemmas.List.{length-map}
 use Rattle.nv_layout.specs.declared.cqe.Cqe.{Cqe}
 use Rattle.nv_layout.specs.declared.sqe.Sqe.{Sqe}
 use Rattle.nv_layout.specs.declared.cqe.Status.{Status}
@@ -10,26 +9,17 @@ use Rattle.nv_queue.specs.Rings.{fetched_one, posted_one}
 use Rattle.nv_queue.specs.Slots.{completion_place, submission_place, with_completion}
 use Rattle.nv_prp.specs.Place.{written_at}
 use Rattle.nv_command.specs.Logs.{without_phases}
-use Rattle.nv_command.specs.Reply.{FitsRecord, IsReplyTo, data_of}
-use Rattle.nv_command.specs.declared.command.Command.{Command}
-use Rattle.nv_command.specs.declared.refusal.Refusal.{Refusal}
-use Rattle.nv_command.specs.declared.reply.Reply.{Reply}
 use Rattle.nv_model.specs.Answer.{answer_to}
-use Rattle.nv_model.specs.Meaning.{refusal_of}
-use Rattle.nv_model.specs.Meaning.{reply_of}
+use Rattle.nv_model.specs.Meaning.{refusal_of, reply_of}
 use Rattle.nv_model.proofs.ReplyLaws.{reply_fits}
-use Rattle.nv_model.specs.State.{State}
-use Rattle.nv_model.specs.Step.{Step, step, step_by}
-use Rattle.nv_model.specs.WellFormed.{IsWellFormed}
-use Rattle.nv_bus.specs.Call.{call_of}
 use Rattle.nv_model.specs.Conditions.{limit_of}
 use Rattle.nv_bus.proofs.TagLaws.{dword0_tagged, tagged}
-use Rattle.nv_bus.specs.Entry.{Moves, MovesBy, One, Scene, call_in, completion_in, completion_with, entry_in}
-use Rattle.nv_bus.specs.Entry.{exchange_in, next_step, step_unless, success, told_by}
 use Rattle.nv_controller.specs.Tags.{answered_unless, next_scene, settled_unless, untagged_scene}
-use Rattle.nv_subsystem.proofs.AnswerLaws.{accepted_answer}
-use Rattle.nv_subsystem.proofs.TaggedLaws.{refusal_untagged, reply_untagged, untagged_keeps}
-use Rattle.nv_subsystem.specs.Tagged.{untagged, untagged_log}
+use Rattle.nv_controller.proofs.Words.{accepted_answer, call_in, call_of, Command, completion_in, completion_with}
+use Rattle.nv_controller.proofs.Words.{data_of, entry_in, exchange_in, FitsRecord, IsReplyTo, IsWellFormed, length-map}
+use Rattle.nv_controller.proofs.Words.{Moves, MovesBy, next_step, One, Refusal, refusal_untagged, Reply, reply_untagged}
+use Rattle.nv_controller.proofs.Words.{Scene, State, Step, step, step_by, step_unless, success, told_by, untagged}
+use Rattle.nv_controller.proofs.Words.{untagged_keeps, untagged_log}
 
 -- ---- answers
 

@@ -1,3 +1,4 @@
+pub mod Words
 pub mod EntryLaws
 pub mod TurnLaws
 pub mod DataLaws

@@ -1,18 +1,13 @@
 -- Entries taken one after another.
-use Rattle.std.proofs.Common.{◌≡◌, ℕ, zero, suc, ◌+◌, ap, refl, subst, sym, add-one, Bool, false}
-use Rattle.std.proofs.Common.{List, [], ◌∷◌, ◌++◌, length}
+use Rattle.std.proofs.Common.{◌≡◌, ℕ, zero, suc, ◌+◌, ap, refl, subst, sym, add-one, Bool, false, List, [], ◌∷◌, ◌++◌}
+use Rattle.std.proofs.Common.{length}
 use Rattle.nv_register.specs.declared.readiness.Readiness.{Readiness}
-use Rattle.nv_register.specs.declared.readiness.Readiness.TheVariants.{Ready}
 use Rattle.nv_register.specs.declared.rings.Rings.{Rings}
-use Rattle.nv_model.specs.State.{State}
-use Rattle.nv_model.specs.WellFormed.{IsWellFormed}
-use Rattle.nv_bus.specs.Entry.{Scene, scene}
-use Rattle.nv_bus.specs.Shown.{AreShown}
-use Rattle.nv_bus.specs.declared.exchange.Exchange.{Exchange}
-use Rattle.nv_bus.specs.Turn.{BankTurn, RingsTurn, Site, Taken, Takes, TakesCount, TurnBy, ready_bank, site}
 use Rattle.nv_bus.proofs.TurnLaws.{bank_turn_count}
-use Rattle.nv_controller.specs.Exchanges.{exchanges_by, exchanges}
 use Rattle.nv_controller.specs.Tags.{TaggedBy, scenes_after}
+use Rattle.nv_controller.proofs.Words.{AreShown, BankTurn, Exchange, exchanges, exchanges_by, IsWellFormed, Ready}
+use Rattle.nv_controller.proofs.Words.{ready_bank, RingsTurn, Scene, scene, Site, site, State, Taken, Takes, TakesCount}
+use Rattle.nv_controller.proofs.Words.{TurnBy}
 
 -- this number of entries was taken, in a memory whose page size and length don't change; the
 -- subsystem of the scenes was s and is t, except for tags

@@ -1,8 +1,7 @@
 use Rattle.std.proofs.Common.{◌∙◌, ap, arith, refl, sym}
-use Rattle.std.proofs.lemmas.List.{nil_from_length}
-use Rattle.nv_command.specs.Command.{transfer_by}
 use Rattle.nv_command.proofs.TravelLaws.{replies_fit}
-use Rattle.nv_prp.specs.Place.{places, written_at}
+use Rattle.nv_prp.specs.Place.{written_at}
+use Rattle.nv_controller.proofs.Words.{nil_from_length, places, transfer_by}
 use Rattle.nv_controller.proofs.DataLaws.{all_sent, none_sent, nothing_written}
 use Rattle.nv_controller.proofs.deliver.deliver.Goals as goal
 

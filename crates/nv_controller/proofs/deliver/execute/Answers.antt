@@ -1,11 +1,7 @@
 use Rattle.std.proofs.Common.{◌∙◌, Option, ap, refl, sym}
-use Rattle.nv_prp.specs.Place.{places, written_at}
-use Rattle.nv_command.specs.Reply.{data_of}
-use Rattle.nv_command.specs.declared.refusal.Refusal.{Refusal}
-use Rattle.nv_command.specs.declared.reply.Reply.{Reply}
-use Rattle.nv_bus.specs.Entry.{success, told_by}
-use Rattle.nv_subsystem.proofs.AnswerLaws.{refused_answer}
+use Rattle.nv_prp.specs.Place.{written_at}
 use Rattle.nv_controller.specs.Tags.{answered_with}
+use Rattle.nv_controller.proofs.Words.{data_of, places, Refusal, refused_answer, Reply, success, told_by}
 use Rattle.nv_controller.proofs.EntryLaws.{answered, moved_none, moved_reply, refused_by}
 use Rattle.nv_controller.proofs.deliver.execute.Goals as goal
 

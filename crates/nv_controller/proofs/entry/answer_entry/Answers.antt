@@ -1,6 +1,6 @@
 use Rattle.nv_model.proofs.ChangedAtLaws.{length-changed_at}
 use Rattle.nv_model.proofs.StepLaws.{step_controllers}
-use Rattle.nv_subsystem.specs.Tagged.{untagged}
+use Rattle.nv_controller.proofs.Words.{untagged}
 use Rattle.nv_controller.proofs.EntryLaws.{same_count}
 use Rattle.nv_controller.proofs.entry.answer_entry.Goals as goal
 

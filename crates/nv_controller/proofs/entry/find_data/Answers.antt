@@ -1,8 +1,6 @@
 use Rattle.std.proofs.Common.{◌∙◌, ap, arith, inl, inr, length, refl, sym}
-use Rattle.nv_prp.specs.Place.{places}
-use Rattle.nv_command.specs.declared.transfer.Transfer.{Transfer}
-use Rattle.nv_bus.specs.Call.{data_places, length_of}
 use Rattle.nv_bus.proofs.CallLaws.{legal_places, no_places, nothing_lies_in, places-nil}
+use Rattle.nv_controller.proofs.Words.{data_places, length_of, places, Transfer}
 use Rattle.nv_controller.proofs.entry.find_data.Goals as goal
 
 pub returns-in-NoData-clause-found : goal.returns-in-NoData-clause-found

@@ -1,7 +1,5 @@
 use Rattle.std.proofs.Common.{◌∙◌, ap, rules, sym}
-use Rattle.nv_bus.specs.Entry.{completion_of, scene}
-use Rattle.nv_subsystem.proofs.TaggedLaws.{limit_untagged}
-use Rattle.nv_subsystem.specs.Tagged.{untagged}
+use Rattle.nv_controller.proofs.Words.{completion_of, limit_untagged, scene, untagged}
 use Rattle.nv_controller.proofs.EntryLaws.{completed, exchanged, tagged_one, taken_one}
 use Rattle.nv_controller.proofs.entry.take_one.Goals as goal
 

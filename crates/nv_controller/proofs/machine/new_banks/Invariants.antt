@@ -1,6 +1,5 @@
 use Rattle.std.proofs.Common.{◌≡◌}
-use Rattle.std.specs.Prelude.{replicate}
-use Rattle.nv_register.specs.RegisterBank.{new_bank}
+use Rattle.nv_controller.proofs.Words.{new_bank, replicate}
 use Rattle.nv_controller.proofs.machine.new_banks.Given as goal
 
 abbrev pub invariant-loop : goal.invariant-loop

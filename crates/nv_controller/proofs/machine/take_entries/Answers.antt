@@ -1,11 +1,7 @@
 use Rattle.std.proofs.Common.{◌∙◌, add-one, ap, arith, subst, sym}
 use Rattle.std.proofs.lemmas.Bool.Decides.{nat_tests}
-use Rattle.nv_bus.specs.Entry.{Scene, exchange_in, scene}
-use Rattle.nv_bus.specs.Shown.{AreShown}
-use Rattle.nv_bus.specs.declared.exchange.Exchange.{Exchange}
-use Rattle.nv_controller.specs.Exchanges.{exchanges}
 use Rattle.nv_controller.specs.Tags.{next_scene, scenes_after, untagged_scene}
-use Rattle.nv_subsystem.specs.Tagged.{untagged}
+use Rattle.nv_controller.proofs.Words.{AreShown, Exchange, exchange_in, exchanges, Scene, scene, untagged}
 use Rattle.nv_controller.proofs.TurnLaws.{shown_more, taken_more}
 use Rattle.nv_controller.proofs.machine.take_entries.Goals as goal
 

@@ -1,9 +1,6 @@
 use Rattle.std.proofs.Common.{◌≡◌}
-use Rattle.nv_bus.specs.Entry.{scene}
-use Rattle.nv_bus.specs.Shown.{AreShown}
-use Rattle.nv_controller.specs.Exchanges.{exchanges}
 use Rattle.nv_controller.specs.Tags.{scenes_after}
-use Rattle.nv_subsystem.specs.Tagged.{untagged}
+use Rattle.nv_controller.proofs.Words.{AreShown, exchanges, scene, untagged}
 use Rattle.nv_controller.proofs.TurnLaws.{Goes}
 use Rattle.nv_controller.proofs.machine.take_entries.Given as goal
 

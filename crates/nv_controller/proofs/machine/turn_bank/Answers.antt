@@ -1,8 +1,5 @@
 use Rattle.std.proofs.Common.{◌∙◌, ap}
-use Rattle.nv_register.specs.declared.readiness.Readiness.TheVariants.{Ready}
-use Rattle.nv_bus.specs.Entry.{scene}
-use Rattle.nv_bus.specs.Turn.{site}
-use Rattle.nv_subsystem.specs.Tagged.{untagged}
+use Rattle.nv_controller.proofs.Words.{Ready, scene, site, untagged}
 use Rattle.nv_controller.proofs.TurnLaws.{count_of_rings, shown_rings, tagged_rings, turn_of_rings}
 use Rattle.nv_controller.proofs.machine.turn_bank.Goals as goal
 

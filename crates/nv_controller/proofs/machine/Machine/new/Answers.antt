@@ -1,6 +1,5 @@
 use Rattle.std.proofs.Common.{◌∙◌, ap, length}
-use Rattle.std.proofs.lemmas.List.{length-replicate}
-use Rattle.nv_register.specs.RegisterBank.{new_bank}
+use Rattle.nv_controller.proofs.Words.{length-replicate, new_bank}
 use Rattle.nv_controller.proofs.BusLaws.{is_bus}
 use Rattle.nv_controller.proofs.machine.Machine.new.Goals as goal
 

@@ -1,5 +1,5 @@
 use Rattle.std.proofs.Common.{ap, rules}
-use Rattle.nv_controller.specs.Machine.{MachineValue}
+use Rattle.nv_controller.proofs.Words.{MachineValue}
 use Rattle.nv_controller.proofs.BusLaws.{is_bus, well_formed_bus}
 use Rattle.nv_controller.proofs.machine.Machine.turn_with.Goals as goal
 

@@ -1,12 +1,7 @@
 use Rattle.std.proofs.Common.{◌≡◌, ◌∙◌, ◌<◌, ap, length, rules, subst, sym}
-use Rattle.std.proofs.lemmas.List.{get_or_default}
-use Rattle.std.specs.Prelude.{if◌then◌else◌}
-use Rattle.nv_bus.specs.Bus.{bank_at}
-use Rattle.nv_model.specs.Step.{reset}
-use Rattle.nv_register.specs.RegisterBank.{new_bank, stops_at}
 use Rattle.nv_register.specs.declared.register_bank.RegisterBank.{RegisterBank}
-use Rattle.nv_subsystem.specs.Tagged.{untagged}
-use Rattle.nv_controller.specs.Machine.{MachineValue, machine_written}
+use Rattle.nv_controller.proofs.Words.{bank_at, get_or_default, if◌then◌else◌, machine_written, MachineValue, new_bank}
+use Rattle.nv_controller.proofs.Words.{reset, stops_at, untagged}
 use Rattle.nv_controller.proofs.BusLaws.{is_bus, reset_if_untagged, well_formed_bus}
 use Rattle.nv_controller.proofs.machine.MachineBus.write32.Goals as goal
 

@@ -1,7 +1,5 @@
 use Rattle.std.proofs.Common.{◌≡◌, ◌∙◌, ◌+◌, ◌*◌, ◌≤◌, ap, ap₂, arith, drop, length, sym, take}
-use Rattle.nv_layout.proofs.PartLaws.{length-part, part-part}
-use Rattle.nv_layout.specs.Parts.{part}
-use Rattle.nv_command.specs.Reply.{data_of, log_of, page_of}
+use Rattle.nv_controller.proofs.Words.{data_of, length-part, log_of, page_of, part, part-part}
 use Rattle.nv_controller.proofs.DataLaws.{page_data, part_least, whole_page}
 use Rattle.nv_controller.proofs.reply_data.ReplyDataPayload.fill.Goals as goal
 
