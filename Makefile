@@ -69,7 +69,7 @@ stage:
 	install -D -m 755 tools/install $(STAGE)/install
 	install -D -m 755 crates/nvme_device/out/nvme_device $(STAGE)/lib/nvme-model/nvme_device
 	install -D -m 755 $(CLIENT)/bin/nvme-model $(STAGE)/bin/nvme-model
-	@for part in library.so qemu vm vm_guest.static vm.sh vm_guest.sh; do \
+	@for part in library.so qemu vm_guest.static vm.py vm_guest.sh; do \
 	    [ ! -e $(CLIENT)/lib/nvme-model/$$part ] || \
 	        install -m 755 $(CLIENT)/lib/nvme-model/$$part $(STAGE)/lib/nvme-model || exit; \
 	done

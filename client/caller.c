@@ -16,10 +16,10 @@ enum { NOBODY = 65534, MOST_GROUPS = 65536, NO_USER = -1 };
 
 /* What a process may do with files. */
 struct identity {
+    uint64_t rights; /* its capabilities, unless these are those of another user namespace */
+    size_t count;    /* of its groups */
     uid_t user;
     gid_t group, groups[MOST_GROUPS];
-    size_t count;
-    uint64_t rights; /* its capabilities, unless these are those of another user namespace */
 };
 
 static struct identity taken = {.user = NO_USER}; /* the identity that this helper has taken */
@@ -41,12 +41,13 @@ const char *read_about(pid_t process, const char *name, char *text, size_t room)
 
 /* Whether a process is in this user namespace, whose link in /proc has a text of its own. */
 static int has_own_users(pid_t process) {
-    static char own[64];
-    char path[64], its[64] = "";
+    static char own[PATH_MAX];
+    char path[64], its[PATH_MAX];
     snprintf(path, sizeof path, "/proc/%d/ns/user", process);
-    if (!*own && readlink("/proc/self/ns/user", own, sizeof own - 1) < 0)
-        return 0;
-    return readlink(path, its, sizeof its - 1) > 0 && strcmp(its, own) == 0;
+    read_link(path, its);
+    if (!*own)
+        read_link("/proc/self/ns/user", own);
+    return *its && strcmp(its, own) == 0;
 }
 
 /* (the owner of a process's folder in /proc is root if the process changed its user) */
@@ -113,8 +114,7 @@ int act_as_caller(const struct call *call) {
         return 1;
     if (!read_identity(call->process, &wanted))
         return 0;
-    if (taken.user == wanted.user && taken.group == wanted.group && taken.rights == wanted.rights &&
-        taken.count == wanted.count && memcmp(taken.groups, wanted.groups, wanted.count * sizeof *wanted.groups) == 0)
+    if (memcmp(&taken, &wanted, offsetof(struct identity, groups) + wanted.count * sizeof *wanted.groups) == 0)
         return 1;
     taken.user = NO_USER;
     if (be_root() < 0 || take_groups(&wanted) < 0 || be(&wanted, wanted.user) < 0)
@@ -173,27 +173,27 @@ enum { MOST_LINKS = 40, TOP_OF_PROC = 1, PROC_BLOCK = 1024, ROOM = 2 * PATH_MAX 
 static int open_self(const struct call *call, int proc, int is_thread) {
     char text[8192], path[64], group[16], thread[16];
     read_about(call->process, "status", text, sizeof text);
-    const char *groups = strstr(text, "\nNStgid:"), *threads = strstr(text, "\nNSpid:");
-    if (!groups || !threads || sscanf(groups, " NStgid: %*u %15s", group) != 1 ||
-        sscanf(threads, " NSpid: %*u %15s", thread) != 1)
+    const char *numbers = strstr(text, "\nNStgid:");
+    if (!numbers || sscanf(numbers, " NStgid: %*u %15s%*[^N]NSpid: %*u %15s", group, thread) != 2)
         return -1;
     snprintf(path, sizeof path, is_thread ? "%s/task/%s" : "%s", group, thread);
     return openat(proc, path, O_PATH | O_CLOEXEC);
 }
 
-/* Follows a link of the folder `at`, and returns what it leads to, or puts its text before what is left of the path
-   and returns the folder where this begins. Links of /proc other than those at its top can't be read as texts. */
-static int follow(const struct call *call, int at, const char *name, int link, uint64_t resolve, char left[ROOM]) {
+/* Follows a link of the folder `at`, and returns what it leads to, or puts its text before the rest of the path and
+   returns the folder where this begins. Links of /proc other than those at its top can't be read as texts. */
+static int follow(const struct call *call, int at, const char *name, uint64_t resolve, char left[ROOM], char **rest) {
     char text[ROOM];
     int is_proc = is_in_proc(at), is_top = is_proc && known_about(at, "").stx_ino == TOP_OF_PROC;
     if (is_top && (strcmp(name, "self") == 0 || strcmp(name, "thread-self") == 0))
         return open_self(call, at, *name == 't');
     if (is_proc && !is_top)
         return resolve & ~(uint64_t)RESOLVE_CACHED ? -1 : openat(at, name, O_PATH | O_CLOEXEC);
-    ssize_t length = readlinkat(link, "", text, PATH_MAX - 1);
-    if (length < 0 || snprintf(text + length, ROOM - (size_t)length, "%s", left) >= ROOM - length)
+    const char *slash = *rest ? "/" : "";
+    ssize_t length = readlinkat(at, name, text, PATH_MAX - 1);
+    if (length < 0 || snprintf(text + length, ROOM - (size_t)length, "%s%s", slash, *rest ?: "") >= ROOM - length)
         return -1;
-    strcpy(left, text);
+    *rest = strcpy(left, text);
     return *left == '/' ? open_about(call->process, "root", O_PATH) : fcntl(at, F_DUPFD_CLOEXEC, 0);
 }
 
@@ -219,80 +219,56 @@ static struct statx root_of(pid_t process) {
     return known_about(AT_FDCWD, path);
 }
 
-static int is_at(int folder, const struct statx *other) {
-    const struct statx about = known_about(folder, "");
-    return about.stx_mnt_id == other->stx_mnt_id && about.stx_ino == other->stx_ino;
+static int are_same(const struct statx *one, const struct statx *other) {
+    return one->stx_mnt_id == other->stx_mnt_id && one->stx_ino == other->stx_ino;
 }
 
-/* Takes the first part of what is left of a path, or returns 0 if it is too long. */
-static int take_part(char left[ROOM], char name[NAME_MAX + 1]) {
-    size_t skipped = strspn(left, "/"), length = strcspn(left + skipped, "/");
-    if (length > NAME_MAX)
-        return 0;
-    snprintf(name, NAME_MAX + 1, "%.*s", (int)length, left + skipped);
-    memmove(left, left + skipped + length, strlen(left + skipped + length) + 1);
-    return 1;
-}
-
-/* Follows a path, part by part, as the caller would: another process can't have the kernel do so, because nothing is at
-   /proc/self for it, and because it has another root if the caller has one of its own. */
+/* Follows a path from a folder, which is closed, part by part, as the caller would: another process can't have the
+   kernel do so, because nothing is at /proc/self for it, and because it has another root if the caller has one of its
+   own. */
 static int walk(const struct call *call, int at, const char *path, const struct open_how *how,
                 const struct statx *root) {
-    char left[ROOM], name[NAME_MAX + 1];
+    char left[ROOM], *rest = strcpy(left, path), *name;
+    int is_folder = 0;
     unsigned links = 0;
-    strcpy(left, path);
-    while (at >= 0 && left[strspn(left, "/")] && take_part(left, name)) {
-        int before = at, is_top = strcmp(name, "..") == 0 && is_at(before, root);
+    while (at >= 0 && (name = strsep(&rest, "/"))) {
+        const struct statx about = known_about(at, "");
+        int before = at, is_top = strcmp(name, "..") == 0 && are_same(&about, root);
+        is_folder = !*name;
+        if (is_folder)
+            continue;
         at = openat(before, is_top ? "." : name, O_PATH | O_NOFOLLOW | O_CLOEXEC);
-        if (at >= 0 && (*left || !(how->flags & O_NOFOLLOW)) && S_ISLNK(known_about(at, "").stx_mode)) {
-            int link = at;
-            at = links++ < MOST_LINKS ? follow(call, before, name, link, how->resolve, left) : -1;
-            close(link);
+        if (at >= 0 && (rest || !(how->flags & O_NOFOLLOW)) && S_ISLNK(known_about(at, "").stx_mode)) {
+            close(at);
+            at = links++ < MOST_LINKS ? follow(call, before, name, how->resolve, left, &rest) : -1;
         }
         close(before);
     }
-    if (at < 0 || !*left || S_ISDIR(known_about(at, "").stx_mode))
+    if (at < 0 || !is_folder || S_ISDIR(known_about(at, "").stx_mode))
         return at;
     close(at);
     return -1;
-}
-
-/* Where a path of a process starts, the root folder above which it doesn't lead, and what is left of the path. */
-struct start {
-    int folder;
-    struct statx root;
-    const char *left;
-};
-
-static struct start start_of(const struct call *call, int directory, const char *path, uint64_t resolve) {
-    int is_below = resolve & (RESOLVE_BENEATH | RESOLVE_IN_ROOT) && *path == '/';
-    int is_absolute = *path == '/' && !is_below;
-    char folder[32];
-    snprintf(folder, sizeof folder, directory == AT_FDCWD ? "cwd" : "fd/%d", directory);
-    struct start start = {.folder = open_about(call->process, is_absolute ? "root" : folder, O_PATH),
-                          .left = is_below ? path : path + strspn(path, "/")};
-    start.root = is_absolute ? known_about(start.folder, "") : root_of(call->process);
-    return start;
 }
 
 /* (the kernel resolves a path if its process has the command's root folder, but for links that only the process can
    follow) */
 int look_up(const struct call *call, int directory, const char *path, const struct open_how *given) {
     static struct statx of_command;
+    const struct statx root = root_of(call->process);
     const struct open_how how = {.flags = O_PATH | O_CLOEXEC | (given->flags & (O_NOFOLLOW | O_DIRECTORY)),
                                  .resolve = given->resolve | RESOLVE_NO_MAGICLINKS};
-    const struct start start = start_of(call, directory, path, given->resolve);
-    if (of_command.stx_ino == 0)
-        of_command = root_of(process_one);
-    if (start.folder < 0 || !*path || start.root.stx_ino == 0 || of_command.stx_ino == 0) {
-        close(start.folder);
-        return -1;
-    }
-    int is_same = start.root.stx_mnt_id == of_command.stx_mnt_id && start.root.stx_ino == of_command.stx_ino, file = -1;
-    if (is_same)
-        file = (int)syscall(SYS_openat2, start.folder, *start.left ? start.left : ".", &how, sizeof how);
-    if (file < 0 && (!is_same || errno == ENOENT || (errno == ELOOP && given->resolve == 0)))
-        return walk(call, start.folder, start.left, given, &start.root);
-    close(start.folder);
+    const int is_below = (given->resolve & (RESOLVE_BENEATH | RESOLVE_IN_ROOT)) != 0;
+    const char *left = is_below ? path : path + strspn(path, "/");
+    char folder[32];
+    snprintf(folder, sizeof folder, directory == AT_FDCWD ? "cwd" : "fd/%d", directory);
+    of_command = of_command.stx_ino == 0 ? root_of(process_one) : of_command;
+    int start = open_about(call->process, *path == '/' && !is_below ? "root" : folder, O_PATH), file = -1;
+    int can_start = start >= 0 && root.stx_ino != 0 && of_command.stx_ino != 0 && *path;
+    int is_same = are_same(&root, &of_command);
+    if (can_start && is_same)
+        file = (int)syscall(SYS_openat2, start, *left ? left : ".", &how, sizeof how);
+    if (can_start && file < 0 && (!is_same || errno == ENOENT || (errno == ELOOP && given->resolve == 0)))
+        return walk(call, start, left, given, &root);
+    close(start);
     return file;
 }

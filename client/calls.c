@@ -39,8 +39,9 @@ int find_node(struct call *call) {
         return 0;
     call->is_writable = (how.st_mode & S_IWUSR) != 0;
     call->is_path = (how.st_mode & (S_IRUSR | S_IWUSR)) == 0;
-    call->is_gone = about.stx_nlink == 0 && !(about.stx_mode & 0777);
-    return read_name(name + strlen("/dev/"), &call->node);
+    int found = read_name(name + strlen("/dev/"), &call->node);
+    call->is_gone = found == WAS_NODE;
+    return found;
 }
 
 /* ---- ioctls of nodes */
@@ -51,7 +52,6 @@ static int admin(const struct call *call, const struct nvme_passthru_cmd *given,
     void *data = own_data();
     uint32_t length = given->opcode & (TO_DEVICE | FROM_DEVICE) && given->addr ? given->data_len : 0;
     struct request_header header = {.controller = (uint16_t)call->node.controller, .length = length};
-    struct answer_header answer;
     const uint32_t dwords[] = {given->cdw10, given->cdw11, given->cdw12, given->cdw13, given->cdw14, given->cdw15};
     header.entry[0] = given->opcode;
     memcpy(header.entry + 4, &given->nsid, 3 * sizeof given->nsid);
@@ -63,10 +63,11 @@ static int admin(const struct call *call, const struct nvme_passthru_cmd *given,
     int status = follow_rules(call, 0, given);
     if (status != 0)
         return status;
-    if (ask_keeper(&header, &answer) < 0 || answer.outcome != ANSWERED)
+    const struct answer_header *answer = ask_keeper(&header);
+    if (!answer || answer->outcome != ANSWERED)
         return -ENXIO;
-    *dword_0 = answer.dword_0;
-    return copy_out(call, given->addr, data, answer.length) < 0 ? -EFAULT : answer.status & 0x7fff;
+    *dword_0 = answer->dword_0;
+    return copy_out(call, given->addr, data, answer->length) < 0 ? -EFAULT : answer->status & 0x7fff;
 }
 
 /* Finds the only namespace of a controller, to whose node a command was sent. */
@@ -95,21 +96,6 @@ static int execute(struct call *call, int is_io, int is_wide) {
     if (status >= 0 && copy_out(call, call->argument + place, &result, is_wide ? 8 : 4) < 0)
         return -EFAULT;
     return status;
-}
-
-/* Sets or finds a lock of a byte after all data, and returns what is there, or -1 if it can't be set. */
-static int lock(int file, int command, short type, off_t place) {
-    struct flock byte = {.l_type = type, .l_start = (off_t)1 << 62 | place, .l_len = 1};
-    return fcntl(file, command, &byte) < 0 ? -1 : byte.l_type;
-}
-
-/* (the file then has a lock as long as it is open, and no other file may have one; of two that get theirs at once,
-   maybe neither has claimed the device) */
-int claim(const struct call *call, int file) {
-    short type = (fcntl(file, F_GETFL) & O_ACCMODE) == O_RDONLY ? F_RDLCK : F_WRLCK;
-    off_t place = call->node.controller;
-    int is_alone = lock(file, F_OFD_SETLK, type, place) >= 0 && lock(file, F_OFD_GETLK, F_WRLCK, place) == F_UNLCK;
-    return is_alone ? 0 : -EBUSY;
 }
 
 /* Discards blocks, which are then zeros. */
@@ -161,8 +147,8 @@ static uint32_t request_of(const struct call *call) {
 }
 
 /* Returns 0 for a size that a buffer may have. (There is no buffer, so that this has no effect.) */
-static int check_buffer(const struct call *call, uint32_t block) {
-    uint32_t size = 0;
+static int check_buffer(const struct call *call) {
+    uint32_t size = 0, block = 1u << volume_of(&call->node)->power;
     if (copy_in(call, call->argument, &size, sizeof size) < 0)
         return -EFAULT;
     return size < block || size > (block > 4096 ? block : 4096) || size & (size - 1) ? -EINVAL : 0;
@@ -175,33 +161,15 @@ static int read_partitions(const struct call *call) {
     return is_empty ? 0 : -EINVAL;
 }
 
-/* Refuses to make or remove a partition. */
-static int refuse_partition(const struct call *call) {
-    struct blkpg_ioctl_arg given;
-    struct blkpg_partition partition;
-    int result = copy_in(call, call->argument, &given, sizeof given);
-    return result < 0 || copy_in(call, (uintptr_t)given.data, &partition, sizeof partition) < 0 ? -EFAULT : -EINVAL;
-}
-
-/* What the administrator alone may do to a block device. (It has no partitions, and nothing that reads ahead.) */
-static int change(const struct call *call, uint32_t request, uint32_t block) {
-    if (!is_administrator())
-        return -EACCES;
-    switch (request) {
-    case BLKROSET:
-        return set_read_only(call);
-    case BLKBSZSET:
-        return check_buffer(call, block);
-    case BLKRRPART:
-        return read_partitions(call);
-    case BLKPG:
-        return refuse_partition(call);
-    case BLKFLSBUF:
-        return 0;
-    default:
-        return request == BLKRASET || request == BLKFRASET ? -ENOTTY : -EINVAL;
-    }
-}
+/* What the administrator alone may do to a block device: what does it, or else its result. (It has no partitions, and
+   nothing that reads ahead.) */
+static const struct change {
+    uint32_t request;
+    int (*make)(const struct call *call);
+    int result;
+} changes[] = {{BLKROSET, set_read_only, 0}, {BLKBSZSET, check_buffer, 0}, {BLKRRPART, read_partitions, 0},
+               {BLKPG, NULL, -EINVAL},       {BLKFLSBUF, NULL, 0},      {BLKRASET, NULL, -ENOTTY},
+               {BLKFRASET, NULL, -ENOTTY},   {BLKTRACESTOP, NULL, -EINVAL}};
 
 /* Reports a number of a block device, in its size, or changes the device. */
 static int of_block_device(const struct call *call) {
@@ -224,18 +192,12 @@ static int of_block_device(const struct call *call) {
     for (const struct report *row = reports; row < reports + sizeof reports / sizeof *reports; row++)
         if (row->request == request)
             return copy_out(call, call->argument, &numbers[row->number], row->bytes ?: word);
+    for (const struct change *row = changes; row < changes + sizeof changes / sizeof *changes; row++)
+        if (row->request == request)
+            return !is_administrator() ? -EACCES : row->make ? row->make(call) : row->result;
     switch (request) {
     case HDIO_GETGEO:
         return copy_out(call, call->argument, cylinders, 2 * word);
-    case BLKROSET:
-    case BLKFLSBUF:
-    case BLKRASET:
-    case BLKFRASET:
-    case BLKBSZSET:
-    case BLKRRPART:
-    case BLKPG:
-    case BLKTRACESTOP:
-        return change(call, request, (uint32_t)block);
     case BLKDISCARD:
     case BLKZEROOUT:
     case BLKSECDISCARD:
@@ -308,29 +270,19 @@ void finish_call(const union notice *notice, int result) {
     ioctl(call_listener, SECCOMP_IOCTL_NOTIF_SEND, &answer);
 }
 
-/* Gives the process of a call a descriptor of a file, and returns that, or an error's number. (The file is closed here
-   before the process goes on, so that its claim ends when the process closes it.) */
-static int give_file(const union notice *notice, int file, int flags) {
-    struct seccomp_notif_addfd added = {
-        .id = notice->got.id, .srcfd = (uint32_t)file, .newfd_flags = (uint32_t)flags & O_CLOEXEC};
-    int result = ioctl(call_listener, SECCOMP_IOCTL_NOTIF_ADDFD, &added);
-    result = result < 0 ? -errno : result;
-    close(file);
-    return result;
+/* Finds who answers a call. */
+static answering *answer_of(const struct decided_call *row, int call) {
+    for (;; row++)
+        for (const short *number = row->numbers; row->answer && *number != 0; number++)
+            if (*number == call)
+                return row->answer;
 }
 
 /* (a process that is gone by now may have left its number to another one) */
 void answer_call(const union notice *notice) {
     const struct seccomp_data *data = &notice->got.data;
-    struct call call = {.id = notice->got.id,
-                        .process = (pid_t)notice->got.pid,
-                        .is_old = data->arch != AUDIT_ARCH_X86_64,
-                        .opened = NOT_OPENED};
-    const struct decided_call *row = call.is_old ? old_decided_calls : decided_calls;
-    while (!row->answer || row->number != data->nr)
-        row++;
-    int result = act_as_caller(&call) && is_alive(call.id) ? row->answer(&call, data->args) : -EAGAIN;
-    if (result >= 0 && call.opened != NOT_OPENED)
-        result = give_file(notice, result, call.opened);
-    finish_call(notice, result);
+    struct call call = {
+        .id = notice->got.id, .process = (pid_t)notice->got.pid, .is_old = data->arch != AUDIT_ARCH_X86_64};
+    answering *answer = answer_of(call.is_old ? old_decided_calls : decided_calls, data->nr);
+    finish_call(notice, act_as_caller(&call) && is_alive(call.id) ? answer(&call, data->args) : -EAGAIN);
 }

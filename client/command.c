@@ -5,7 +5,6 @@
 #include "launcher.h"
 #include <linux/capability.h>
 #include <pthread.h>
-#include <sched.h>
 #include <sys/prctl.h>
 #include <sys/syscall.h>
 #include <sys/uio.h>
@@ -55,19 +54,17 @@ static void set_both(const char *name, const char *one, const char *other) {
     }
 }
 
-static void prepend(const char *name, const char *value) { set_both(name, value, getenv(name)); }
-
 /* (a stream that is closed for the command is one that can't be used) */
 __attribute__((noreturn)) static void become(char **arguments) {
-    prepend("LD_PRELOAD", library_path);
+    set_both("LD_PRELOAD", MODEL_FOLDER "/library.so", getenv("LD_PRELOAD"));
     /* (the address sanitizer wants to be the first library, and udev that /sys is a file system of the kernel) */
-    prepend("ASAN_OPTIONS", "verify_asan_link_order=0");
+    set_both("ASAN_OPTIONS", "verify_asan_link_order=0", getenv("ASAN_OPTIONS"));
     setenv("SYSTEMD_DEVICE_VERIFY_SYSFS", "0", 1);
     /* (blkid would make this folder, which is the machine's, to remember what it has seen) */
     if (access("/run/blkid", F_OK) < 0)
         setenv("BLKID_FILE", "/dev/null", 1);
     if (access(MODEL_FOLDER "/bin", F_OK) == 0 && getenv("PATH"))
-        prepend("PATH", MODEL_FOLDER "/bin");
+        set_both("PATH", MODEL_FOLDER "/bin", getenv("PATH"));
     /* (Debian has nvme where an ordinary user's PATH doesn't lead) */
     if (getenv("PATH") && !strstr(getenv("PATH"), "/usr/sbin"))
         set_both("PATH", getenv("PATH"), "/usr/sbin:/sbin");

@@ -2,28 +2,25 @@
    its place. And what follows from commands that it accepted: the data of namespaces, and events at the controllers
    whose namespaces changed. None of this is proved. */
 #include "function.h"
+#include "supplied.h"
 
 /* Statuses, with the bit Do Not Retry; and that no completion is due yet. */
-enum { DONE = 0, INVALID_FIELD = 0x4002, INVALID_NAMESPACE = 0x400b, SEQUENCE_ERROR = 0x400c, INVALID_OFFSET = 0x4013 };
-enum { NO_COMPLETION_QUEUE = 0x4100, INVALID_QUEUE, INVALID_SIZE, TOO_MANY_REQUESTS = 0x4105, INVALID_VECTOR = 0x4108 };
-enum { INVALID_DELETION = 0x410c, NOT_SAVEABLE, NOT_OF_NAMESPACE = 0x410f, IS_HELD = 0xffff };
-/* Opcodes and selectors of the commands here, bits of their dwords, and fields of Identify Controller. */
+enum { SEQUENCE_ERROR = 0x400c, INVALID_OFFSET = 0x4013, NO_COMPLETION_QUEUE = 0x4100, INVALID_QUEUE, INVALID_SIZE };
+enum { TOO_MANY_REQUESTS = 0x4105, INVALID_VECTOR = 0x4108, INVALID_DELETION = 0x410c, NOT_SAVEABLE };
+enum { NOT_OF_NAMESPACE = 0x410f, IS_HELD = 0xffff };
+/* Opcodes and selectors of the commands here, and bits of their dwords. */
 enum { DELETE_SUBMISSIONS = 0, CREATE_SUBMISSIONS, DELETE_COMPLETIONS = 4, CREATE_COMPLETIONS, ABORT = 8 };
 enum { SET_FEATURES = 9, GET_FEATURES, REQUEST_EVENT = 0x0c, NUMBER_OF_QUEUES = 7, EVENTS = 0x0b, ANY = -1 };
-enum { IDENTIFIERS = 3, ATTACHED_TO = 0x12, CONTROLLERS = 0x13, FIRMWARE = 3, CHANGED_NAMESPACES = 4 };
 enum { IS_CONTIGUOUS = 1, HAS_INTERRUPTS = 2, KEEPS_EVENT = 1 << 15, WANTS_CHANGES = 1 << 8, CAN_CHANGE = 4 };
-enum { FIRMWARE_NAME = 64, CONTROLLER_ID = 78 };
 #define IS_SAVED (1u << 31)
 /* Dword 0 of the event that namespaces have changed, which a log lists. */
-enum { CHANGE = 2 | CHANGED_NAMESPACES << 16 };
+enum { CHANGE = 2 | LOG_OF_CHANGES << 16 };
 
-/* A command that is answered here, and what it is answered: dword 0, and data (of which a read may begin after a part
-   of a page). */
+/* A command that is answered here, and dword 0 of its completion. */
 struct command {
     struct function *function;
     unsigned char entry[ENTRY_BYTES], *memory;
     uint32_t dword_0;
-    unsigned char page[2 * IDENTIFY_BYTES];
 };
 
 static uint32_t dword(const struct command *command, unsigned number) {
@@ -115,7 +112,7 @@ static int get_queue_counts(struct command *command) {
     return which < 4 ? DONE : INVALID_FIELD;
 }
 
-/* ---- other controllers, firmware and events */
+/* ---- abort and events */
 
 /* (Bit 0 says that the command wasn't aborted.) */
 static int abort_nothing(struct command *command) {
@@ -131,81 +128,21 @@ static int hold_request(struct command *command) {
     return IS_HELD;
 }
 
-/* Looks whether the command's namespace is active at the controller, or allocated. */
-static int look_for(const struct command *command, int is_active) {
-    const struct function *function = command->function;
-    uint32_t nsid = dword(command, 1);
-    unsigned char about[IDENTIFY_BYTES];
-    if (nsid == EVERY_NSID)
-        return is_active ? INVALID_NAMESPACE : INVALID_FIELD;
-    if (!nvme_machine_namespace(function->machine, function->number, nsid, is_active, about))
-        return INVALID_NAMESPACE;
-    return number_at(about, 8) == 0 ? INVALID_FIELD : DONE;
-}
-
-/* A namespace has no identifiers, but that of its command set. */
-static int list_identifiers(struct command *command) {
-    memcpy(command->page, (const unsigned char[]){4, 1, 0, 0, 0}, 5);
-    return look_for(command, 1);
-}
-
-/* The controllers of the subsystem, or those to which a namespace is attached, in the order of their identifiers. */
-static int list_controllers(struct command *command) {
-    const struct subsystem *subsystem = command->function->subsystem;
-    int is_of_one = command->entry[40] == ATTACHED_TO, status = is_of_one ? look_for(command, 0) : DONE;
-    uint32_t nsid = dword(command, 1), count = 0;
-    for (uint32_t id = dword(command, 10) >> 16; id <= UINT16_MAX && status == DONE; id++)
-        for (const struct function *at = subsystem->functions; at < subsystem->functions + subsystem->count; at++)
-            if (number_at(at->identity + CONTROLLER_ID, 2) == id && (!is_of_one || at->drive.is_active[nsid]))
-                put_dword(command->page + 2 * ++count, id);
-    put_dword(command->page, count | (uint32_t)number_at(command->page + 2, 2) << 16);
-    return status;
-}
-
-/* The firmware that Identify names is in the first slot. */
-static int list_firmware(struct command *command) {
-    command->page[0] = 1;
-    memcpy(command->page + 8, command->function->identity + FIRMWARE_NAME, 8);
-    return DONE;
-}
-
-/* The namespaces that changed since this was read. */
-static int list_changes(struct command *command) {
-    struct drive *drive = &command->function->drive;
-    unsigned char *next = command->page;
-    for (uint32_t nsid = 1; nsid <= MOST_NSID; nsid++)
-        if (drive->has_changed[nsid]) {
-            put_dword(next, nsid);
-            next += 4;
-        }
-    if (!(dword(command, 10) & KEEPS_EVENT)) {
-        memset(drive->has_changed, 0, sizeof drive->has_changed);
-        drive->is_told = 0;
-    }
-    return DONE;
-}
-
 /* ---- the table */
 
-/* A command, by its opcode and the lowest byte of dword 10, with the size of the data that it has. */
+/* A command, by its opcode and the lowest byte of dword 10. */
 static const struct row {
     unsigned char opcode;
     int selector;
-    uint32_t size;
     int (*answer)(struct command *command);
-} rows[] = {{DELETE_SUBMISSIONS, ANY, 0, delete_queue},
-            {CREATE_SUBMISSIONS, ANY, 0, create_queue},
-            {DELETE_COMPLETIONS, ANY, 0, delete_queue},
-            {CREATE_COMPLETIONS, ANY, 0, create_queue},
-            {ABORT, ANY, 0, abort_nothing},
-            {SET_FEATURES, NUMBER_OF_QUEUES, 0, set_queue_counts},
-            {GET_FEATURES, NUMBER_OF_QUEUES, 0, get_queue_counts},
-            {REQUEST_EVENT, ANY, 0, hold_request},
-            {OPCODE_IDENTIFY, IDENTIFIERS, IDENTIFY_BYTES, list_identifiers},
-            {OPCODE_IDENTIFY, ATTACHED_TO, IDENTIFY_BYTES, list_controllers},
-            {OPCODE_IDENTIFY, CONTROLLERS, IDENTIFY_BYTES, list_controllers},
-            {OPCODE_GET_LOG, FIRMWARE, 512, list_firmware},
-            {OPCODE_GET_LOG, CHANGED_NAMESPACES, 4 * MOST_NSID, list_changes}};
+} rows[] = {{DELETE_SUBMISSIONS, ANY, delete_queue},
+            {CREATE_SUBMISSIONS, ANY, create_queue},
+            {DELETE_COMPLETIONS, ANY, delete_queue},
+            {CREATE_COMPLETIONS, ANY, create_queue},
+            {ABORT, ANY, abort_nothing},
+            {SET_FEATURES, NUMBER_OF_QUEUES, set_queue_counts},
+            {GET_FEATURES, NUMBER_OF_QUEUES, get_queue_counts},
+            {REQUEST_EVENT, ANY, hold_request}};
 
 /* What Identify Controller must therefore say, by the offset of a byte: that there are events of namespaces (OAES), how
    many requests for events may wait (AERL, one less), and that there are Compare, Dataset Management, Write Zeroes and
@@ -214,31 +151,58 @@ static const struct {
     unsigned offset, bits;
 } additions[] = {{93, WANTS_CHANGES >> 8}, {259, MOST_REQUESTS - 1}, {520, 1 << 0 | 1 << 2 | 1 << 3 | 1 << 7}};
 
-static const struct row *row_of(const unsigned char *entry) {
-    const struct row *row = rows, *end = rows + sizeof rows / sizeof *rows;
-    while (row < end && (row->opcode != entry[0] || (row->selector != ANY && row->selector != entry[40])))
-        row++;
-    return row < end ? row : NULL;
-}
-
 /* Writes data to where a command wants it. Returns the status. */
 static int write_data(const struct command *command, const unsigned char *data, size_t length) {
     uint32_t page = page_size(command->function);
     return nvme_entry_write(command->entry, command->memory, MOST_MEMORY / page, page, data, length);
 }
 
-/* Answers a command, and returns its status. (Of a log, no more than a page is read at once.) */
-static int answer(struct command *command, const struct row *row) {
-    uint64_t from = 0, length = row->size;
-    uint32_t nsid = dword(command, 1);
-    if (row->opcode == OPCODE_GET_LOG) {
-        from = number_at(command->entry + 48, 8);
-        length = 4 * ((uint64_t)(dword(command, 11) & 0xffff) << 16 | dword(command, 10) >> 16) + 4;
-        if (from % 4 || from > row->size || length > IDENTIFY_BYTES || (nsid != 0 && nsid != EVERY_NSID))
-            return INVALID_FIELD;
+/* ---- what a controller's answers are made of, by the number of its function */
+
+const unsigned char *identity_of(unsigned controller) { return functions[controller].identity; }
+
+int read_namespace(unsigned controller, uint32_t nsid, int is_active, unsigned char page[IDENTIFY_BYTES]) {
+    const struct function *function = functions + controller;
+    return nvme_machine_namespace(function->machine, function->number, nsid, is_active, page);
+}
+
+int is_attached(unsigned controller, uint32_t nsid) { return functions[controller].drive.is_active[nsid]; }
+
+/* (since the log was read) */
+void find_changes(unsigned controller, unsigned char has_changed[MOST_NSID + 1]) {
+    memcpy(has_changed, functions[controller].drive.has_changed, MOST_NSID + 1);
+}
+
+/* Answers a command that the sandbox's launcher has too. (Of a log, no more than a page is read at once.) */
+static int answer_by_data(struct command *command) {
+    struct function *function = command->function;
+    struct drive *drive = &function->drive;
+    const struct subsystem *subsystem = function->subsystem;
+    const struct asked asked = {subsystem->functions - functions, subsystem->count, function - functions};
+    unsigned char page[IDENTIFY_BYTES];
+    int status = supplied(&asked, command->entry, page), is_log = command->entry[0] == OPCODE_GET_LOG;
+    uint64_t dwords = (uint64_t)(dword(command, 11) & 0xffff) << 16 | dword(command, 10) >> 16;
+    uint64_t length = is_log ? 4 * dwords + 4 : IDENTIFY_BYTES;
+    if (status == NOT_SUPPLIED)
+        return status;
+    if (command->entry[1] || length > IDENTIFY_BYTES)
+        return INVALID_FIELD;
+    if (status == DONE)
+        status = write_data(command, page, length);
+    if (status == DONE && is_log && command->entry[40] == LOG_OF_CHANGES && !(dword(command, 10) & KEEPS_EVENT)) {
+        memset(drive->has_changed, 0, sizeof drive->has_changed);
+        drive->is_told = 0;
     }
-    int status = command->entry[1] ? INVALID_FIELD : row->answer(command);
-    return status == DONE && length > 0 ? write_data(command, command->page + from, length) : status;
+    return status;
+}
+
+/* Answers a command, and returns its status, or that it isn't answered here. */
+static int answer(struct command *command) {
+    const unsigned char *entry = command->entry;
+    for (const struct row *row = rows; row < rows + sizeof rows / sizeof *rows; row++)
+        if (row->opcode == entry[0] && (row->selector == ANY || row->selector == entry[40]))
+            return entry[1] ? INVALID_FIELD : row->answer(command);
+    return answer_by_data(command);
 }
 
 /* ---- what follows from commands that the controllers accept */
@@ -278,15 +242,17 @@ static void clear_formatted(struct function *function, uint32_t formatted) {
 
 static void see_accepted(const struct command *command) {
     struct function *function = command->function;
+    struct drive *drive = &function->drive;
     unsigned char opcode = command->entry[0], selector = command->entry[40], page[IDENTIFY_BYTES];
     if (opcode == OPCODE_IDENTIFY && selector == CNS_CONTROLLER) {
         nvme_machine_identify(function->machine, function->number, page);
         for (unsigned at = 0; at < sizeof additions / sizeof *additions; at++)
             page[additions[at].offset] |= (unsigned char)additions[at].bits;
         write_data(command, page, sizeof page);
-    } else if (opcode == SET_FEATURES && selector == EVENTS)
-        function->drive.wants_changes = (dword(command, 11) & WANTS_CHANGES) != 0;
-    else if (opcode == OPCODE_FORMAT)
+    } else if (opcode == SET_FEATURES && selector == EVENTS) {
+        drive->wants_changes = (dword(command, 11) & WANTS_CHANGES) != 0;
+        drive->saved_wish = dword(command, 10) & IS_SAVED ? drive->wants_changes : drive->saved_wish;
+    } else if (opcode == OPCODE_FORMAT)
         clear_formatted(function, dword(command, 1));
     else if (opcode == OPCODE_MANAGEMENT || opcode == OPCODE_ATTACHMENT)
         look_at_namespaces(function->subsystem, AFTER_COMMAND);
@@ -329,7 +295,8 @@ static void complete(struct function *function, uint64_t slot) {
 }
 
 /* Takes the next entry of the admin queue, or lets the controller take it. Where it or the slot for its completion
-   isn't in memory, the controller finds no memory at all, which is fatal for it. Returns whether there was one. */
+   isn't in memory, the controller finds no memory at all, which is fatal for it. Returns whether it took one, and another
+   one waits. */
 int take_command(struct function *function) {
     nvme_submission_queue *queue = &function->drive.submissions[0].queue;
     uint64_t slot = next_completion(&function->drive.completions[0].queue);
@@ -338,16 +305,15 @@ int take_command(struct function *function) {
     struct command command = {.function = function, .memory = lend(function, next_entry(queue), slot)};
     uint32_t page = page_size(function);
     size_t pages = command.memory ? MOST_MEMORY / page : 0;
-    const struct row *row = NULL;
+    int status = NOT_SUPPLIED;
     if (nvme_machine_next(function->machine, function->number, command.memory, pages, page, command.entry))
-        row = row_of(command.entry);
-    int status = row ? answer(&command, row) : DONE;
-    if (!(row ? take_over(&command, pages, status) : pass_on(&command, pages)))
+        status = answer(&command);
+    if (!(status == NOT_SUPPLIED ? pass_on(&command, pages) : take_over(&command, pages, status)))
         return 0;
     queue->fetched = (queue->fetched + 1) % (2 * queue->depth);
     if (status != IS_HELD)
         complete(function, slot);
-    return 1;
+    return queue->fetched != queue->rung;
 }
 
 /* Completes a request for events if namespaces have changed since the host was told so. */

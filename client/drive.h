@@ -22,7 +22,7 @@ struct subsystem {
 };
 
 /* When the data of a namespace is looked after. */
-enum moment { AT_START, AFTER_COMMAND, AFTER_FORMAT };
+enum moment { AT_START, AFTER_START, AFTER_COMMAND, AFTER_FORMAT };
 
 /* The most I/O queues of a kind, and the most Asynchronous Event Requests that wait. */
 enum { MOST_QUEUES = 64, MOST_REQUESTS = 4 };
@@ -50,7 +50,8 @@ struct drive {
     uint32_t notice;                  /* of a shutdown, as in CC */
     uint16_t requests[MOST_REQUESTS]; /* the command identifiers of Asynchronous Event Requests that wait */
     unsigned request_count;
-    int wants_changes, is_told;       /* whether the host wants to know that namespaces changed, and knows it */
+    int wants_changes, saved_wish;    /* whether the host wants to know that namespaces changed, also after a reset */
+    int is_told;                      /* whether it knows it */
     unsigned char is_active[MOST_NSID + 1], has_changed[MOST_NSID + 1];
 };
 
@@ -60,7 +61,6 @@ uint64_t next_entry(const nvme_submission_queue *queue);
 uint64_t next_completion(const nvme_completion_queue *queue);
 void reset_drive(struct function *function);
 void ring(struct function *function, uint32_t offset, uint32_t value);
-int has_entries(const struct function *function);
 int has_completions(const struct function *function);
 int take_command(struct function *function);
 int take_entry(struct function *function);

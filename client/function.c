@@ -112,10 +112,10 @@ void take_turn(struct function *function) {
     if (!(function->config[COMMAND] & IS_MASTER) || function->drive.has_failed)
         return;
     tell_changes(function);
-    int is_taken = take_command(function);
-    for (unsigned count = 0; count < MOST_ENTRIES && take_entry(function); count++)
-        is_taken = 1;
-    function->has_more |= is_taken && has_entries(function);
+    int has_more = take_command(function), count = 0;
+    while (count < MOST_ENTRIES && take_entry(function))
+        count++;
+    function->has_more |= has_more || count == MOST_ENTRIES;
 }
 
 static void write_register(struct function *function, uint32_t offset, uint32_t value) {

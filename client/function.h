@@ -56,6 +56,8 @@ struct function {
     int has_message, has_more; /* whether a message is due, and whether something may be to do after the last turn */
 };
 
+extern struct function functions[MOST_FUNCTIONS];
+
 struct protocol {
     uint64_t (*length)(const unsigned char *header); /* of a message, or 0 if it isn't valid */
     uint32_t (*serve)(struct function *);            /* serves the message, and returns how long the answer is */

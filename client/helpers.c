@@ -1,7 +1,7 @@
 /* The processes that work for the launcher. The launcher itself, which passes signals on, waits for nobody: calls are
    received by helpers, each of which looks at the memory and at the files of the process that made a call, as that
    process could (calls.c), and waits where it would. Each device has a keeper, which alone exchanges requests with it
-   and makes its nodes (relay.c, nodes.c), and which helpers ask. They share memory, by which they tell each other what
+   and makes its nodes (device.c, nodes.c), and which helpers ask. They share memory, by which they tell each other what
    is to be done. Each has a session of its own, so that no signal of a terminal's keys or of a process group reaches
    it. None of this is proved. */
 #include "launcher.h"
@@ -11,29 +11,23 @@
 #include <sys/mman.h>
 #include <sys/syscall.h>
 
-/* The helpers that there are at first, those that are started as soon as all others are at work, and the most if these
-   are so for long. (They are fewer if there are no addresses for the data of so many.) */
-enum { FIRST_HELPERS = 2, USUAL_HELPERS = 8, MOST_HELPERS = 512 };
+/* The most helpers. (They are fewer if there are no addresses for the data of so many.) */
+enum { LEAST_ROOM = 8, MOST_HELPERS = 512 };
 
+enum { ASKING = 1 };
 struct helper {
-    pid_t process;         /* 0 if there is none */
-    _Atomic unsigned state; /* whether it waits for a keeper, which wakes it by a change of this */
-    int result;            /* of its last request: 0, or -1 if the device is gone */
+    pid_t process;       /* 0 if there is none */
+    _Atomic int state;   /* of its request: ASKING, until the keeper wakes it, and then 0, or -1 if the device is gone */
     struct request_header request;
     struct answer_header answer;
     union notice notice; /* the call that it answers, whose identifier is 0 until it has one */
     unsigned char data[MOST_DATA]; /* of its request */
 };
-enum { WORKING, ASKING };
 
 static struct helper *helpers, *self; /* (`self` only in a helper) */
 static unsigned most_helpers = MOST_HELPERS;
+static _Atomic unsigned *helper_count; /* (which they share too) */
 static int needed; /* where the last helper without a call tells that it has one */
-
-/* What they share besides: the numbers of helpers, and of calls that were answered. */
-static struct {
-    _Atomic unsigned count, answered;
-} *shared;
 
 unsigned await_files(const int *files, unsigned count, int milliseconds) {
     struct pollfd events[3];
@@ -57,17 +51,15 @@ void *share(size_t size) {
     return memory;
 }
 
-static struct helper *end(void) { return helpers + shared->count; }
+static struct helper *end(void) { return helpers + *helper_count; }
 
 /* ---- keepers */
 
 /* Carries out the request of a helper. */
 static void serve(struct device *device, struct helper *helper) {
     struct request_header request = helper->request;
-    helper->result = serve_keeper(device, &request);
-    if (helper->result == NOT_OURS)
-        helper->result = carry_out(&request, helper->data, &helper->answer);
-    helper->state = WORKING;
+    int result = serve_keeper(device, &request);
+    helper->state = result == NOT_OURS ? carry_out(&request, helper->data, &helper->answer) : result;
     syscall(SYS_futex, &helper->state, FUTEX_WAKE, 1, NULL, NULL, 0);
 }
 
@@ -92,24 +84,22 @@ static void start_keeper(struct device *device) {
     }
 }
 
-int ask_keeper(const struct request_header *header, struct answer_header *answer) {
+const struct answer_header *ask_keeper(const struct request_header *header) {
     const struct device *device = device_of(header->controller);
     const unsigned place = (unsigned)(self - helpers);
     if (device->state == LOST)
-        return -1;
+        return NULL;
     self->request = *header;
     self->state = ASKING;
     (void)!write(device->asks[1], &place, sizeof place);
     while (self->state == ASKING)
         syscall(SYS_futex, &self->state, FUTEX_WAIT, ASKING, NULL, NULL, 0);
-    *answer = self->answer;
-    return self->result;
+    return self->state == 0 ? &self->answer : NULL;
 }
 
 int ask_controller(unsigned controller, uint16_t kind, uint32_t length) {
     const struct request_header header = {.controller = (uint16_t)controller, .kind = kind, .length = length};
-    int result = ask_keeper(&header, &(struct answer_header){0});
-    return result == -1 ? -ENXIO : result;
+    return ask_keeper(&header) ? 0 : -ENXIO;
 }
 
 void *own_data(void) { return self->data; }
@@ -134,10 +124,8 @@ __attribute__((noreturn)) static void help(struct helper *helper) {
     self = helper;
     setsid();
     for (;;) {
-        if (!receive_call(&helper->notice)) {
+        while (!receive_call(&helper->notice))
             usleep(1000); /* (who made the call has ended, or all have) */
-            continue;
-        }
         __atomic_thread_fence(__ATOMIC_SEQ_CST); /* (of two that come at once, one sees the other) */
         if (!is_any_idle())
             eventfd_write(needed, 1);
@@ -146,24 +134,7 @@ __attribute__((noreturn)) static void help(struct helper *helper) {
             _exit(0);
         }
         answer_call(&helper->notice);
-        shared->answered++;
     }
-}
-
-/* Starts a helper, in the place of one that has ended or beside the others, and returns whether it could. */
-static int add_helper(unsigned most) {
-    struct helper *place = helpers;
-    while (place < end() && (place->process != 0 || place->state == ASKING))
-        place++;
-    if (place >= helpers + most)
-        return 0;
-    if (place == end())
-        shared->count++;
-    pid_t process = fork();
-    if (process == 0)
-        help(place);
-    place->process = process > 0 ? process : 0;
-    return process > 0;
 }
 
 /* Kills the helpers whose callers no longer wait. */
@@ -173,18 +144,32 @@ static void drop_helpers(void) {
             kill(helper->process, SIGKILL);
 }
 
-/* (a call that waits while no other one is answered is late) */
-unsigned await_signals(int signals, int others) {
-    enum { PATIENCE = 5 };
-    int is_short = !is_any_idle() && !add_helper(USUAL_HELPERS);
-    const int files[] = {signals, others, is_short ? call_listener : needed};
-    unsigned before = shared->answered, ready = await_files(files, 3, -1);
-    if (ready & 4 && !is_short)
-        eventfd_read(needed, &(eventfd_t){0});
-    if (ready == 4 && is_short && await_files(files, 2, PATIENCE) == 0 && shared->answered == before) {
+/* Starts a helper, in the place of one that has ended or beside the others, and returns whether it could. If there is
+   only the last place, those that work for nobody end. */
+static int add_helper(void) {
+    struct helper *place = helpers, *last = helpers + most_helpers - 1;
+    while (place < end() && (place->process != 0 || place->state == ASKING))
+        place++;
+    if (place >= last)
         drop_helpers();
-        add_helper(most_helpers);
-    }
+    if (place > last)
+        return 0;
+    if (place == end())
+        ++*helper_count;
+    pid_t process = fork();
+    if (process == 0)
+        help(place);
+    place->process = process > 0 ? process : 0;
+    return process > 0;
+}
+
+/* (a helper that can't be started now may be able to later) */
+unsigned await_signals(int signals, int others) {
+    enum { PATIENCE = 10 };
+    int is_short = !is_any_idle() && !add_helper();
+    unsigned ready = await_files((const int[]){signals, others, needed}, 3, is_short ? PATIENCE : -1);
+    if (ready & 4)
+        eventfd_read(needed, &(eventfd_t){0});
     return ready;
 }
 
@@ -203,15 +188,14 @@ void note_end(pid_t process) {
 }
 
 void begin_helpers(void) {
-    while ((helpers = map(most_helpers * sizeof *helpers)) == MAP_FAILED && most_helpers > USUAL_HELPERS)
+    while ((helpers = map(most_helpers * sizeof *helpers)) == MAP_FAILED && most_helpers > LEAST_ROOM)
         most_helpers /= 2;
     if (helpers == MAP_FAILED)
         fail_by_errno("memory can't be shared");
-    shared = share(sizeof *shared);
+    helper_count = share(sizeof *helper_count);
     needed = eventfd(0, EFD_CLOEXEC | EFD_NONBLOCK);
     for (unsigned at = 0; at < device_count; at++)
         start_keeper(devices + at);
-    while (shared->count < FIRST_HELPERS)
-        if (!add_helper(FIRST_HELPERS))
-            fail_by_errno("fork");
+    if (!add_helper())
+        fail_by_errno("fork");
 }

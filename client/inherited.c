@@ -59,10 +59,9 @@ void check_node(const char *path) {
 
 static int is_in_files(int file) {
     struct statfs about;
-    char number[16] = "";
-    if (fstatfs(file, &about) == 0)
-        snprintf(number, sizeof number, " 0x%x ", (unsigned)about.f_type);
-    return *number && strstr(file_systems, number) != NULL;
+    char number[16];
+    snprintf(number, sizeof number, " 0x%x ", fstatfs(file, &about) == 0 ? (unsigned)about.f_type : 0);
+    return strstr(file_systems, number) != NULL;
 }
 
 /* Returns why an open file may not come into the sandbox, or NULL. (The entries of a folder may be nodes.) */

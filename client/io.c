@@ -1,6 +1,7 @@
 /* Commands that the launcher carries out in the controllers' place, with the statuses of a drive. No proof speaks about
    them. */
 #include "launcher.h"
+#include "supplied.h"
 #include <linux/nvme_ioctl.h>
 
 /* ---- I/O commands, over the data of a namespace */
@@ -8,15 +9,7 @@
 enum { FLUSH = 0x00, WRITE = 0x01, READ = 0x02, COMPARE = 0x05, WRITE_ZEROES = 0x08, DATASET = 0x09, VERIFY = 0x0c };
 
 /* Statuses, with the bit Do Not Retry. */
-enum {
-    DONE = 0,
-    INVALID_OPCODE = 0x4001,
-    INVALID_FIELD = 0x4002,
-    INVALID_NAMESPACE = 0x400b,
-    OUT_OF_RANGE = 0x4080,
-    NO_CAPACITY = 0x4081,
-    DIFFERS = 0x4285
-};
+enum { INVALID_OPCODE = 0x4001, OUT_OF_RANGE = 0x4080, NO_CAPACITY = 0x4081, DIFFERS = 0x4285 };
 
 /* What a dataset management command deallocates: up to 256 ranges of 16 bytes. */
 enum { RANGE_BYTES = 16, MOST_RANGES = 256, DEALLOCATES = 4 };
@@ -132,95 +125,35 @@ int submit_io(const struct call *call) {
 /* ---- admin commands of drives with namespace management that the controllers don't have, which a keeper answers from
    what these say */
 
-enum { CNS_ALLOCATED = 0x11, CNS_ATTACHED = 0x12 };
+enum { CNS_ALLOCATED = 0x11 };
 
-/* A command's answer is a page of data, and its status is returned. */
-typedef int supplying(unsigned controller, const unsigned char *entry, unsigned char *page);
+const unsigned char *identity_of(unsigned controller) { return identities[controller]; }
 
-/* Looks whether a namespace is active or allocated. */
-static int look_for(unsigned controller, const unsigned char *entry, uint32_t cns) {
-    uint32_t nsid = (uint32_t)number_at(entry + 4, 4);
-    unsigned char data[IDENTIFY_BYTES];
-    if (nsid == EVERY_NSID && cns == CNS_ALLOCATED)
-        return INVALID_FIELD;
-    if (nsid == EVERY_NSID || identify(controller, nsid, cns, data) < 0)
-        return INVALID_NAMESPACE;
-    return number_at(data, 8) == 0 ? INVALID_FIELD : DONE;
+int read_namespace(unsigned controller, uint32_t nsid, int is_active, unsigned char page[IDENTIFY_BYTES]) {
+    return identify(controller, nsid, is_active ? CNS_NAMESPACE : CNS_ALLOCATED, page) >= 0;
 }
 
-/* A namespace has no identifiers, but that of its command set. */
-static int list_identifiers(unsigned controller, const unsigned char *entry, unsigned char *page) {
-    memcpy(page, (const unsigned char[]){4, 1, 0, 0, 0}, 5);
-    return look_for(controller, entry, CNS_NAMESPACE);
-}
-
-/* The controllers of the subsystem, or those to which a namespace is attached, in the order of their identifiers. */
-static int list_controllers(unsigned controller, const unsigned char *entry, unsigned char *page) {
-    const struct device *device = device_of(controller);
-    static unsigned char is_listed[UINT16_MAX + 1], is_active[MOST_NSID + 1];
-    int is_of_one = entry[40] == CNS_ATTACHED;
-    int status = is_of_one ? look_for(controller, entry, CNS_ALLOCATED) : DONE;
-    unsigned count = 0;
-    memset(is_listed, 0, sizeof is_listed);
-    for (unsigned at = device->first; at < device->first + device->count && status == DONE; at++)
-        if (!is_of_one || (list_active(at, is_active) >= 0 && is_active[number_at(entry + 4, 4)]))
-            is_listed[number_at(identities[at] + 78, 2)] = 1;
-    for (unsigned id = (unsigned)number_at(entry + 42, 2); id <= UINT16_MAX; id++)
-        if (is_listed[id])
-            put_dword(page + 2 * ++count, id);
-    put_dword(page, count | (uint32_t)number_at(page + 2, 2) << 16);
-    return status;
-}
-
-/* The firmware that Identify names is in the first slot. */
-static int list_firmware(unsigned controller, const unsigned char *entry, unsigned char *page) {
-    (void)entry;
-    page[0] = 1;
-    memcpy(page + 8, identities[controller] + 64, 8);
-    return DONE;
-}
-
-/* The namespaces that came to a controller, or left it, since its nodes were looked for. */
-static int list_changes(unsigned controller, const unsigned char *entry, unsigned char *page) {
+int is_attached(unsigned controller, uint32_t nsid) {
     unsigned char is_active[MOST_NSID + 1];
-    (void)entry;
-    list_active(controller, is_active);
-    for (uint32_t nsid = 1; nsid <= MOST_NSID; nsid++)
-        if (is_active[nsid] != is_shown(controller, nsid)) {
-            put_dword(page, nsid);
-            page += 4;
-        }
-    return DONE;
+    return list_active(controller, is_active) >= 0 && is_active[nsid];
 }
 
-/* These commands, by the opcode and CNS or LID, with the size of what each answers. */
-static const struct supplied {
-    unsigned char opcode, selector;
-    uint32_t size;
-    supplying *answer;
-} supplied[] = {{OPCODE_IDENTIFY, 0x03, IDENTIFY_BYTES, list_identifiers},
-                {OPCODE_IDENTIFY, CNS_ATTACHED, IDENTIFY_BYTES, list_controllers},
-                {OPCODE_IDENTIFY, 0x13, IDENTIFY_BYTES, list_controllers},
-                {OPCODE_GET_LOG, 0x03, 512, list_firmware},
-                {OPCODE_GET_LOG, 0x04, 4 * MOST_NSID, list_changes},
-                {0}};
+/* (since its nodes were looked for) */
+void find_changes(unsigned controller, unsigned char has_changed[MOST_NSID + 1]) {
+    list_active(controller, has_changed);
+    for (uint32_t nsid = 1; nsid <= MOST_NSID; nsid++)
+        has_changed[nsid] ^= (unsigned char)is_shown(controller, nsid);
+}
 
 int supply(struct device *device, const struct request_header *request, void *data, struct answer_header *answer) {
-    unsigned char page[IDENTIFY_BYTES] = {0};
-    const unsigned char *entry = request->entry;
-    const struct supplied *row = supplied;
-    while (row->answer && (row->opcode != entry[0] || row->selector != entry[40]))
-        row++;
-    if (request->kind != KIND_ENTRY || !row->answer)
+    const struct asked asked = {device->first, device->count, device->first + request->controller};
+    unsigned char page[IDENTIFY_BYTES];
+    int status = request->kind == KIND_ENTRY ? supplied(&asked, request->entry, page) : NOT_SUPPLIED;
+    if (status == NOT_SUPPLIED)
         return 0;
-    const uint32_t nsid = (uint32_t)number_at(entry + 4, 4);
-    int is_log = row->opcode == OPCODE_GET_LOG;
-    uint64_t from = is_log ? number_at(entry + 48, 8) : 0, size = row->size - from;
-    int is_wrong = is_log && (from % 4 || from > row->size || (nsid != 0 && nsid != EVERY_NSID));
-    int status = is_wrong ? INVALID_FIELD : row->answer(device->first + request->controller, entry, page);
     *answer = (struct answer_header){.status = (uint16_t)status, .length = request->length};
     memset(data, 0, request->length);
     if (status == DONE)
-        memcpy(data, page + from, size < request->length ? size : request->length);
+        memcpy(data, page, request->length < sizeof page ? request->length : sizeof page);
     return 1;
 }

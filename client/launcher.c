@@ -1,11 +1,12 @@
 /* Runs a command whose NVMe commands are answered by device programs, one for each subsystem file. The launcher first
    starts bubblewrap, which makes a sandbox and starts the launcher again inside (sandbox.c), as process 1, while this
-   process passes signals on. There it starts the devices behind sockets (relay.c), makes the nodes and the files of
+   process passes signals on. There it starts the devices behind sockets (device.c), makes the nodes and the files of
    /sys (nodes.c, sysfs.c), runs the command with the library preloaded, and has its calls answered (helpers.c,
    calls.c). It ends when the command ends, with its status, and everything in the sandbox ends with it. None of this is
    proved. */
 #include "launcher.h"
 #include "usage.h"
+#include <libgen.h>
 #include <poll.h>
 #include <stdarg.h>
 #include <sys/resource.h>
@@ -22,7 +23,7 @@ static int status_of_failure = FAILED; /* its status then */
 static sigset_t watched;               /* the signals that are passed on, and that of an ended process */
 static char here[PATH_MAX];            /* the current folder */
 sigset_t blocked;
-char library_path[PATH_MAX + 32], program_path[PATH_MAX + 32];
+static char library_path[PATH_MAX + 32], program_path[PATH_MAX + 32]; /* outside */
 
 /* Has no keeper report that a device has ended, when all end. */
 static void lose_devices(void) {
@@ -66,13 +67,10 @@ void await_room(int file) {
             exit(128 + number);
 }
 
-const char *last_line(int file, const char *writer) {
+const char *last_line(FILE *said, const char *writer) {
     static char line[2 * PATH_MAX + 20];
-    FILE *said = fdopen(file, "r");
     while (said && fgets(line, sizeof line, said))
         continue;
-    if (said)
-        fclose(said);
     line[strcspn(line, "\n")] = '\0';
     return line + (strncmp(line, writer, strlen(writer)) == 0 ? strlen(writer) : 0);
 }
@@ -133,10 +131,9 @@ static void block_signals(void) {
 static void find_parts(const char *name) {
     char folder[PATH_MAX];
     read_link("/proc/self/exe", folder);
-    for (int level = 0; level < 2; level++)
-        *(strrchr(folder, '/') ?: folder) = '\0';
-    snprintf(library_path, sizeof library_path, "%s/lib/nvme-model/library.so", folder);
-    snprintf(program_path, sizeof program_path, "%s/lib/nvme-model/%s", folder, name);
+    const char *top = dirname(dirname(folder));
+    snprintf(library_path, sizeof library_path, "%s/lib/nvme-model/library.so", top);
+    snprintf(program_path, sizeof program_path, "%s/lib/nvme-model/%s", top, name);
 }
 
 /* Fails by a limit with which the launcher can't begin. */
@@ -154,22 +151,20 @@ void keep_as(int number, int file, const char *name) {
         close(file);
 }
 
-/* Opens a file, as the caller sees it, with a number of its own. */
+/* Opens a file of an option, as the caller sees it, with a number of its own. */
 static void open_as(int number, const char *path, int flags) {
     keep_as(number, open(path, flags | O_NOCTTY, 0666), path);
+    check_file(number, path);
 }
 
 static void open_files(void) {
-    open_as(HERE, ".", O_PATH);
-    open_as(WORDS, "/proc/self/cmdline", O_RDONLY);
-    for (unsigned at = 0; at < options.subsystem_count; at++) {
+    keep_as(HERE, open(".", O_PATH), ".");
+    keep_as(WORDS, open("/proc/self/cmdline", O_RDONLY), "/proc/self/cmdline");
+    for (unsigned at = 0; at < options.subsystem_count; at++)
         open_as(FILES + (int)at, options.subsystems[at], O_RDONLY);
-        check_file(FILES + (int)at, options.subsystems[at]);
-    }
     if (!options.trace_file)
         return;
     open_as(TRACE_TO, options.trace_file, O_WRONLY | O_CREAT);
-    check_file(TRACE_TO, options.trace_file);
     if (ftruncate(TRACE_TO, 0) < 0 && errno != EINVAL)
         fail_by_errno(options.trace_file);
 }
@@ -179,7 +174,6 @@ static int run(char **arguments) {
     struct rlimit files;
     block_signals(); /* (bwrap lets some through) */
     const int ends = must(signalfd(-1, &watched, SFD_CLOEXEC | SFD_NONBLOCK), "signalfd");
-    trace_output = options.trace_file ? TRACE_TO : STDERR_FILENO;
     list_devices();
     list_blocks();
     status_of_failure = NO_SANDBOX;
@@ -193,11 +187,6 @@ static int run(char **arguments) {
     getrlimit(RLIMIT_NOFILE, &files);
     files.rlim_cur = files.rlim_max;
     setrlimit(RLIMIT_NOFILE, &files);
-    options.device_words[0] = program_path;
-    if (options.subsystem_count > 0)
-        options.device_words[options.device_word_count++] = "--subsystem=/proc/self/fd/3";
-    if (options.has_trace)
-        options.device_words[options.device_word_count++] = "--trace";
     for (unsigned at = 0; at == 0 || at < options.subsystem_count; at++)
         start_device(options.subsystem_count > 0 ? FILES + (int)at : -1, options.subsystems[at]);
     make_nodes();
@@ -236,8 +225,6 @@ static void begin_inside(void) {
     struct stat about, outside = {.st_dev = 0};
     if (read(OUTSIDE, &blocked, sizeof blocked) != sizeof blocked || read(OUTSIDE, here, sizeof here) <= 0)
         fail_by_errno("the process outside");
-    strcpy(library_path, MODEL_FOLDER "/library.so");
-    strcpy(program_path, MODEL_FOLDER "/device");
     check_mounts();
     /* (the folder is another one if a mount covers it, and /dev, /sys and /proc always are) */
     fstat(HERE, &outside);
@@ -309,11 +296,11 @@ static const char *run_launcher(void) {
         keep_as(ERRORS, dup(STDERR_FILENO), "standard error");
         keep_as(STDERR_FILENO, reasons[1], "pipe");
         status_of_failure = NO_SANDBOX;
-        enter_sandbox();
+        enter_sandbox(library_path, program_path);
     }
     close(ends[1]);
     close(reasons[1]);
-    return await_launcher(process, ends[0]) ? NULL : last_line(reasons[0], "nvme-model: ");
+    return await_launcher(process, ends[0]) ? NULL : last_line(fdopen(reasons[0], "r"), "nvme-model: ");
 }
 
 /* Returns why no sandbox could be made, by the last line of bwrap. */
@@ -335,9 +322,7 @@ static int begin_outside(void) {
         fail("the current folder can't be told: run the command from another one");
     block_signals();
     const char *line = run_launcher();
-    if (!line)
-        return status;
-    if (status == FAILED && !*line) /* (it has said why) */
+    if (!line || (status == FAILED && !*line)) /* (it has said why) */
         return status;
     if (status == FAILED)
         fail("%s", line);
@@ -359,8 +344,9 @@ int main(int count, char **arguments) {
         if (is_qemu && count == 3 && strcmp(arguments[2], "--help") == 0)
             exit(fputs(qemu_usage, stdout) >= 0 && fflush(stdout) == 0 ? 0 : FAILED);
         if (is_qemu || is_vm) {
-            find_parts(is_vm ? "vm.sh" : "qemu");
-            must(execv(program_path, arguments), program_path);
+            find_parts(is_vm ? "vm.py" : "qemu");
+            execv(program_path, arguments);
+            must(-1, is_vm && access(program_path, F_OK) == 0 ? "--vm needs python3 (apt install python3)" : program_path);
         }
         must(close_range(STDERR_FILENO + 1, ~0U, CLOSE_RANGE_CLOEXEC), "close_range");
     }

@@ -19,13 +19,29 @@ enum { MOST_DEVICES = 32, MOST_CONTROLLERS = 256 };
 /* The geometry of the devices' drivers. */
 enum { DEPTH, PAGE_SIZE, WINDOW, OFFSET, LIST_OFFSET, PACE, NUMBERS };
 
+/* A namespace, as the launcher knows it. */
+struct volume {
+    unsigned power; /* a block has two to this power bytes; 0 as long as this isn't known */
+    uint64_t blocks;
+    unsigned number;  /* by which its nodes are named, or 0 */
+    int is_read_only; /* whether an ioctl has set that its block devices can't be written */
+    /* the files of its block devices, with the data, and of its generic nodes, as its device's keeper has them open, or
+       0 */
+    int file, generic;
+    ino_t inode, generic_inode;
+};
+
 /* A device is the process of one subsystem. */
 struct device {
-    int to_and_from, said; /* sockets for its input and output, and for its standard error */
+    int to_and_from;       /* a socket for its input and output */
+    FILE *said;            /* what it writes to its standard error */
     int asks[2];           /* a pipe by which helpers ask its keeper, one after another */
     unsigned first, count; /* its controllers, by the numbers of /dev/nvmeX */
     enum { STARTING, ANSWERING, LOST } state;
     pid_t keeper;          /* the process that alone exchanges requests with it */
+    _Atomic int failures;  /* of the first device: how many lines of a trace couldn't be written */
+    struct volume volumes[MOST_NSID + 1]; /* its namespaces, by their NSIDs */
+    uint16_t named[MOST_NSID + 1];        /* the NSID that each number of its nodes names, or 0 */
 };
 
 extern struct device *devices; /* (in shared memory, as all that helpers read) */
@@ -33,7 +49,6 @@ extern unsigned device_count;
 extern unsigned nodes_wait; /* whether nodes wait for a scan or a reset, because of --no-notice */
 extern unsigned geometry[NUMBERS];
 extern sigset_t blocked; /* the signals that were blocked at the start, and are for the command and the devices */
-extern char library_path[], program_path[]; /* of the preloaded library and of the device's program */
 
 /* ---- launcher.c: start and end */
 
@@ -60,9 +75,8 @@ int report_stop(void);
 /* Gives an open file another number. */
 void keep_as(int number, int file, const char *name);
 
-/* Reads all that a writer has put into a pipe, closes it, and returns the last line, without the writer's name at its
-   beginning. */
-const char *last_line(int file, const char *writer);
+/* Reads all that a writer has said, and returns the last line, without the writer's name at its beginning. */
+const char *last_line(FILE *said, const char *writer);
 
 /* Has standard error be the caller's again. */
 void restore_errors(void);
@@ -81,7 +95,7 @@ enum { MOST_ADDED = 64 };
 struct options {
     const char *subsystems[MOST_DEVICES], *added[MOST_ADDED], *trace_file;
     char *device_words[NUMBERS + 4]; /* a device's program and options */
-    unsigned subsystem_count, added_count, device_word_count, is_root;
+    unsigned subsystem_count, added_count, is_root;
     int has_trace;
     unsigned long long limit; /* of the memory for data */
 };
@@ -102,23 +116,14 @@ extern pid_t process_one; /* of that namespace */
 pid_t start_command(char **arguments, int ends);
 void release_command(void);
 
-/* ---- device.c */
-
-enum { SUBSYSTEM_FILE = STDERR_FILENO + 1 };
-
-/* Starts a device, with a subsystem file (or -1) of this name, which it has as that descriptor and which is closed
-   here. */
-void start_device(int file, const char *name);
-
-/* ---- relay.c: the exchange with devices */
-
-extern int trace_output; /* where the lines of a trace go */
+/* ---- device.c: devices, and the exchange with them */
 
 /* Returns whether a file takes a line within seconds, which it may not because nobody reads it. */
 int takes_line(int file);
 
-/* Starts the exchange with a device. */
-void greet_device(struct device *device, const char *name);
+/* Starts a device, with a subsystem file (or -1) of this name, which it has as descriptor 3 and which is closed
+   here. */
+void start_device(int file, const char *name);
 
 /* Takes note that a device is gone. */
 void lose_device(struct device *device);
@@ -130,17 +135,6 @@ int exchange(struct device *device, const struct request_header *header, void *d
 int carry_out(struct request_header *header, void *data, struct answer_header *answer);
 
 /* ---- nodes.c: nodes, and the data of namespaces */
-
-/* A namespace, as the launcher knows it. */
-struct volume {
-    enum { UNKNOWN, KNOWN } state; /* whether it is known how long it is */
-    unsigned power;                /* a block has two to this power bytes */
-    uint64_t blocks;
-    unsigned number;  /* by which its nodes are named, or 0 */
-    int is_read_only; /* whether an ioctl has set that its block devices can't be written */
-    int file;         /* the data, as its device's keeper has it open, or 0 */
-    ino_t inode;      /* of this file */
-};
 
 /* Makes the nodes of all controllers. */
 void make_nodes(void);
@@ -157,7 +151,8 @@ int watch_nodes(void);
 /* Restores the lengths of the nodes that were written. */
 void repair_files(const struct device *device);
 
-/* Returns whether a name is that of a node, which may have been removed, and stores the node. */
+/* Returns whether a name is that of a node, which is there or has been removed, and stores the node. */
+enum { NO_NODE, IS_NODE, WAS_NODE };
 int read_name(const char *name, struct node *node);
 
 /* Finds the namespace that a node's number names, and returns whether its controller shows it. */
@@ -189,12 +184,9 @@ int serve_keeper(struct device *device, const struct request_header *request);
 
 /* ---- sysfs.c: the model's /sys */
 
-enum part { TOP, SUBSYSTEM, FUNCTION, CONTROLLER, HEALTH, BLOCK, GENERIC, PARTS };
+enum part { TOP, SUBSYSTEM, BUS, FUNCTION, CONTROLLER, HEALTH, BLOCK, GENERIC, PARTS };
 
 extern unsigned char identities[MOST_CONTROLLERS][IDENTIFY_BYTES]; /* what Identify says of each controller */
-
-/* Puts the files that are there at first. */
-void begin_sys(void);
 
 /* Shows a part of a controller or of one of its namespaces. */
 void show(enum part part, unsigned controller, uint32_t nsid);
@@ -233,12 +225,10 @@ union notice {
 enum { NOT_OURS = -10000 };
 
 /* A call that a process made. */
-enum { NOT_OPENED = -1 };
 struct call {
     uint64_t id;
     pid_t process;
     int is_old;      /* the program has 32 bits */
-    int opened;      /* the flags by which a file was opened for it, or NOT_OPENED */
     int file;        /* the descriptor of a node that it is about */
     int is_writable; /* which is open for writing */
     int is_path;     /* which is open as a path alone (O_PATH) */
@@ -263,10 +253,6 @@ void finish_call(const union notice *notice, int result);
 /* Finds the node that the file of a call is, and how it was opened, or returns 0. */
 int find_node(struct call *call);
 
-/* Claims a block device for a file that is opened with O_EXCL, and returns 0, or an error's number as a negative
-   one. */
-int claim(const struct call *call, int file);
-
 /* Returns the number of the file system in which nodes are, or the model's files of /sys. */
 enum { OF_DEV, OF_SYS };
 dev_t number_of(int is_sys);
@@ -274,19 +260,20 @@ dev_t number_of(int is_sys);
 /* Reads by which name a file was opened, with links followed, or nothing. */
 void read_link(const char *link, char name[PATH_MAX]);
 
-/* What the command's filter decides about a call, by its number, if a test of one of its arguments holds: an action of
-   seccomp, and who answers it if it is handed over, with a result, or an error's number as a negative one. */
+/* What a filter decides about calls, by their numbers (of which the first one may be 0, and another 0 ends them), if a
+   test of one of their arguments holds: an action of seccomp, and who answers such a call if it is handed over, with a
+   result, or an error's number as a negative one. */
 typedef int answering(struct call *call, const __u64 *arguments);
 struct decided_call {
-    enum { BY_ALL, BY_ROOT } whose;
-    int number;
+    short numbers[80];
+    uint32_t action;
+    answering *answer;
     struct {
         enum { ALWAYS, EQUALS, HAS_BITS, HAS_TYPE } kind; /* (the type of an ioctl) */
         unsigned argument;
         uint32_t value;
     } test;
-    uint32_t action;
-    answering *answer;
+    int is_of_root; /* whether it holds for root alone */
 };
 
 /* The calls of programs of 64 and of 32 bits (opens.c); the last one has no action. */
@@ -323,8 +310,9 @@ void *share(size_t size);
 /* Returns room for data, in a helper. */
 void *own_data(void);
 
-/* Sends a request of a helper to the keeper of a controller's device, and returns -1 if the device is gone. */
-int ask_keeper(const struct request_header *header, struct answer_header *answer);
+/* Sends a request of a helper to the keeper of a controller's device, and returns the answer, or NULL if the device is
+   gone. */
+const struct answer_header *ask_keeper(const struct request_header *header);
 
 /* Sends one without an answer, and returns -ENXIO then. */
 int ask_controller(unsigned controller, uint16_t kind, uint32_t length);
@@ -406,12 +394,11 @@ int supply(struct device *device, const struct request_header *request, void *da
 
 /* ---- sandbox.c: the sandbox */
 
-#define MODEL_FOLDER "/sys/fs/model" /* the place of these programs */
 #define SETTINGS MODEL_FOLDER "/settings" /* what the command's /proc has besides its processes */
 #define INSIDE "--inside" /* the launcher's word there */
 
-/* Starts the launcher in the sandbox, in place of this process. */
-__attribute__((noreturn)) void enter_sandbox(void);
+/* Starts the launcher in the sandbox, in place of this process, with the preloaded library and the device's program. */
+__attribute__((noreturn)) void enter_sandbox(const char *library, const char *program);
 
 /* Fails, in the sandbox, if a mount isn't kept from the command, or isn't what it was outside. */
 void check_mounts(void);

@@ -8,7 +8,6 @@
 #include <dlfcn.h>
 #include <errno.h>
 #include <fcntl.h>
-#include <limits.h>
 #include <linux/fs.h>
 #include <spawn.h>
 #include <stdarg.h>
@@ -39,66 +38,52 @@ __asm__(".irp name, stat, lstat, fstat, fstatat, __xstat, __lxstat, __fxstat, __
         "pread, pwrite, pwritev, lseek, fallocate\n"
         ".globl \\name\\()64\n.type \\name\\()64, @function\n.set \\name\\()64, \\name\n.endr");
 
-static char library[PATH_MAX]; /* this library's own path */
-static struct stat dev;        /* of /dev, where nodes are files */
+static struct stat dev; /* of /dev, where nodes are files */
 
-__attribute__((constructor)) static void begin(void) {
-    Dl_info info;
-    if (dladdr(&dev, &info) && info.dli_fname && strlen(info.dli_fname) < sizeof library)
-        strcpy(library, info.dli_fname);
-    NEXT(fstatat)(AT_FDCWD, "/dev", &dev, 0);
-}
+__attribute__((constructor)) static void begin(void) { NEXT(fstatat)(AT_FDCWD, "/dev", &dev, 0); }
 
 static int fails_by(int number) {
     errno = number;
     return -1;
 }
 
-/* ---- which files are nodes: each of these returns 1, 0, or -1 with ENXIO if the node's device is gone */
-
-static int ask(int file, struct node *node) {
+/* Returns the kind of a node, 0 if a file is none, or -1 with ENXIO if its device is gone. (It is in /dev, or has no
+   name any more.) */
+static int look_at(int file, const struct stat *about, struct node *node) {
     int before = errno, result;
+    if (!S_ISREG(about->st_mode) || (about->st_dev != dev.st_dev && about->st_nlink != 0))
+        return 0;
     while ((result = NEXT(ioctl)(file, NODE_REQUEST, node)) < 0 && errno == EINTR)
         continue;
     if (result < 0 && errno == ENXIO)
         return -1;
     errno = before;
-    return result == 0;
-}
-
-/* (a file in /dev, or one that has no name any more) */
-static int is_node(int file, const struct stat *about, struct node *node) {
-    int may_be = S_ISREG(about->st_mode) && (about->st_dev == dev.st_dev || about->st_nlink == 0);
-    return may_be ? ask(file, node) : 0;
+    return result == 0 ? node->kind : 0;
 }
 
 /* A shell gives its terminal back to the group that had it, even to one outside of the sandbox, which has no number. */
 PUBLIC int tcsetpgrp(int file, pid_t group) {
-    int result = NEXT(tcsetpgrp)(file, group);
-    return result < 0 && errno == ESRCH && group == 0 ? 0 : result;
+    return NEXT(tcsetpgrp)(file, group) == 0 || (errno == ESRCH && group == 0) ? 0 : -1;
 }
 
 /* ---- calls that describe a file */
 
-/* Describes a node, and returns what the call returns: `found` is 1 if there is one, and else its result. */
-static int describe(int found, const struct node *node, struct stat *about) {
-    if (found <= 0)
-        return found;
-    about->st_mode = (about->st_mode & 07777 & ~READ_ONLY) | (node->kind == 'b' ? S_IFBLK : S_IFCHR);
-    about->st_rdev = makedev(major_of(node->kind), minor_of(node->kind, node->controller, node->number));
+/* Describes a file as the device for which it stands, if it is a node, and returns what the call returns. */
+static int describe(int file, struct stat *about) {
+    struct node node;
+    int kind = look_at(file, about, &node);
+    if (kind <= 0)
+        return kind;
+    about->st_mode = (about->st_mode & 07777 & ~READ_ONLY) | (kind == 'b' ? S_IFBLK : S_IFCHR);
+    about->st_rdev = makedev(major_of(node.kind), minor_of(node.kind, node.controller, node.number));
     about->st_size = about->st_blocks = 0;
     about->st_nlink = 1;
     return 0;
 }
 
-PUBLIC int fstat(int file, struct stat *about) {
-    struct node node;
-    int result = NEXT(fstat)(file, about);
-    return result < 0 ? result : describe(is_node(file, about, &node), &node, about);
-}
+PUBLIC int fstat(int file, struct stat *about) { return NEXT(fstat)(file, about) < 0 ? -1 : describe(file, about); }
 
 NAMED int describe_place(int directory, const char *path, struct stat *about, int flags) {
-    struct node node;
     if (flags & AT_EMPTY_PATH && (!path || !*path) && directory != AT_FDCWD)
         return fstat(directory, about);
     int result = NEXT(fstatat)(directory, path, about, flags), follows = flags & AT_SYMLINK_NOFOLLOW ? O_NOFOLLOW : 0;
@@ -107,9 +92,10 @@ NAMED int describe_place(int directory, const char *path, struct stat *about, in
     if (result < 0 || !S_ISREG(about->st_mode) || about->st_dev != dev.st_dev)
         return result;
     int file = NEXT(openat)(directory, path, O_PATH | O_CLOEXEC | follows);
-    result = file < 0 ? -1 : describe(is_node(file, about, &node), &node, about);
-    if (file >= 0)
-        close(file);
+    if (file < 0)
+        return -1;
+    result = describe(file, about);
+    close(file);
     return result;
 }
 SAME(fstatat, describe_place);
@@ -124,13 +110,12 @@ PUBLIC int statx(int directory, const char *path, int flags, unsigned mask, stru
         return result;
     if (fstatat(directory, path, &basic, flags & (AT_EMPTY_PATH | AT_SYMLINK_NOFOLLOW)) < 0)
         return -1;
-    if (!S_ISBLK(basic.st_mode) && !S_ISCHR(basic.st_mode))
-        return 0;
     about->stx_mode = (uint16_t)basic.st_mode;
     about->stx_rdev_major = major(basic.st_rdev);
     about->stx_rdev_minor = minor(basic.st_rdev);
-    about->stx_size = about->stx_blocks = 0;
-    about->stx_nlink = 1;
+    about->stx_size = (uint64_t)basic.st_size;
+    about->stx_blocks = (uint64_t)basic.st_blocks;
+    about->stx_nlink = (uint32_t)basic.st_nlink;
     return 0;
 }
 
@@ -155,44 +140,27 @@ PUBLIC struct dirent *readdir(DIR *directory) {
 /* ---- calls that write: a namespace's block device doesn't grow, so a write stops at its end, and a write after the
    end finds no space; a character device takes no bytes */
 
-/* Returns the kind of a node, 0 if a file is none, or -1 if its device is gone. (The number of the last block device's
-   file is stored. No other file gets it.) */
+/* Returns the same, with what the file is. (The number of the last block device's file is stored. No other file gets
+   it.) */
 static int kind_of(int file, struct stat *about) {
     static _Atomic ino_t known;
     struct node node;
     if (NEXT(fstat)(file, about) < 0)
         return 0;
-    if (S_ISREG(about->st_mode) && about->st_dev == dev.st_dev && about->st_ino == known)
-        return 'b';
-    int found = is_node(file, about, &node);
-    if (found > 0 && node.kind == 'b' && about->st_dev == dev.st_dev)
+    int is_known = about->st_dev == dev.st_dev && about->st_ino == known;
+    int kind = is_known ? 'b' : look_at(file, about, &node);
+    if (kind == 'b' && about->st_dev == dev.st_dev)
         known = about->st_ino;
-    return found > 0 ? node.kind : found;
-}
-
-/* Whether Linux takes a direct write of these pieces, whose memory is at multiples of 4. */
-static int is_aligned(int file, const struct iovec *pieces, int count, off_t from) {
-    unsigned block;
-    if (NEXT(ioctl)(file, BLKSSZGET, &block) < 0)
-        return 1;
-    size_t bits = (size_t)from;
-    for (; count > 0; pieces++, count--)
-        bits |= pieces->iov_len | ((uintptr_t)pieces->iov_base % 4);
-    return bits % block == 0;
-}
-
-static size_t length_of(const struct iovec *pieces, int count) {
-    size_t length = 0;
-    for (; count > 0; pieces++, count--)
-        length += pieces->iov_len;
-    return length;
+    return kind;
 }
 
 /* Writes to a node what is before its end: all pieces, or a part of the first one, because a write may be short. (The
-   place -1 is the offset. If F_SETFL has set O_APPEND, the kernel would write past the end.) */
+   place -1 is the offset. If F_SETFL has set O_APPEND, the kernel would write past the end. Linux takes direct writes
+   of whole blocks, whose memory is at multiples of 4.) */
 static ssize_t write_node(int kind, int file, const struct stat *about, const struct iovec *pieces, int count, off_t at,
                           int flags) {
     int how = fcntl(file, F_GETFL);
+    unsigned block;
     if (kind < 0)
         return -1;
     /* (that of a character device is open for reading, and at the greatest offset if it was opened for writing) */
@@ -205,10 +173,14 @@ static ssize_t write_node(int kind, int file, const struct stat *about, const st
         pieces++, count--;
     off_t from = how & O_APPEND ? about->st_size : at < 0 ? NEXT(lseek)(file, 0, SEEK_CUR) : at;
     off_t room = about->st_size - from;
-    size_t length = length_of(pieces, count);
+    size_t length = 0, bits = (size_t)from;
+    for (int place = 0; place < count; place++) {
+        length += pieces[place].iov_len;
+        bits |= pieces[place].iov_len | (uintptr_t)pieces[place].iov_base % 4;
+    }
     if (length > 0 && room <= 0)
         return fails_by(ENOSPC);
-    if (length > 0 && how & O_DIRECT && !is_aligned(file, pieces, count, from))
+    if (length > 0 && how & O_DIRECT && NEXT(ioctl)(file, BLKSSZGET, &block) == 0 && bits % block)
         return fails_by(EINVAL);
     struct iovec piece = *pieces;
     if (length <= (size_t)room)
@@ -259,11 +231,9 @@ PUBLIC off_t lseek(int file, off_t by, int from) {
     int kind = by > 0 || from != SEEK_SET ? kind_of(file, &about) : 0;
     if (kind == 'c' || kind == 'g')
         return fails_by(ESPIPE);
-    if (kind == 'b' && (by > 0 || from > SEEK_END)) {
-        off_t start = from == SEEK_CUR ? NEXT(lseek)(file, 0, SEEK_CUR) : from == SEEK_END ? about.st_size : 0;
-        if (from > SEEK_END || by > about.st_size - start)
-            return fails_by(EINVAL);
-    }
+    off_t start = kind != 'b' || from == SEEK_SET ? 0 : from == SEEK_CUR ? NEXT(lseek)(file, 0, from) : about.st_size;
+    if (kind == 'b' && (from > SEEK_END || (by > 0 && by > about.st_size - start)))
+        return fails_by(EINVAL);
     return NEXT(lseek)(file, by, from);
 }
 
@@ -272,25 +242,24 @@ PUBLIC off_t lseek(int file, off_t by, int from) {
     PUBLIC int name(int file) { \
         struct stat about; \
         int kind = kind_of(file, &about); \
-        if (kind == 0 || (kind == 'b' && about.st_size > 0)) \
-            return NEXT(name)(file); \
-        return kind < 0 ? -1 : fails_by(kind == 'b' ? EIO : EINVAL); \
+        int is_safe = kind == 0 || (kind == 'b' && about.st_size > 0); \
+        return is_safe ? NEXT(name)(file) : kind < 0 ? -1 : fails_by(kind == 'b' ? EIO : EINVAL); \
     }
 
 SYNCS(fsync)
 SYNCS(fdatasync)
 
-/* It allocates nothing, and its zeros are holes of its file. (The launcher answers posix_fallocate.) */
+/* It allocates nothing, and the launcher makes the zeros. (It also answers posix_fallocate.) */
 PUBLIC int fallocate(int file, int mode, off_t from, off_t size) {
     const int punched = FALLOC_FL_PUNCH_HOLE | FALLOC_FL_KEEP_SIZE, kept = mode & FALLOC_FL_KEEP_SIZE;
     struct stat about;
     if (kind_of(file, &about) != 'b' || from < 0 || size <= 0)
         return NEXT(fallocate)(file, mode, from, size);
-    if (from >= about.st_size || (!kept && size > about.st_size - from) || !is_aligned(file, NULL, 0, from | size))
-        return fails_by(EINVAL);
     if (mode != punched && mode != (FALLOC_FL_ZERO_RANGE | kept))
         return fails_by(EOPNOTSUPP);
-    return NEXT(fallocate)(file, punched, from, size);
+    if (kept && size > about.st_size - from)
+        size = about.st_size - from;
+    return ioctl(file, BLKZEROOUT, (const uint64_t[]){(uint64_t)from, (uint64_t)size});
 }
 
 /* The launcher answers the ioctls of nodes (calls.c). If a signal came before it took one, nothing was done. Linux
@@ -314,26 +283,21 @@ SAME(ioctl, answer);
    is on the stack, so a child that shares its parent's memory doesn't change that memory. */
 
 #define PRELOAD "LD_PRELOAD="
+#define LIBRARY MODEL_FOLDER "/library.so"
 
-static const char *value_of(char *const *environment) {
-    for (; environment && *environment; environment++)
-        if (strncmp(*environment, PRELOAD, strlen(PRELOAD)) == 0)
-            return *environment + strlen(PRELOAD);
-    return "";
-}
-
-static size_t count_of(char *const *texts) {
+/* Counts the variables of an environment, and finds what it has preloaded. */
+static size_t count_of(char *const *environment, const char **preloaded) {
     size_t count = 0;
-    while (texts && texts[count])
-        count++;
+    *preloaded = "";
+    for (; environment && environment[count]; count++)
+        if (strncmp(environment[count], PRELOAD, strlen(PRELOAD)) == 0)
+            *preloaded = environment[count] + strlen(PRELOAD);
     return count;
 }
 
 /* Copies an environment, with the library before all other preloaded libraries. */
-static void keep(char *const *from, char **kept, char *preload) {
-    const char *before = value_of(from);
-    int is_there = !library[0] || strstr(before, library);
-    sprintf(preload, PRELOAD "%s%s%s", is_there ? "" : library, is_there || !*before ? "" : ":", before);
+static void keep(char *const *from, const char *before, char **kept, char *preload) {
+    sprintf(preload, PRELOAD "%s%s", strstr(before, LIBRARY) ? "" : LIBRARY ":", before);
     for (; from && *from; from++)
         if (strncmp(*from, PRELOAD, strlen(PRELOAD)) != 0)
             *kept++ = *from;
@@ -342,8 +306,9 @@ static void keep(char *const *from, char **kept, char *preload) {
 }
 
 #define KEEP(kept, from) \
-    char *kept[count_of(from) + 2], preload[sizeof PRELOAD + sizeof library + strlen(value_of(from))]; \
-    keep(from, kept, preload)
+    const char *before; \
+    char *kept[count_of(from, &before) + 2], preload[sizeof PRELOAD + sizeof LIBRARY + strlen(before)]; \
+    keep(from, before, kept, preload)
 
 /* A call that goes to the C library with an environment that is kept. */
 #define KEEPS(name, parameters, ...) \
@@ -392,7 +357,7 @@ TAKES(execle, execve, va_arg(rest, char *const *))
 /* (programs that these calls run have the environment of this process) */
 static void keep_here(void) {
     KEEP(kept, environ);
-    setenv("LD_PRELOAD", value_of(kept), 1);
+    setenv("LD_PRELOAD", preload + strlen(PRELOAD), 1);
 }
 
 PUBLIC int system(const char *line) { return keep_here(), NEXT(system)(line); }

@@ -9,15 +9,16 @@
 #include <stdatomic.h>
 #include <sys/stat.h>
 
-/* More pages than an entry touches, how many are kept for the next turn, how many are brought at once, and how the lent
-   addresses are mapped. */
-enum { MOST_PAGES = 768, MOST_KEPT = 4, MOST_RUN = 16, LENT = MAP_PRIVATE | MAP_ANONYMOUS | MAP_NORESERVE };
+/* More pages than an entry touches, how many are kept at least for the next turn, how many are brought at once, and how
+   the lent addresses are mapped. */
+enum { MOST_PAGES = 768, LEAST_KEPT = 4, MOST_RUN = 16, LENT = MAP_PRIVATE | MAP_ANONYMOUS | MAP_NORESERVE };
 
 static unsigned char *lent;                          /* the addresses that are lent, from the guest's 0 on */
 static const struct function *user;                  /* the function that has its turn, or had the last one */
 static uint64_t pages[MOST_PAGES];                   /* the pages that it has touched */
 static unsigned char before[MOST_PAGES][SMALL_PAGE]; /* and what the guest's held at the beginning of the turn */
-static unsigned page_count;
+static unsigned page_count, kept_count; /* of these, and of those among them that are there from former turns */
+static uint64_t expected;               /* the page behind those that were brought last, in this turn */
 static volatile sig_atomic_t is_copying;
 static sigjmp_buf copying;
 
@@ -58,17 +59,16 @@ static void load(unsigned number) {
 
 /* Returns how many pages are to be brought from one on: more, if those before it were touched one after the other. */
 static unsigned run_at(uint64_t page) {
-    static uint64_t next;
     static unsigned run;
     unsigned count = 1;
-    run = page == next ? 2 * run : 1;
+    run = page == expected ? 4 * run : 1;
     run = run < MOST_RUN ? run : MOST_RUN;
     while (count < run && page_count + count < MOST_PAGES && page + count * SMALL_PAGE < MOST_MEMORY)
         count++;
     for (unsigned number = 0; number < page_count; number++)
         if (pages[number] > page && (pages[number] - page) / SMALL_PAGE < count)
             count = (unsigned)((pages[number] - page) / SMALL_PAGE);
-    next = page + count * SMALL_PAGE;
+    expected = page + count * SMALL_PAGE;
     return count;
 }
 
@@ -139,9 +139,11 @@ int drop_sections(struct function *function, uint64_t address, uint64_t size) {
 }
 
 /* Lends a function's memory for calls of the library about an entry and the slot of its completion, or nothing if one
-   of them isn't in memory. Of the pages of former calls, theirs are kept, and the latest ones. */
+   of them isn't in memory. Of the pages of former calls, theirs are kept, and as many of the latest ones as the last
+   turn touched anew, or all, if it touched none. */
 unsigned char *lend(const struct function *function, uint64_t entry, uint64_t slot) {
-    unsigned kept = 0, surplus = page_count > MOST_KEPT ? page_count - MOST_KEPT : 0, count;
+    unsigned touched = page_count - kept_count, wanted = touched > LEAST_KEPT ? touched : LEAST_KEPT;
+    unsigned kept = 0, surplus = touched > 0 && page_count > wanted ? page_count - wanted : 0, count;
     entry -= entry % SMALL_PAGE;
     slot -= slot % SMALL_PAGE;
     for (unsigned number = 0; number < page_count; number += count) {
@@ -157,7 +159,8 @@ unsigned char *lend(const struct function *function, uint64_t entry, uint64_t sl
         } else
             surplus -= count;
     }
-    page_count = kept;
+    page_count = kept_count = kept;
+    expected = MOST_MEMORY;
     user = function;
     for (unsigned number = 0; number < page_count; number++)
         load(number);

@@ -3,8 +3,6 @@
    kernel. None of this is proved. */
 #include "launcher.h"
 #include <dirent.h>
-#include <linux/filter.h>
-#include <linux/fs.h>
 #include <linux/openat2.h>
 #include <sched.h>
 #include <sys/resource.h>
@@ -17,23 +15,23 @@
    kernel are known by their numbers.) */
 static int sets_outside(const struct call *call, int file, const char *link) {
     const unsigned first_of_kernel = 0xf0000000;
-    char path[2 * PATH_MAX + 2], name[PATH_MAX], root[PATH_MAX], part[PATH_MAX] = "", *line = NULL;
-    unsigned long long number;
+    char path[2 * PATH_MAX + 2], name[PATH_MAX], part[PATH_MAX] = "", *line = NULL;
+    unsigned long long number = 0;
     size_t room = 0;
     const struct statx about = known_about(file, "");
     if (!is_in_proc(file))
         return 0;
     snprintf(path, sizeof path, "/proc/%d/mountinfo", call->process);
     FILE *mounts = fopen(path, "re");
-    while (mounts && getline(&line, &room, mounts) > 0)
-        if (sscanf(line, "%llu %*d %*s %4095s", &number, root) == 2 && number == about.stx_mnt_id)
-            strcpy(part, root);
+    while (mounts && number != about.stx_mnt_id && getline(&line, &room, mounts) > 0)
+        sscanf(line, "%llu %*d %*s %4095s", &number, part);
     free(line);
     if (mounts)
         fclose(mounts);
     read_link(link, name);
     snprintf(path, sizeof path, "%s%s/", part, name);
-    return strstr(path, "/net/") || strstr(path, "/autogroup/") || (!*part && about.stx_ino >= first_of_kernel);
+    return strstr(path, "/net/") || strstr(path, "/autogroup/") ||
+           (number != about.stx_mnt_id && about.stx_ino >= first_of_kernel);
 }
 
 /* Resets a controller, or looks for its namespaces, because such a file of it is opened for writing. What is then
@@ -45,14 +43,11 @@ static int open_attribute(const char *place, uint64_t flags) {
     if (sscanf(name, "/sys/devices/pci%*x:%*x/%*[^/]/nvme/nvme%u/%15[a-z]_controller", &controller, what) != 2 ||
         (flags & O_ACCMODE) != O_WRONLY || faccessat(AT_FDCWD, place, W_OK, AT_EACCESS) < 0)
         return -EACCES;
-    int file = open("/dev/null", O_WRONLY | O_CLOEXEC);
-    if (file < 0)
-        return -errno;
     int result = ask_controller(controller, strcmp(what, "reset") == 0 ? KIND_RESET : KIND_SCAN, 1);
-    if (result == 0)
-        return file;
-    close(file);
-    return result;
+    if (result < 0)
+        return result;
+    int file = open("/dev/null", O_WRONLY | O_CLOEXEC);
+    return file < 0 ? -errno : file;
 }
 
 /* Opens a character device, if the caller may open it so, but for reading, so that nobody writes to its file. (From the
@@ -64,6 +59,18 @@ static int open_character(const char *place, uint64_t flags) {
     close(as_asked);
     lseek(file, INT64_MAX, SEEK_SET);
     return file < 0 ? -error : file;
+}
+
+/* Claims a block device for a file that is opened with O_EXCL, and returns 0, or an error's number as a negative one.
+   (The file then has a lock of a byte after all data as long as it is open, and no other file may have one; of two that
+   get theirs at once, maybe neither has claimed the device.) */
+static int claim(const struct call *call, int file) {
+    struct flock byte = {.l_start = (off_t)1 << 62 | call->node.controller, .l_len = 1};
+    byte.l_type = (fcntl(file, F_GETFL) & O_ACCMODE) == O_RDONLY ? F_RDLCK : F_WRLCK;
+    if (fcntl(file, F_OFD_SETLK, &byte) < 0)
+        return -EBUSY;
+    byte.l_type = F_WRLCK;
+    return fcntl(file, F_OFD_GETLK, &byte) == 0 && byte.l_type == F_UNLCK ? 0 : -EBUSY;
 }
 
 /* Opens a node as the caller could, but doesn't truncate it. (Linux 6.6 and later open files in memory for direct
@@ -95,10 +102,8 @@ static int open_found(struct call *call, int file, uint64_t flags, int is_length
     snprintf(place, sizeof place, "/proc/self/fd/%d", file);
     if (about.stx_ino == 0 || S_ISDIR(about.stx_mode))
         return NOT_OURS;
-    if (system_of(&about) == number_of(OF_SYS)) {
-        int is_read = !is_length && (flags & (O_ACCMODE | O_TRUNC)) == O_RDONLY;
-        return is_read ? NOT_OURS : is_length ? -EACCES : open_attribute(place, flags);
-    }
+    if (system_of(&about) == number_of(OF_SYS))
+        return (flags & (O_ACCMODE | O_TRUNC)) == O_RDONLY ? NOT_OURS : open_attribute(place, flags);
     if (!S_ISREG(about.stx_mode))
         return NOT_OURS;
     if (system_of(&about) != number_of(OF_DEV))
@@ -107,6 +112,17 @@ static int open_found(struct call *call, int file, uint64_t flags, int is_length
     if (strncmp(name, "/dev/", 5) != 0 || !read_name(name + 5, &call->node))
         return NOT_OURS;
     return is_length ? -EINVAL : open_node(call, place, flags);
+}
+
+/* Gives the process of a call a descriptor of a file, and returns that, or an error's number. (The file is closed here
+   before the process goes on, so that its claim ends when the process closes it.) */
+static int give_file(const struct call *call, int file, uint64_t flags) {
+    struct seccomp_notif_addfd added = {
+        .id = call->id, .srcfd = (uint32_t)file, .newfd_flags = (uint32_t)flags & O_CLOEXEC};
+    int result = ioctl(call_listener, SECCOMP_IOCTL_NOTIF_ADDFD, &added);
+    result = result < 0 ? -errno : result;
+    close(file);
+    return result;
 }
 
 /* Looks for the file at a path, from a folder. */
@@ -120,8 +136,7 @@ static int find_and_open(struct call *call, int folder, uint64_t path, const str
         return -EACCES;
     int result = file < 0 ? NOT_OURS : open_found(call, file, how->flags, is_length);
     close(file);
-    call->opened = result >= 0 ? (int)how->flags : NOT_OPENED;
-    return result;
+    return result < 0 ? result : give_file(call, result, how->flags);
 }
 
 static int answer_open(struct call *call, const __u64 *words) {
@@ -147,8 +162,9 @@ static int answer_openat2(struct call *call, const __u64 *words) {
     return find_and_open(call, (int)words[0], words[1], &how, 0);
 }
 
+/* (what is opened for reading and writing acts on nothing) */
 static int answer_truncate(struct call *call, const __u64 *words) {
-    return find_and_open(call, AT_FDCWD, words[0], &(struct open_how){.flags = O_WRONLY}, 1);
+    return find_and_open(call, AT_FDCWD, words[0], &(struct open_how){.flags = O_RDWR}, 1);
 }
 
 /* ---- calls that Linux refuses for a node, by its descriptor */
@@ -177,9 +193,10 @@ static int group_of(pid_t process) {
     return behind && sscanf(behind, ") %*c %d %d", &parent, &group) == 2 && parent > 1 ? group : -1;
 }
 
-/* Does to all processes of the group that are in the sandbox what a call would do to the group. */
-static int to_group(const struct call *call, int (*act)(pid_t process, int value), int value) {
-    int group = group_of(call->process), result = -ESRCH;
+/* Does to all processes of the caller's group that are in the sandbox what a call would do to the group. Its words are
+   the number of a group, which is 0 for this one (in the 32 bits that Linux reads), and a value. */
+static int to_group(const struct call *call, const __u64 *words, int (*act)(pid_t process, int value)) {
+    int group = (int)words[0] == 0 ? group_of(call->process) : 1, result = -ESRCH;
     DIR *entries = group == 0 ? opendir("/proc") : NULL;
     struct dirent *entry;
     if (!entries)
@@ -188,7 +205,7 @@ static int to_group(const struct call *call, int (*act)(pid_t process, int value
         pid_t process = atoi(entry->d_name);
         if (process <= 1 || group_of(process) != 0)
             continue;
-        int error = act(process, value) < 0 ? -errno : 0;
+        int error = act(process, (int)words[1]) < 0 ? -errno : 0;
         result = result == 0 ? 0 : error;
     }
     closedir(entries);
@@ -197,21 +214,13 @@ static int to_group(const struct call *call, int (*act)(pid_t process, int value
 
 static int set_priority(pid_t process, int value) { return setpriority(PRIO_PROCESS, (id_t)process, value); }
 
-enum { ONE_IO_PRIORITY = 1, GROUP_IO_PRIORITY = 2 };
-static int set_io_priority(pid_t process, int value) {
-    return (int)syscall(SYS_ioprio_set, ONE_IO_PRIORITY, process, value);
-}
+enum { ONE = 1, GROUP = 2 }; /* (of ioprio_set) */
+static int set_io(pid_t process, int value) { return (int)syscall(SYS_ioprio_set, ONE, process, value); }
 
 /* (a group with a number here has no process outside) */
-static int answer_kill(struct call *call, const __u64 *words) { return to_group(call, kill, (int)words[1]); }
-
-static int answer_priority(struct call *call, const __u64 *words) {
-    return words[1] == 0 ? to_group(call, set_priority, (int)words[2]) : NOT_OURS;
-}
-
-static int answer_io_priority(struct call *call, const __u64 *words) {
-    return words[1] == 0 ? to_group(call, set_io_priority, (int)words[2]) : NOT_OURS;
-}
+static int answer_kill(struct call *call, const __u64 *words) { return to_group(call, words, kill); }
+static int answer_priority(struct call *call, const __u64 *words) { return to_group(call, words + 1, set_priority); }
+static int answer_io_priority(struct call *call, const __u64 *words) { return to_group(call, words + 1, set_io); }
 
 /* ---- the tables */
 
@@ -221,10 +230,10 @@ enum { ANSWER = SECCOMP_RET_USER_NOTIF };
 
 const struct decided_call decided_calls[] = {
 #include "decided.h"
-    {0}};
+    {.action = 0}};
 
 /* (the next header gives the same names the numbers that programs of 32 bits use) */
 #include <asm/unistd_32.h>
 const struct decided_call old_decided_calls[] = {
 #include "decided.h"
-    {0}};
+    {.action = 0}};

@@ -2,7 +2,7 @@
 #include "launcher.h"
 #include <getopt.h>
 
-struct options options = {.device_word_count = 1 + NUMBERS};
+struct options options = {.device_words = {MODEL_FOLDER "/device"}};
 unsigned geometry[NUMBERS] = {[DEPTH] = 32, [PAGE_SIZE] = 4096, [WINDOW] = 1, [PACE] = 1}, nodes_wait;
 
 #define SEE_HELP "\nsee nvme-model --help"
@@ -143,9 +143,8 @@ int read_options(int count, char **arguments) {
     int number;
     for (int at = 0; at < ROWS; at++) {
         const char *argument = rows[at].argument;
-        list[at].name = rows[at].name;
-        list[at].has_arg = !argument ? no_argument : *argument == '[' ? optional_argument : required_argument;
-        list[at].val = UCHAR_MAX + 1 + at;
+        int kind = !argument ? no_argument : *argument == '[' ? optional_argument : required_argument;
+        list[at] = (struct option){rows[at].name, kind, NULL, UCHAR_MAX + 1 + at};
     }
     while ((number = getopt_long(count, arguments, "+", list, NULL)) > UCHAR_MAX) {
         option = rows + (number - UCHAR_MAX - 1);
@@ -165,5 +164,9 @@ int read_options(int count, char **arguments) {
     for (const struct row *row = rows; row < rows + ROWS; row++)
         if (row->range && asprintf(word++, "--%s=%u", row->name, *row->number) < 0)
             fail("out of memory");
+    if (options.subsystem_count > 0)
+        *word++ = "--subsystem=/proc/self/fd/3";
+    if (options.has_trace)
+        *word = "--trace";
     return optind;
 }

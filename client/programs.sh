@@ -6,9 +6,8 @@ flags='-O2 -g0 -pthread -Wall -Wextra -Wshadow -U_FORTIFY_SOURCE -D_FORTIFY_SOUR
     -fstack-clash-protection -Wl,-z,relro,-z,now'
 of_program='-fPIE -pie'
 of_library='-fPIC -shared'
-launcher='launcher relay nodes sysfs sandbox calls caller filter helpers io refuse device inherited command options
-    opens names lists'
+launcher='launcher nodes sysfs sandbox calls caller filter helpers io refuse device inherited command options
+    opens names lists supplied'
 preloaded='library'
-qemu='qemu messages function memory proxy vfio_user drive queues volumes'
-vm='vm vm_streams'
-vm_guest='vm_guest vm_streams'
+qemu='qemu messages function memory proxy vfio_user drive queues volumes supplied'
+vm_guest='vm_guest'

@@ -18,7 +18,7 @@ enum { NOT_EXECUTABLE = 126, NOT_FOUND = 127, MOST_FILE = 1 << 20, MOST_GIBIBYTE
 static int is_server, has_summary; /* the values of the options */
 static const char *paths[MOST_FUNCTIONS], *memory = "128M";
 static unsigned path_count, function_count;
-static struct function functions[MOST_FUNCTIONS];
+struct function functions[MOST_FUNCTIONS];
 static struct subsystem subsystems[MOST_FUNCTIONS];
 static const char *folder_of_data;
 static unsigned long long most_data;
@@ -299,6 +299,8 @@ int main(int count, char **arguments) {
         make_functions(paths[path], path, protocol);
     atexit(remove_sockets);
     make_sockets();
+    for (unsigned path = 0; path < path_count || path == 0; path++)
+        look_at_namespaces(subsystems + path, AFTER_START);
     pid_t self = getpid();
     if (!is_server && (qemu = fork()) == 0)
         run_qemu(arguments + at, (unsigned)count - at, self);

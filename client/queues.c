@@ -24,6 +24,7 @@ void reset_drive(struct function *function) {
     uint32_t depths = read_register(function, NVME_AQA);
     uint64_t base = nvme_machine_read64(function->machine, function->number, NVME_ASQ);
     memcpy(new.is_active, drive->is_active, sizeof new.is_active);
+    new.wants_changes = new.saved_wish = drive->saved_wish;
     if (read_register(function, NVME_CSTS) & IS_READY) {
         nvme_submission_queue_make(&new.submissions[0].queue, 0, base, (depths & 0xfff) + 1);
         base = nvme_machine_read64(function->machine, function->number, NVME_ACQ);
@@ -32,24 +33,17 @@ void reset_drive(struct function *function) {
     *drive = new;
 }
 
-/* Writes a doorbell. A value that its queue can't have is ignored, as the controller ignores those of its own. */
+/* Writes a doorbell. The library ignores a value that its queue can't have, and one without a queue, as the controller
+   does those of its own. */
 void ring(struct function *function, uint32_t offset, uint32_t value) {
     uint32_t doorbell = (offset - NVME_TAIL_DOORBELL) / 4, id = doorbell / 2;
     struct drive *drive = &function->drive;
     if (offset < NVME_TAIL_DOORBELL || id > MOST_QUEUES)
         return;
-    if (doorbell % 2 == 0 && drive->submissions[id].queue.depth > 0)
+    if (doorbell % 2 == 0)
         nvme_submission_queue_tail(&drive->submissions[id].queue, value);
-    else if (doorbell % 2 == 1 && drive->completions[id].queue.depth > 0)
+    else
         nvme_completion_queue_head(&drive->completions[id].queue, value);
-}
-
-/* Returns whether an entry waits in any queue. */
-int has_entries(const struct function *function) {
-    const struct submissions *at = function->drive.submissions, *end = at + MOST_QUEUES + 1;
-    while (at < end && at->queue.fetched == at->queue.rung)
-        at++;
-    return at < end;
 }
 
 /* Returns whether a completion waits for which there is an interrupt. */

@@ -50,28 +50,25 @@ static struct rule {
 static unsigned rule_count;
 static _Atomic unsigned *resets; /* how often each controller was reset, if there is a rule */
 
-/* Reads a number of a range, which one of a rule's signs or its end follows, and returns what follows it, or NULL. */
-static const char *read_number(const char *text, uint64_t least, uint64_t most, uint64_t *number) {
+/* Reads a number, and returns whether it is one of a range. */
+static int read_number(const char *text, uint64_t least, uint64_t most, uint64_t *number) {
     char *end;
     errno = 0;
     *number = strtoull(text, &end, 0);
-    int is_number = *text >= '0' && *text <= '9' && errno == 0 && (!*end || strchr(",=", *end));
-    return is_number && *number >= least && *number <= most ? end : NULL;
+    return *text >= '0' && *text <= '9' && errno == 0 && !*end && *number >= least && *number <= most;
 }
 
-/* Finds the command of a rule, and returns what follows it, or NULL. */
-static const char *read_command(const char *text, struct command *command) {
-    size_t length = strcspn(text, ",=");
+/* Finds the command of a rule, and returns whether there is one. */
+static int read_command(const char *name, struct command *command) {
     uint64_t opcode;
     for (unsigned at = 0; at < sizeof commands / sizeof *commands; at++)
-        if (strlen(commands[at].name) == length && strncmp(commands[at].name, text, length) == 0) {
+        if (strcmp(commands[at].name, name) == 0) {
             *command = commands[at];
-            return text + length;
+            return 1;
         }
-    int is_io = strncmp(text, "io:", 3) == 0;
-    const char *end = read_number(text + 3 * is_io, 0, 0xff, &opcode);
+    int is_io = strncmp(name, "io:", 3) == 0, is_number = read_number(name + 3 * is_io, 0, 0xff, &opcode);
     *command = (struct command){NULL, is_io, (unsigned)opcode, 0, 0, 0};
-    return end == text + length ? end : NULL;
+    return is_number;
 }
 
 const char *add_rule(enum rule_action action, const char *text) {
@@ -81,15 +78,15 @@ const char *add_rule(enum rule_action action, const char *text) {
     resets = resets ?: share(MOST_CONTROLLERS * sizeof *resets);
     struct rule *rule = rules + rule_count;
     *rule = (struct rule){.text = text, .action = action, .times = 1};
-    const char *at = read_command(text, &rule->command);
-    if (!at)
+    char *value = strdupa(text), *words = strsep(&value, "="), *name = strsep(&words, ",");
+    char *skip = strsep(&words, ","), *times = strsep(&words, ",");
+    if (!read_command(name, &rule->command))
         return "there is no such command";
-    if (*at == ',' && !(at = read_number(at + 1, 0, UINT32_MAX, &rule->skip)))
+    if (skip && !read_number(skip, 0, UINT32_MAX, &rule->skip))
         return "SKIP: 0 to 4294967295";
-    if (*at == ',' && !(at = read_number(at + 1, 1, UINT32_MAX, &rule->times)))
+    if (times && !read_number(times, 1, UINT32_MAX, &rule->times))
         return "TIMES: 1 to 4294967295";
-    at = *at == '=' ? read_number(at + 1, 1, actions[action].most, &rule->value) : NULL;
-    if (!at || *at)
+    if (words || !value || !read_number(value, 1, actions[action].most, &rule->value))
         return actions[action].form;
     rule_count++;
     return NULL;

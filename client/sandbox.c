@@ -3,15 +3,16 @@
    others. None of this is proved. */
 #include "launcher.h"
 #include <glob.h>
+#include <libgen.h>
 #include <sched.h>
 #include <stdarg.h>
 #include <sys/mman.h>
 #include <sys/mount.h>
+#include <sys/param.h>
 
 /* Parts of the machine's /sys that the command sees, read-only. */
-static const char *const shown[] = {"/sys/devices/system",     "/sys/fs/cgroup",           "/sys/kernel/mm",
-                                    "/sys/class/net",          "/sys/devices/virtual/net", "/sys/class/dmi",
-                                    "/sys/devices/virtual/dmi"};
+static const char shown[] = "/sys/{devices/{system,virtual/{net,dmi}},fs/cgroup,kernel/mm,class/{net,dmi}}";
+
 /* What root may do in the sandbox: all that files need, and to become another user. */
 static const char rights[] = "--cap-drop ALL --cap-add CAP_CHOWN --cap-add CAP_DAC_OVERRIDE --cap-add CAP_FOWNER"
                              " --cap-add CAP_FSETID --cap-add CAP_KILL --cap-add CAP_SETGID --cap-add CAP_SETUID"
@@ -62,58 +63,46 @@ static void bind_to(const char *option, const char *from, const char *to) {
 
 /* Binds a file or folder to a place whose folders every user can search. (bwrap would make them for its user alone.) */
 static void add_below(const char *option, const char *path) {
-    char *folder_of = strdup(path);
-    for (char *at = folder_of ? strchr(folder_of + 1, '/') : NULL; at && (at = strchr(at + 1, '/')); *at = '/') {
-        *at = '\0';
-        add("--dir");
-        add(folder_of);
-    }
+    char folder[PATH_MAX];
+    snprintf(folder, sizeof folder, "%s", path);
+    add_words("--perms 0755 --dir");
+    add(dirname(folder));
     bind_to(option, path, path);
 }
 
-/* A line of the kernel's list of mounts. (A blank in its path has four characters there.) */
+/* A line of the kernel's list of mounts. */
 struct mount {
     unsigned number[2]; /* of the file system */
     unsigned long long identifier;
-    char root[4 * PATH_MAX], path[4 * PATH_MAX]; /* what is mounted of the file system, and where */
-    char options[1024], kind[64];                /* the kind of file system, between blanks */
+    char *root, *path; /* what is mounted of the file system, and where, or NULL after the last mount */
+    char *options, kind[64]; /* the kind of file system, between blanks */
 };
 
-/* (all mounts are read at once, so that the list doesn't grow while more are made) */
-static FILE *open_mounts(void) {
-    char *text = NULL;
-    size_t room = 0;
-    FILE *file = fopen("/proc/self/mountinfo", "re"), *mounts = NULL;
-    ssize_t length = file ? getdelim(&text, &room, '\0', file) : -1;
-    if (length <= 0 || fclose(file) != 0 || !(mounts = fmemopen(text, (size_t)length, "r")))
+/* Reads all mounts at once, so that the list doesn't grow while more are made, and replaces the octal numbers in their
+   paths. */
+static struct mount *read_mounts(void) {
+    struct mount *mounts = NULL, *mount;
+    char *line = NULL;
+    unsigned byte;
+    size_t room = 0, count = 0;
+    FILE *file = fopen("/proc/self/mountinfo", "re");
+    for (; file && getline(&line, &room, file) > 0; mount[1].path = NULL) {
+        const char *behind = strstr(line, " - ");
+        if (!(mounts = reallocarray(mounts, count + 2, sizeof *mounts)))
+            fail("out of memory");
+        mount = mounts + count++;
+        if (!behind || sscanf(line, "%llu %*d %u:%u %ms %ms %ms", &mount->identifier, mount->number,
+                              mount->number + 1, &mount->root, &mount->path, &mount->options) != 6)
+            fail("/proc/self/mountinfo can't be read");
+        snprintf(mount->kind, sizeof mount->kind, "%.*s ", 1 + (int)strcspn(behind + 3, " "), behind + 2);
+        for (char *at = mount->path; (at = strchr(at, '\\')) && sscanf(at + 1, "%3o", &byte) == 1; at++) {
+            *at = (char)byte;
+            memmove(at + 1, at + 4, strlen(at + 4) + 1);
+        }
+    }
+    if (!mounts || fclose(file) != 0)
         fail_by_errno("/proc/self/mountinfo");
     return mounts;
-}
-
-/* Reads the next mount, and replaces the octal numbers in its path. After the last one, it returns 0, and goes on with
-   the first one. */
-static int read_mount(struct mount *mount) {
-    static FILE *mounts;
-    static char *line;
-    static size_t room;
-    unsigned byte;
-    mounts = mounts ?: open_mounts();
-    if (getline(&line, &room, mounts) <= 0) {
-        fclose(mounts);
-        mounts = NULL;
-        return 0;
-    }
-    const char *behind = strstr(line, " - ");
-    if (!behind ||
-        sscanf(line, "%llu %*d %u:%u %16383s %16383s %1023s", &mount->identifier, mount->number,
-               mount->number + 1, mount->root, mount->path, mount->options) != 6)
-        fail("/proc/self/mountinfo can't be read");
-    snprintf(mount->kind, sizeof mount->kind, "%.*s ", 1 + (int)strcspn(behind + 3, " "), behind + 2);
-    for (char *at = mount->path; (at = strchr(at, '\\')) && sscanf(at + 1, "%3o", &byte) == 1; at++) {
-        *at = (char)byte;
-        memmove(at + 1, at + 4, strlen(at + 4) + 1);
-    }
-    return 1;
 }
 
 /* Adds what can be written in /proc besides processes, as far as the caller sees it, and read-only. The command's /proc
@@ -139,17 +128,14 @@ static int is_in(const char *folder, const char *path) {
 
 int is_replaced(const char *path) { return is_in("/dev", path) || is_in("/proc", path) || is_in("/sys", path); }
 
-/* Returns the most bytes of the model's files that describe nodes. (Few namespaces need less than the least number.) */
-static unsigned long long room_for_files(void) {
-    const unsigned long long least = 64 << 20;
-    return options.limit > least ? options.limit : least;
-}
+/* The limit of the model's files that describe nodes, if that of the data is less. (Few namespaces need less.) */
+enum { LEAST_ROOM = 64 << 20 };
 
 /* Adds folders of /run of the sandbox's own, if the machine has them: of udev, and of blkid, which remembers there what
    it has seen of nodes. (bwrap would make a folder that isn't there in the machine.) */
 static void add_run(void) {
     for (char **own = find("/run/{udev,blkid}"); *own; own++)
-        add_words("--size %llu --perms 0755 --tmpfs %s", room_for_files(), *own);
+        add_words("--size %llu --perms 0755 --tmpfs %s", MAX(options.limit, LEAST_ROOM), *own);
 }
 
 /* Looks at a path without asking a server, which might not answer. */
@@ -158,16 +144,17 @@ static int look_at(const char *path, struct statx *about) {
                  STATX_MNT_ID | STATX_UID | STATX_TYPE, about);
 }
 
-/* Finds the mount that the machine's /dev is in, and its place in that file system. */
-static void find_dev(struct mount *dev) {
-    static struct mount mount;
+/* Finds the mount that the machine's /dev is in, with its place in that file system. (In a root folder that isn't a
+   mount, there may be none.) */
+static struct mount find_dev(const struct mount *mount) {
     struct statx about;
     must(look_at("/dev", &about), "/dev");
-    while (read_mount(&mount))
-        if (mount.identifier == about.stx_mnt_id)
-            *dev = mount;
-    if (!dev->path[1])
-        strcat(dev->root, dev->root[1] ? "/dev" : "dev");
+    while (mount->path && mount->identifier != about.stx_mnt_id)
+        mount++;
+    struct mount dev = mount->path ? *mount : (struct mount){.root = ""};
+    if (dev.path && !dev.path[1] && asprintf(&dev.root, "%s/dev", dev.root[1] ? dev.root : "") < 0)
+        fail("out of memory");
+    return dev;
 }
 
 /* Adds the machine's mounts, which bwrap makes nodev. One that isn't a file system of files, and another view of /dev,
@@ -176,38 +163,35 @@ static void find_dev(struct mount *dev) {
    covers isn't seen.) */
 static void add_mounts(void) {
     static const char with_pipes[] = " devtmpfs rpc_pipefs ";
-    static struct mount mount, dev;
+    const struct mount *mount = read_mounts(), dev = find_dev(mount);
     struct statx about;
-    find_dev(&dev);
     bind_to("--bind", "/", "/");
     add_run();
-    while (read_mount(&mount)) {
-        int is_view = memcmp(mount.number, dev.number, sizeof dev.number) == 0 &&
-                      (is_in(mount.root, dev.root) || is_in(dev.root, mount.root));
-        if (strcmp(mount.path, "/") == 0 || is_replaced(mount.path) || (holds_files(mount.kind) && !is_view) ||
-            look_at(mount.path, &about) < 0 || about.stx_mnt_id != mount.identifier)
+    for (; mount->path; mount++) {
+        int is_view = memcmp(mount->number, dev.number, sizeof dev.number) == 0 &&
+                      (is_in(mount->root, dev.root) || is_in(dev.root, mount->root));
+        if (strcmp(mount->path, "/") == 0 || is_replaced(mount->path) || (holds_files(mount->kind) && !is_view) ||
+            look_at(mount->path, &about) < 0 || about.stx_mnt_id != mount->identifier)
             continue;
-        int has_pipes = strstr(with_pipes, mount.kind) != NULL;
-        if (S_ISDIR(about.stx_mode) && (has_pipes || strcmp(mount.kind, " proc ") == 0)) {
+        int has_pipes = strstr(with_pipes, mount->kind) != NULL;
+        if (S_ISDIR(about.stx_mode) && (has_pipes || strcmp(mount->kind, " proc ") == 0)) {
             add_words(has_pipes ? "--size 4096 --perms 0555 --tmpfs" : "--proc");
-            add(mount.path);
+            add(mount->path);
         } else
-            bind_to("--ro-bind", has_pipes ? "/dev/null" : mount.path, mount.path);
+            bind_to("--ro-bind", has_pipes ? "/dev/null" : mount->path, mount->path);
     }
 }
 
 /* Adds a /dev with the nodes that each command has, terminals of its own, and the caller's. (bwrap makes terminals only
    in a whole /dev, which is then covered, and calls what it makes /newroot.) */
 static void add_dev(void) {
-    static const char *const nodes[] = {"/dev/null",   "/dev/zero",    "/dev/full",
-                                        "/dev/random", "/dev/urandom", "/dev/tty"};
     add_words("--size %llu --tmpfs /dev --dev /dev/mqueue", options.limit);
     add_words("--dev-bind-try /proc/self/root/newroot/dev/mqueue/pts /dev/pts --symlink pts/ptmx /dev/ptmx");
     add_words("--symlink /proc/self/fd /dev/fd --symlink fd/0 /dev/stdin --symlink fd/1 /dev/stdout");
     add_words("--symlink fd/2 /dev/stderr --mqueue /dev/mqueue --size %llu --perms 1777 --tmpfs /dev/shm",
               options.limit);
-    for (unsigned at = 0; at < sizeof nodes / sizeof *nodes; at++)
-        bind_to("--dev-bind-try", nodes[at], nodes[at]);
+    for (char **node = find("/dev/{null,zero,full,random,urandom,tty}"); *node; node++)
+        bind_to("--dev-bind-try", *node, *node);
     const char *terminal = ttyname(STDIN_FILENO) ?: ttyname(STDOUT_FILENO) ?: ttyname(ERRORS);
     if (terminal)
         bind_to("--dev-bind-try", terminal, "/dev/console");
@@ -218,9 +202,9 @@ static void add_dev(void) {
 /* Adds a /sys with what tools read of the machine, among it its network interfaces, and the command's own /proc. */
 static void add_sys(void) {
     add_words("--size %llu --perms 0755 --tmpfs /sys --perms 0755 --dir /sys/fs --perms 0755 --dir " MODEL_FOLDER,
-              room_for_files());
-    for (unsigned at = 0; at < sizeof shown / sizeof *shown; at++)
-        add_below("--ro-bind-try", shown[at]);
+              MAX(options.limit, LEAST_ROOM));
+    for (char **part = find(shown); *part; part++)
+        add_below("--ro-bind-try", *part);
     for (char **interface = find("/sys/class/net/*"); *interface; interface++) {
         char *path = realpath(*interface, NULL);
         if (path && is_in("/sys/devices", path) && !is_in("/sys/devices/virtual", path))
@@ -260,14 +244,14 @@ static void add_root(void) {
         add_stand_in(real);
 }
 
-static void compose(void) {
+static void compose(const char *library, const char *program) {
     add("bwrap");
     add_mounts();
     add_dev();
     add_sys();
     add_file("/proc/self/exe", MODEL_FOLDER "/launcher");
-    add_file(library_path, MODEL_FOLDER "/library.so");
-    add_file(program_path, MODEL_FOLDER "/device");
+    add_file(library, MODEL_FOLDER "/library.so");
+    add_file(program, MODEL_FOLDER "/device");
     if (options.is_root && geteuid() != 0)
         add_root();
     add_words("--unshare-pid --as-pid-1 --unshare-ipc --die-with-parent --chdir / %s %s -- " MODEL_FOLDER
@@ -284,7 +268,7 @@ static void write_map(const char *path, const char *format, unsigned number) {
 
 /* Becomes bwrap, which starts the launcher with its word, in a place where the machine's later mounts aren't
    seen. (The mounts that bwrap makes follow those that it finds, and a mount that came later wouldn't be nodev.) */
-void enter_sandbox(void) {
+void enter_sandbox(const char *library, const char *program) {
     unsigned user = geteuid(), group = getegid();
     if (unshare(CLONE_NEWNS) < 0) {
         must(unshare(CLONE_NEWUSER | CLONE_NEWNS), "no namespace can be made");
@@ -293,7 +277,7 @@ void enter_sandbox(void) {
         write_map("/proc/self/gid_map", "%u %u 1", group);
     }
     must(mount(NULL, "/", NULL, MS_REC | MS_PRIVATE, NULL), "mounts can't be private");
-    compose();
+    compose(library, program);
     execvp(words[0], words);
     if (errno == ENOENT)
         _exit(NOT_FOUND);
@@ -306,7 +290,7 @@ void enter_sandbox(void) {
    as its user, who closed a folder, opens it. */
 enum reach { HIDDEN, REACHED, CLOSED };
 
-static enum reach reach_of(struct mount *mount) {
+static enum reach reach_of(const struct mount *mount) {
     struct statx about;
     char *path = mount->path;
     if (look_at(path, &about) == 0)
@@ -326,14 +310,13 @@ static int is_made(const char *path) {
 /* (bwrap makes no mount nodev, read-only or another /proc that it can't reach; and what it binds in /dev may be another
    file since it was looked at) */
 void check_mounts(void) {
-    static struct mount mount;
-    while (read_mount(&mount)) {
-        if (is_in("/dev", mount.path) && !is_made(mount.path) && reach_of(&mount) == REACHED)
-            check_node(mount.path);
-        enum reach reach = is_replaced(mount.path) ? HIDDEN : reach_of(&mount);
-        int is_left = reach == CLOSED && !holds_files(mount.kind) && strncmp(mount.options, "ro", 2) != 0;
-        if (reach != HIDDEN && (is_left || !strstr(mount.options, ",nodev")))
-            fail("%s is a mount of this machine that can't be kept from the command", mount.path);
+    for (const struct mount *mount = read_mounts(); mount->path; mount++) {
+        if (is_in("/dev", mount->path) && !is_made(mount->path) && reach_of(mount) == REACHED)
+            check_node(mount->path);
+        enum reach reach = is_replaced(mount->path) ? HIDDEN : reach_of(mount);
+        int is_left = reach == CLOSED && !holds_files(mount->kind) && strncmp(mount->options, "ro", 2) != 0;
+        if (reach != HIDDEN && (is_left || !strstr(mount->options, ",nodev")))
+            fail("%s is a mount of this machine that can't be kept from the command", mount->path);
     }
 }
 
@@ -352,9 +335,8 @@ static void mount_proc(const char *path) {
 
 /* (parts of /proc are mounts as well; and the launcher goes on to write to /sys, where this namespace isn't) */
 void show_own_processes(void) {
-    static struct mount found;
     must(mount(NULL, "/sys", NULL, MS_REMOUNT | MS_BIND | MS_RDONLY | MS_NOSUID | MS_NODEV, NULL), "/sys");
-    while (read_mount(&found))
-        if (strcmp(found.kind, " proc ") == 0 && strcmp(found.root, "/") == 0 && reach_of(&found) == REACHED)
-            mount_proc(found.path);
+    for (const struct mount *found = read_mounts(); found->path; found++)
+        if (strcmp(found->kind, " proc ") == 0 && strcmp(found->root, "/") == 0 && reach_of(found) == REACHED)
+            mount_proc(found->path);
 }

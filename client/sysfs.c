@@ -4,29 +4,31 @@
 #include "launcher.h"
 #include <ctype.h>
 #include <stdarg.h>
-#include <time.h>
 
 /* The text of sys.txt, its lines, and its folders, each with its lines, of which the last one has no name, and with the
    folder that was made last. */
 extern char sys_text[];
 __asm__(".data\nsys_text: .incbin \"sys.txt\"\n.byte 0\n.previous");
-enum { MOST_LINES = 512, MOST_TEXT = 4096 };
+enum { MOST_LINES = 512, MOST_TEXT = 2048, MOST_BYTES = 8192 };
 static struct line {
     const char *name, *text;
-    char mark;  /* what is before the text, or none (0) */
-    char *last; /* the text in the folder of this kind that was made last, or NULL */
+    char mark;            /* what is before the text, or none (0) */
+    char last[MOST_TEXT]; /* the text in the folder of this kind that was made last */
 } lines[MOST_LINES];
 static struct folder {
     struct line *lines;
     int last;
 } folders[PARTS];
 
-/* Reads the lines, among which the folders have the order of the parts. */
+/* Reads the lines, among which the folders have the order of the parts. (Nothing is put into the machine's /run, which
+   the sandbox has if there is none of its own for udev.) */
 static void read_lines(void) {
+    struct stat run, own;
+    int has_own = stat("/run", &run) == 0 && stat("/run/udev", &own) == 0 && run.st_dev != own.st_dev;
     struct folder *folder = folders;
     struct line *line = lines;
     for (char *rest = sys_text, *at; (at = strsep(&rest, "\n"));) {
-        if (*at == '#')
+        if (*at == '#' || (strncmp(at, "/run/", 5) == 0 && !has_own))
             continue;
         if (*at == '[')
             (folder++)->lines = line;
@@ -37,15 +39,11 @@ static void read_lines(void) {
     }
 }
 
-/* Each function has some memory with its registers. */
-enum { REGISTER_BYTES = 8192 };
-static uint32_t address_of(unsigned controller) { return 0xfe000000 + controller * REGISTER_BYTES; }
-
 /* ---- the values, each after its name */
 
 static struct value {
     const char *name;
-    char text[2048];
+    char text[MOST_TEXT];
 } values[64];
 
 /* What Identify Controller says of each controller. */
@@ -68,10 +66,27 @@ __attribute__((format(printf, 2, 3))) static void set(const char *name, const ch
     va_end(texts);
 }
 
-/* Sets a text without its spaces at the end, as it is, as digits and as a part of a file's name, as udev makes it. */
-static void set_name(const char *whole, const char *digits, const char *name, const unsigned char *text,
-                     size_t length) {
+/* Replaces the words in a text with their values, and | with the end of a line, as far as there is room. */
+static void expand(char *into, size_t room, const char *text) {
+    char *const last = into + room - 1, *end;
+    while (*text && into < last) {
+        size_t name = *text == '{' ? strcspn(text + 1, "}") : 0;
+        if (name > 0) {
+            end = memccpy(into, find_value(text + 1, name)->text, '\0', (size_t)(last - into));
+            into = end ? end - 1 : last;
+            text += name + 1;
+        } else
+            *into++ = *text == '|' ? '\n' : *text;
+        text++;
+    }
+    *into = '\0';
+}
+
+/* Sets a text by four names: as it is, and without its spaces at the end, as digits and as a part of a file's name, as
+   udev makes it. */
+static void set_text(const char *const names[4], const unsigned char *text, size_t length) {
     char hex[2 * 40 + 1] = "", part[40 + 1], *into = part;
+    set(names[0], "%.*s", (int)length, text);
     while (length > 0 && (text[length - 1] == ' ' || text[length - 1] == '\0'))
         length--;
     for (size_t at = 0; at < length; at++) {
@@ -81,9 +96,9 @@ static void set_name(const char *whole, const char *digits, const char *name, co
             *into++ = is_kept ? (char)text[at] : '_';
     }
     *into = '\0';
-    set(whole, "%.*s", (int)length, text);
-    set(digits, "%s", hex);
-    set(name, "%s", part);
+    set(names[1], "%.*s", (int)length, text);
+    set(names[2], "%s", hex);
+    set(names[3], "%s", part);
 }
 
 /* Sets the registers that depend on the geometry, as they are while a controller is ready. So do the addresses of its
@@ -102,42 +117,32 @@ static void set_registers(unsigned place) {
 /* Sets the values of a controller. */
 static void set_controller(unsigned number) {
     const unsigned char *identity = identities[number];
-    const char *text = (const char *)identity;
     set("k", "%u", (unsigned)(device_of(number) - devices));
     set("x", "%u", number);
     set("slot", "%02x", number);
-    set("first", "%016x", address_of(number));
-    set("last", "%016x", address_of(number) + REGISTER_BYTES - 1);
-    set("bar", "%x", address_of(number) | 4);
     const unsigned vendor = (unsigned)number_at(identity, 2), subsystem = (unsigned)number_at(identity + 2, 2);
     set("vendor", "%04x", vendor);
     set("subsystem_vendor", "%04x", subsystem);
     set("VENDOR", "%04X", vendor);
     set("SUBSYSTEM_VENDOR", "%04X", subsystem);
-    set("serial", "%.20s", text + 4);
-    set("model", "%.40s", text + 24);
-    set("firmware", "%.8s", text + 64);
     set("cntlid", "%u", (unsigned)number_at(identity + 78, 2));
-    set("nqn", "%.256s", text + 768);
+    set("nqn", "%.256s", identity + 768);
     set("fua", "%d", identity[525] & 1);
     set("cache", "%s", identity[525] & 1 ? "back" : "through");
     set("most_kb", "%u", most_sectors(number) / 2);
-    set_name("serial_text", "serial_hex", "serial_name", identity + 4, 20);
-    set_name("model_text", "model_hex", "model_name", identity + 24, 40);
-    set_name("firmware_text", "firmware_hex", "firmware_name", identity + 64, 8);
+    set_text((const char *[]){"serial", "serial_text", "serial_hex", "serial_name"}, identity + 4, 20);
+    set_text((const char *[]){"model", "model_text", "model_hex", "model_name"}, identity + 24, 40);
+    set_text((const char *[]){"firmware", "firmware_text", "firmware_hex", "firmware_name"}, identity + 64, 8);
     set_registers(number - device_of(number)->first);
 }
 
-/* Sets the values of what a folder shows: a controller, or one of its namespaces. (Those of a controller change only
-   with its own folders.) */
-static void set_values(enum part part, unsigned number, uint32_t nsid) {
+/* Sets the values of what a folder shows, a controller, whose own don't change, or one of its namespaces, makes the path
+   of the folder, which is one of them, and returns its first line. */
+static struct line *set_values(enum part part, unsigned number, uint32_t nsid, char path[PATH_MAX]) {
     const struct volume *volume = volume_of(&(struct node){.controller = number, .nsid = nsid});
     const char kind = part == GENERIC ? 'g' : nsid != 0 ? 'b' : 'c';
     static unsigned known = MOST_CONTROLLERS;
-    struct timespec now;
-    clock_gettime(CLOCK_MONOTONIC, &now);
-    set("now", "%llu", 1000000ULL * (unsigned long long)now.tv_sec + (unsigned long long)now.tv_nsec / 1000);
-    if (part < BLOCK || number != known)
+    if (number != known)
         set_controller(number);
     known = number;
     set("n", "%u", volume->number);
@@ -145,49 +150,21 @@ static void set_values(enum part part, unsigned number, uint32_t nsid) {
     set("nsid_hex", "%08x", nsid);
     set("major", "%u", major_of(kind));
     set("minor", "%u", minor_of(kind, number, volume->number));
-    if (volume->state == KNOWN) {
+    if (volume->power != 0) {
         set("size", "%ju", volume->blocks << (volume->power - 9));
         set("block", "%u", 1U << volume->power);
         set("ro", "%d", volume->is_read_only);
     }
-}
-
-/* Replaces the words in a text with their values, and | with the end of a line, as far as there is room. */
-static void expand(char *into, size_t room, const char *text) {
-    char *const last = into + room - 1, *end;
-    while (*text && into < last) {
-        size_t name = *text == '{' ? strcspn(text + 1, "}") : 0;
-        if (name > 0) {
-            end = memccpy(into, find_value(text + 1, name)->text, '\0', (size_t)(last - into));
-            into = end ? end - 1 : last;
-            text += name + 1;
-        } else
-            *into++ = *text == '|' ? '\n' : *text;
-        text++;
-    }
-    *into = '\0';
-}
-
-/* Makes the path of a folder, which becomes a value, and returns its first line. */
-static struct line *expand_path(char path[PATH_MAX], const struct folder *folder) {
-    expand(path, PATH_MAX, folder->lines->text);
+    expand(path, PATH_MAX, folders[part].lines->text);
     set("path", "%s", path + strlen("/sys/"));
-    return folder->lines + 1;
+    return folders[part].lines + 1;
 }
 
 /* ---- the files */
 
-static void make_folders(char *path) {
-    for (char *at = strchr(path + 1, '/'); at; at = strchr(at + 1, '/')) {
-        *at = '\0';
-        mkdir(path, 0755);
-        *at = '/';
-    }
-}
-
 /* Gives a file a mode and bytes. The text has the mode, the number of bytes, and dwords, after which all are 0. */
 static int put_bytes(int file, const char *text) {
-    uint32_t dwords[REGISTER_BYTES / 4] = {0};
+    uint32_t dwords[MOST_BYTES / 4] = {0};
     char *at;
     mode_t mode = (mode_t)strtoul(text, &at, 8);
     size_t size = strtoul(at, &at, 10);
@@ -217,85 +194,54 @@ static int make(int folder, const char *name, char mark, const char *text) {
 
 /* Makes an entry, in place of one of this folder. What is elsewhere stays, such as the first of several links with one
    name in /dev/disk, or what the command has put there. */
-static void put(int folder, char *name, char mark, const char *text) {
-    int result = make(folder, name, mark, text);
-    if (result < 0 && errno == ENOENT) {
-        make_folders(name);
-        result = make(folder, name, mark, text);
-    } else if (result < 0 && errno == EEXIST && *name != '/') {
-        unlinkat(folder, name, 0);
-        result = make(folder, name, mark, text);
-    }
-    if (result < 0 && errno != EEXIST)
-        cannot(name);
-}
-
-/* Removes a link, but none that another folder has made, and the folder of the last one, as udev does. */
-static void remove_link(char *name, const char *text) {
-    char found[PATH_MAX];
-    read_link(name, found);
-    if (strcmp(found, text) != 0)
+static void put(int folder, const char *name, char mark, const char *text) {
+    if (make(folder, name, mark, text) == 0)
         return;
-    unlink(name);
-    *strrchr(name, '/') = '\0';
-    if (strncmp(name, "/dev/disk/", 10) == 0)
-        rmdir(name);
-}
-
-/* (nothing is put into the machine's /run) */
-static int is_left_out(const char *name) {
-    static int has_records = -1;
-    struct stat run, own;
-    if (has_records < 0)
-        has_records = stat("/run", &run) == 0 && stat("/run/udev", &own) == 0 && run.st_dev != own.st_dev;
-    return strncmp(name, "/run/", 5) == 0 && !has_records;
+    if (*name != '/')
+        unlinkat(folder, name, 0);
+    if (make(folder, name, mark, text) < 0 && errno != EEXIST)
+        cannot(name);
 }
 
 /* (an entry that is the same as in the last folder of this kind becomes another name of that one) */
 void show(enum part part, unsigned number, uint32_t nsid) {
     char path[PATH_MAX], name[PATH_MAX], text[MOST_TEXT];
     struct folder *folder = folders + part;
-    set_values(part, number, nsid);
-    struct line *line = expand_path(path, folder);
+    if (part == TOP)
+        read_lines();
+    struct line *line = set_values(part, number, nsid, path);
     put(AT_FDCWD, strcat(path, "/"), '\0', "");
     int at = open(path, O_PATH | O_DIRECTORY | O_NOFOLLOW | O_CLOEXEC);
     for (; *line->name && at >= 0; line++) {
         expand(name, sizeof name, line->name);
         expand(text, sizeof text, line->text);
-        if (is_left_out(name))
-            continue;
-        int is_same = *name != '/' && line->last && strcmp(text, line->last) == 0;
+        int is_same = *name != '/' && folder->last > 0 && strcmp(text, line->last) == 0;
         if (!is_same || linkat(folder->last, name, at, name, 0) < 0)
             put(at, name, line->mark, text);
-        if (!is_same) {
-            free(line->last);
-            line->last = strdup(text);
-        }
+        strcpy(line->last, text);
     }
     if (folder->last > 0)
         close(folder->last);
     folder->last = at;
 }
 
-void begin_sys(void) {
-    read_lines();
-    show(TOP, 0, 0);
+static int is_link_to(const char *name, const char *text) {
+    char found[PATH_MAX];
+    read_link(name, found);
+    return strcmp(found, text) == 0;
 }
 
-/* (what a folder has elsewhere is removed first, as it comes last, and then the folder) */
+/* (what a folder has elsewhere is removed first, as it comes last, but for links that another folder has made) */
 void hide(enum part part, unsigned number, uint32_t nsid) {
-    char path[PATH_MAX], name[PATH_MAX], text[PATH_MAX];
-    set_values(part, number, nsid);
-    struct line *const lines_of = expand_path(path, &folders[part]), *line = lines_of;
+    char path[PATH_MAX], name[PATH_MAX], text[MOST_TEXT];
+    struct line *const lines_of = set_values(part, number, nsid, path), *line = lines_of;
     int at = open(path, O_PATH | O_DIRECTORY | O_NOFOLLOW | O_CLOEXEC);
     while (*line->name)
         line++;
     while (line-- > lines_of) {
         expand(name, sizeof name, line->name);
         expand(text, sizeof text, line->text);
-        if (*name == '/' && line->mark == '>')
-            remove_link(name, text);
-        else if (!is_left_out(name))
+        if (*name != '/' || line->mark != '>' || is_link_to(name, text))
             unlinkat(at, name, name[strlen(name) - 1] == '/' ? AT_REMOVEDIR : 0);
     }
     close(at);

@@ -39,15 +39,15 @@ static void count_used(struct volume *volume) {
 
 /* ---- volumes */
 
-/* Takes the data that a folder has kept. If it doesn't fit the subsystem, someone has to decide what is right. */
+/* Takes the data that a folder has kept, if there is any. If it doesn't fit the subsystem, someone has to decide what
+   is right. */
 static int open_kept(const char *name, const struct volume *volume) {
     struct stat about;
-    int is_kept = fstatat(folder, name, &about, AT_SYMLINK_NOFOLLOW) == 0;
-    if (!volume->is_there && is_kept)
-        errx(FAILED, "%s/%s: the subsystem file has no such namespace", folder_name, name);
-    if (!volume->is_there)
+    int file = openat(folder, name, O_RDWR | O_NOFOLLOW | O_NONBLOCK | O_CLOEXEC);
+    if (file < 0 && errno == ENOENT)
         return -1;
-    int file = openat(folder, name, O_RDWR | O_CREAT | O_NOFOLLOW | O_NONBLOCK | O_CLOEXEC, 0600);
+    if (!volume->is_there)
+        errx(FAILED, "%s/%s: the subsystem file has no such namespace", folder_name, name);
     if (file < 0 || fstat(file, &about) < 0)
         err(FAILED, "%s/%s", folder_name, name);
     if (!S_ISREG(about.st_mode) || flock(file, LOCK_EX | LOCK_NB) < 0)
@@ -83,7 +83,8 @@ static void free_volume(struct volume *volume, const char *name) {
     close(volume->file);
 }
 
-/* Makes or frees the data of a namespace, as the controllers have it now. Data that was formatted is zeros. */
+/* Makes or frees the data of a namespace, as the controllers have it now. Data that was formatted is zeros. (A
+   folder gets no file before a start can't fail for other reasons.) */
 void follow_namespace(struct subsystem *subsystem, uint32_t nsid, enum moment moment) {
     struct volume *volume = subsystem->volumes + nsid, now = {.file = -1};
     unsigned char about[IDENTIFY_BYTES] = {0};
@@ -92,7 +93,7 @@ void follow_namespace(struct subsystem *subsystem, uint32_t nsid, enum moment mo
     nvme_machine_namespace(subsystem->machine, 0, nsid, 0, about);
     const unsigned char *format = about + LBA_FORMATS + 4 * (about[FLBAS] & 15);
     now.is_there = number_at(about, 8) > 0;
-    if (now.is_there == volume->is_there && moment == AFTER_COMMAND)
+    if (now.is_there == volume->is_there && moment != AT_START && moment != AFTER_FORMAT)
         return;
     if (volume->is_there)
         free_volume(volume, name);
@@ -101,8 +102,9 @@ void follow_namespace(struct subsystem *subsystem, uint32_t nsid, enum moment mo
         now.size = INT64_MAX;
     if (moment == AT_START && folder >= 0)
         now.file = open_kept(name, &now);
-    else if (now.is_there)
-        now.file = open_new(name);
+    else if (now.is_there && (now.file = open_new(name)) < 0 && moment == AFTER_START)
+        err(FAILED, "%s/%s", folder_name ?: "memory", name);
+    now.is_there &= now.file >= 0 || moment != AT_START;
     if (now.file >= 0 && ftruncate(now.file, (off_t)now.size) == 0)
         map_file(&now);
     if (now.is_there && !now.bytes)

@@ -1,6 +1,6 @@
-/* What the launcher and the preloaded library share, and the messages of the device. All numbers are little-endian. A
-   request is a header and, if an entry sends data (the lowest bit of its opcode is 1), that data. An answer is a header
-   and its data. None of this is proved. */
+/* What the launcher and the preloaded library share, and the messages of the device. All numbers are little-endian, as
+   those of this processor are. A request is a header and, if an entry sends data (the lowest bit of its opcode is 1),
+   that data. An answer is a header and its data. None of this is proved. */
 #ifndef WIRE_H
 #define WIRE_H
 #include <assert.h>
@@ -9,6 +9,9 @@
 #include <stdlib.h>
 #include <string.h>
 #include <sys/ioctl.h>
+
+/* The folder of these programs in the sandbox. */
+#define MODEL_FOLDER "/sys/fs/model"
 
 enum { ENTRY_BYTES = 64, IDENTIFY_BYTES = 4096, MOST_DATA = 1 << 20 };
 
@@ -45,7 +48,7 @@ static_assert(sizeof(struct answer_header) == 12, "an answer's header has 12 byt
 /* A node: a controller ('c'), a generic node of a namespace ('g') or its block device ('b'), which have the number of
    their name. */
 struct node {
-    char kind, name[23];
+    char kind;
     unsigned controller, number, nsid;
 };
 
@@ -83,14 +86,10 @@ enum { NVME_TYPE = 'N', BLOCK_TYPE = 0x12, GEOMETRY_REQUEST = 0x0301 };
 /* Returns a little-endian number in data. */
 static inline uint64_t number_at(const unsigned char *at, unsigned bytes) {
     uint64_t number = 0;
-    while (bytes-- > 0)
-        number = number << 8 | at[bytes];
+    memcpy(&number, at, bytes);
     return number;
 }
 
-static inline void put_dword(unsigned char *at, uint32_t number) {
-    for (unsigned byte = 0; byte < 4; byte++)
-        at[byte] = (unsigned char)(number >> 8 * byte);
-}
+static inline void put_dword(unsigned char *at, uint32_t number) { memcpy(at, &number, sizeof number); }
 
 #endif

@@ -239,16 +239,13 @@ def _buffer(buffer: bytearray) -> ctypes.Array[ctypes.c_uint8]:
     return (ctypes.c_uint8 * len(view)).from_buffer(view)
 
 
-class _Lent:
-    """Memory while it is lent to a call: `arguments` has its address, how many pages it has, and their size."""
-
-    def __init__(self, memory: bytearray, page_size: int) -> None:
-        page_size = _number('page size', page_size, 32)
-        self._bytes = _buffer(memory)
-        pages, rest = divmod(len(self._bytes), page_size) if page_size else (0, len(self._bytes))
-        if rest:
-            raise ValueError('the memory has no whole number of pages')
-        self.arguments = ctypes.addressof(self._bytes), pages, page_size
+def _lent(memory: bytearray, page_size: int) -> Tuple[ctypes.Array[ctypes.c_uint8], int, int]:
+    """Returns memory that is lent to a call, how many pages it has, and their size."""
+    page_size, data = _number('page size', page_size, 32), _buffer(memory)
+    pages, rest = divmod(len(data), page_size) if page_size else (0, len(data))
+    if rest:
+        raise ValueError('the memory has no whole number of pages')
+    return data, pages, page_size
 
 
 def _entry(data: bytes) -> bytes:
@@ -261,23 +258,22 @@ def _entry(data: bytes) -> bytes:
 def entry_write(entry: bytes, memory: bytearray, data: bytes, page_size: int = 4096) -> int:
     """Writes bytes to where the data pointer of an entry says, and returns 0, or the status with which to complete
     the entry."""
-    lent, data = _Lent(memory, page_size), bytes(memoryview(data))
-    return _calls().nvme_entry_write(_entry(entry), *lent.arguments, data, len(data))
+    lent, data = _lent(memory, page_size), bytes(memoryview(data))
+    return _calls().nvme_entry_write(_entry(entry), *lent, data, len(data))
 
 
 def queue_next(submissions: SubmissionQueue, completions: CompletionQueue, memory: bytearray,
                page_size: int = 4096) -> Optional[bytes]:
     """Returns the entry that a turn of these queues would take next, or None. Queues that the memory doesn't hold
     are a ValueError."""
-    lent, entry = _Lent(memory, page_size), ctypes.create_string_buffer(64)
-    return entry.raw if _taken(_calls().nvme_queue_next(submissions, completions, *lent.arguments, entry)) else None
+    lent, entry = _lent(memory, page_size), ctypes.create_string_buffer(64)
+    return entry.raw if _taken(_calls().nvme_queue_next(submissions, completions, *lent, entry)) else None
 
 
 def queue_complete(submissions: SubmissionQueue, completions: CompletionQueue, memory: bytearray, answer: Answer,
                    page_size: int = 4096) -> bool:
     """Takes that entry and posts its completion. Returns whether there was one."""
-    lent = _Lent(memory, page_size)
-    return _taken(_calls().nvme_queue_complete(submissions, completions, *lent.arguments, answer))
+    return _taken(_calls().nvme_queue_complete(submissions, completions, *_lent(memory, page_size), answer))
 
 
 def _taken(result: int) -> bool:
@@ -290,8 +286,8 @@ def queue_turn(submissions: SubmissionQueue, completions: CompletionQueue, memor
                blocks: Optional[Blocks] = None, page_size: int = 4096) -> Optional[int]:
     """Takes that entry, performs its command on the blocks, and posts its completion. Returns its status, or None if
     no entry was taken."""
-    lent = _Lent(memory, page_size)
-    status = _calls().nvme_queue_turn(submissions, completions, *lent.arguments, blocks and _given(blocks))
+    lent = _lent(memory, page_size)
+    status = _calls().nvme_queue_turn(submissions, completions, *lent, blocks and _given(blocks))
     return None if status < 0 else status
 
 
@@ -308,8 +304,8 @@ def blocks_zeroing(blocks: Blocks, entry: bytes, memory: bytearray,
                    page_size: int = 4096) -> Optional[List[Tuple[int, int]]]:
     """Returns the offsets and lengths of the bytes that a turn with this entry would zero, or None if it would refuse
     the entry."""
-    lent, ranges = _Lent(memory, page_size), (_Range * 256)()
-    count = _calls().nvme_blocks_zeroing(_given(blocks), _entry(entry), *lent.arguments, ranges)
+    lent, ranges = _lent(memory, page_size), (_Range * 256)()
+    count = _calls().nvme_blocks_zeroing(_given(blocks), _entry(entry), *lent, ranges)
     return None if count < 0 else [(each.offset, each.length) for each in ranges[:count]]
 
 
@@ -379,8 +375,8 @@ class Machine:
     def turn(self, ctrl: int, memory: bytearray, page_size: int = 4096, most: int = 0xffff) -> int:
         """Lets a controller take entries, over a bytearray or another writable buffer of whole pages, and returns how
         many it took."""
-        ctrl, most, lent = _number('controller', ctrl, 16), _number('most', most, 16), _Lent(memory, page_size)
-        return self._library.nvme_machine_turn(self._open(), ctrl, *lent.arguments, most)
+        ctrl, most, lent = _number('controller', ctrl, 16), _number('most', most, 16), _lent(memory, page_size)
+        return self._library.nvme_machine_turn(self._open(), ctrl, *lent, most)
 
     def _asked(self, call: Callable[..., int], ctrl: int, size: int, *arguments: object) -> Optional[bytes]:
         data = ctypes.create_string_buffer(size)
@@ -388,23 +384,21 @@ class Machine:
 
     def next(self, ctrl: int, memory: bytearray, page_size: int = 4096) -> Optional[bytes]:
         """Returns the entry that a turn of the controller would take next, or None."""
-        lent = _Lent(memory, page_size)
-        return self._asked(self._library.nvme_machine_next, ctrl, 64, *lent.arguments)
+        return self._asked(self._library.nvme_machine_next, ctrl, 64, *_lent(memory, page_size))
 
     def fetch(self, ctrl: int, memory: bytearray, page_size: int = 4096) -> Optional[bytes]:
         """Takes that entry without a completion, which is owed to it, and returns it."""
-        lent = _Lent(memory, page_size)
-        return self._asked(self._library.nvme_machine_fetch, ctrl, 64, *lent.arguments)
+        return self._asked(self._library.nvme_machine_fetch, ctrl, 64, *_lent(memory, page_size))
 
     def complete(self, ctrl: int, memory: bytearray, answer: Answer, page_size: int = 4096) -> bool:
         """Takes that entry in place of the controller, and posts its completion. Returns whether there was one."""
-        lent, ctrl = _Lent(memory, page_size), _number('controller', ctrl, 16)
-        return bool(self._library.nvme_machine_complete(self._open(), ctrl, *lent.arguments, answer))
+        lent, ctrl = _lent(memory, page_size), _number('controller', ctrl, 16)
+        return bool(self._library.nvme_machine_complete(self._open(), ctrl, *lent, answer))
 
     def post(self, ctrl: int, memory: bytearray, answer: Answer, page_size: int = 4096) -> bool:
         """Posts the completion of an entry that was taken without one. Returns whether it had a free slot."""
-        lent, ctrl = _Lent(memory, page_size), _number('controller', ctrl, 16)
-        return bool(self._library.nvme_machine_post(self._open(), ctrl, *lent.arguments, answer))
+        lent, ctrl = _lent(memory, page_size), _number('controller', ctrl, 16)
+        return bool(self._library.nvme_machine_post(self._open(), ctrl, *lent, answer))
 
     def identify(self, ctrl: int) -> Optional[bytes]:
         """Returns what Identify returns for a controller, or None if there is no such controller."""
@@ -422,9 +416,7 @@ class Machine:
 
     def log_entry(self, ctrl: int, index: int) -> Optional[bytes]:
         """Returns the 64 bytes of an entry of a controller's error log, counted from the newest, or None."""
-        entry = ctypes.create_string_buffer(64)
-        ctrl, index = _number('controller', ctrl, 16), _number('index', index, 64)
-        return entry.raw if self._library.nvme_machine_log_entry(self._open(), ctrl, index, entry) else None
+        return self._asked(self._library.nvme_machine_log_entry, ctrl, 64, _number('index', index, 64))
 
     def error_log(self, ctrl: int) -> List[ErrorEntry]:
         """Returns the entries of a controller's error log, the newest first."""

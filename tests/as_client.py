@@ -2,6 +2,7 @@
 sends, or anything else, and keeps a second machine of the library beside the server's, whose registers and memory must
 agree with the server's in each byte."""
 
+import functools
 import importlib.util
 import mmap
 import os
@@ -26,6 +27,21 @@ QEMU_CAPABILITIES = (b'{"capabilities": {"pgsizes": 4096, "max_msg_fds": 16, "ma
                      b'"write_multiple": true}}\0')
 
 
+def message(command, payload=b'', number=1, flags=REQUEST, size=None):
+    size = 16 + len(payload) if size is None else size
+    return struct.pack('<HHIII', number, command, size, flags, 0) + payload
+
+
+def mapping(address=0, size=PAGE, offset=0, flags=READ | WRITE):
+    """Returns the payload of a request to map memory."""
+    return struct.pack('<IIQQQ', 32, flags, offset, address, size)
+
+
+def access(region, offset, count):
+    """Returns what the payload of an access to a region begins with."""
+    return struct.pack('<QII', offset, region, count)
+
+
 class Refused(Exception):
     """The server refused a request with this number of an error."""
 
@@ -42,12 +58,10 @@ class Client:
     def close(self):
         self.socket.close()
 
-    def say(self, command, payload=b'', files=(), flags=REQUEST, size=None):
+    def say(self, command, payload=b'', files=(), flags=REQUEST):
         """Sends a message, with descriptors at its first byte."""
         self.number = (self.number + 1) % 2 ** 16
-        size = 16 + len(payload) if size is None else size
-        header = struct.pack('<HHIII', self.number, command, size, flags, 0)
-        socket.send_fds(self.socket, [header + payload], files)
+        socket.send_fds(self.socket, [message(command, payload, self.number, flags)], files)
 
     def receive(self, length):
         data = b''
@@ -86,19 +100,18 @@ class Client:
         return self.ask(VERSION, struct.pack('<HH', 0, 0) + capabilities)
 
     def map(self, address, size, file=None, offset=0, flags=READ | WRITE):
-        payload = struct.pack('<IIQQQ', 32, flags, offset, address, size)
-        return self.refusal(DMA_MAP, payload, files=[] if file is None else [file])
+        return self.refusal(DMA_MAP, mapping(address, size, offset, flags), files=[] if file is None else [file])
 
     def unmap(self, address, size, flags=0):
         return self.refusal(DMA_UNMAP, struct.pack('<IIQQ', 24, flags, address, size))
 
     def read(self, region, offset, count):
-        reply = self.ask(REGION_READ, struct.pack('<QII', offset, region, count))
-        assert reply[:16] == struct.pack('<QII', offset, region, count) and len(reply) == 16 + count
+        reply = self.ask(REGION_READ, access(region, offset, count))
+        assert reply[:16] == access(region, offset, count) and len(reply) == 16 + count
         return reply[16:]
 
     def write(self, region, offset, data, posted=False):
-        payload = struct.pack('<QII', offset, region, len(data)) + data
+        payload = access(region, offset, len(data)) + data
         if posted:
             self.say(REGION_WRITE, payload, flags=WANTS_NONE)
         else:
@@ -147,12 +160,18 @@ def write_register(machine, ctrl, offset, value):
         machine.notices = {**getattr(machine, 'notices', {}), ctrl: value & 3 << 14}
 
 
-def machine_of(place, file=None):
-    """Returns a machine of the library in this folder, by its Python module."""
+@functools.lru_cache(maxsize=None)
+def module_of(place):
+    """Returns the Python module of the library in this folder."""
     found = importlib.util.spec_from_file_location('nvme_controller', place / 'nvme_controller.py')
     module = importlib.util.module_from_spec(found)
     found.loader.exec_module(module)
-    return module.Machine(file)
+    return module
+
+
+def flat_memory():
+    """Returns memory as the library needs it, with all that a controller reaches."""
+    return mmap.mmap(-1, REACHED, flags=mmap.MAP_PRIVATE | mmap.MAP_ANONYMOUS | 0x4000)  # (MAP_NORESERVE)
 
 
 class Piece:
@@ -174,7 +193,7 @@ class Guest(Driver, Client):
         self.machine, self.ctrl, self.pieces, self.holes = machine, ctrl, [], holes
         self.identities = []  # where Identify Controller was asked for
         if machine:
-            self.flat = mmap.mmap(-1, REACHED, flags=mmap.MAP_PRIVATE | mmap.MAP_ANONYMOUS | 0x4000)  # (MAP_NORESERVE)
+            self.flat = flat_memory()
         self.greet()
         for address, length in layout:
             self.add(Piece(address, length))

@@ -1,17 +1,17 @@
 """Stands for lib/nvme-model/qemu and its machine in the tests of `nvme-model --vm`: does the guest's part over the
-descriptors that QEMU would inherit. The variable MACHINE names what it does."""
+descriptors that QEMU would inherit, as its arguments say. The variable MACHINE names one of MACHINES."""
 
 import contextlib
 import os
+import re
 import signal
 import struct
 import sys
 import threading
 import time
 
-INPUT, OUTPUT, ERRORS, TERMINAL, MESSAGES = range(201, 206)
+INPUT, OUTPUT, ERRORS, TERMINAL, MESSAGES = PORTS = [*map(int, re.findall(r',fd=(\d+)', ' '.join(sys.argv)))]
 BEGUN, STOPPED, ENDED, UNREAD, ALIVE, SIGNAL, SIGNAL_GROUP, SIZE, CONTINUE, FINISH = range(10)
-MOST = 32 * 1024 - 4
 
 
 def receive(number, count):
@@ -28,15 +28,11 @@ def tell(kind, value=0):
     os.write(MESSAGES, struct.pack('<II', kind, value))
 
 
-def told():
-    return struct.unpack('<II', receive(MESSAGES, 8))
-
-
 def awaits(*kinds):
     """Returns the next message of one of these kinds."""
     kind = None
     while kind not in kinds:
-        kind, value = told()
+        kind, value = struct.unpack('<II', receive(MESSAGES, 8))
     return kind, value
 
 
@@ -53,107 +49,100 @@ def frames():
 
 
 def ends(how, *ports):
-    for port in ports:
+    """Ends the command's output, its messages and these ports, and tells how the command ended."""
+    for port in OUTPUT, ERRORS, *ports:
         frame(port)
     tell(ENDED, how)
     awaits(FINISH)
 
 
-def copy():
-    tell(BEGUN)
+def copies():
     for data in frames():
         frame(OUTPUT, data)
         frame(ERRORS, data)
-    ends(5 << 8, OUTPUT, ERRORS)
-
-
-def killed():
-    tell(BEGUN)
-    ends(signal.SIGUSR1, OUTPUT, ERRORS)
-
-
-def panics():
-    print('[    1.0] Kernel panic - not syncing: a reason\r\n[    1.1] ---[ end Kernel panic ]---\r')
-
-
-def refuses():
-    print('nvme-model: a reason')
-    sys.exit(72)
-
-
-def breaks_off():
-    tell(BEGUN)
-    frame(OUTPUT, b'some\n')
-    sys.exit(1)
-
-
-def loses():
-    """Fails after the command's end."""
-    tell(BEGUN)
-    ends(0, OUTPUT, ERRORS)
-    print('nvme-model: what was written is lost')
-    sys.exit(72)
-
-
-def is_silent():
-    time.sleep(10000)
-
-
-def falls_silent():
-    tell(BEGUN)
-    time.sleep(10000)
-
-
-def lives():
-    """Is silent but for answers, longer than a machine may be."""
-    tell(BEGUN)
-    for _ in range(5):
-        awaits(ALIVE)
-        tell(ALIVE)
-    ends(0, OUTPUT, ERRORS)
-
-
-def stays():
-    """Stays after the command's end."""
-    tell(BEGUN)
-    ends(3 << 8, OUTPUT, ERRORS)
-    time.sleep(10000)
 
 
 def hears():
     """Writes the signals that it is told, until SIGTERM."""
-    tell(BEGUN)
     frame(OUTPUT, b'begun\n')
     number = 0
     while number != signal.SIGTERM:
         kind, number = awaits(SIGNAL, SIGNAL_GROUP)
         frame(OUTPUT, f'{signal.Signals(number).name} {kind == SIGNAL_GROUP}\n'.encode())
-    ends(0, OUTPUT, ERRORS)
-
-
-def stops():
-    """Says that signals have stopped the command, one of which doesn't stop anything."""
-    tell(BEGUN)
-    for number in signal.SIGSTOP, signal.SIGTTIN, signal.SIGKILL:
-        tell(STOPPED, number)
-        awaits(CONTINUE)
-    ends(0, OUTPUT, ERRORS, TERMINAL)
 
 
 def writes():
     """Writes until nobody reads, and drops its input."""
-    tell(BEGUN)
-    tell(UNREAD, INPUT - 201)
+    tell(UNREAD, PORTS.index(INPUT))
     threading.Thread(target=lambda: [*frames()], daemon=True).start()
     os.set_blocking(MESSAGES, False)
     message = b''
-    while message != struct.pack('<II', UNREAD, OUTPUT - 201):
+    while message != struct.pack('<II', UNREAD, PORTS.index(OUTPUT)):
         frame(OUTPUT, b'y\n' * 1000)
         with contextlib.suppress(BlockingIOError):
             message = os.read(MESSAGES, 8)
     os.set_blocking(MESSAGES, True)
-    ends(0, OUTPUT, ERRORS)
+
+
+def emulates():
+    """Is silent by KVM, and otherwise tells how it was started."""
+    how = sys.argv[sys.argv.index('-accel') + 1]
+    if how == 'kvm':
+        time.sleep(10000)
+    tell(ALIVE)
+    tell(BEGUN)
+    frame(OUTPUT, f'{how}\n'.encode())
+
+
+def refuses_kvm():
+    if 'kvm' in sys.argv:
+        sys.exit(1)
+
+
+def dies_by_kvm():
+    if 'kvm' in sys.argv:
+        os.kill(os.getpid(), signal.SIGKILL)
+
+
+def tells_files():
+    """Writes the machine's first files, without its programs."""
+    with open(sys.argv[sys.argv.index('-initrd') + 1], 'rb') as file:
+        while (header := file.read(110)) and header.startswith(b'070701'):
+            size, length = int(header[54:62], 16), int(header[94:102], 16)
+            name = file.read(length + -(110 + length) % 4).rstrip(b'\0')
+            data = file.read(size + -size % 4)[:size]
+            if name not in (b'init', b'setup', b'begin', b'TRAILER!!!'):
+                frame(OUTPUT, name + b' ' + data.replace(b'\0', b'|') + b'\0')
+
+
+PANIC = '[    1.0] Kernel panic - not syncing: a reason\r\n[    1.1] ---[ end Kernel panic ]---\r'
+BEGINS, FAILS, WAITS = (tell, BEGUN), (sys.exit, 72), (time.sleep, 10000)
+# What each machine does: calls, in order.
+MACHINES = {
+    'copy': [BEGINS, (copies,), (ends, 5 << 8)],
+    'killed': [BEGINS, (ends, signal.SIGUSR1)],
+    'panics': [(print, PANIC)],
+    'refuses': [(print, 'nvme-model: a reason'), FAILS],
+    'breaks_off': [BEGINS, (frame, OUTPUT, b'some\n'), (sys.exit, 1)],
+    # (it fails after the command's end)
+    'loses': [BEGINS, (ends, 0), (print, 'nvme-model: what was written is lost'), FAILS],
+    'is_silent': [WAITS],
+    'needs_emulation': [(emulates,), (ends, 3 << 8)],
+    'refuses_kvm': [(refuses_kvm,), (emulates,), (ends, 3 << 8)],
+    'dies_by_kvm': [(dies_by_kvm,), (emulates,), (ends, 3 << 8)],
+    'tells_files': [BEGINS, (tells_files,), (ends, 0)],
+    'falls_silent': [BEGINS, WAITS],
+    # (it is silent but for answers, longer than a machine may be)
+    'lives': [BEGINS, *[(awaits, ALIVE), (tell, ALIVE)] * 5, (ends, 0)],
+    # (it stays after the command's end)
+    'stays': [BEGINS, (ends, 3 << 8), WAITS],
+    'hears': [BEGINS, (hears,), (ends, 0)],
+    # (it tells that signals have stopped the command, one of which doesn't stop anything)
+    'stops': [BEGINS, (tell, STOPPED, signal.SIGSTOP), (awaits, CONTINUE), (tell, STOPPED, signal.SIGTTIN),
+              (awaits, CONTINUE), (tell, STOPPED, signal.SIGKILL), (awaits, CONTINUE), (ends, 0, TERMINAL)],
+    'writes': [BEGINS, (writes,), (ends, 0)]}
 
 
 if __name__ == '__main__':
-    globals()[os.environ['MACHINE']]()
+    for call, *arguments in MACHINES[os.environ['MACHINE']]:
+        call(*arguments)

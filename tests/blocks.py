@@ -4,7 +4,7 @@ and what tests of them share."""
 import struct
 
 from tests.as_client import Guest
-from tests.driver import COMMAND, MASTER, PAGE
+from tests.driver import COMMAND, HEAD, MASTER, PAGE, TAIL, Queue, entry_of
 from tests.served import Served
 
 DELETE_SUBMISSIONS, CREATE_SUBMISSIONS, GET_LOG, DELETE_COMPLETIONS, CREATE_COMPLETIONS, ABORT = 0, 1, 2, 4, 5, 8
@@ -17,28 +17,21 @@ INVALID_OPCODE, INVALID_FIELD, INVALID_NAMESPACE, SEQUENCE_ERROR, OUT_OF_RANGE, 
 
 
 class Drive(Guest):
-    """A guest that has I/O queues: it keeps a queue's ring, depth, tail or head, and phase by its identifier."""
-
-    def __init__(self, *arguments, **more):
-        super().__init__(*arguments, **more)
-        self.submissions, self.completions = {}, {}
-
-    def enable(self, *arguments, **more):
-        super().enable(*arguments, **more)
-        self.submissions, self.completions = {}, {}
+    """A guest that has I/O queues."""
 
     def dword0_of(self, *command, **more):
         """Returns dword 0 of a command's completion, which must be a success."""
-        place = self.rings[1] + 16 * self.head
-        status = self.status_of(*command, **more)
+        self.put(*command, **more)
+        found = self.completion()
+        status = self.take()
         assert status == 0, hex(status)
-        return struct.unpack('<I', self.at(place, 4))[0]
+        return found.dword0
 
     def create_completions(self, number, ring, depth=16, flags=3, vector=0):
         status = self.status_of(CREATE_COMPLETIONS, ring, dword10=number | depth - 1 << 16,
                                 dword11=flags | vector << 16)
         if status == 0:
-            self.completions[number] = [ring, depth, 0, 1]
+            self.completions[number] = Queue(ring, depth)
         return status
 
     def create_submissions(self, number, ring, depth=16, completions=None, flags=1):
@@ -46,7 +39,7 @@ class Drive(Guest):
         status = self.status_of(CREATE_SUBMISSIONS, ring, dword10=number | depth - 1 << 16,
                                 dword11=flags | completions << 16)
         if status == 0:
-            self.submissions[number] = [ring, depth, 0, completions]
+            self.submissions[number] = Queue(ring, depth, completions)
         return status
 
     def create_pair(self, number, rings, depths=(16, 16)):
@@ -57,34 +50,28 @@ class Drive(Guest):
 
     def put_io(self, number, entry, rings=True):
         """Writes an entry, and rings the tail doorbell."""
-        queue = self.submissions[number]
-        self.at(queue[0] + 64 * queue[2], 64)[:] = entry
-        queue[2] = (queue[2] + 1) % queue[1]
+        self.put_entry(entry, number)
         if rings:
-            self.set_register(0x1000 + 8 * number, queue[2])
+            self.set_register(TAIL + 8 * number, self.submissions[number].next)
 
     def take_io(self, number, rings=True):
-        """Takes the next completion of a queue, and returns its command identifier, status, submission queue and its
-        head, or nothing if there is none."""
+        """Takes the next completion of a queue, if there is one."""
         self.register(0)
-        queue = self.completions[number]
-        ring, depth, head, phase = queue
-        dword0, rest, at, submissions, identifier, status = struct.unpack('<IIHHHH', self.at(ring + 16 * head, 16))
-        if status & 1 != phase:
-            return None
-        assert dword0 == rest == 0
-        queue[2:] = [head + 1, phase] if head + 1 < depth else [0, 1 - phase]
-        if rings:
-            self.set_register(0x1004 + 8 * number, queue[2])
-        return identifier, status >> 1 & 0x7ff, submissions, at
+        found = self.completion(number)
+        if found:
+            assert found[:2] == (0, 0), found
+            self.completions[number].advance()
+            if rings:
+                self.set_register(HEAD + 8 * number, self.completions[number].next)
+        return found
 
     def io(self, opcode, nsid, first=0, count=1, prp1=0, prp2=0, number=1, **more):
         """Sends a command for blocks, and returns its status."""
         queue = self.submissions[number]
         self.put_io(number, block_entry(opcode, nsid, first, count, prp1, prp2, **more))
-        identifier, status, submissions, at = self.take_io(queue[3])
-        assert (identifier, submissions, at) == (77, number, queue[2]), (identifier, submissions, at, queue)
-        return status
+        found = self.take_io(queue.completions)
+        assert found[2:5] == (queue.next, number, 77), (found, number, queue.next)
+        return found.status
 
     def pages(self, place, count, at):
         """Returns both PRP entries for this many bytes from a place on, with a list at another place."""
@@ -110,9 +97,9 @@ class Drive(Guest):
         return bytes(self.at(place, size))
 
 
-def block_entry(opcode, nsid, first=0, count=1, prp1=0, prp2=0, flags=0, dword12=0, dword13=0, identifier=77):
-    return struct.pack('<BBHIQQQQQIIII', opcode, flags, identifier, nsid, 0, 0, prp1, prp2, first,
-                       (count - 1 & 0xffff) | dword12, dword13, 0, 0)
+def block_entry(opcode, nsid, first=0, count=1, prp1=0, prp2=0, flags=0, identifier=77):
+    dwords = first % 2 ** 32, first >> 32, count - 1 & 0xffff
+    return entry_of(opcode, identifier, nsid, prp1, prp2, *dwords, flags=flags)
 
 
 class Blocks(Served):

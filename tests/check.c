@@ -169,40 +169,6 @@ void is_list(unsigned count, const uint32_t *ids) {
     must(all_are(common, 4 * count, PAGE, 0), "a list of %u ends with zeros", count);
 }
 
-static void is_namespace(uint64_t blocks, unsigned flbas, unsigned nmic, uint64_t bytes) {
-    static const unsigned char formats[12] = {0, 0, 9, 0, 0, 0, 12, 0, 8, 0, 9, 1};
-    is_number(0, 8, blocks);
-    is_number(8, 8, blocks);
-    is_number(16, 8, 0);
-    is_number(25, 1, 2);
-    is_number(26, 1, flbas);
-    is_number(27, 1, 1);
-    is_number(30, 1, nmic);
-    is_number(48, 8, bytes);
-    must(memcmp(common + 128, formats, sizeof formats) == 0, "a namespace has the three formats of the file");
-    must(all_are(common, 140, PAGE, 0), "a namespace ends with zeros");
-}
-
-/* Checks that the common buffer holds what the demonstration file says about a controller. */
-static void is_controller(const char *serial, unsigned identifier, unsigned elpe, unsigned vwc, uint64_t unallocated) {
-    static const struct {
-        unsigned at, bytes;
-        uint64_t value;
-    } fields[] = {{0, 4, 0},      {72, 4, 0},     {76, 1, 2},   {77, 1, 5},     {80, 4, 0x10400}, {256, 2, 0xa},
-                  {260, 1, 2},    {261, 1, 4},    {263, 1, 0},  {266, 2, 343},  {268, 2, 353},    {280, 8, 10485760},
-                  {512, 1, 0x66}, {513, 1, 0x44}, {516, 4, 4},  {520, 2, 0x10}, {524, 1, 0}};
-    for (unsigned at = 0; at < sizeof fields / sizeof *fields; at++)
-        is_number(fields[at].at, fields[at].bytes, fields[at].value);
-    is_text(4, 20, serial, ' ');
-    is_text(24, 40, "Demo Controller", ' ');
-    is_text(64, 8, "1.0", ' ');
-    is_text(768, 256, "nqn.2014-08.org.example:demo", 0);
-    is_number(78, 2, identifier);
-    is_number(262, 1, elpe);
-    is_number(525, 1, vwc);
-    is_number(296, 8, unallocated);
-}
-
 /* Checks that the newest entry of a controller's error log is its last refusal. */
 static void is_booked(unsigned controller, uint64_t specific) {
     done(controller, get_log(EVERY, 1, 64, 0), 0);
@@ -219,154 +185,37 @@ static void is_booked(unsigned controller, uint64_t specific) {
     is_number(32, 8, specific);
 }
 
-static void try_identify(void) {
-    done(0, identify(1, 0), 0);
-    is_controller("S0", 0, 3, 7, 9432576);
-    done(1, identify(1, 7), 0);
-    is_controller("S1", 1, 0, 0, 9432576);
-    done(0, identify(0, 1), 0);
-    is_namespace(2048, 0, 1, 1048576);
+/* Each field of a command reaches the controller, and its answer comes back. (What controllers answer is proved.) */
+static void try_passed(void) {
     done(0, identify(0, 3), 0);
-    is_namespace(9, 0, 0, 4608);
-    done(0, identify(0, EVERY), 0);
-    is_namespace(0, 0, 0, 0);
-    done(0, identify(0, 2), 0);
-    must(all_are(common, 0, PAGE, 0), "a namespace that is not there is zeros");
-    done(1, identify(0, 1), 0);
-    must(all_are(common, 0, PAGE, 0), "a namespace that is not attached is zeros");
-    done(1, identify(0x11, 1), 0);
-    is_namespace(2048, 0, 1, 1048576);
-    done(0, identify(2, 0), 0);
-    is_list(2, (uint32_t[]){1, 3});
-    done(0, identify(2, 1), 0);
-    is_list(1, (uint32_t[]){3});
-    done(1, identify(2, 0), 0);
-    is_list(0, NULL);
-    done(1, identify(0x10, 0), 0);
-    is_list(2, (uint32_t[]){1, 3});
-    refused(0, identify(0, 0), INVALID_NAMESPACE);
-    refused(0, identify(0, 5), INVALID_NAMESPACE);
-    is_booked(0, 0);
-    refused(1, identify(0x11, EVERY), INVALID_NAMESPACE);
-    is_booked(1, 0);
-    refused(0, identify(2, 0xfffffffe), INVALID_NAMESPACE);
-    refused(0, identify(0x10, EVERY), INVALID_NAMESPACE);
-    for (unsigned cns = 0; cns < 256; cns++)
-        if (cns > 3 && (cns < 0x10 || cns > 0x13))
-            refused(0, identify(cns, 1), INVALID_FIELD);
-    is_booked(0, 0);
-}
-
-static void try_logs(void) {
-    done(0, get_log(EVERY, 2, 512, 0), 0);
-    is_number(176, 8, refusals[0]);
-    must(all_are(common, 0, 176, 0) && all_are(common, 184, 512, 0), "the file tells no health");
-    done(1, get_log(0, 1, 256, 0), 0);
-    is_number(0, 8, refusals[1]);
-    must(all_are(common, 64, 256, 0), "the second controller keeps one entry");
-    done(0, get_log(0, 1, 256, 64), 0);
-    is_number(0, 8, refusals[0] - 1);
-    is_number(128, 8, refusals[0] - 3);
-    must(all_are(common, 192, 256, 0), "the first controller keeps four entries");
-    refused(0, get_log(EVERY, 5, 512, 0), INVALID_LOG);
-    refused(0, get_log(EVERY, 2, 512, 2), INVALID_FIELD);
-    refused(0, get_log(EVERY, 2, 512, 516), INVALID_FIELD);
-    refused(0, get_log(1, 2, 512, 0), INVALID_FIELD);
-    done(0, get_log(EVERY, 1, 131072, 0), 0);
-    refused(0, get_log(EVERY, 1, 131076, 0), INVALID_FIELD);
-    is_booked(0, 0);
-}
-
-static void try_features(void) {
-    done(0, get_feature(0, 6, 0), 1);
-    done(0, get_feature(0, 6, 3), 5);
+    is_number(0, 8, 9);
+    done(1, identify(1, 0), 0);
+    is_text(4, 20, "S1", ' ');
     done(0, set_feature(EVERY, 6, 0, 1), 0);
     done(0, get_feature(0, 6, 0), 0);
     done(0, get_feature(0, 6, 1), 1);
-    done(0, get_feature(0, 6, 2), 0);
     done(0, set_feature(0, 6, 1, 0), 0);
-    done(0, get_feature(0, 6, 0), 1);
     must(ioctl(files[0], NVME_IOCTL_RESET) == 0, "a controller is reset");
     done(0, get_feature(0, 6, 0), 0);
-    done(0, set_feature(EVERY, 5, 7, 0), 0);
-    done(0, get_feature(3, 5, 0), 7);
-    refused(0, get_feature(0, 5, 0), INVALID_NAMESPACE);
-    refused(0, get_feature(2, 5, 0), INVALID_FIELD);
-    refused(0, get_feature(0, 255, 0), INVALID_FIELD);
-    refused(1, get_feature(0, 6, 0), INVALID_FIELD);
-    refused(0, get_feature(0, 6, 4), INVALID_FIELD);
-    refused(0, set_feature(0, 6, 2, 0), INVALID_FIELD);
-    refused(0, set_feature(1, 6, 0, 0), NOT_OF_NAMESPACES);
-    refused(0, set_feature(0, 1, 7, 1), NOT_SAVEABLE);
+    refused(1, identify(0x11, EVERY), INVALID_NAMESPACE);
+    is_booked(1, 0);
+    refused(0, get_log(EVERY, 2, 512, 516), INVALID_FIELD);
+    refused(0, (struct command){0xff, 1, 0, 0, 0, 0, 0, NULL}, INVALID_OPCODE);
     is_booked(0, 0);
-}
-
-static void try_management(void) {
-    refused(0, create(18, 18, 3, 0, 0), INVALID_FORMAT);
-    refused(0, create(18, 18, 0, 1, 0), INVALID_FIELD);
-    refused(0, create(0, 0, 0, 0, 0), INVALID_FIELD);
-    refused(0, create(18, 17, 0, 0, 0), NO_THIN_PROVISIONING);
-    refused(0, create(18, 19, 0, 0, 0), INVALID_FIELD);
-    refused(0, create(18, 18, 0, 0, 2), INVALID_FIELD);
+    done(0, get_log(0, 1, 256, 64), 0);
+    is_number(0, 8, refusals[0] - 1);
+    done(0, get_log(EVERY, 1, 131072, 0), 0);
     refused(0, create(18424, 18424, 0, 0, 0), INSUFFICIENT_CAPACITY);
     is_booked(0, 9433088);
     done(0, create(18, 18, 0, 0, 0), 2);
-    done(1, create(1, 1, 0x12, 0, 1), 4);
-    refused(0, create(1, 1, 0, 0, 0), NO_IDENTIFIER);
-    done(0, identify(1, 0), 0);
-    is_controller("S0", 0, 3, 7, 9432576 - 9216 - 512);
-    done(0, identify(0x11, 4), 0);
-    is_namespace(1, 0x12, 1, 512);
     done(0, attachment(0, 2, 1, 0, 0), 0);
     refused(0, attachment(0, 2, 1, 0, 0), ALREADY_ATTACHED);
-    refused(1, attachment(0, 2, 1, 1, 0), IS_PRIVATE);
-    refused(0, attachment(0, 4, 2, 1, 0), INVALID_LIST);
-    refused(0, attachment(0, 4, 0, 0, 0), INVALID_LIST);
-    refused(0, attachment(0, 4, 2048, 0, 0), INVALID_LIST);
-    refused(0, attachment(0, 5, 1, 0, 0), INVALID_NAMESPACE);
-    done(0, attachment(0, 4, 2, 0, 1), 0);
-    done(1, identify(2, 0), 0);
-    is_list(1, (uint32_t[]){4});
-    refused(0, attachment(1, 3, 1, 1, 0), NOT_ATTACHED);
-    done(0, attachment(1, 4, 2, 0, 1), 0);
-    refused(0, delete(5), INVALID_NAMESPACE);
-    done(0, delete(4), 0);
-    refused(0, delete(4), INVALID_FIELD);
-    refused(0, attachment(0, 4, 1, 0, 0), INVALID_FIELD);
-    is_booked(0, 0);
-}
-
-static void try_formats(void) {
-    refused(0, format(5, 0), INVALID_NAMESPACE);
-    refused(1, format(2, 0), INVALID_FIELD);
-    refused(0, format(2, 3), INVALID_FORMAT);
-    refused(0, format(2, 0x10), INVALID_FORMAT);
-    refused(0, format(2, 0x20), INVALID_FORMAT);
-    refused(0, format(2, 2 << 9), INVALID_FIELD);
-    done(0, format(2, 0x12), 0);
+    done(0, format(2, 1), 0);
     done(0, identify(0, 2), 0);
-    is_namespace(18, 0x12, 0, 9216);
-    done(0, format(EVERY, 1), 0);
-    done(0, identify(0, 2), 0);
-    is_namespace(2, 1, 0, 9216);
-    done(0, identify(0, 3), 0);
-    is_namespace(1, 1, 0, 4608);
+    is_number(0, 8, 2);
     done(0, delete(EVERY), 0);
     done(0, identify(0x10, 0), 0);
     is_list(0, NULL);
-}
-
-/* Sends opcodes that the model doesn't have, and fields that it refuses. */
-static void try_others(void) {
-    static const unsigned char known[] = {GET_LOG,    IDENTIFY,   SET_FEATURES, GET_FEATURES,
-                                          MANAGEMENT, ATTACHMENT, FORMAT};
-    for (unsigned opcode = 0; opcode < 256; opcode++)
-        if (!memchr(known, (int)opcode, sizeof known))
-            refused(0, (struct command){(uint8_t)opcode, 1, 0, 0, 0, 0, 0, NULL}, INVALID_OPCODE);
-    is_booked(0, 0);
-    refused(0, (struct command){MANAGEMENT, 1, 2, 0, 0, 0, 0, NULL}, INVALID_FIELD);
-    refused(0, (struct command){ATTACHMENT, 1, 2, 0, 0, 0, 0, NULL}, INVALID_FIELD);
-    is_booked(0, 0);
 }
 
 /* Sends a command that the launcher answers itself, with this status and these bytes, and zeros after them. */
@@ -409,12 +258,7 @@ static void try_supplied(void) {
 }
 
 static void try_commands(void) {
-    try_identify();
-    try_logs();
-    try_features();
-    try_management();
-    try_formats();
-    try_others();
+    try_passed();
     try_supplied();
 }
 

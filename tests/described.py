@@ -4,6 +4,17 @@ import json
 import re
 import struct
 
+from tests.records import places
+
+# The places and sizes of fields of a controller and its health log, by their keys. NAMED has the model's values, too.
+CONTROLLER = places('id_ctrl')
+OF_CONTROLLER = {key: CONTROLLER[key] for key in ('cntlid', 'vid', 'ssvid', 'rab', 'ieee', 'mdts', 'elpe', 'wctemp',
+                                                  'cctemp', 'vwc')}
+OF_TOP, TEXTS = ({key: CONTROLLER[key] for key in keys} for keys in (('nn', 'tnvmcap'), ('sn', 'mn', 'fr')))
+OF_HEALTH = {key: place for key, place in places('smart').items() if key not in ('num_err_log_entries', 'sensors')}
+NAMED = {'OAES': (92, 4, 0), 'CTRATT': (96, 4, 0), **{key.upper(): (*CONTROLLER[key], value) for key, value in (
+    ('ver', 0x10400), ('oacs', 10), ('frmw', 2), ('lpa', 4), ('npss', 0), ('sqes', 0x66), ('cqes', 0x44),
+    ('oncs', 16))}}
 # The keys of each table with their defaults. Those that are required have none.
 DEFAULTS = {
     'top': {'mc': 0},
@@ -11,10 +22,7 @@ DEFAULTS = {
     'controller': {'vid': 0, 'ssvid': 0, 'rab': 0, 'ieee': 0, 'mdts': 5, 'elpe': 63, 'wctemp': 343, 'cctemp': 353,
                    'vwc': 0, 'crypto_erase': False},
     'feature': {'default': 0, 'saveable': False, 'changeable': True},
-    'smart': {key: 0 for key in (
-        'critical_warning', 'temperature', 'avail_spare', 'spare_thresh', 'percent_used', 'data_units_read',
-        'data_units_written', 'host_read_commands', 'host_write_commands', 'controller_busy_time', 'power_cycles',
-        'power_on_hours', 'unsafe_shutdowns', 'media_errors', 'warning_temp_time', 'critical_comp_time')},
+    'smart': dict.fromkeys(OF_HEALTH, 0),
     'namespace': {'extended': False, 'shared': False, 'controllers': []},
 }
 MASKS = {1: 0xffffff07, 2: 0xe0, 5: 0x1ffff, 6: 1, 8: 0xffff, 10: 1, 11: 0x7fff}
@@ -141,20 +149,6 @@ def random_file(random, controllers, namespaces):
         text += '\n[[format]]\n' + line('lbads', power) + some(random, ms=metadata, rp=random.randint(0, 3)) \
             if metadata == 0 else '\n[[format]]\n' + line('lbads', power) + line('ms', metadata)
     return text + ''.join(random_controller(random, cntlid, version) for cntlid in identifiers) + ''.join(tables)
-
-
-# Fields of a controller, of its health log and of a namespace: the key or the name, the place and the size.
-OF_CONTROLLER = {'cntlid': (78, 2), 'vid': (0, 2), 'ssvid': (2, 2), 'rab': (72, 1), 'ieee': (73, 3), 'mdts': (77, 1),
-                 'elpe': (262, 1), 'wctemp': (266, 2), 'cctemp': (268, 2), 'vwc': (525, 1)}
-OF_TOP = {'nn': (516, 4), 'tnvmcap': (280, 16)}
-TEXTS = {'sn': (4, 20), 'mn': (24, 40), 'fr': (64, 8)}
-COUNTERS = ('data_units_read', 'data_units_written', 'host_read_commands', 'host_write_commands',
-            'controller_busy_time', 'power_cycles', 'power_on_hours', 'unsafe_shutdowns', 'media_errors')
-OF_HEALTH = {'critical_warning': (0, 1), 'temperature': (1, 2), 'avail_spare': (3, 1), 'spare_thresh': (4, 1),
-             'percent_used': (5, 1), 'warning_temp_time': (192, 4), 'critical_comp_time': (196, 4),
-             **{key: (32 + 16 * number, 16) for number, key in enumerate(COUNTERS)}}
-NAMED = {'VER': (80, 4, 0x10400), 'OACS': (256, 2, 10), 'FRMW': (260, 1, 2), 'LPA': (261, 1, 4), 'NPSS': (263, 1, 0),
-         'SQES': (512, 1, 0x66), 'CQES': (513, 1, 0x44), 'ONCS': (520, 2, 16), 'OAES': (92, 4, 0), 'CTRATT': (96, 4, 0)}
 
 
 def number_at(data, at, size):

@@ -9,9 +9,8 @@ import re
 import shlex
 import shutil
 import subprocess
-import sys
 
-from tests.support import (DEMO, IS_ROOT, TOP, Case, Running, left_running, process_folder, processes, program, run,
+from tests.support import (DEMO, TOP, USERS, Case, Running, left_running, process_folder, processes, program, run,
                            until)
 
 CLIENT = TOP / 'client'
@@ -20,7 +19,7 @@ LISTED = dict(word.split('=', 1) for word in shlex.split((CLIENT / 'programs.sh'
 # The programs in C and the library, each with its sources.
 PARTS = {'bin/nvme-model': (*LISTED['launcher'].split(),),
          'lib/nvme-model/library.so': (*LISTED['preloaded'].split(),),
-         'lib/nvme-model/qemu': (*LISTED['qemu'].split(),), 'lib/nvme-model/vm': (*LISTED['vm'].split(),)}
+         'lib/nvme-model/qemu': (*LISTED['qemu'].split(),)}
 WARNINGS = '-Wall', '-Wextra', '-Wshadow', '-Werror'
 # Waits in a shell until what was written past the end of a node is cut off.
 CUT = 'until test $(busybox wc -c < /dev/nvme0n2) = 4608; do sleep 0.1; done; '
@@ -95,15 +94,17 @@ def installed():
 
 # What a reason ends with where no sandbox can be made.
 BY_VM = '--vm runs the command on a kernel of its own, in a virtual machine'
-# A machine with a folder of udev's, on one that has none, such as a container.
-OWN_RUN = 'mount -t tmpfs run /run && mkdir /run/udev && exec "$@"'
-WITH_UDEV = (() if os.path.exists('/run/udev') else ('unshare', '-m', 'sh', '-c', OWN_RUN, 'sh') if IS_ROOT else
-             ('bwrap', '--dev-bind', '/', '/', '--tmpfs', '/run', '--dir', '/run/udev'))
+
+
+@functools.lru_cache(maxsize=None)
+def programs():
+    """Returns a folder with the programs of tests/programs, which every user can read."""
+    return shutil.copytree(PROGRAMS, process_folder() / 'programs')
 
 
 def static_program(name, *options):
     """Compiles a program of tests/programs that is linked statically."""
-    made = process_folder() / '-'.join((name, *options))
+    made = programs() / '-'.join((name, *options))
     if not made.exists():
         subprocess.run(['cc', *WARNINGS, '-static', *options, '-o', made, PROGRAMS / f'{name}.c'], check=True)
     return made
@@ -180,7 +181,8 @@ def do_helpers(what, least=None):
 
 
 class ModelCase(Case):
-    """A test with a subsystem file of its own, whose name identifies the devices that it starts."""
+    """A test with a subsystem file of its own, whose name identifies the devices that it starts. Its transcripts are
+    of the sandbox."""
 
     def setUp(self):
         super().setUp()
@@ -198,6 +200,16 @@ class ModelCase(Case):
         text = '\n'.join([*map(os.fspath, texts), *(file.read_text() for file in files)])
         if missing_tools(text):
             self.skipTest(f"{', '.join(missing_tools(text))} not installed, or in a version that isn't known")
+
+    def transcribe(self, transcript):
+        """Runs a transcript in the sandbox."""
+        transcript.check(self)
+
+    def programs(self, script=''):
+        """Returns the folder of tests/programs, with the programs in C that a script runs."""
+        for name in re.findall(r'\$programs/(\w+)(?![.\w])', script):
+            static_program(name)
+        return programs()
 
     def command(self, *arguments, options=()):
         self.needs(*map(os.fspath, arguments))
@@ -225,10 +237,13 @@ class ModelCase(Case):
                 running.say(b'\n')
         return running
 
-    def python(self, script, options=(), **more):
-        """Runs a Python script over the demonstration file."""
-        head = 'import ctypes, errno, glob, mmap, os\n'
-        return self.model(sys.executable, '-c', head + script, options=options, **more)
+    def gives(self, script, *steps, out, status=0, by=(), **more):
+        """Checks how a script in steps ends, and what it prints, for each user."""
+        for user in USERS:
+            with self.subTest(user=user):
+                running = self.stepped(script, *steps, user=(*user, *by), **more)
+                self.ends(running.end(), status, out)
+                self.leaves_nothing()
 
     def leaves_nothing(self):
         """Checks that no device and no mount is left, and that the launcher left nothing in the machine's folders."""

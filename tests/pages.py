@@ -88,6 +88,15 @@ class Page:
                 code = ' '.join(last.split('`')[1::2])
                 self.words += [(number, word) for word in re.findall(r'\b[A-Za-z_][A-Za-z0-9_]*', code)]
 
+    def broken_links(self):
+        """Returns its links to files or headings that aren't there."""
+        for number, link in self.links:
+            name, _, heading = link.partition('#')
+            target = ((TOP / self.name).parent / name).resolve() if name else TOP / self.name
+            if '://' not in link and not link.startswith('mailto:') and not (
+                    target.exists() and (not heading or heading in Page(str(target)).anchors())):
+                yield f'{self.name}:{number}: {link}'
+
     def anchors(self):
         """Returns the anchors of its headings, by GitHub's rule: in lower case, without punctuation, with a hyphen for
         each space, and a number if an earlier heading has the same."""

@@ -7,6 +7,7 @@ Health Information (Log Identifier 02h)", "Identify Namespace data structure (CN
 structure (CNS 01h)".
 """
 
+import re
 import struct
 
 LAYOUTS = {
@@ -67,19 +68,22 @@ def value_of(key, size, values):
     return digits
 
 
-def sizes_in(layout):
-    """Returns the layout of each value of a record."""
-    sizes, count = [], ''
-    for letter in layout[1:]:
-        if letter.isdigit():
-            count += letter
-            continue
-        if letter == 's':
-            sizes.append(f'{count}s')
-        elif letter != 'x':
-            sizes += [letter] * int(count or 1)
-        count = ''
-    return sizes
+def pieces_of(layout):
+    """Yields the layout of each value of a record, and of reserved bytes."""
+    for part in re.findall(r'\d*[a-zA-Z]', layout):
+        yield from [part] if part[-1] in 'sx' else part[-1] * int(part[:-1] or 1)
+
+
+def places(kind):
+    """Returns the place and the size of each value of a record, by its key."""
+    layout, keys = LAYOUTS[kind]
+    found, place, names = {}, 0, iter(keys.split())
+    for piece in pieces_of(layout):
+        size = struct.calcsize(f'<{piece}')
+        if 'x' not in piece:
+            found[next(names)] = place, size
+        place += size
+    return found
 
 
 def encoded(kind, fields):
@@ -92,8 +96,8 @@ def encoded(kind, fields):
         written = list_of(kind, values).hex()
     else:
         layout, keys = LAYOUTS[kind]
-        written = struct.pack(layout, *map(lambda key, size: value_of(key, size, values), keys.split(),
-                                           sizes_in(layout))).hex()
+        sizes = [piece for piece in pieces_of(layout) if 'x' not in piece]
+        written = struct.pack(layout, *(value_of(key, size, values) for key, size in zip(keys.split(), sizes))).hex()
     if values:
         raise ValueError(f'{kind} has no {list(values)}')
     return written

@@ -18,6 +18,7 @@ import time
 import unittest
 
 from tests.support import IS_UNPROVED, TOP, environment, process_folder
+from tests.transcripts import tests_of
 
 MINUTES = 60
 SUMS = '{} passed, {} failed, {} skipped'
@@ -117,8 +118,15 @@ def names_of(path):
     """Returns the names of what runs as a process: a module, or each of its tests."""
     if path.stem not in PARTED:
         return [path.stem]
-    return [f'{path.stem}.{case.name}.{test.name}' for case in ast.parse(path.read_text()).body
-            if isinstance(case, ast.ClassDef) for test in case.body if getattr(test, 'name', '').startswith('test_')]
+    return [f'{path.stem}.{case.name}.{test}' for case in ast.parse(path.read_text()).body
+            if isinstance(case, ast.ClassDef) for test in tests_in(case)]
+
+
+def tests_in(case):
+    """Returns the names of a class's tests, with those of its transcripts."""
+    files = [keyword.value.value for keyword in case.keywords if keyword.arg == 'transcripts']
+    return [*(name for file in files for name in tests_of(file)),
+            *(test.name for test in case.body if getattr(test, 'name', '').startswith('test_'))]
 
 
 def run_all(names, times, most, limit=60 * MINUTES):

@@ -7,9 +7,9 @@ import re
 import select
 import signal
 
-from tests.as_client import Client, Guest, machine_of
+from tests.as_client import Client, Guest, module_of
 from tests.driver import is_raised, kept
-from tests.support import Case, Running, left_running, library, until
+from tests.support import Case, Running, left_running, library, run, until
 from tests.test_qemu import SANITIZERS, program
 
 GET_LOG, CREATE, ATTACH = 2, 0x0d, 0x15
@@ -31,6 +31,10 @@ class Served(Case):
         running.comes(f's{last}\n'.encode())
         return running
 
+    def ended(self, path, *options):
+        """Runs another server, which must end by itself."""
+        return run(program(*SANITIZERS), '--vfio-user', '--socket', path, *options)
+
     def stop(self, running, number=signal.SIGTERM):
         """Ends a server, and returns what it said. It must not have ended by itself."""
         self.assertIsNone(running.process.poll(), running.end)
@@ -40,6 +44,11 @@ class Served(Case):
         self.assertFalse(list(self.folder.glob('s*')), 'sockets were left')
         return ended.out.decode()
 
+    def restart(self, *options, number=signal.SIGTERM, **more):
+        """Ends the server, and starts another one with these options."""
+        self.stop(self.server, number)
+        self.server = self.start(*options, **more)
+
     def kill(self):
         """Kills the server, and waits until nothing of it is left: a receiver that has just begun has its sockets."""
         self.server.process.kill()
@@ -48,6 +57,11 @@ class Served(Case):
 
     def tearDown(self):
         self.stop(self.server)
+
+    def answers(self, call, *rows):
+        """Checks that a call with the arguments of each row returns what is last in the row."""
+        for *arguments, wanted in rows:
+            self.assertEqual(call(*arguments), wanted, arguments)
 
     def client(self, ctrl=0):
         client = Client(f'{self.path}{ctrl}')
@@ -59,13 +73,15 @@ class Served(Case):
         client.greet()
         return client
 
-    def guest(self, ctrl=0, machine=None, **more):
+    def guest(self, ctrl=0, machine=None, rings=None, slots=(16, 16), **more):
+        """Returns a guest that has enabled its controller."""
         guest = Guest(f'{self.path}{ctrl}', machine, ctrl, **more)
         self.addCleanup(guest.close)
+        guest.enable(rings, slots)
         return guest
 
     def machine(self):
-        return machine_of(library())
+        return module_of(library()).Machine()
 
     def kept(self):
         """Returns how many descriptors the server has."""

@@ -9,6 +9,7 @@ import contextlib
 import fcntl
 import functools
 import itertools
+import json
 import os
 import pathlib
 import pty
@@ -108,6 +109,12 @@ def large_file(cntlids, attached):
     each = f'bytes = 512\nformat = 0\nshared = {str(len(attached) > 1).lower()}\ncontrollers = {[*attached]}\n'
     top = 'version = 1\nnn = 1024\ntnvmcap = 524288\nsubnqn = "nqn.2014-08.org.example:many"\n[[format]]\nlbads = 9\n'
     return top + controllers + ''.join(f'[[namespace]]\nnsid = {nsid}\n{each}' for nsid in range(1, 1025))
+
+
+def table(name):
+    """Returns the rows of a file of tests/tables: each line that isn't a comment is a list in JSON."""
+    lines = (TOP / f'tests/tables/{name}.txt').read_text().splitlines()
+    return [json.loads(line) for line in lines if line[0] != '#']
 
 
 def until(condition, limit=LIMIT):
@@ -317,7 +324,17 @@ def difference(name, wanted, got):
 
 
 class Case(unittest.TestCase):
-    """A test with a folder of its own, which leaves no process behind."""
+    """A test with a folder of its own, which leaves no process behind. A class may have the tests of a file of
+    tests/shell, which run with these variables."""
+
+    env = {}
+
+    def __init_subclass__(cls, transcripts='', **more):
+        super().__init_subclass__(**more)
+        if transcripts:
+            from tests.transcripts import tests_of  # (which uses this module)
+            for name, test in tests_of(transcripts).items():
+                setattr(cls, name, test)
 
     def setUp(self):
         self.folder = pathlib.Path(tempfile.mkdtemp(dir=process_folder()))
@@ -329,6 +346,14 @@ class Case(unittest.TestCase):
             numbers = left_running()
             end_all()
             self.fail(f'these processes were left running: {numbers}')
+
+    def transcribe(self, transcript):
+        """Runs a transcript in a plain shell, in the test's folder."""
+        with self.subTest(transcript.place):
+            if transcript.headings['root'] and not IS_ROOT:
+                self.skipTest('root alone can run this')
+            env = {'place': self.folder, 'top': TOP, **self.env}
+            transcript.agrees(self, run('sh', '-c', transcript.beginning + transcript.script, cwd=self.folder, env=env))
 
     def file(self, name, data):
         """Makes a file in the test's folder."""

@@ -5,7 +5,6 @@ import errno
 import random
 import re
 import struct
-import sys
 import unittest.mock
 
 from tests.described import unnamed_differences, unnamed_values
@@ -47,12 +46,6 @@ class Sends(DriveCase):
             controller.send(IDENTIFY, 0, 1, size=4096)
         self.assertEqual(len(drive.sent), 1)
 
-    def test_one_place_sends(self):
-        source = DESCRIBE.read_text()
-        self.assertEqual(len(re.findall(r'\bioctl\b', source)), 1)
-        imported = set(re.findall(r'(?m)^\s*(?:import|from) (\w+)', source))
-        self.assertEqual(imported - set(getattr(sys, 'stdlib_module_names', imported)), set())
-
     def test_commands(self):
         """The commands of a plain drive: only these opcodes, Get Log Page with RAE, and no Select where the drive has
         none."""
@@ -92,7 +85,7 @@ class Misbehaving(DriveCase):
                 if left[0] < 0:
                     raise error(errno.EIO)
                 return plain(*command)
-            self.stops(Answering(answer), '/dev/nvme0: Input/output error')
+            self.stops(answer, '/dev/nvme0: Input/output error', nodes(1))
 
     def test_messages(self):
         for number, message in ((errno.EACCES, 'Permission denied: root is needed'), (errno.ENODEV, 'No such device'),
@@ -156,16 +149,6 @@ class Misbehaving(DriveCase):
                 self.assertRegex(ended.err, b'(?s)^' + (message or b'nvme-describe: .*\n') + b'$')
                 self.assertNotIn(b'Traceback', ended.err)
         self.ends(run(DESCRIBE, '--help'), 0, err=b'')
-
-
-class Answering:
-    """One controller, which answers by a function."""
-
-    def __init__(self, answer):
-        self.answer, self.count = answer, 1
-
-    def __call__(self, *command):
-        return self.answer(*command)
 
 
 def changed(**fields):

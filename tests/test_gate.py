@@ -2,62 +2,19 @@
 installs it only in CI. A stand-in for apt-get stores what it was told."""
 
 import contextlib
-import glob
 import importlib.machinery
 import importlib.util
 import io
 import re
-import shutil
 import subprocess
 import sys
 
 from tests.run import run_all
-from tests.support import IS_ROOT, TOP, Case, environment, run
-
-QUICK = b"missing: apt install python3 gcc\nmissing: the Rattle toolchain's command rt\n"
+from tests.support import TOP, Case, environment, run
 
 
-class Gate(Case):
-    def setUp(self):
-        super().setUp()
-        self.tools = self.folder / 'tools'
-        self.tools.mkdir()
-        for name in 'dirname', 'grep', 'id', 'sed':
-            (self.tools / name).symlink_to(shutil.which(name))
-        (self.folder / '.ci').mkdir()
-        for name in 'run', 'needed':
-            shutil.copy(TOP / '.ci' / name, self.folder / '.ci')
-        self.file('tools/apt-get', b'#!/bin/sh\necho "$*" >> "${0%/*}/../told"\n').chmod(0o755)
-
-    def gate(self, *words, ci='', user=()):
-        return run(*user, '/bin/sh', self.folder / '.ci/run', *words, env={'PATH': self.tools, 'CI': ci})
-
-    def told(self):
-        return (self.folder / 'told').read_text() if (self.folder / 'told').exists() else ''
-
-    def test_what_is_missing(self):
-        self.ends(self.gate('--quick'), 1, b'', QUICK)
-        ended = self.gate()
-        self.ends(ended, 1, b'')
-        first, *rest = ended.err.decode().splitlines()
-        self.assertRegex(first, '^missing: apt install python3 gcc bubblewrap .* zsh$')
-        kernel = [] if glob.glob('/boot/vmlinuz-*') else ['missing: a kernel for virtual machines: tools/kernel']
-        self.assertEqual(rest[:1] + rest[-1:] * len(kernel), ["missing: the Rattle toolchain's command rt", *kernel])
-        self.ends(self.gate('--bogus'), 2, b'', b'usage: .ci/run [--quick]\n')
-
-    def test_what_is_installed(self):
-        other = (shutil.which('setpriv'), '--reuid=65534', '--clear-groups') if IS_ROOT else ()
-        self.folder.chmod(0o777)
-        for words, ci, user in (((), '', ()), ((), 'false', ()), ((), '1', ()), (('--quick',), 'true', ()),
-                                ((), 'true', other)):
-            with self.subTest(words, ci=ci, user=user):
-                self.ends(self.gate(*words, ci=ci, user=user), 1, b'')
-                self.assertEqual(self.told(), '')
-        if other:
-            ended = self.gate(ci='true')
-            self.ends(ended, 1, b'')
-            packages = re.search('(?m)^missing: apt install (.*)$', ended.err.decode())[1]
-            self.assertEqual(self.told(), f'update\ninstall -y --no-install-recommends {packages}\n', ended)
+class Gate(Case, transcripts='gate'):
+    pass
 
 
 class Runner(Case):

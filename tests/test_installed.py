@@ -7,28 +7,17 @@ import os
 import re
 import shlex
 import shutil
-import sys
 import unittest
 
 from tests.modelled import VERSION
-from tests.support import DEMO, TOP, Case, Running, library, process_folder, run
+from tests.support import DEMO, TOP, Case, Running, library, process_folder, run, table
 
 SYNOPSIS = re.search(r'(?m)^nvme-script \[.*', (TOP / 'docs/COMMANDS.md').read_text()).group()
 OPTIONS = re.findall(r'\[(--[a-z-]+)', SYNOPSIS)
 # A check of the demonstration's nodes that needs no NVMe tool.
 LOOK = 'test -c /dev/nvme0 && test -b /dev/nvme0n2 && cat /sys/class/nvme/nvme1/serial'
-
-
 # Words that the shells complete to one more word, or to one in place of the last.
-COMPLETED = {('nvme-script', '--page'): '--page-size', ('nvme-trace', '--win'): '--window',
-             ('nvme-model', '--no-n'): '--no-notice', ('nvme-describe', '--cu'): '--current',
-             ('nvme-script', '--subsystem', 'examples/demo.t'): 'examples/demo.toml',
-             ('nvme-model', '--device', '/dev/nul'): '/dev/null', ('nvme-describe', '/dev/nul'): '/dev/null',
-             ('nvme-model', 'mkfs.ext4'): 'mkfs.ext4', ('nvme-model', '--qemu', '--mem'): '--memory',
-             ('nvme-model', '--vfio-user', '--soc'): '--socket',
-             ('nvme-model', '--vfio-user', '--subsystem', 'examples/demo.t'): 'examples/demo.toml',
-             **{('nvme-model', *words.split(), 'nvme-describe', '--cu'): '--current'
-                for words in ('', '--root', '--trace', '--depth 8', '--window 2 --')}}
+COMPLETED = [(words.split(), wanted) for words, wanted in table('completed')]
 
 
 def make(target, prefix):
@@ -47,34 +36,11 @@ def installed():
     return prefix
 
 
-class Installed(Case):
+class Installed(Case, transcripts='installed'):
     def setUp(self):
         super().setUp()
         self.prefix = installed()
-        self.env = {'PATH': f'{self.prefix}/bin:{os.environ["PATH"]}'}
-
-    def test_program(self):
-        elsewhere = self.file('elsewhere.toml', DEMO.read_bytes())
-        ended = run(self.prefix / 'bin/nvme-script', '--subsystem', elsewhere, source=b'list-ns /dev/nvme0\n', cwd='/')
-        self.ends(ended, 0, b'[   0]:0x1\n[   1]:0x3\n', b'')
-        link = self.folder / 'a link'
-        link.symlink_to(self.prefix / 'bin/nvme-script')
-        self.ends(run(link, source=b'list-ns /dev/nvme0\n', cwd='/'), 0, b'[   0]:0x1\n[   1]:0x3\n', b'')
-        self.ends(run(link, '--version', cwd='/'), 0, f'nvme-script {VERSION}\n'.encode(), b'')
-        self.assertIn(b'usage: nvme-script ', run(link, '--help', cwd='/').out)
-        for words, advice in (('--build', b'--build is for a clone of the repository'),
-                              ('--build x', b'--build takes no other argument'),
-                              ('--help --help', b'--help takes no other argument')):
-            self.ends(run(link, *words.split()), 3, b'', b'nvme-script: arguments\nnvme-script: ' + advice + b'\n')
-
-    def test_describe(self):
-        words = self.prefix / 'bin/nvme-model', 'sh', '-c', '"$0" /dev/nvme*', self.prefix / 'bin/nvme-describe'
-        ended = run(*words, cwd='/')
-        self.ends(ended, 0, err=b'')
-        described = self.file('described.toml', ended.out)
-        script = b'list-ns /dev/nvme0\n'
-        self.ends(run(self.prefix / 'bin/nvme-script', '--subsystem', described, source=script), 0,
-                  b'[   0]:0x1\n[   1]:0x3\n', b'')
+        self.env = {'PATH': f'{self.prefix}/bin:{os.environ["PATH"]}', 'prefix': self.prefix}
 
     def test_model(self):
         elsewhere = self.file('elsewhere.toml', DEMO.read_bytes())
@@ -181,7 +147,7 @@ class Installed(Case):
         return ended.out.decode().split()
 
     def test_completion_by_bash(self):
-        for words, wanted in COMPLETED.items():
+        for words, wanted in COMPLETED:
             with self.subTest(words):
                 self.assertEqual(self.completed(*words), [wanted])
         self.assertEqual(self.completed('nvme-script', ''), [*OPTIONS, '--explain', '--help', '--version'])
@@ -195,7 +161,7 @@ class Installed(Case):
 
     @unittest.skipUnless(shutil.which('fish'), 'fish is not installed')
     def test_completion_by_fish(self):
-        for words, wanted in COMPLETED.items():
+        for words, wanted in COMPLETED:
             with self.subTest(words):
                 file = self.prefix / f'share/fish/vendor_completions.d/{words[0]}.fish'
                 line = f"source '{file}'; complete -C '{' '.join(words)}'"
@@ -210,47 +176,9 @@ class Installed(Case):
         self.addCleanup(shell.process.kill)
         shell.say(b"fpath=('%s' $fpath); autoload -Uz compinit; compinit -u -D; echo rea''dy\n" % os.fsencode(place))
         shell.has(b'ready\n')
-        for words, wanted in COMPLETED.items():
+        for words, wanted in COMPLETED:
             with self.subTest(words):
                 shell.heard = b''
                 shell.say(' '.join(words).encode() + b'\t')
                 shell.has(wanted.encode())
                 shell.say(b'\x15')
-
-    def test_version(self):
-        ended = run(self.prefix / 'bin/nvme-model', '--help')
-        self.assertEqual(ended.out.splitlines()[-1], f'This is version {VERSION}.'.encode(), ended)
-        ended = run(self.prefix / 'bin/nvme-model', '--version')
-        self.ends(ended, 0, f'nvme-model {VERSION}\n'.encode(), b'')
-        for program in self.prefix / 'bin/nvme-describe', TOP / 'nvme-describe':
-            self.ends(run(program, '--version'), 0, f'nvme-describe {VERSION}\n'.encode(), b'')
-            full = b'nvme-describe: standard output: No space left on device\n'
-            self.ends(run(program, '--version', out='/dev/full'), 1, err=full)
-        for page in self.prefix.glob('share/man/man*/*'):
-            self.assertIn(f'\n.Os nvme-script {VERSION}\n', page.read_text(), page)
-
-    def test_uninstall(self):
-        # (a second installation takes the place of the first, and what Python made of the module goes with it)
-        library()
-        self.prefix = self.folder / 'another prefix'
-        for _ in range(2):
-            self.ends(make('install', self.prefix), 0)
-        self.assertTrue((self.prefix / 'bin/nvme-script').exists())
-        self.ends(run(sys.executable, '-m', 'compileall', '-q', self.prefix / 'share/nvme_controller'), 0)
-        self.ends(make('uninstall', self.prefix), 0)
-        self.assertFalse(self.prefix.exists(), list(self.prefix.rglob('*')))
-        self.ends(make('uninstall', self.prefix), 2)
-
-    def test_uninstall_among_other_files(self):
-        before = ['bin/', 'share/man/', 'share/man/man1/', 'share/man/man1/nvme.1', 'share/nvme-script/', 'lib/other']
-        self.prefix = self.folder / 'another prefix'
-        for name in before:
-            path = self.prefix / name
-            path.parent.mkdir(parents=True, exist_ok=True)
-            path.mkdir() if name.endswith('/') else path.touch()
-        before = set(self.prefix.rglob('*'))
-        self.ends(make('install', self.prefix), 0)
-        own = self.prefix / 'share/doc/nvme-script/own'
-        own.touch()
-        self.ends(make('uninstall', self.prefix), 0)
-        self.assertEqual(set(self.prefix.rglob('*')), {*before, own, own.parent, own.parents[1]})

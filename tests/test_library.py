@@ -6,11 +6,14 @@ import json
 import pathlib
 import re
 import shutil
+import struct
 import unittest
 
 from tests import records
 from tests.support import DEMO, TOP, Case, library, program, run
 
+# The programs that these tests run.
+LIBRARY = TOP / 'tests/library'
 FLAGS = '-Wall', '-Wextra', '-Werror', '-fsanitize=address,undefined', '-fno-sanitize-recover=all', '-g'
 WRAPPED = [f'-Wl,--wrap={name}' for name in ('malloc', 'calloc', 'realloc', 'free')]
 LINES = b"""list-ns /dev/nvme0
@@ -72,21 +75,6 @@ class Library(Case):
         self.assertEqual(len(re.findall(rb'\(NEEDED\)', ended.out)), 1, ended)
 
     def test_beside_another_library_of_the_toolchain(self):
-        source = self.file('two.c', b"""#include <nvme_controller.h>
-int nvme_handle_demo(void **handle);
-uint16_t nvme_handle_controllers(void **handle);
-void nvme_handle_close(void **handle);
-void *rattle_alloc(uint64_t size);
-int main(void) {
-    nvme_machine *machine;
-    void *handle = 0;
-    if (nvme_machine_demo(&machine) != 0 || nvme_handle_demo(&handle) != 0) return 1;
-    int wrong = nvme_machine_controllers(machine) != 2 || nvme_handle_controllers(&handle) != 2;
-    nvme_handle_close(&handle);
-    nvme_machine_close(machine);
-    return wrong ? 2 : 0;
-}
-""")
         memory = pathlib.Path(run('rt', 'doc').out.decode().strip()).parent / 'c/liblibc_c.a'
         # (the proved calls themselves, without those that have the names of the header's)
         other = self.folder / 'libother.a'
@@ -94,34 +82,20 @@ int main(void) {
                       TOP / 'crates/nvme_controller/out/libnvme_controller.a', other), 0, b'', b'')
         whole = '-Wl,--whole-archive', other, memory, self.library / 'libnvme_controller.a', '-Wl,--no-whole-archive'
         made = self.folder / 'program'
-        self.ends(run('cc', '-I', self.library, '-o', made, source, *whole), 0, b'', b'')
+        self.ends(run('cc', '-I', self.library, '-o', made, LIBRARY / 'two.c', *whole), 0, b'', b'')
         self.ends(run(made), 0, b'', b'')
 
     def test_records(self):
         lines, wanted = [], []
-        for kind, (layout, keys) in records.LAYOUTS.items():
-            offset, record = 0, f'struct nvme_{STRUCTURES[kind]}'
-            fields = iter(keys.split())
-            for count, letter in re.findall(r'(\d*)([a-zA-Z])', layout):
-                number = int(count or 1)
-                size = 1 if letter in 'sxB' else {'H': 2, 'I': 4, 'Q': 8}[letter]
-                for _ in range(0 if letter == 'x' else 1 if letter == 's' else number):
-                    length = number if letter == 's' else size
-                    name = next(fields)
-                    lines.append(f'SHOW({record}, {name})')
-                    wanted.append(f'{record} {name} {offset} {length}')
-                    offset += length
-                offset += number if letter == 'x' else 0
-            lines.append(f'printf("{record} %zu\\n", sizeof({record}));')
-            wanted.append(f'{record} {offset}')
-        source = self.file('records.c', """#include <nvme_records.h>
-#include <stdio.h>
-#define SHOW(record, field) \
-    printf("%s %s %zu %zu\\n", #record, #field, offsetof(record, field), sizeof(((record *)0)->field));
-int main(void) {
-    """.encode() + '\n    '.join(lines).encode() + b'\n}\n')
-        for compiler, standard in ('cc', 'c99'), ('cc', 'c11'):
-            made = self.compile(source, '-Wpedantic', compiler=compiler, standard=standard)
+        for kind, (layout, _) in records.LAYOUTS.items():
+            record, size = f'struct nvme_{STRUCTURES[kind]}', struct.calcsize(layout)
+            found = records.places(kind)
+            lines += [*(f'SHOW({record}, {name})' for name in found), f'SIZE({record})']
+            wanted += [*(f'{record} {name} {place} {length}' for name, (place, length) in found.items()),
+                       f'{record} {size}']
+        fields = self.file('fields', '\n'.join(lines).encode())
+        for standard in 'c99', 'c11':
+            made = self.compile(LIBRARY / 'records.c', f'-DFIELDS="{fields}"', '-Wpedantic', standard=standard)
             self.ends(run(made), 0, '\n'.join([*wanted, '']).encode(), b'')
 
     def test_names_of_statuses(self):
@@ -163,18 +137,7 @@ int main(void) {
 
     @unittest.skipUnless(shutil.which('c++'), 'there is no C++ compiler')
     def test_header_in_cpp(self):
-        source = self.file('use.cpp', b"""#include <nvme_controller.h>
-#include <nvme_records.h>
-static_assert(sizeof(nvme_submission_entry) == 64 && NVME_CONTROLLER_VERSION_MAJOR == 1, "");
-int main() {
-    nvme_machine *machine;
-    if (nvme_machine_demo(&machine) != 0) return 1;
-    int count = nvme_machine_controllers(machine);
-    nvme_machine_close(machine);
-    return count == 2 ? 0 : 2;
-}
-""")
-        self.ends(run(self.compile(source, compiler='c++', standard='c++11')), 0, b'', b'')
+        self.ends(run(self.compile(LIBRARY / 'use.cpp', compiler='c++', standard='c++11')), 0, b'', b'')
 
     def test_speed_of_a_turn(self):
         """The command of EMBEDDING, in a folder like the repository's, prints how long each call took."""
@@ -187,124 +150,13 @@ int main() {
         self.assertRegex(ended.out, rb'\A(a (command with (a page|none)|register read|copy of a page) +\d+ ns\n){4}\Z')
 
     def test_python_module(self):
-        source = self.file('use.py', b"""
-import nvme_controller as nvme
-machine = nvme.Machine()
-assert machine.controllers() == 2 and machine.read32(2, nvme.VS) == 0xffffffff and machine.counts(0) == (0, 0)
-assert machine.log_entry(0, 0) is None and machine.turn(0, bytearray(4096)) == 0
-for file, number, text in (b'[', 1, 'not TOML'), (b'', 2, 'missing top.version'):
-    try:
-        nvme.Machine(file)
-        raise AssertionError(file)
-    except nvme.Fault as fault:
-        assert (fault.number, str(fault)) == (number, text), (fault.number, str(fault))
-machine.close()
-machine.close()
-try:
-    machine.read32(0, 0)
-    raise AssertionError('a closed machine answers')
-except ValueError:
-    print('done')
-""")
-        self.ends(self.python(source), 0, b'done\n', b'')
+        self.ends(self.python(LIBRARY / 'use.py'), 0, b'done\n', b'')
 
     def test_python_queues(self):
-        """An entry that is completed, one that is held, and I/O queues, with what a caller gets wrong."""
-        source = self.file('queues.py', b"""
-import struct
-import nvme_controller as nvme
-
-def entry(opcode, cid, nsid=0, prp1=0, cdw10=0):
-    return struct.pack('<BxHI16xQ8xI20x', opcode, cid, nsid, prp1, cdw10)
-
-memory, data = bytearray(16 * 4096), bytearray(4 * 512)
-with nvme.Machine() as machine:
-    machine.write32(0, nvme.AQA, 0x00030003)
-    machine.write64(0, nvme.ACQ, 0x1000)
-    machine.write32(0, nvme.CC, 0x00460001)
-    memory[:128] = entry(0x0c, 7) + entry(0x05, 8)
-    assert machine.next(0, memory) is None
-    machine.write32(0, nvme.TAIL_DOORBELL, 2)
-    assert machine.next(0, memory) == memory[:64] == machine.fetch(0, memory)
-    assert machine.complete(0, memory, nvme.Answer(status=0x4101)) and machine.next(0, memory) is None
-    assert machine.post(0, memory, nvme.Answer(cid=7, dword0=3)) and machine.counts(0) == (0, 0)
-    assert memory[0x1000:0x1020] == struct.pack(
-        '<IIHHHHIIHHHH', 0, 0, 2, 0, 8, 0x4101 << 1 | 1, 3, 0, 2, 0, 7, 1)
-    assert machine.identify(0)[4:6] == b'S0' and machine.identify(2) is None
-    assert machine.namespace(0, 1) == machine.namespace(0, 1, True) and machine.namespace(0, 0) is None
-submissions, completions = nvme.SubmissionQueue(1, 0x2000, 4), nvme.CompletionQueue(0x3000, 4)
-blocks = nvme.Blocks(data, 1, 512)
-assert nvme.queue_next(submissions, completions, memory) is None
-assert nvme.queue_turn(submissions, completions, memory, blocks) is None
-memory[0x4000:0x4200] = b'b' * 512
-memory[0x2000:0x20c0] = entry(1, 1, 1, 0x4000, 3) + entry(2, 2, 1, 0x5000, 4) + entry(0, 3, 1)
-assert submissions.tail(3) and not submissions.tail(4) and submissions.waiting() == 3
-assert nvme.queue_next(submissions, completions, memory) == entry(1, 1, 1, 0x4000, 3)
-assert nvme.queue_turn(submissions, completions, memory, blocks) == 0 and data == bytes(1536) + b'b' * 512
-assert nvme.queue_turn(submissions, completions, memory, blocks) == 0x4080
-assert nvme.queue_complete(submissions, completions, memory, nvme.Answer(status=2)) and completions.waiting() == 3
-assert completions.head(3) and not completions.head(1) and completions.waiting() == 0
-assert not nvme.queue_complete(submissions, completions, memory, nvme.Answer())
-assert nvme.blocks_zeroing(blocks, entry(8, 9, 1, 0, 2), memory) == [(1024, 512)]
-assert nvme.blocks_zeroing(blocks, entry(8, 9, 1, 0, 4), memory) is None
-assert nvme.blocks_zeroing(blocks, entry(2, 9, 1, 0x4000, 2), memory) == []
-assert nvme.entry_write(entry(6, 1, prp1=0x6000), memory, b'data') == 0 and memory[0x6000:0x6004] == b'data'
-assert nvme.entry_write(entry(6, 1, prp1=1 << 20), memory, b'data') == 0x4004
-outside = nvme.SubmissionQueue(1, 1 << 30, 4)
-outside.tail(1)
-wide, refused = 1 << 64, 0
-for call, *arguments in [
-        (nvme.SubmissionQueue, 1, 0, 1), (nvme.SubmissionQueue, 0x10000, 0, 4), (nvme.SubmissionQueue, 1, wide, 4),
-        (nvme.CompletionQueue, 0, 4097), (nvme.CompletionQueue, -1, 4), (submissions.tail, 1 << 32),
-        (completions.head, -1), (nvme.Answer, 0x8000), (nvme.Answer, 0, 1 << 32), (nvme.Answer, 0, 0, 0x10000),
-        (nvme.queue_next, outside, completions, memory), (nvme.queue_next, submissions, completions, memory, 4095),
-        (nvme.queue_complete, outside, completions, memory, nvme.Answer()), (nvme.entry_write, b'', memory, b''),
-        (nvme.queue_turn, submissions, completions, memory, nvme.Blocks(data, -1, 512)),
-        (nvme.queue_turn, submissions, completions, memory, nvme.Blocks(data, 1, 512, wide))]:
-    try:
-        print('taken', call, arguments, call(*arguments))
-    except ValueError:
-        refused += 1
-assert nvme.queue_turn(outside, completions, memory, blocks) is None
-print(refused)
-""")
-        self.ends(self.python(source), 0, b'16\n', b'')
+        self.ends(self.python(LIBRARY / 'queues.py'), 0, b'16\n', b'')
 
     def test_python_refuses(self):
-        """Numbers that a C type can't hold, and copies of a machine."""
-        source = self.file('refuse.py', b"""
-import copy, pickle
-import nvme_controller as nvme
-machine, page = nvme.Machine(), bytearray(4096)
-turn, wide = machine.turn, 1 << 64
-for call, *arguments in [
-        (machine.read32, 0x10000, 0), (machine.read32, -1, 0), (machine.read32, 0, 1 << 32),
-        (machine.read64, 0x10000, 0), (machine.write32, 0, nvme.ASQ, 1 << 32), (machine.write32, 0, nvme.ASQ, -1),
-        (machine.write32, 0x10000, 0, 0),
-        (machine.write64, 0, nvme.ASQ, wide), (machine.write64, 0, 1 << 32, 0), (machine.counts, 0x10000),
-        (machine.log_entry, 0x10000, 0), (machine.log_entry, 0, wide), (machine.log_entry, 0, -1),
-        (machine.error_log, 0x10000), (turn, 0x10000, page), (turn, 0, page, 1 << 32), (turn, 0, page, 4096, 0x10000),
-        (turn, 0, page, 4095), (nvme.status_text, 0x10000)]:
-    try:
-        print('taken', call, arguments, call(*arguments))
-    except ValueError:
-        pass
-for call, *arguments in [
-        (machine.read32, 0, 1.0), (machine.read32, '0', 0), (nvme.Machine, 'version = 1'), (turn, 0, bytes(4096)),
-        (copy.copy, machine), (copy.deepcopy, machine), (pickle.dumps, machine)]:
-    try:
-        print('taken', call, arguments, call(*arguments))
-    except TypeError:
-        pass
-assert machine.read64(0, nvme.ASQ) == 0 and machine.controllers() == 2
-try:
-    nvme.Machine(b'[')
-except nvme.Fault as fault:
-    for other in pickle.loads(pickle.dumps(fault)), copy.copy(fault):
-        assert (other.number, str(other), repr(other)) == (1, 'not TOML', "Fault(1, 'not TOML')"), other
-print('done')
-""")
-        self.ends(self.python(source), 0, b'done\n', b'')
+        self.ends(self.python(LIBRARY / 'refuse.py'), 0, b'done\n', b'')
 
     def test_python_finds_the_library(self):
         """In the folder of the module, in lib beside that folder or above, by the variable, and by pkg-config."""
@@ -331,19 +183,7 @@ print('done')
         self.assertRegex(ended.err, rb'\nOSError: libnvme_controller.so.1: .*; the variable NVME_CONTROLLER can name')
 
     def test_python_has_type_hints(self):
-        source = self.file('hints.py', b"""
-import inspect, typing
-import nvme_controller as nvme
-owners = nvme.Machine, nvme.Fault, nvme.ErrorEntry, nvme.Answer, nvme.SubmissionQueue, nvme.CompletionQueue
-for owner in (nvme, *owners):
-    for name, call in inspect.getmembers(owner, inspect.isroutine):
-        if getattr(call, '__module__', None) == 'nvme_controller':
-            hints = typing.get_type_hints(call)
-            wanted = [key for key in inspect.signature(call).parameters if key not in ('self', 'cls', '_')]
-            assert 'return' in hints and all(key in hints for key in wanted), (name, hints)
-            print(name)
-""")
-        ended = self.python(source)
+        ended = self.python(LIBRARY / 'hints.py')
         self.assertEqual(ended.status, 0, ended)
         self.assertLess({b'turn', b'status_text', b'error_log', b'__enter__'}, set(ended.out.split()), ended)
 
@@ -351,7 +191,3 @@ for owner in (nvme, *owners):
         ended = self.python('-m', 'unittest', 'test_driver', cwd=TOP / 'examples/c')
         self.assertEqual(ended.status, 0, ended)
         self.assertRegex(ended.err, rb'Ran 4 tests in .*\n\nOK\n\Z')
-
-
-if __name__ == '__main__':
-    unittest.main()

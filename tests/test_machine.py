@@ -12,73 +12,14 @@ import unittest
 
 from tests.modelled import BY_VM, DEVICES, PROGRAMS, ModelCase, installed, mounts, signals, static_program, works
 from tests.support import IS_ROOT, NOBODY, TOP, Running, end_all, process_folder, run, until
+from tests.transcripts import transcripts_of
 
 BYTES = b'MACHINE DATA 16\n' * 4096
 NESTED = 'unshare', '-U', '--map-user=1000', '--map-group=1000'
 
-BEGIN = 'echo MODELLED | dd of=/dev/nvme0n1 conv=notrunc 2> /dev/null; . "$place/attack.sh"; '
-AGAIN = 'sh -c \'. "$place/attack.sh"; attack\''
-
-# The ways to run the attack, for everybody and for root.
-WAYS = {
-    'the command itself': 'attack', 'a static shell': f'busybox {AGAIN}', 'without an environment':
-    f'env -i PATH="$PATH" place="$place" caller=$caller powerless=$powerless {AGAIN}',
-    'another library': f'LD_PRELOAD=x {AGAIN} 2> /dev/null', 'by unshare':
-    f'unshare -Urm sh -c \'umount -l /dev; umount -l /dev; mount --bind / /mnt; mount -o remount,dev /tmp; '
-    '. "$place/attack.sh"; attack; head -c 9 /mnt/dev/nvme0n1; :\' 2> /dev/null || attack',
-    'the device is killed': ': > "$place/begun"; until test -e "$place/killed"; do sleep 0.1; done; attack',
-    'by a model within': f'"$model" {AGAIN} 2> /dev/null || attack',
-    'a caller of the library is killed': 'nvme id-ns /dev/nvme0 & nvme format /dev/nvme0n1 & kill -9 $!; attack; wait'}
-BY_ROOT = {'su': f'su nobody -s /bin/sh -c "place=$place caller=$caller; '
-                 'export place caller powerless; . $place/attack.sh; attack"',
-           'setpriv': f'setpriv --reuid=65534 --regid=65534 --clear-groups {AGAIN}',
-           'sudo': f'sudo place=$place caller=$caller {AGAIN}',
-           'nsenter': f'nsenter -t $caller -m {AGAIN} || nsenter -t 1 -m true || attack'}
-
-ATTACH = 'nvme attach-ns /dev/nvme1 -n 1 -c 1 > /dev/null'
-DETACH = 'nvme detach-ns /dev/nvme1 -n 1 -c 1 > /dev/null'
-WRITTEN = '/dev/nvme1n1 /dev/ng1n1 /sys/block/nvme1n1 /sys/class/nvme-generic/ng1n1'
-KERNEL = 'files of the kernel'
-# What a command tries, and what it prints then. $place/plain is a file of the machine, with CLOBBER.
-TRIES = {
-    'links where the launcher writes': (
-        f'for n in {WRITTEN}; do ln -s "$place/plain" $n; done; {ATTACH}; cat "$place/plain"; '
-        'cat /sys/block/nvme1n1/nsid', b'CLOBBER1\n'),
-    'links while it writes': (
-        f'for n in {WRITTEN}; do while :; do ln -sf "$place/plain" $n; done 2> /dev/null & done; '
-        f'for i in 1 2 3; do {ATTACH}; {DETACH}; done 2> /dev/null; kill %1 %2 %3 %4; cat "$place/plain"',
-        b'CLOBBER'),
-    'hard links there': (
-        f'echo CLOBBER > /dev/own; for n in {WRITTEN}; do ln /dev/own $n 2> /dev/null; done; {ATTACH}; cat /dev/own; '
-        'cat /sys/block/nvme1n1/nsid', b'CLOBBER\n1\n'),
-    'pipes there': (
-        f'mkfifo {WRITTEN}; {ATTACH}; cat /sys/block/nvme1n1/nsid; test -p /dev/nvme1n1 && echo a pipe',
-        b'1\na pipe\n'),
-    'folders there': (f'mkdir -p $(printf "%s/x " {WRITTEN}); {ATTACH}; cat /sys/block/nvme1n1/nsid', b'1\n'),
-    'a folder of /sys that is a link': (
-        f'mkdir "$place/victim"; : > "$place/victim/ng1n1"; {ATTACH}; mv /sys/class/nvme-generic /sys/old; '
-        f'ln -s "$place" /sys/class/nvme-generic; {DETACH}; ls "$place/victim"; rm -r "$place/victim"', b'ng1n1\n'),
-    'a full /dev': (
-        f'cat /dev/zero > /dev/fill 2> /dev/null; {ATTACH}; head -c 1 /dev/nvme1n1 | wc -c; rm /dev/fill', b'1\n'),
-    'all kinds of nodes': (
-        'busybox find /dev /sys -type b; ls -A /dev; busybox find /dev -maxdepth 1 -type c | wc -l',
-        b'block\nchar\ndisk\nfd\nfull\nmqueue\nng0n1\nng0n2\nnull\nnvme0\nnvme0n1\nnvme0n2\nnvme1\nptmx\npts\nrandom\n'
-        b'shm\nstderr\nstdin\nstdout\ntty\nurandom\nzero\n6\n'),
-    KERNEL: (
-        'for f in /proc/sys/kernel/core_pattern /proc/sys/vm/swappiness /proc/sysrq-trigger '
-        '/proc/irq/default_smp_affinity /sys/kernel/mm/ksm/run /sys/devices/system/cpu/cpu1/online '
-        '/sys/fs/cgroup/cgroup.procs /sys/fs/cgroup/cpu/tasks "$place/sysfs/kernel/mm/ksm/run" '
-        '"$place/proc/sys/kernel/core_pattern" /proc/self/net/arp "$place/proc/self/net/arp"; do '
-        '(: >> "$f") 2> /dev/null && echo "$f"; done; '
-        'ls -d /proc/$caller "$place/proc/$caller" 2> /dev/null; echo end', b'end\n'),
-    'files of the model in /sys, and names in /dev': (
-        '(echo 7 > /sys/block/nvme0n1/ro) 2> /dev/null && echo written; '
-        'busybox truncate -s 0 /sys/block/nvme0n1/ro 2> /dev/null && echo cut; cat /sys/block/nvme0n1/ro; '
-        'find /dev -type b | sort', b'0\n/dev/nvme0n1\n/dev/nvme0n2\n'),
-    'open files of other processes': ('"$place/takes"', b'-1 1\n'),
-    'a user without rights': ('unshare -Ur true; cat /proc/self/status | grep NoNewPrivs', b'NoNewPrivs:\t1\n'),
-    'signals to the launcher': (
-        'for n in KILL STOP SEGV ALRM; do kill -$n 1; done; test -c /dev/nvme0; echo $?', b'0\n')}
+# The ways to run the attack, and what a command tries besides.
+WAYS, TRIES = transcripts_of('attacks'), transcripts_of('tries')
+KERNEL, ATTACK = 'files_of_the_kernel', WAYS['the_command_itself'][0].beginning
 
 
 class Machine:
@@ -169,20 +110,35 @@ class MachineCase(ModelCase):
             signals(DEVICES, 9)()
             (self.folder / 'killed').touch()
 
-    def attacks(self, kind, user, ways):
-        for name, script in ways.items():
+    def attacks(self, kind, user=()):
+        for name, (way,) in WAYS.items():
+            if way.headings['root'] and (kind, user) != ('devices', ()):
+                continue
             with self.subTest(name, kind=kind, user=user), contextlib.closing(Machine(self, kind)) as machine:
                 killer = threading.Thread(target=self.kill_device)
-                if 'killed"' in script:
+                if 'killed"' in way.script:
                     killer.start()
-                ended = machine.model(BEGIN + script, user, where='/dev')
-                self.reached_nothing(machine, ended, 0 if 'killed' in name or name in BY_ROOT else 5)
-                if 'killed"' in script:
+                ended = machine.model(way.beginning + way.script, user, where='/dev')
+                self.reached_nothing(machine, ended, 0 if 'killed' in name or way.headings['root'] else 5)
+                if 'killed"' in way.script:
                     killer.join()
                     self.assertIn(b'the device ended', ended.err)
                     for mark in 'begun', 'killed':
                         (self.folder / mark).unlink()
             self.leaves_nothing()
+
+    def transcribe(self, transcript):
+        """Runs a transcript on machines: with real nodes if it is root's alone, where its script outside has a mount
+        namespace, or on each machine."""
+        outside, script = transcript.outside(), transcript.beginning + transcript.script
+        if not transcript.headings['root']:
+            for machine, user in self.users():
+                transcript.agrees(self, machine.model(script, user, by=outside))
+            return
+        for user in transcript.users():
+            with self.subTest(transcript.place, user=user), contextlib.closing(Machine(self, 'devices')) as machine:
+                transcript.agrees(self, machine.model(script, by=('unshare', '-m', *outside, *user)))
+                machine.is_unchanged()
 
     def users(self):
         """Returns machines, each with a user."""
@@ -196,17 +152,17 @@ class MachineCase(ModelCase):
 class Attacks(MachineCase):
     @unittest.skipUnless(IS_ROOT, 'true device nodes can be made by root alone')
     def test_devices_and_root(self):
-        self.attacks('devices', (), {**WAYS, **BY_ROOT})
+        self.attacks('devices')
 
     @unittest.skipUnless(IS_ROOT, 'true device nodes can be made by root alone')
     def test_devices_and_another_user(self):
-        self.attacks('devices', NOBODY, WAYS)
+        self.attacks('devices', NOBODY)
 
     def test_files_and_root_of_a_user_namespace(self):
-        self.attacks('files', (), WAYS)
+        self.attacks('files')
 
     def test_files_and_a_user(self):
-        self.attacks('files', NESTED, WAYS)
+        self.attacks('files', NESTED)
 
     def test_tries(self):
         self.tries({name: row for name, row in TRIES.items() if name != KERNEL})
@@ -216,14 +172,14 @@ class Attacks(MachineCase):
 
     def tries(self, rows):
         for machine, user in self.users():
-            for name, (script, wanted) in rows.items():
+            for name, (row,) in rows.items():
                 with self.subTest(name):
-                    ended = machine.model(script, user, options=['--data-limit=2M'])
-                    self.assertEqual(ended.out, wanted, ended)
+                    ended = machine.model(row.beginning + row.script, user, options=['--data-limit=2M'])
+                    self.assertEqual(ended.out, b''.join(text for _, text in row.output), ended)
                     self.assertNotEqual(ended.status, 72, ended)
 
 
-class Machines(MachineCase):
+class Machines(MachineCase, transcripts='on_machines'):
     """Tests other properties on a machine with nodes, for root and for another user."""
 
     def test_what_is_inherited(self):
@@ -241,15 +197,6 @@ class Machines(MachineCase):
                 self.assertIn(f'nvme-model: {said}'.encode() if said else b'', ended.err)
                 self.assertEqual((self.folder / 'touched').exists(), said == '')
                 (self.folder / 'touched').unlink(missing_ok=True)
-
-    def test_many_descriptors_are_inherited(self):
-        # the launcher's own numbers begin at 200, and each of them may be the next one that is free
-        for machine, user in self.users():
-            for last in 199, 200, 203:
-                by = 'bash', '-c', f'for n in {{3..{last}}}; do eval "exec $n< /dev/null"; done; exec "$@"', 'bash'
-                ended = machine.model('pwd; exec ls /proc/self/fd', user, where='/', by=by)
-                # (3 is the folder that ls reads)
-                self.ends(ended, 0, b'/\n0\n1\n2\n3\n', b'')
 
     def test_working_folder(self):
         script = 'echo MODELLED | dd of=nvme0n1 conv=notrunc 2> /dev/null; head -c 8 ./nvme0n1 ../dev/nvme0n1 -q; pwd'
@@ -270,18 +217,6 @@ class Machines(MachineCase):
                     self.ends(ended, 72, b'')
                     self.assertRegex(ended.err, b'nvme-model: the (current )?folder .*run (it|the command) from '
                                      b'another')
-
-    def test_the_rest_of_the_machine_is_there(self):
-        script = ('for f in null zero full random urandom tty fd/0 pts ptmx shm; do test -e /dev/$f || echo $f; done; '
-                  'stat -f -c %T /dev/mqueue; '
-                  'echo x > /dev/null; head -c 3 /dev/zero | wc -c; ls -A "$place" | grep -c seven; '
-                  'test -w /tmp && echo yes; grep -c " /proc " /proc/self/mounts; echo kept > "$place/kept"; '
-                  'cat /sys/class/net/lo/mtu | wc -l; nproc | wc -l; ls /sys/devices/system/cpu | grep -c -x online')
-        for machine, user in self.users():
-            # (the machine's /proc is covered by bwrap's, and this by the command's)
-            self.ends(machine.model(script, user), 0, b'mqueue\n3\n1\nyes\n3\n1\n1\n1\n', b'')
-            self.assertEqual((self.folder / 'kept').read_bytes(), b'kept\n')
-            (self.folder / 'kept').unlink()
 
     def test_devices_that_are_added(self):
         for machine, user in self.users():
@@ -309,7 +244,7 @@ class Machines(MachineCase):
         # root that can't make a mount namespace gets one through a user namespace
         less = 'setpriv', '--bounding-set=-sys_admin', '--inh-caps=-sys_admin'
         with contextlib.closing(Machine(self, 'devices')) as machine:
-            ended = machine.model(BEGIN + 'attack', by=less)
+            ended = machine.model(ATTACK + 'attack', by=less)
             self.reached_nothing(machine, ended, 5)
             self.assertEqual(ended.err, b'')
 
@@ -327,11 +262,6 @@ class Machines(MachineCase):
 
     @unittest.skipUnless(IS_ROOT, 'root alone can mount without a user namespace')
     def test_other_mounts(self):
-        # what is mounted later isn't seen, by root or by others
-        waits = ('echo > "$place/started"; until test -e "$place/go"; do sleep 0.1; done; '
-                 'head -c 7 "$place/gone/nvme0n1"; :')
-        later = ('mount --make-rshared / && { "$@" & until test -e "$place/started"; do sleep 0.1; done; '
-                 'mount --bind /dev "$place/gone"; : > "$place/go"; wait; }')
         # a mount that its user can't reach before the folder above it is opened, also one whose path the kernel writes
         # in more than 4,096 characters, and another view of the machine's processes
         opened = 'chmod 755 "$place/%s"; head -c 7 "$place/%s/dev/nvme0n1"; ls "$place/%s/dev/$caller"; echo no'
@@ -340,13 +270,6 @@ class Machines(MachineCase):
         long_folder, closed = '/'.join([250 * ' '] * 5 + ['hidden']), '-o nodev,nosuid,noexec -t'
         ways = (('hidden', '--bind /dev'), (long_folder, '--bind /dev'), ('hidden', f'{closed} proc proc'),
                 ('hidden', f'{closed} sysfs sysfs'))
-        for user in (), NOBODY:
-            with self.subTest('mounted later', user=user), contextlib.closing(Machine(self, 'devices')) as machine:
-                ended = machine.model(waits, by=('unshare', '-m', 'sh', '-c', later, 'sh', *user))
-                self.ends(ended, 0, b'')
-                self.assertTrue((self.folder / 'started').exists())
-            for name in 'started', 'go':
-                (self.folder / name).unlink()
         for folder, kind in ways:
             with self.subTest(kind, folder=folder), contextlib.closing(Machine(self, 'devices')) as machine:
                 script = hidden.replace('%s', folder).replace('$kind', kind)
@@ -357,18 +280,6 @@ class Machines(MachineCase):
                 self.ends(ended, 0 if is_kept else 72, b'no\n' if is_kept else b'')
                 self.assertIn(b'Permission denied' if is_kept else b"can't be kept from the command", ended.err)
                 (self.folder / folder).chmod(0o755)
-
-    @unittest.skipUnless(IS_ROOT, 'root alone can mount without a user namespace')
-    def test_long_paths(self):
-        # another /proc is replaced by the command's own, however long its path is
-        place = '$place/' + '/'.join([245 * 'x'] * 15) + '/' + 100 * 'x'
-        script = (f'(: >> "{place}/sys/kernel/core_pattern") 2> /dev/null && echo written; ls "{place}/$caller" '
-                  f'2> /dev/null; ls -d "{place}/1" | wc -l')
-        mounting = f'mkdir -p "{place}"; mount -t proc proc "{place}"; exec "$@"'
-        for user in (), NOBODY:
-            with self.subTest(user=user), contextlib.closing(Machine(self, 'devices')) as machine:
-                ended = machine.model(script, by=('unshare', '-m', 'sh', '-c', mounting, 'sh', *user))
-                self.ends(ended, 0, b'1\n', b'')
 
     @unittest.skipUnless(IS_ROOT, 'root alone can chroot')
     def test_other_roots(self):
@@ -384,7 +295,7 @@ class Machines(MachineCase):
         for name, way in ways.items():
             with self.subTest(name), contextlib.closing(Machine(self, 'devices')) as machine:
                 by = 'unshare', '-m', 'sh', '-c', way + '; exit', 'sh'
-                ended = machine.model(BEGIN + 'cd ../../..; attack', by=by)
+                ended = machine.model(ATTACK + 'cd ../../..; attack', by=by)
                 self.reached_nothing(machine, ended, 5)
 
     def test_eight_at_once(self):

@@ -91,7 +91,3 @@ class ManyCommands(unittest.TestCase):
         given = [2] + list(range(4, 1025))
         self.assertEqual(answers[2:-4], [f'status=0x0 dword0={nsid:#x} bytes=' for nsid in given])
         self.assertEqual(answers[-4:], [full, 'status=0x0 dword0=0x0 bytes=', 'status=0x0 dword0=0x1f4 bytes=', full])
-
-
-if __name__ == '__main__':
-    unittest.main()

@@ -4,7 +4,6 @@ nodes and the data of namespaces, signals, and the tools that are installed."""
 import contextlib
 import itertools
 import os
-import shlex
 import shutil
 import signal
 import subprocess
@@ -13,9 +12,10 @@ import threading
 import time
 import unittest
 
-from tests.modelled import (ASKING, BY_VM, CLIENT, DEVICES, PARTS, PROGRAMS, RECEIVING, VERSION, WARNINGS, ModelCase,
-                            compiled_c, do_helpers, installed, parts, signals, works)
-from tests.support import IS_ROOT, LIMIT, TOP, USERS, Running, left_running, processes, program, run, until
+from tests.modelled import (ASKING, CLIENT, DEVICES, PARTS, PROGRAMS, RECEIVING, WARNINGS, ModelCase, compiled_c,
+                            do_helpers, installed, parts, signals, works)
+from tests.support import (IS_ROOT, LIMIT, TOP, USERS, Case, Running, left_running, processes, program, run, table,
+                           until)
 
 CHECK = 'check', 'check_client'
 PARTS_OF_CHECK = 'commands', 'wide', 'lengths', 'many', 'broken', 'killed', 'nodes'
@@ -83,68 +83,21 @@ class Ioctls(ModelCase):
         self.assertRegex(ended.out, b'(?s)^step\nstep\nnvme-model: the device ended.*gone\n$', ended)
 
 
-class Arguments(ModelCase):
+class Arguments(ModelCase, transcripts='launcher'):
+    def transcribe(self, transcript):
+        self.env = {'model': installed()}
+        Case.transcribe(self, transcript)
+
     def test_refused_arguments(self):
-        none, size = 'there is no command to run', "this isn't a number of bytes, or one with K, M or G"
-        ranges = {'depth': '2 to 4096', 'page-size': '4096, 8192, 16384, 32768 or 65536', 'pace': '1 to 4096',
-                  'window': '1 to 16, below the depth', 'offset': 'a multiple of 4 below the page size',
-                  'list-offset': 'a multiple of 8 below the page size'}
-        for words, said in (
-                ('', none), ('--', none), ('--depth 2', none), ('--subsystem=x', none), ('--no-notice', none),
-                ('--trace', none), ('--depth', "option '--depth' requires an argument"),
-                ('--device', "option '--device' requires an argument"),
-                ('--bogus 3 true', "unrecognized option '--bogus'"), ('-d 3 true', "invalid option -- 'd'"),
-                ('--without-namespace true', "unrecognized option '--without-namespace'"),
-                ('--no-sandbox true', "unrecognized option '--no-sandbox'"),
-                ('--no-notice=1 true', "option '--no-notice' doesn't allow an argument"),
-                ('--help=1', "option '--help' doesn't allow an argument"),
-                ('--d 3 true', "option '--d' is ambiguous; .*"), ('--p 4096 true', "option '--p' is ambiguous; .*"),
-                *((f'--data-limit {text} true', f'--data-limit {text}: {size}')
-                  for text in ('x', '5X', '5KB', '1T', '-1', '9999999999G')),
-                ('--data-limit= true', f'--data-limit : {size}'),
-                *((f'--{name} {text} true', f'--{name} {text}: {range}') for name, range in ranges.items()
-                  for text in ('x', '-1', '2x', '4294967296')),
-                *((f'--{name} 4294967295 true', f'--{name}: {range}') for name, range in ranges.items()),
-                ('--depth 4 --qemu true', '--qemu: this can only be the first word'),
-                ('--depth 2 --window 2 true', f"--window: {ranges['window']}"), ('--dep 1 true', '--depth: 2 to 4096'),
-                ('--subsystem x ' * 33 + 'true', '--subsystem x: there can be 32 subsystems at most'),
-                ('--device /dev/tty ' * 65 + 'true', '--device /dev/tty: there can be 64 of these at most')):
+        rows = [(words.split(), said) for words, said in table('refused_arguments_of_model')]
+        rows += [(('--subsystem', 'x') * 33 + ('true',), '--subsystem x: there can be 32 subsystems at most'),
+                 (('--device', '/dev/tty') * 65 + ('true',), '--device /dev/tty: there can be 64 of these at most')]
+        for words, said in rows:
             with self.subTest(words):
-                ended = run(installed(), *words.split())
+                ended = run(installed(), *words)
                 self.ends(ended, 72, b'')
                 self.assertRegex(ended.err.decode(), f'^nvme-model: {said}\nsee nvme-model --help\n$')
         self.ends(self.model('true', options=['--depth', '1', '--depth', '4', '--window', '3']), 0, b'', b'')
-
-    def test_refused_streams(self):
-        for redirection, said in (('< /dev/ptmx', b'input is a device of this machine'),
-                                  ('9> /dev/null < /dev', b'input is a folder'),
-                                  ('< /proc/sys/kernel/core_pattern', b'input leads to the kernel or to a process')):
-            ended = run('sh', '-c', f'exec "$@" {redirection}', 'sh', *self.command('true'))
-            self.ends(ended, 72, b'')
-            self.assertRegex(ended.err, b'^nvme-model: standard ' + said)
-
-    def test_refused_by_the_device(self):
-        bad = self.file('bad.toml', b'x = 1\n')
-        for options, said in (('--depth 1', '--depth: 2 to 4096\n'), ('--pace 0', '--pace: 1 to 4096\n'),
-                              ('--page-size 5000', '--page-size: 4096, 8192, 16384, 32768 or 65536\n'),
-                              ('--subsystem /none', '/none: No such file'),
-                              (f'--subsystem {bad}', f'{bad}: missing top.version')):
-            with self.subTest(options):
-                ended = self.model('touch', self.folder / 'touched', options=options.split())
-                self.ends(ended, 72, b'')
-                self.assertRegex(ended.err.decode(), f'^nvme-model: {said}.*\n?.*\n$')
-                self.assertFalse((self.folder / 'touched').exists())
-        for device in '/bin/false', '/none':
-            launcher = self.folder / device.strip('/') / 'bin/nvme-model'
-            shutil.copytree(installed().parents[1] / 'bin', launcher.parent)
-            parts = launcher.parents[1] / 'lib/nvme-model'
-            parts.mkdir(parents=True)
-            shutil.copy(installed().parents[1] / 'lib/nvme-model/library.so', parts)
-            (parts / 'nvme_device').symlink_to(device)
-            self.says(run(launcher, 'true'), 72, 'nvme-model: the device ended before it answered' if
-                      device == '/bin/false' else f'nvme-model: {parts}/nvme_device: No such file')
-        (parts / 'library.so').unlink()
-        self.says(run(launcher, 'true'), 72, f'nvme-model: {parts}/library.so: No such file')
 
     def test_wrong_devices(self):
         # (the letters are ways to be wrong: tests/programs/wrong_device.c)
@@ -155,38 +108,14 @@ class Arguments(ModelCase):
         for way, status, said in (
                 ('0', 72, wrong), ('m', 72, wrong), ('f', 72, wrong),
                 ('l', 72, 'nvme-model: the device ended before it answered\n'),
-                ('e', 72, f'nvme-model: the device ended, or answered what was not asked\n{wrong}'), ('n', 0, ''),
+                *((way, 72, f'nvme-model: the device ended, or answered what was not asked\n{wrong}') for way in 'eb'),
+                ('n', 0, ''),
                 ('s', 0, '(nvmex{4995}\n)+'), ('o', 1, 'get-feature: No such device or address\n')):
             with self.subTest(way):
                 ended = run(place / 'bin/nvme-model', '--subsystem', self.file('way', way.encode()), 'sh', '-c',
                             'ls /dev/nvme*; nvme get-feature /dev/nvme0 -f 6 > /dev/null')
                 self.ends(ended, status, b'' if status == 72 else b'/dev/nvme0\n')
                 self.assertRegex(ended.err.decode(), f'^{said}$')
-
-    def test_other_sandboxes(self):
-        # a bubblewrap that is too old, and one that ends without a word
-        tool = self.folder / 'bwrap'
-        for script, said in (('echo "bwrap: Unknown option --size" >&2; exit 1',
-                              'bwrap is older than 0.8: install a newer bubblewrap'),
-                             ('exit 1', 'bwrap ended without a reason')):
-            tool.write_text(f'#!/bin/sh\n{script}\n')
-            tool.chmod(0o755)
-            for options in [], ['--root']:
-                ended = run(installed(), *options, 'true', env={'PATH': f'{self.folder}:{os.environ["PATH"]}'})
-                told = f'nvme-model: no sandbox can be made: {said}; {BY_VM}\n'
-                self.ends(ended, 72, b'', told.encode())
-
-    def test_help(self):
-        for words in (['--help'], ['--he'], ['--no-notice', '--help', 'false'], ['--help', '--bogus']):
-            with self.subTest(words):
-                ended = run(installed(), *words)
-                self.ends(ended, 0, err=b'')
-                self.assertRegex(ended.out, b'^usage: nvme-model (?s:.*)--data-limit')
-        self.ends(run(installed(), '--help', out='/dev/full'), 72)
-        self.ends(run(TOP / 'nvme-model', '--help'), 0, run(installed(), '--help').out, b'')
-        for launcher in installed(), TOP / 'nvme-model':
-            self.ends(run(launcher, '--version'), 0, f'nvme-model {VERSION}\n'.encode(), b'')
-        self.ends(run(installed(), '--version', out='/dev/full'), 72)
 
     def test_compiled_as_bubblewrap(self):
         place = installed().parents[1]
@@ -198,35 +127,14 @@ class Arguments(ModelCase):
                 with self.subTest(part.name, mark=mark):
                     self.assertRegex(told, mark)
 
-    def test_statuses_and_streams(self):
-        none, text = self.folder / 'none', self.file('text', b'no program\n')
-        self.ends(self.shell('exit 7'), 7, b'', b'')
-        self.ends(self.shell('kill -KILL $$'), 137, b'', b'')
-        for path in none, '/dev/null/none':
-            self.says(self.model(path), 127, f'nvme-model: {path}: ')
-        self.says(self.model(text), 126, f'nvme-model: {text}: ')
-        self.ends(self.model('cat', source=b'some\nlines\n'), 0, b'some\nlines\n', b'')
-        # (in a container, the launcher may be process 1)
+    def test_in_a_container(self):
+        # (there, the launcher may be process 1)
         container = *USERS[-1], 'unshare', '-Urpf', '--mount-proc'
         if works(*container):
             for words in ['true'], ['--no-notice', 'true']:
                 self.ends(run(*container, installed(), *words), 0, b'', b'')
-        self.ends(self.shell('echo "$@"', '--depth', '2', '--', '--trace'), 0, b'--depth 2 -- --trace\n', b'')
-        self.ends(self.model('echo', '--depth', options=['--dep', '4', '--']), 0, b'--depth\n', b'')
-        closed = ['sh', '-c', 'exec "$@" <&- >&- 2>&-', 'sh', *self.command('test', '-c', '/dev/nvme0')]
-        self.ends(run(*closed), 0, b'', b'')
-        closed[2] = 'exec "$@" <&- 2>&-'
-        open_ones = 'for f in 0 1 2; do test -e /proc/$$/fd/$f && echo $f; done'
-        self.ends(run(*closed[:4], *self.command('sh', '-c', open_ones)), 1, b'1\n')
 
-    def test_path(self):
-        # a user's PATH in Debian has no folder with nvme in it
-        for path, more in ('/usr/bin:/bin', ':/usr/sbin:/sbin'), ('/sbin:/bin:/usr/sbin', ''):
-            with self.subTest(path):
-                ended = run(*USERS[-1], 'env', f'PATH={path}', *self.command('/bin/sh', '-c', 'echo $PATH'))
-                self.ends(ended, 0, f'{path}{more}\n'.encode(), b'')
-        self.ends(run(*USERS[-1], 'env', 'PATH=/usr/bin:/bin', *self.command('nvme', 'list-ns', '/dev/nvme0')), 0,
-                  b'[   0]:0x1\n[   1]:0x3\n', b'')
+    def test_without_nvme_cli(self):
         # where there is none at all, its package is named
         hides = 'for folder in /usr/sbin /sbin; do test -L $folder || mount -t tmpfs none $folder; done; exec "$@"'
         if works('unshare', '-Urm'):
@@ -235,33 +143,9 @@ class Arguments(ModelCase):
             self.ends(ended, 127, b'',
                       b'nvme-model: nvme: No such file or directory: install the package nvme-cli\n')
 
-    def test_trace(self):
-        file = self.folder / 'trace'
-        for options in (['--trace'], [f'--trace={file}']):
-            for more in (['--depth', '4', *options], [*options, '--depth=4']):
-                with self.subTest(more):
-                    ended = self.model('nvme', 'list-ns', '/dev/nvme0', options=more)
-                    self.ends(ended, 0, b'[   0]:0x1\n[   1]:0x3\n')
-                    lines = (file.read_bytes() if file.exists() else ended.err).splitlines()
-                    self.assertIn(b'nvme0 write AQA=0x30003', lines)
-                    self.assertRegex(lines[-3], rb'^nvme0 taken Identify \(0x06\) .* cdw10=0x2$')
-                    self.assertTrue(all(line.startswith((b'nvme0 ', b'nvme1 ')) for line in lines), lines)
-                    self.assertEqual(ended.err == b'', file.exists())
-        self.says(self.model('true', options=['--trace=/none/x']), 72, 'nvme-model: /none/x: ')
-
-    def test_trace_that_cannot_be_written(self):
-        # of two devices, one reports it, and only once
-        for user in USERS:
-            with self.subTest(user=user):
-                script = 'for n in 0 2; do nvme id-ctrl /dev/nvme$n > /dev/null && echo $n; done'
-                ended = run(*user, *self.command('sh', '-c', script,
-                                                 options=['--subsystem', self.subsystem, '--trace=/dev/full']))
-                self.ends(ended, 0, b'0\n2\n',
-                          b"nvme-model: the trace can't be written: No space left on device\n")
-
     def test_script_in_a_copy(self):
-        # no command is run without a device; two launchers may build the client at the same time; paths have spaces and
-        # links
+        # nothing is compiled without a device; a compiler needs the C library; two launchers may build the client at the
+        # same time; paths have spaces and links
         copy, link = self.folder / 'a folder: here', self.folder / 'link'
         copy.mkdir()
         for name in 'nvme-model', 'VERSION':
@@ -272,13 +156,15 @@ class Arguments(ModelCase):
                   'nvme-model: there is no proved device program of these sources')
         self.ends(run(copy / 'nvme-model', '--compile', ''), 72, b'',
                   b'nvme-model: --compile needs the name of a folder\n')
-        for folder in 'tools', '.ci':
-            (copy / folder).mkdir()
-            (copy / folder / 'stamp').symlink_to('/bin/true')
+        self.assertFalse((copy / 'out').exists())
+        (copy / 'tools').mkdir()
+        (copy / 'tools/stamp').symlink_to('/bin/true')
+        (self.folder / 'cc').symlink_to('/bin/false')
+        self.ends(run(copy / 'nvme-model', 'true', env={'PATH': f'{self.folder}:{os.environ["PATH"]}'}), 72, b'',
+                  b"nvme-model: cc doesn't find the C library: apt install libc6-dev\n")
         made = copy / 'crates/nvme_device/out/nvme_device'
         made.parent.mkdir(parents=True)
         made.symlink_to(program('nvme_device'))
-        shutil.rmtree(copy / 'out')
         both = run('sh', '-c', '"$0" true & "$0" true && wait $!', copy / 'nvme-model')
         self.ends(both, 0, b'', b'')
         self.assertEqual(sorted(str(path.relative_to(copy / 'out/client')) for path in (copy / 'out').rglob('*')
@@ -289,30 +175,10 @@ class Arguments(ModelCase):
         self.ends(run(link, 'true'), 72, b'')
 
 
-class Subsystems(ModelCase):
-    def test_numbers(self):
-        options = ['--subsystem', TOP / 'examples/two_controllers.toml', '--subsystem', self.subsystem]
-        self.ends(self.shell('cd /dev; echo nvme?; echo nvme*n*; cd /sys/class/nvme-subsystem; echo *; ls -d */nvme?; '
-                             'cat /sys/class/nvme/*/cntlid; stat -c %t:%T /dev/nvme[24]', options=options), 0,
-                  b'nvme0 nvme1 nvme2 nvme3 nvme4 nvme5\n'
-                  b'nvme0n1 nvme0n2 nvme2n1 nvme2n2 nvme3n1 nvme3n3 nvme4n1 nvme4n2\n'
-                  b'nvme-subsys0 nvme-subsys1 nvme-subsys2\nnvme-subsys0/nvme0\nnvme-subsys0/nvme1\n'
-                  b'nvme-subsys1/nvme2\nnvme-subsys1/nvme3\nnvme-subsys2/nvme4\nnvme-subsys2/nvme5\n'
-                  b'0\n1\n7\n3\n0\n1\nffc:800\nffc:1000\n', b'')
-
+class Subsystems(ModelCase, transcripts='subsystems'):
     def test_most(self):
         self.ends(self.shell('ls -d /dev/nvme?? | wc -l; nvme id-ctrl /dev/nvme63 | grep -c "^sn .*S1"',
                              options=['--subsystem', self.subsystem] * 31), 0, b'54\n1\n', b'')
-
-    def test_commands_data_and_traces_are_apart(self):
-        ended = self.shell('nvme create-ns /dev/nvme2 -s 8 -c 8 -f 0 && nvme attach-ns /dev/nvme2 -n 2 -c 0 && '
-                           'echo hello > /dev/nvme2n1 && head -c 5 /dev/nvme0n1 | od -An -c; head -c 5 /dev/nvme2n1; '
-                           'ls /dev/nvme?n3', options=['--subsystem', self.subsystem, '--trace'])
-        self.ends(ended, 0, b'create-ns: Success, created nsid:2\nattach-ns: Success, nsid:2\n'
-                  b'  \\0  \\0  \\0  \\0  \\0\nhello/dev/nvme2n3\n')
-        self.assertEqual({line[:6] for line in ended.err.splitlines()}, {b'nvme0 ', b'nvme1 ', b'nvme2 ', b'nvme3 '})
-        self.assertRegex(ended.err, rb'(?m)^nvme2 taken Namespace Management \(0x0d\) ')
-        self.assertNotRegex(ended.err, rb'(?m)^nvme[013] taken Namespace Management \(0x0d\) ')
 
     def test_one_device_is_killed(self):
         running = self.stepped('step; while test -c /dev/nvme3; do sleep 0.1; done; cat /dev/nvme2n1; '
@@ -415,18 +281,6 @@ class Signals(ModelCase):
         self.ends(ended, 3, b'', b'')
         self.assertTrue(until(lambda: not left_running()))
 
-    def test_end_of_a_shell_at_a_terminal(self):
-        # a shell of its own process group gives the terminal back, and ends with its own status
-        for shell in 'sh', 'bash --norc':
-            with self.subTest(shell):
-                running = Running(*self.command(*shell.split(), '-i'), terminal=True, env={'PS1': 'ready: '})
-                self.addCleanup(running.process.kill)
-                running.comes(b'ready: ')
-                running.say(b'exit 3\n')
-                self.assertEqual(running.process.wait(LIMIT), 3)
-                running.hear(0)
-                self.assertNotIn(b'annot set', running.heard)
-
     def test_typed_at_a_terminal(self):
         for script, key, status in (('echo ready; exec sleep 1000', b'\x03', 130),
                                     ('echo ready; exec sleep 1000', b'\x1c', 131),
@@ -439,10 +293,7 @@ class Signals(ModelCase):
                 self.assertEqual(running.process.wait(LIMIT), status)
                 self.leaves_nothing()
         # it comes once
-        count = ('import signal\nsignal.pthread_sigmask(signal.SIG_BLOCK, {signal.SIGINT})\n'
-                 'print("ready", flush=True)\nsignal.sigwait({signal.SIGINT})\n'
-                 'print("again" if signal.sigtimedwait({signal.SIGINT}, 1) else "once")')
-        running = Running(*self.command(sys.executable, '-c', count), terminal=True)
+        running = Running(*self.command(sys.executable, self.programs() / 'counts.py'), terminal=True)
         running.comes(b'ready\n')
         running.say(b'\x03')
         self.assertRegex(running.end().out, b'ready\n(?s:.*)once\n')
@@ -451,18 +302,8 @@ class Signals(ModelCase):
                           terminal=True)
         self.assertRegex(running.end().out, b'^/dev/console\n(?s:.*)inner')
 
-    @unittest.skipUnless(shutil.which('tmux') and shutil.which('bash'), 'tmux and bash are not installed')
-    def test_job_control(self):
-        running = Running('bash', '--norc', '-i', terminal=True, env={'PS1': 'outside> ', 'TERM': 'dumb'})
-        self.addCleanup(running.process.kill)
-        job = ("{} sh -c 'trap \"echo continued\" CONT; echo rea\"\"dy; until read x; do :; done; echo got-$x; exit 3'")
-        for said, heard in ((job, b'ready\n'), ('\x1a', b'outside> '), ('fg', b'continued\n'), ('line', b'outside> '),
-                            ('echo status-$?', b'status-3\noutside> ')):
-            line = said.format(shlex.join(map(str, self.command()))) + '\n'
-            running.say((said if said == '\x1a' else line).encode())
-            running.comes(heard)
-        running.say(b'exit\n')
-        self.assertRegex(running.end().out, b'(?s)got-line\n.*status-3\n')
+    @unittest.skipUnless(shutil.which('tmux'), 'tmux is not installed')
+    def test_terminal_of_another_program(self):
         running = Running(*self.command('tmux', '-S', self.folder / 'socket', 'new', f'tty > {self.folder}/tty'),
                           terminal=True, env={'TERM': 'xterm'})
         running.end()

@@ -1,20 +1,13 @@
 """Talks to nvme-script line by line, through pipes and on a terminal. The output of a line comes before the next line
 is written, and outputs and messages come in the order of the lines."""
 
-from tests.support import Case, Running, program, run
+from tests.support import Case, Running, program
 
 SCRIPT = program('nvme_script')
 
 
-class Order(Case):
-    def test_both_streams_to_one_file(self):
-        ended = run(SCRIPT, err='&1', source=b'list-ns /dev/nvme0\nid-ns /dev/nvme0 -n 9\nlist-ns /dev/nvme0 -n 3\n'
-                                             b'list-ns\nlist-ns /dev/nvme0 -n 3\n')
-        self.ends(ended, 0, b'[   0]:0x1\n[   1]:0x3\n'
-                            b'line 2: NVMe status: Invalid Namespace or Format (0x600b)\n'
-                            b'[   0]:0x3\n'
-                            b'line 4: usage error\n'
-                            b'[   0]:0x3\n')
+class Order(Case, transcripts='order'):
+    env = {'script': SCRIPT}
 
     def test_pipes(self):
         talk = Running(SCRIPT)

@@ -7,11 +7,13 @@ With UNPROVED=1 in the environment, `rt try` runs the sources on these rows, and
 import json
 import pathlib
 import re
+import shlex
 import tempfile
 import typing
 
 from tests.support import (
-    DEMO, IS_UNPROVED, TOP, Case, Ended, large_file, process_folder, program, run, run_unproved, shell_line)
+    DEMO, IS_UNPROVED, TOP, Case, Ended, large_file, process_folder, program, run, run_unproved, shell_line,
+    table)
 
 SCRIPT = 'nvme_script' if IS_UNPROVED else program('nvme_script')
 TEXT = DEMO.read_text()
@@ -65,30 +67,18 @@ def statuses():
 
 
 def refused_arguments():
-    for argument in '--bogus', 'extra', '--subsystem', '--help', '-h', '--version', '':
-        yield told('arguments', argument)
+    for words, reason in table('refused_arguments_of_script'):
+        yield told(reason, *shlex.split(words))
     yield told('arguments', b'\xff', special='not UTF-8')
     yield told('arguments', '--subsystem', b'examples/\xff', special='not UTF-8')
-    yield told('arguments', '--script=one.nvme')
-    yield told('arguments', '--subsystem', str(DEMO), '--subsystem', str(DEMO))
-    yield told('arguments', '--depth=8', '--depth=8')
-    yield told('arguments', '--subsystem', '-demo.toml')
 
 
 def refused_options():
-    """Options that aren't 32-bit numbers, and geometries out of their limits, which are refused with the first such
-    field."""
+    """Options that aren't 32-bit numbers."""
     for option in 'depth', 'page-size', 'offset', 'list-offset', 'window', 'pace':
         for value in '', 'x', '-1', '08', '4294967296':
             yield told('arguments', f'--{option}={value}')
         yield told('arguments', f'--{option}')
-    yield told('geometry: depth', '--depth', '1', '--page-size', '1')
-    yield told('geometry: depth', '--depth', '4294967295')
-    yield told('geometry: page_size', '--page-size', '4095')
-    yield told('geometry: offset', '--offset', '6')
-    yield told('geometry: list_offset', '--list-offset', '4')
-    yield told('geometry: window', '--depth', '2', '--window', '2')
-    yield told('geometry: pace', '--pace', '0')
     yield told('subsystem: unreadable', '--pace', '0', '--subsystem', MISSING)
 
 

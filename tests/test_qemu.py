@@ -18,7 +18,7 @@ import socket
 import subprocess
 
 from tests.as_qemu import BROKEN
-from tests.guests import DATA, INIT, PLUGGED, apart_from_scans, as_drive
+from tests.guests import apart_from_scans, as_drive
 from tests.modelled import CLIENT, PARTS, ModelCase, installed, is_there, options_for
 from tests.support import DEMO, LIMIT, TOP, Case, Running, difference, library, process_folder, run
 
@@ -268,15 +268,11 @@ def initial_files():
         shutil.copy(path, root / path[1:])
     shutil.copy(nvme, root / 'bin/nvme')
     shutil.copy(shutil.which('busybox'), root / 'bin/busybox')
-    shutil.copy(TOP / 'tests/guest.sh', root)
     needed = modules(MODULES)
     for name, data in needed.items():
         (root / 'modules' / name).write_bytes(data)
     (root / 'modules/order').write_text(' '.join(needed))
-    (root / 'plugged.sh').write_text(PLUGGED)
-    (root / 'data.sh').write_text(DATA)
-    (root / 'init').write_text(INIT)
-    (root / 'init').chmod(0o755)
+    shutil.copytree(TOP / 'tests/guest', root, dirs_exist_ok=True)
     packed = process_folder() / 'guest.cpio'
     names = '\n'.join(str(path.relative_to(root)) for path in root.rglob('*'))
     ended = run('busybox', 'cpio', '-o', '-H', 'newc', source=names.encode(), out=packed, cwd=root)
@@ -339,7 +335,7 @@ class Drivers(ModelCase):
         self.assertEqual(len(re.findall('1/0/0 default/read/poll queues', console)), 3, console[-3000:])
         self.assertEqual(re.findall(r'(?i)nvme.*(?:timeout|timed out|dead|abort)', console), [])
         script, logs = self.results.read_text().split('END OF SCRIPT\n')
-        wanted = self.model('sh', TOP / 'tests/guest.sh')
+        wanted = self.model('sh', TOP / 'tests/guest/guest.sh')
         wanted, got = apart_from_scans(as_drive(wanted.out)), apart_from_scans(script.encode())
         self.assertEqual(difference('guest', wanted, got), [], console[-3000:])
         # what the guest read last, and what the program reported at its end

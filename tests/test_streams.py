@@ -11,7 +11,6 @@ import re
 import select
 import socket
 import subprocess
-import unittest
 
 from tests.modelled import ModelCase, installed, parts
 from tests.support import LIMIT, USERS, environment, until
@@ -207,7 +206,3 @@ class Streams(StreamCase):
                 ended = self.model('true', options=options)
                 self.ends(ended, 72, b'')
                 self.assertIn(said.encode(), ended.err)
-
-
-if __name__ == '__main__':
-    unittest.main()

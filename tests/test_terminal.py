@@ -1,7 +1,6 @@
 """Runs shells and pagers under ./nvme-model on a terminal, with the keys that a user types: Ctrl-C, Ctrl-Z, fg, and the
 end of a shell. The shell outside is bash, whose jobs are these runs."""
 
-import unittest
 
 from tests.modelled import ModelCase
 from tests.support import USERS, Running
@@ -35,9 +34,11 @@ class Terminal(ModelCase):
             for name in SHELLS:
                 with self.subTest(name, user=user):
                     shell = self.begun(user)
-                    self.told(shell, f'$model env PS1="inside: " {name}\n'.encode(), b'inside: ')
+                    begun = self.told(shell, f'$model env PS1="inside: " {name}\n'.encode(), b'inside: ')
+                    self.assertNotIn(b'annot set', begun)
                     self.assertEqual(self.told(shell, b'echo a | cat; test -c /dev/nvme0 && echo there\n', b'inside: '),
                                      b'a\nthere\ninside: ')
+                    # (a shell gives the terminal back without a word)
                     self.assertRegex(self.told(shell, b'exit 3\n'), b'^(exit\n)?outside: $')
                     self.assertEqual(self.told(shell, b'echo $?\n'), b'3\noutside: ')
 
@@ -71,7 +72,7 @@ class Terminal(ModelCase):
 
     def test_suspend(self):
         # a shell that suspends itself, or an editor at one key, stops the run as well, and both go on together
-        editor = b"sh -c 'echo begun; kill -TSTP 0; echo continued; read -r line; echo $line'\n"
+        editor = b"sh -c 'echo begun; kill -TSTP 0; echo continued; read -r line; echo $line; exit 5'\n"
         for user in USERS:
             with self.subTest(user=user):
                 shell = self.begun(user)
@@ -83,10 +84,16 @@ class Terminal(ModelCase):
                     self.assertEqual(self.told(shell, b'echo a | cat\n', b'inside: '), b'a\ninside: ')
                 self.told(shell, b'exit 4\n')
                 self.assertEqual(self.told(shell, b'echo $?\n'), b'4\noutside: ')
+                # (dash doesn't take its terminal again itself)
+                self.told(shell, b'$model env PS1="inside: " dash\n', b'inside: ')
+                self.assertIn(b'Stopped', self.told(shell, b'kill -STOP $$\n'))
+                self.told(shell, b'fg\n', b'inside: ')
+                self.assertEqual(self.told(shell, b'echo a | cat\n', b'inside: '), b'a\ninside: ')
+                self.told(shell, b'exit\n')
                 self.assertIn(b'begun\n', self.told(shell, b'$model ' + editor))
                 self.told(shell, b'fg\n', b'continued\n')
                 self.assertEqual(self.told(shell, b'words\n'), b'words\noutside: ')
-                self.assertEqual(self.told(shell, b'jobs\n'), b'outside: ')
+                self.assertEqual(self.told(shell, b'echo $?; jobs\n'), b'5\noutside: ')
 
     def shows(self, shell, keys, *texts):
         """Types keys, and waits until the terminal shows these texts."""
@@ -115,7 +122,3 @@ class Terminal(ModelCase):
                     self.told(shell, line.encode() + b'\n', b'\n:')
                     self.told(shell, b'q')
                     self.assertEqual(self.told(shell, b'echo $?\n'), b'0\noutside: ')
-
-
-if __name__ == '__main__':
-    unittest.main()

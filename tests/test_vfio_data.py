@@ -9,10 +9,17 @@ from tests.as_client import RESET, Piece
 from tests.blocks import (
     COMPARE, DATASET, DIFFERS, FLUSH, FORMAT, INVALID_FIELD, INVALID_NAMESPACE, INVALID_OPCODE, MANAGE, NO_CAPACITY,
     OUT_OF_RANGE, READ, VERIFY, WRITE, WRITE_ZEROES, Blocks, block_entry)
-from tests.driver import CSTS, INVALID_OFFSET, NOWHERE, PAGE, TRANSFER_ERROR
+from tests.driver import CSTS, INVALID_OFFSET, NOWHERE, PAGE, TAIL, TRANSFER_ERROR, entry_of
 from tests.served import EVERY, GIBIBYTE
-from tests.support import DEMO, run
-from tests.test_qemu import SANITIZERS, program
+from tests.support import DEMO
+
+
+ALL = 2 ** 32 - 1
+# The reserved bits of dwords 10 to 15 of each command.
+RESERVED = {opcode: sum(dword << 32 * at for at, dword in enumerate(dwords)) for opcode, dwords in {
+    FLUSH: (ALL, ALL, ALL, ALL, ALL, ALL), WRITE: (0, 0, 0x030f_0000, 0xff00), READ: (0, 0, 0x03ff_0000, 0xffff_ff00),
+    COMPARE: (0, 0, 0x03ff_0000, ALL), WRITE_ZEROES: (0, 0, 0x01ff_0000, ALL), VERIFY: (0, 0, 0x03ff_0000, ALL),
+    DATASET: (0xffff_ff00, 0xffff_fff8, ALL, ALL, ALL, ALL)}.items()}
 
 
 class Data(Blocks):
@@ -25,16 +32,14 @@ class Data(Blocks):
             first = lot.choice((0, 2048 - count, lot.randrange(2049 - count)))
             place = 16 * PAGE + lot.choice((0, 0, 512, 4 * lot.randrange(1024)))
             drive.pieces[0].bytes[15 * PAGE:] = bytes(49 * PAGE)
-            prps = drive.pages(place, count * 512, 15 * PAGE)
             if turn % 3:
                 data = lot.randbytes(count * 512)
-                drive.at(place, count * 512)[:] = data
-                self.assertEqual(drive.io(WRITE, 1, first, count, *prps, number=1 + turn % 3), 0)
+                self.assertEqual(drive.store(1, first, data, place, number=1 + turn % 3), 0)
                 model[512 * first:512 * (first + count)] = data
             else:
-                self.assertEqual(drive.io(READ, 1, first, count, *prps, number=1 + turn % 3), 0)
-                self.assertEqual(bytes(drive.at(place, count * 512)), model[512 * first:512 * (first + count)])
-                after = bytes(drive.pieces[0].bytes[place + count * 512:])
+                data = drive.load(1, first, count, place, number=1 + turn % 3)
+                self.assertEqual(data, model[512 * first:512 * (first + count)])
+                after = drive.pieces[0].bytes[place + count * 512:]
                 self.assertEqual(after, bytes(len(after)))
         for first in range(0, 2048, 256):
             self.assertEqual(drive.load(1, first, 256, 16 * PAGE), model[512 * first:][:256 * 512])
@@ -54,15 +59,20 @@ class Data(Blocks):
             self.assertEqual(drive.io(opcode, 3, 0, 1, place, flags=1), INVALID_FIELD)
             self.assertEqual(drive.io(opcode, 3, 0, 1, place, flags=0x40), INVALID_FIELD)
         for opcode in WRITE, READ, COMPARE:
-            for prp1, prp2, status in ((place + 2, 0, INVALID_OFFSET), (NOWHERE, 0, TRANSFER_ERROR),
-                                       (128 * GIBIBYTE, 0, TRANSFER_ERROR), (place, place + 8, INVALID_OFFSET),
-                                       (place, NOWHERE, TRANSFER_ERROR)):
-                count = 9 if prp2 else 1
-                self.assertEqual(drive.io(opcode, 3, 0, count, prp1, prp2), status, (opcode, hex(prp1), hex(prp2)))
+            self.answers(lambda *words: drive.io(opcode, 3, 0, *words),
+                         (1, place + 2, INVALID_OFFSET), (1, NOWHERE, TRANSFER_ERROR),
+                         (1, 128 * GIBIBYTE, TRANSFER_ERROR), (9, place, place + 8, INVALID_OFFSET),
+                         (9, place, NOWHERE, TRANSFER_ERROR))
             # (MDTS 5: 128 KiB)
             self.assertEqual(drive.io(opcode, 1, 0, 257, *drive.pages(32 * PAGE, 129 * 1024, 31 * PAGE)), INVALID_FIELD)
         for opcode in 3, 4, 6, 7, 0xa, 0xd, 0xe, 0x11, 0x15, 0x80, 0xff:
             self.assertEqual(drive.io(opcode, 1, 0, 1, place), INVALID_OPCODE, opcode)
+        for opcode, reserved in RESERVED.items():
+            for bit in range(32 * 6):
+                if reserved >> bit & 1:
+                    dwords = struct.unpack('<6I', (1 << bit).to_bytes(24, 'little'))
+                    drive.put_io(1, entry_of(opcode, 77, 3, place, 0, *dwords))
+                    self.assertEqual(drive.take_io(1).status, INVALID_FIELD, (opcode, bit))
         self.assertEqual(drive.load(3, 0, 9), b'kept' * 128 * 9)
 
     def test_other_commands(self):
@@ -95,11 +105,10 @@ class Data(Blocks):
         self.assertEqual(self.attach(drive, nsid, [0], detach=1), 0)
         self.assertEqual(drive.io(READ, nsid, 0, 1, 40 * PAGE), INVALID_NAMESPACE)
         self.assertEqual(self.attach(drive, nsid, [0]), 0)
-        self.begin(drive)
-        self.assertEqual(drive.load(nsid, 0, 64), b'data' * 128 * 64)
-        drive.ask(RESET)
-        self.begin(drive)
-        self.assertEqual(drive.load(nsid, 0, 64), b'data' * 128 * 64)
+        for reset in (lambda: None), (lambda: drive.ask(RESET)):
+            reset()
+            self.begin(drive)
+            self.assertEqual(drive.load(nsid, 0, 64), b'data' * 128 * 64)
         self.assertEqual(drive.status_of(FORMAT, nsid=nsid, dword10=1), 0)
         self.assertEqual(drive.load(nsid, 0, 8, block=4096), bytes(8 * 4096))
         self.assertEqual(drive.io(READ, nsid, 8, 1, 40 * PAGE), OUT_OF_RANGE)
@@ -118,11 +127,15 @@ class Data(Blocks):
         self.assertEqual(self.create(drive, 64), nsid)
         self.assertEqual(drive.load(nsid, 0, 64), bytes(64 * 512))
         # all at once
-        for each in 1, nsid:
+        for each in 1, 3, nsid:
             self.assertEqual(drive.store(each, 0, b'data' * 128), 0)
+        # (but those that aren't attached to the controller)
+        self.assertEqual(self.attach(drive, 3, [0], detach=1), 0)
         self.assertEqual(drive.status_of(FORMAT, nsid=EVERY, dword10=0), 0)
+        self.assertEqual(self.attach(drive, 3, [0]), 0)
         for each in 1, nsid:
             self.assertEqual(drive.load(each, 0, 1), bytes(512))
+        self.assertEqual(drive.load(3, 0, 1), b'data' * 128)
         self.assertEqual(drive.status_of(MANAGE, nsid=EVERY, dword10=1), 0)
         self.assertEqual(drive.io(READ, 1, 0, 1, 40 * PAGE), INVALID_NAMESPACE)
 
@@ -135,13 +148,12 @@ class Data(Blocks):
             self.assertEqual(drive.store(1, 0, bytes([turn + 1]) * 256 * 512, 16 * PAGE), 0)
             for at in range(15):
                 drive.put_io(1, block_entry(WRITE, 1, 512 + at, 1, 8 * PAGE), rings=False)
-            drive.set_register(0x1008, drive.submissions[1][2])
+            drive.set_register(TAIL + 8, drive.submissions[1].next)
             drive.close()
 
     def test_limit(self):
         # a write beyond the limit is refused, and one to what was written is not
-        self.stop(self.server)
-        self.server = self.start('--data-limit', '64K')
+        self.restart('--data-limit', '64K')
         drive = self.drive()
         data = random.Random(1).randbytes(32768)
         self.assertEqual(drive.store(1, 0, data), 0)
@@ -153,16 +165,22 @@ class Data(Blocks):
         self.assertEqual(drive.store(1, 64, data[::-1]), 0)
         self.assertEqual(drive.store(1, 100, data), NO_CAPACITY)
         self.assertEqual(drive.load(1, 0, 128), data + data[::-1])
-        # a format gives it back
+        # a format gives it back, and commands that are refused take none
         self.assertEqual(drive.status_of(FORMAT, nsid=1), 0)
+        for first, count in (2000, 128), (2048, 64), (1 << 40, 1), (0, 65536):
+            self.assertIn(drive.io(WRITE, 1, first, count, 32 * PAGE, 14 * PAGE), (INVALID_FIELD, OUT_OF_RANGE))
         self.assertEqual(drive.store(1, 100, data), 0)
-        for words in ('--data-limit', ''), ('--data-limit', '5X'), ('--data-limit', '-1'), ('--data-limit', '1KK'):
-            self.assertEqual(run(program(*SANITIZERS), '--vfio-user', '--socket', self.path, *words).status, 72)
+        for word in '', '5X', '-1', '1KK':
+            self.assertEqual(self.ended(self.path, '--data-limit', word).status, 72)
+
+    def data_folder(self):
+        place = self.folder / 'kept'
+        place.mkdir()
+        return place
 
     def test_folder(self):
         # data stays from one server to the next, even if that is killed, unless it doesn't fit
-        place = self.folder / 'kept'
-        place.mkdir()
+        place = self.data_folder()
         self.stop(self.server)
         for turn in range(3):
             self.server = self.start('--data', place)
@@ -173,37 +191,52 @@ class Data(Blocks):
             self.assertEqual(sorted(os.listdir(place)), [f'subsystem0.namespace{at}' for at in (1, 2, 3)])
             self.assertEqual(drive.store(nsid, 0, b'x' * 512), 0)
             # (while one server uses it, no other one does)
-            said = run(program(*SANITIZERS), '--vfio-user', '--socket', f'{self.path}x', '--data', place)
+            said = self.ended(f'{self.path}x', '--data', place)
             self.ends(said, 72, b'', f'nvme-model: {place}/subsystem0.namespace1 is in use, or not a file\n'.encode())
             self.assertEqual(drive.status_of(MANAGE, nsid=nsid, dword10=1), 0)
             self.assertEqual(sorted(os.listdir(place)), [f'subsystem0.namespace{at}' for at in (1, 3)])
+            # (a file that someone else made isn't the data of a new namespace)
+            foreign = place / 'subsystem0.namespace2'
+            foreign.write_bytes(b'foreign')
+            nsid = self.create(drive, 8)
+            self.assertEqual(drive.io(WRITE, nsid, 0, 1, 32 * PAGE), INVALID_NAMESPACE)
+            self.assertEqual(foreign.read_bytes(), b'foreign')
+            foreign.unlink()
             drive.close()
             if turn % 2:
                 self.kill()
             else:
                 self.stop(self.server)
-        for path, make, text in (
-                (place / 'subsystem0.namespace2', lambda path: path.write_bytes(b''),
-                 '{}: the subsystem file has no such namespace'),
-                (place / 'subsystem0.namespace1', lambda path: os.truncate(path, 512),
-                 '{}: the file has 512 bytes, and the namespace 1048576'),
-                (place / 'subsystem0.namespace1', os.mkfifo,
-                 '{} is in use, or not a file'),
-                (place / 'subsystem0.namespace1', lambda path: path.symlink_to('none'),
-                 '{}: Too many levels of symbolic links')):
+        for nsid, make, text in (
+                (2, lambda path: path.write_bytes(b''), ': the subsystem file has no such namespace'),
+                (1, lambda path: os.truncate(path, 512), ': the file has 512 bytes, and the namespace 1048576'),
+                (1, os.mkfifo, ' is in use, or not a file'),
+                (1, lambda path: path.symlink_to('none'), ': Too many levels of symbolic links')):
+            path = place / f'subsystem0.namespace{nsid}'
             make(path)
-            said = run(program(*SANITIZERS), '--vfio-user', '--socket', self.path, '--data', place)
-            self.ends(said, 72, b'', f'nvme-model: {text.format(path)}\n'.encode())
+            self.ends(self.ended(self.path, '--data', place), 72, b'', f'nvme-model: {path}{text}\n'.encode())
             path.unlink()
         self.server = self.start('--data', place)
         self.assertEqual(self.drive().load(1, 7, 1), bytes(512))
 
+    def test_folder_of_a_start_that_fails(self):
+        # nothing is made in the folder, whatever the start fails for
+        place = self.data_folder()
+        later, broken = place / 'subsystem0.namespace3', self.file('broken.toml', b'version = 1\n')
+        for make, words in ((lambda: later.write_bytes(b'x'), ()), (lambda: os.mkfifo(later), ()),
+                            (lambda: None, ('--subsystem', DEMO, '--subsystem', broken)),
+                            (lambda: None, ('--socket', f'{self.path}{"x" * 108}'))):
+            make()
+            before = os.listdir(place)
+            said = self.ended(f'{self.path}x', '--data', place, *words)
+            self.assertEqual(said.status, 72, said)
+            self.assertEqual(os.listdir(place), before, said)
+            later.unlink(missing_ok=True)
+
     def test_lost_data(self):
         # a file that another program cuts is fatal for a controller that uses what is lost, and for nobody else
-        place = self.folder / 'kept'
-        place.mkdir()
-        self.stop(self.server)
-        self.server = self.start('--data', place)
+        place = self.data_folder()
+        self.restart('--data', place)
         drive, other = self.drive(), self.greeted(1)
         self.assertEqual(drive.store(1, 0, b'data' * 128), 0)
         os.truncate(place / 'subsystem0.namespace1', 4096)
@@ -233,8 +266,7 @@ class Data(Blocks):
         # a namespace of 4 TiB takes memory only for what was written, even if all of it is read
         file = self.file('large.toml', DEMO.read_bytes().replace(b'tnvmcap = 10485760', b'tnvmcap = 4398046511104')
                          .replace(b'bytes = 1048576', b'bytes = 4398046000000'))
-        self.stop(self.server)
-        self.server = self.start('--subsystem', file, '--data-limit', '1M')
+        self.restart('--subsystem', file, '--data-limit', '1M')
         drive = self.drive()
         last = 4398046000000 // 512 - 8
         self.assertEqual(drive.store(1, last, b'last' * 1024), 0)
@@ -246,11 +278,14 @@ class Data(Blocks):
                                              (DATASET, 4 << 32, 1, struct.pack('<IIQ', 0, 2 ** 32 - 1, 8))):
             drive.at(40 * PAGE, len(ranges))[:] = ranges
             self.assertEqual(drive.io(opcode, 1, first, count, 40 * PAGE), 0)
+            for place in 1 << 30, 1 << 31:
+                self.assertEqual(drive.store(1, place, b'y' * 4096), 0)
         self.assertEqual(drive.store(1, 1 << 32, b'x' * 4096), 0)
         self.assertEqual(drive.load(1, (1 << 32) - 8, 24), bytes(4096) + b'x' * 4096 + bytes(4096))
 
     def test_sleep(self):
+        # after work the server sleeps, and nothing wakes it
         drive = self.drive()
         for _ in range(50):
-            self.assertEqual(drive.io(READ, 1, 0, 1, 40 * PAGE), 0)
+            self.assertEqual((drive.io(READ, 1, 0, 1, 40 * PAGE), drive.serial()), (0, 'S0'))
         self.sleeps()

@@ -9,7 +9,7 @@ import time
 
 from tests.as_client import (
     BAR, BIND, BIND_UNMASK, MASK, MESSAGES, MESSAGE_CONTROL, PIN, REGION_WRITE, SET_IRQS, STATUS, UNBIND, UNMASK,
-    WANTS_NONE)
+    WANTS_NONE, access, message)
 from tests.driver import (
     COMMAND, CSTS, HEAD, IDENTIFY, MASTER, NO_INTERRUPT, PAGE, TAIL, counter, is_raised, memory_file)
 from tests.modelled import is_there
@@ -49,7 +49,7 @@ class Processors:
         """A process sends a command. Another one looks at a register meanwhile."""
         self.driver.put(IDENTIFY, 2 * PAGE, dword10=1, rings=False)
         self.sent += 1
-        self.access(TAIL, self.driver.tail)
+        self.access(TAIL, self.driver.submissions[0].next)
         self.access(CSTS)
 
     def handle(self):
@@ -61,7 +61,7 @@ class Processors:
             taken += 1
         self.ended += taken
         self.handled += taken > 0
-        self.access(HEAD, self.driver.head) if taken else None
+        self.access(HEAD, self.driver.completions[0].next) if taken else None
 
     def run(self, count):
         """Runs until so many commands have ended, and returns how many milliseconds this takes."""
@@ -77,158 +77,126 @@ class Processors:
         return 1000 * (time.monotonic() - begun_at)
 
 
+def full_counter():
+    """Returns an event counter on which a write waits."""
+    found = counter()
+    os.set_blocking(found, True)
+    os.write(found, struct.pack('=Q', 2 ** 64 - 2))
+    return found
+
+
 class Interrupts(Served):
     def setUp(self):
         super().setUp()
         self.driver = self.guest()
-        self.driver.enable()
+        driver = self.driver
+        self.steps = {
+            'put': lambda: driver.put(IDENTIFY, 2 * PAGE, dword10=1),
+            'take': lambda: driver.take() == 0,
+            'mask': lambda: driver.set_irqs(MASK, PIN) == 0,
+            'unmask': lambda: driver.set_irqs(UNMASK, PIN) == 0,
+            'disable': lambda: driver.set_config(COMMAND, MASTER | NO_INTERRUPT, 2),
+            'enable': lambda: driver.set_config(COMMAND, MASTER, 2),
+            'messages': lambda: driver.set_config(MESSAGE_CONTROL, 1, 2),
+            # (the counter is raised, or will be; it will be, and isn't read; it isn't raised, or won't be)
+            'raised': lambda: is_raised(self.bell),
+            'later': lambda: is_raised(self.bell, LIMIT),
+            'unread': lambda: bool(select.select([self.bell], [], [], LIMIT)[0]),
+            'low': lambda: not is_raised(self.bell),
+            'idle': lambda: self.stays_low(self.bell)}
 
-    def put(self):
-        self.driver.put(IDENTIFY, 2 * PAGE, dword10=1)
+    def follow(self, steps):
+        """Takes these steps, each of which must succeed."""
+        for at, step in enumerate(steps.split()):
+            self.assertIsNot(self.steps[step](), False, f'{step}, step {at} of {steps}')
+
+    def bind(self, index, bell=None):
+        """Binds a counter to the pin or to messages, which is the one that steps look at."""
+        self.bell = counter() if bell is None else bell
+        self.assertEqual(self.driver.set_irqs(BIND, index, file=self.bell), 0)
 
     def test_messages(self):
         # one for each completion, and one that finds no counter is kept until there is one
-        pin, message = self.driver.counters()
-        self.driver.set_config(MESSAGE_CONTROL, 1, 2)
-        for _ in range(100):
-            self.put()
-            self.assertTrue(is_raised(message))
-            self.assertEqual(self.driver.take(), 0)
-            self.assertFalse(is_raised(message))
+        pin, self.bell = self.driver.counters()
+        self.follow('messages' + 100 * ' put raised take low')
         self.assertEqual(self.driver.set_irqs(UNBIND, MESSAGES, count=0), 0)
-        self.put()
-        self.assertFalse(is_raised(message) or is_raised(pin))
-        self.assertEqual(self.driver.set_irqs(BIND, MESSAGES, file=message), 0)
-        self.assertTrue(is_raised(message))
+        self.follow('put low')
+        self.bind(MESSAGES, self.bell)
+        self.follow('raised')
         # (a binding without a descriptor unbinds, and a new counter replaces the former one)
         self.assertEqual(self.driver.set_irqs(BIND, MESSAGES), 0)
-        other = counter()
-        self.assertEqual(self.driver.set_irqs(BIND, MESSAGES, file=other), 0)
-        self.assertTrue(is_raised(other))
-        self.put()
-        self.assertTrue(is_raised(other))
-        self.assertFalse(is_raised(message) or is_raised(pin))
+        former = self.bell
+        self.bind(MESSAGES)
+        self.follow('raised put raised')
+        self.assertFalse(is_raised(former) or is_raised(pin))
 
     def test_pin(self):
         # raised until it is seen, again if completions wait then, and not while it is disabled
-        pin = counter()
-        self.assertEqual(self.driver.set_irqs(BIND, PIN, file=pin), 0)
-        self.put()
-        self.assertTrue(is_raised(pin))
+        self.bind(PIN)
+        self.follow('put raised')
         self.assertEqual(self.driver.config(STATUS, 2), 0x18)
-        self.put()
-        self.assertFalse(is_raised(pin))
+        self.follow('put low')
         # (another counter in its place was never raised)
-        pin = counter()
-        self.assertEqual(self.driver.set_irqs(BIND, PIN, file=pin), 0)
-        self.assertTrue(is_raised(pin, LIMIT))
-        self.assertEqual(self.driver.set_irqs(UNMASK, PIN), 0)
-        self.assertTrue(is_raised(pin, LIMIT))
-        self.driver.take(), self.driver.take()
+        self.bind(PIN)
+        self.follow('later unmask later take take')
         self.assertEqual(self.driver.config(STATUS, 2), 0x10)
-        self.assertEqual(self.driver.set_irqs(UNMASK, PIN), 0)
-        self.assertFalse(is_raised(pin))
-        self.driver.set_config(COMMAND, MASTER | NO_INTERRUPT, 2)
-        self.put()
-        self.assertFalse(is_raised(pin))
-        self.driver.set_config(COMMAND, MASTER, 2)
-        self.assertTrue(is_raised(pin, LIMIT))
+        self.follow('unmask low disable put low enable later')
         # (a mask holds it back, and so do enabled messages)
-        self.assertEqual(self.driver.set_irqs(MASK, PIN), 0)
-        self.assertEqual(self.driver.set_irqs(UNMASK, PIN), 0)
-        self.assertTrue(is_raised(pin, LIMIT))
-        self.assertEqual(self.driver.set_irqs(MASK, PIN), 0)
-        self.put()
-        self.assertTrue(self.stays_low(pin))
-        self.driver.set_config(MESSAGE_CONTROL, 1, 2)
-        self.assertEqual(self.driver.set_irqs(UNMASK, PIN), 0)
-        self.assertTrue(self.stays_low(pin))
+        self.follow('mask unmask later mask put idle messages unmask idle')
 
     def test_pin_that_was_lowered(self):
         # an access lowers the pin before the processor has seen it: it is raised again, but only every 10 milliseconds
-        pin = counter()
-        self.assertEqual(self.driver.set_irqs(BIND, PIN, file=pin), 0)
+        self.bind(PIN)
         for _ in range(20):
             begun_at = time.monotonic()
-            self.put()
-            self.assertTrue(is_raised(pin))
-            for _ in range(5):
-                self.put()
-                self.assertEqual(self.driver.set_irqs(UNMASK, PIN), 0)
-            self.assertTrue(select.select([pin], [], [], LIMIT)[0])
-            times = int.from_bytes(os.read(pin, 8), sys.byteorder)
+            self.follow('put raised' + 5 * ' put unmask' + ' unread')
+            times = int.from_bytes(os.read(self.bell, 8), sys.byteorder)
             self.assertLessEqual(times, (time.monotonic() - begun_at) / 0.009)
             # (a head frees some of the completions, and the pin is raised at once for the others)
-            self.assertEqual(self.driver.set_irqs(UNMASK, PIN), 0)
-            self.driver.take()
-            self.assertTrue(is_raised(pin))
-            for _ in range(5):
-                self.driver.take()
-            self.assertEqual(self.driver.set_irqs(UNMASK, PIN), 0)
-            self.assertFalse(is_raised(pin))
+            self.follow('unmask take raised' + 5 * ' take' + ' unmask low')
 
     def test_raise_that_nobody_read(self):
         # a raise is taken back if the guest takes all completions before the other process has read it
-        pin = counter()
-        self.assertEqual(self.driver.set_irqs(BIND, PIN, file=pin), 0)
-        self.put()
-        self.assertTrue(is_raised(pin))
+        self.bind(PIN)
+        self.follow('put raised')
         for take in self.driver.take, self.driver.enable:
-            self.assertEqual(self.driver.set_irqs(UNMASK, PIN), 0)
-            self.assertTrue(select.select([pin], [], [], LIMIT)[0])
+            self.follow('unmask unread')
             take()
             self.driver.register(CSTS)
-            self.assertFalse(is_raised(pin))
-            self.put()
-            self.assertTrue(is_raised(pin))
+            self.follow('low put raised')
         # (a pin that the client masked stays masked)
-        self.assertEqual(self.driver.set_irqs(UNMASK, PIN), 0)
-        self.assertTrue(select.select([pin], [], [], LIMIT)[0])
-        self.assertEqual(self.driver.set_irqs(MASK, PIN), 0)
-        self.driver.take()
-        self.put()
-        self.assertTrue(is_raised(pin))
-        self.assertTrue(self.stays_low(pin))
+        self.follow('unmask unread mask take put raised idle')
 
     def test_idle_pin(self):
         # completions that nobody takes raise the pin once, and nothing wakes the server while it is masked or disabled
-        pin = counter()
-        self.assertEqual(self.driver.set_irqs(BIND, PIN, file=pin), 0)
-        self.put()
-        self.assertTrue(is_raised(pin))
-        for _ in range(2):
-            self.assertTrue(self.stays_low(pin))
-            self.driver.set_config(COMMAND, MASTER | NO_INTERRUPT, 2)
-            self.assertEqual(self.driver.set_irqs(UNMASK, PIN), 0)
+        self.bind(PIN)
+        self.follow('put raised' + 2 * ' idle disable unmask')
 
     def test_two_submitters(self):
         # two processes and an interrupt handler, with QEMU between them: no interrupt is lost, and there are few
-        pin = counter()
-        self.assertEqual(self.driver.set_irqs(BIND, PIN, file=pin), 0)
-        machine = Processors(self.driver, pin, random.Random(1))
+        self.bind(PIN)
+        machine = Processors(self.driver, self.bell, random.Random(1))
         milliseconds = machine.run(2000)
         self.assertEqual(machine.ended, 2000)
         # (there is one for what the handler takes at a time, and others come only every 10 milliseconds)
         self.assertLess(machine.interrupts, machine.handled + milliseconds / 9)
-        self.assertTrue(self.stays_low(pin))
+        self.follow('idle')
 
     def test_calls_of_the_kernel(self):
         # two doorbells that come together cost the server three: it waits, sees them, and takes them as it interrupts
         if not is_there('strace'):
             self.skipTest('strace is not installed')
         self.driver.close()
-        self.stop(self.server)
         trace = self.folder / 'trace'
-        self.server = self.start(by=('strace', '-D', '-o', trace))
+        self.restart(by=('strace', '-D', '-o', trace))
         driver = self.guest()
-        driver.enable()
-        message = driver.counters()[1]
+        bell = driver.counters()[1]
         for _ in range(50):
             driver.put(IDENTIFY, 2 * PAGE, dword10=1, rings=False)
             driver.socket.sendall(b''.join(
-                struct.pack('<HHIIIQIII', 0, REGION_WRITE, 36, WANTS_NONE, 0, offset, BAR, 4, value)
-                for offset, value in ((HEAD, driver.head), (TAIL, driver.tail))))
-            self.assertTrue(is_raised(message, LIMIT))
+                message(REGION_WRITE, access(BAR, offset, 4) + struct.pack('<I', queue.next), flags=WANTS_NONE)
+                for offset, queue in ((HEAD, driver.completions[0]), (TAIL, driver.submissions[0]))))
+            self.assertTrue(is_raised(bell, LIMIT))
             self.assertEqual(driver.advance(), 0)
         self.stop(self.server)
         self.assertTrue(until(lambda: not left_running()), 'the trace has no end')
@@ -238,53 +206,42 @@ class Interrupts(Served):
 
     def test_unmask_counter(self):
         # with KVM, a counter tells that the pin was seen
-        pin, seen = counter(), counter()
-        self.assertEqual(self.driver.set_irqs(MASK, PIN), 0)
-        self.assertEqual(self.driver.set_irqs(BIND, PIN, file=pin), 0)
+        seen = counter()
+        self.follow('mask')
+        self.bind(PIN)
         self.assertEqual(self.driver.set_irqs(BIND_UNMASK, PIN, file=seen), 0)
-        self.assertEqual(self.driver.set_irqs(UNMASK, PIN), 0)
-        self.put()
-        self.assertTrue(is_raised(pin))
-        os.write(seen, struct.pack('=Q', 1))
-        self.assertTrue(is_raised(pin, LIMIT))
-        self.driver.take()
-        os.write(seen, struct.pack('=Q', 1))
-        self.assertTrue(self.stays_low(pin))
+        for steps in 'unmask put raised', 'later take':
+            self.follow(steps)
+            os.write(seen, struct.pack('=Q', 1))
+        self.follow('idle')
 
     def test_invalid_requests(self):
         kept = self.kept()
         pipe = os.pipe()
-        for flags, index, count, file, start in (
-                (BIND, 2, 1, counter(), 0), (BIND, MESSAGES, 1, counter(), 1), (BIND, MESSAGES, 2, counter(), 0),
-                (BIND, PIN, 0, None, 0), (BIND, MESSAGES, 1, pipe[1], 0), (BIND, PIN, 1, memory_file(8), 0),
-                (UNBIND, PIN, 0, counter(), 0), (UNBIND, PIN, 1, None, 0), (MASK, MESSAGES, 1, None, 0),
-                (UNMASK, PIN, 0, None, 0), (0x22, PIN, 1, None, 0), (0x23, PIN, 1, None, 0), (0x64, PIN, 1, None, 0),
-                (0x38, PIN, 1, None, 0), (0, PIN, 1, None, 0), (BIND, 0xffff_ffff, 1, counter(), 0),
-                (BIND, MESSAGES, 0xffff_ffff, counter(), 1), (BIND_UNMASK, MESSAGES, 1, counter(), 0),
-                (BIND_UNMASK, PIN, 1, pipe[0], 0)):
-            self.assertEqual(self.driver.set_irqs(flags, index, count, file, start), EINVAL, (flags, index, count))
+        for request in (
+                (BIND, 2, 1, counter()), (BIND, MESSAGES, 1, counter(), 1), (BIND, MESSAGES, 2, counter()),
+                (BIND, PIN, 0), (BIND, MESSAGES, 1, pipe[1]), (BIND, PIN, 1, memory_file(8)),
+                (UNBIND, PIN, 0, counter()), (UNBIND, PIN), (MASK, MESSAGES), (UNMASK, PIN, 0), (0x22, PIN),
+                (0x23, PIN), (0x64, PIN), (0x38, PIN), (0, PIN), (BIND, 0xffff_ffff, 1, counter()),
+                (BIND, MESSAGES, 0xffff_ffff, counter(), 1), (BIND_UNMASK, MESSAGES, 1, counter()),
+                (BIND_UNMASK, PIN, 1, pipe[0])):
+            self.assertEqual(self.driver.set_irqs(*request), EINVAL, request)
         payload = struct.pack('<5I', 20, BIND, PIN, 0, 1)
         self.assertEqual(self.driver.refusal(SET_IRQS, payload, files=[counter()] * 2), EINVAL)
         self.keeps(kept)
 
     def test_full_counter(self):
         # a counter on which a write waits doesn't hold up the server, and is raised once it is read
-        full = counter()
-        os.set_blocking(full, True)
-        self.assertEqual(self.driver.set_irqs(BIND, MESSAGES, file=full), 0)
-        os.write(full, struct.pack('=Q', 2 ** 64 - 2))
-        self.put()
-        self.assertEqual(self.driver.take(), 0)
+        self.bind(MESSAGES, full_counter())
+        self.follow('put take')
         self.assertEqual(self.greeted(1).config(0), 0x0010_1b36)
-        self.assertEqual(os.read(full, 8), struct.pack('=Q', 2 ** 64 - 1))
-        self.put()
-        self.assertTrue(is_raised(full))
+        self.assertEqual(os.read(self.bell, 8), struct.pack('=Q', 2 ** 64 - 1))
+        self.follow('put raised')
 
     def test_many_full_counters(self):
         # fifteen of them don't slow down the commands of another client
         self.driver.close()
-        self.stop(self.server)
-        self.server = self.start(*['--subsystem', DEMO] * 8, last=15)
+        self.restart(*['--subsystem', DEMO] * 8, last=15)
         guests = [self.guest(number) for number in range(16)]
         usual, waits = [], []
 
@@ -292,19 +249,15 @@ class Interrupts(Served):
             begun_at = time.monotonic()
             self.assertEqual(guests[0].serial(), 'S0')
             times.append(time.monotonic() - begun_at)
-        for guest in guests:
-            guest.enable()
         for _ in range(20):
             serial(usual)
             for guest in guests[1:]:
-                full = counter()
-                os.set_blocking(full, True)
+                full = full_counter()
                 self.assertEqual(guest.set_irqs(BIND, MESSAGES, file=full), 0)
-                os.write(full, struct.pack('=Q', 2 ** 64 - 2))
                 os.close(full)
                 guest.put(IDENTIFY, 2 * PAGE, dword10=1, rings=False)
             for guest in guests[1:]:
-                guest.set_register(TAIL, guest.tail)
+                guest.set_register(TAIL, guest.submissions[0].next)
             serial(waits)
             for guest in guests[1:]:
                 guest.take()

@@ -13,7 +13,6 @@ class Memory(Served):
         guest = self.guest(layout=[(0, 16 * PAGE)])
         high = Piece(0x40_0000, 16 * PAGE, offset=0x40_0000)
         guest.add(high)
-        guest.enable()
         self.assertEqual(guest.serial(0x40_0000), 'S0')
         for first in 16 * PAGE, 0x3f_f000, 0x41_0000, 1 << 32, REACHED - PAGE, REACHED, 1 << 63, NOWHERE:
             wanted = 0 if first < REACHED else TRANSFER_ERROR
@@ -33,29 +32,25 @@ class Memory(Served):
         zero, pipe = os.open('/dev/zero', os.O_RDWR), os.pipe()
         kept = self.kept()
         self.assertEqual(client.map(4 * PAGE, 4 * PAGE, file), 0)
-        for address, size, offset, flags, given, wanted in (
-                (4 * PAGE, 4 * PAGE, 0, 3, file, EEXIST), (0, 5 * PAGE, 0, 3, file, EEXIST),
-                (7 * PAGE, PAGE, 0, 3, None, EEXIST), (5 * PAGE, PAGE, 0, 3, file, EEXIST),
-                (0, 16 * PAGE, 0, 3, file, EEXIST), (0, 0, 0, 3, file, EINVAL), (1, PAGE, 0, 3, file, EINVAL),
-                (0, PAGE + 1, 0, 3, file, EINVAL), (0, PAGE, 1, 3, file, EINVAL), (0, PAGE, 0, 2, file, EINVAL),
-                (0, PAGE, 0, 0, file, EINVAL), (0, PAGE, 0, 7, file, EINVAL), (0, PAGE, 0, 0xffff_ffff, file, EINVAL),
-                (2 ** 64 - PAGE, 2 * PAGE, 0, 3, file, EINVAL), (PAGE, 2 ** 64 - PAGE, 0, 3, None, EEXIST),
-                (0, PAGE, 64 * PAGE, 3, file, EINVAL), (0, PAGE, 2 ** 64 - PAGE, 3, file, EINVAL),
-                (1 << 20, 65 * PAGE, 0, 3, file, EINVAL), (1 << 20, 1 << 62, 0, 3, file, EINVAL),
-                (0, PAGE, 0, 3, zero, EINVAL), (0, PAGE, 0, 3, pipe[0], EINVAL),
-                (0, PAGE, 0, 3, client.socket.fileno(), EINVAL), (0, PAGE, 0, 3, counter(), EINVAL),
-                (0, PAGE, 0, 3, os.open(f'/proc/self/fd/{file}', os.O_RDONLY), EACCES)):
-            self.assertEqual(client.map(address, size, given, offset, flags), wanted, (hex(address), hex(size), flags))
+        self.answers(client.map,
+                     (4 * PAGE, 4 * PAGE, file, EEXIST), (0, 5 * PAGE, file, EEXIST), (7 * PAGE, PAGE, None, EEXIST),
+                     (5 * PAGE, PAGE, file, EEXIST), (0, 16 * PAGE, file, EEXIST), (0, 0, file, EINVAL),
+                     (1, PAGE, file, EINVAL), (0, PAGE + 1, file, EINVAL), (0, PAGE, file, 1, EINVAL),
+                     (0, PAGE, file, 0, 2, EINVAL), (0, PAGE, file, 0, 0, EINVAL), (0, PAGE, file, 0, 7, EINVAL),
+                     (0, PAGE, file, 0, 0xffff_ffff, EINVAL), (2 ** 64 - PAGE, 2 * PAGE, file, EINVAL),
+                     (PAGE, 2 ** 64 - PAGE, None, EEXIST), (0, PAGE, file, 64 * PAGE, EINVAL),
+                     (0, PAGE, file, 2 ** 64 - PAGE, EINVAL), (1 << 20, 65 * PAGE, file, EINVAL),
+                     (1 << 20, 1 << 62, file, EINVAL), (0, PAGE, zero, EINVAL), (0, PAGE, pipe[0], EINVAL),
+                     (0, PAGE, client.socket.fileno(), EINVAL), (0, PAGE, counter(), EINVAL),
+                     (0, PAGE, os.open(f'/proc/self/fd/{file}', os.O_RDONLY), EACCES))
         on_tmpfs = os.statvfs(self.folder).f_fsid == os.statvfs('/dev/shm').f_fsid
         self.assertEqual(client.map(1 << 20, PAGE, other), 0 if on_tmpfs else EINVAL)
         self.keeps(kept + 1 + on_tmpfs)
         # what was mapped is unmapped as it was mapped, or all of it
-        for address, size, flags, wanted in (
-                (0, PAGE, 0, ENOENT), (4 * PAGE, PAGE, 0, ENOENT), (5 * PAGE, 3 * PAGE, 0, ENOENT),
-                (0, 6 * PAGE, 0, ENOENT), (4 * PAGE, 0, 0, EINVAL), (4 * PAGE, 2 ** 64 - PAGE, 0, ENOENT),
-                (4 * PAGE, 4 * PAGE, 1, EINVAL), (4 * PAGE, 4 * PAGE, 2, EINVAL), (4 * PAGE, 4 * PAGE, 0, 0),
-                (4 * PAGE, 4 * PAGE, 0, ENOENT)):
-            self.assertEqual(client.unmap(address, size, flags), wanted, (hex(address), hex(size), flags))
+        self.answers(client.unmap,
+                     (0, PAGE, ENOENT), (4 * PAGE, PAGE, ENOENT), (5 * PAGE, 3 * PAGE, ENOENT), (0, 6 * PAGE, ENOENT),
+                     (4 * PAGE, 0, EINVAL), (4 * PAGE, 2 ** 64 - PAGE, ENOENT), (4 * PAGE, 4 * PAGE, 1, EINVAL),
+                     (4 * PAGE, 4 * PAGE, 2, EINVAL), (4 * PAGE, 4 * PAGE, 0), (4 * PAGE, 4 * PAGE, ENOENT))
         for at in range(8):
             self.assertEqual(client.map((8 + at) * PAGE, PAGE, file if at % 2 else None), 0)
         self.assertEqual(client.unmap(8 * PAGE, PAGE), 0)
@@ -81,7 +76,6 @@ class Memory(Served):
         rom = Piece(1 << 20, 16 * PAGE)
         guest.pieces.append(rom)
         self.assertEqual(guest.map(rom.address, rom.length, rom.file, flags=READ), 0)
-        guest.enable()
         self.assertEqual(guest.status_of(IDENTIFY, rom.address, dword10=1), 0)
         self.assertEqual(rom.bytes[:], bytes(16 * PAGE))
         guest.enable(rings=(rom.address, PAGE))
@@ -91,7 +85,6 @@ class Memory(Served):
     def test_unmapped_again(self):
         # no turn reaches memory that was taken away
         guest = self.guest()
-        guest.enable()
         self.assertEqual(guest.serial(), 'S0')
         self.assertEqual(guest.unmap(0, 64 * PAGE), 0)
         before = guest.pieces[0].bytes[:]
@@ -105,14 +98,13 @@ class Memory(Served):
     def test_shrunk_file(self):
         # a file that loses its pages ends nothing, and what it gets back is used again
         guest = self.guest(layout=[(0, 16 * PAGE), (16 * PAGE, 16 * PAGE)])
-        guest.enable()
         os.ftruncate(guest.pieces[1].file, PAGE // 2)
         for place in 16 * PAGE, 17 * PAGE, 20 * PAGE:
             self.assertEqual(guest.status_of(IDENTIFY, place, dword10=1), 0)
         os.ftruncate(guest.pieces[1].file, 16 * PAGE)
         self.assertEqual(guest.serial(17 * PAGE), 'S0')
         os.ftruncate(guest.pieces[0].file, 0)
-        guest.set_register(TAIL, (guest.tail + 1) % 16)
+        guest.set_register(TAIL, (guest.submissions[0].next + 1) % 16)
         self.assertEqual(guest.register(CSTS), 1)
         self.assertEqual(self.greeted(1).config(0), 0x0010_1b36)
 
@@ -120,7 +112,6 @@ class Memory(Served):
         # one file in two places, with the data over the queues
         guest = self.guest()
         self.assertEqual(guest.map(1 << 20, 64 * PAGE, guest.pieces[0].file), 0)
-        guest.enable()
         for data in (1 << 20) + 8 * PAGE, 8 * PAGE, 0, PAGE, (1 << 20), (1 << 20) + PAGE:
             guest.enable()
             guest.put(IDENTIFY, data, dword10=1)

@@ -1,17 +1,15 @@
-"""Tests I/O queues of ./nvme-model --vfio-user with random entries, lists and doorbells, beside a plain model
-(tests/block_model.py): after each step, all of the guest's memory and of the data is as in the model. NVME_TEST_STEPS
-sets the steps of each seed."""
+"""Tests I/O queues of ./nvme-model --vfio-user with random entries, lists and doorbells, beside queues of the library:
+after each step, all of the guest's memory and of the data is as there. NVME_TEST_STEPS sets the steps of each seed."""
 
 import os
 import random
 import struct
 
-from tests.as_client import differing
-from tests.block_model import Model, Queue
+from tests.as_client import REACHED, differing, flat_memory, module_of
 from tests.blocks import COMPARE, DATASET, FLUSH, READ, VERIFY, WRITE, WRITE_ZEROES, Drive
-from tests.driver import COMMAND, CSTS, MASTER, NOWHERE, PAGE
+from tests.driver import COMMAND, CSTS, ENTRY, HEAD, MASTER, NOWHERE, PAGE, TAIL, entry_of
 from tests.served import EVERY, Served
-from tests.support import DEMO, until
+from tests.support import DEMO, library, until
 
 SEEDS, STEPS = range(8), int(os.environ.get('NVME_TEST_STEPS', 300))
 PAGES = 64
@@ -45,34 +43,77 @@ def entry(lot, identifier):
         dwords = [0] * 6
     if lot.random() < 0.05:
         dwords[lot.randrange(6)] ^= 1 << lot.randrange(32)
-    return struct.pack('<BBHIQQQQ6I', opcode, flags, identifier % 2 ** 16, nsid, lot.getrandbits(64),
-                       lot.getrandbits(64), place(lot), place(lot), *dwords)
+    reserved = lot.getrandbits(64), lot.getrandbits(64)
+    return entry_of(opcode, identifier % 2 ** 16, nsid, place(lot), place(lot), *dwords, flags=flags, reserved=reserved)
+
+
+class Model:
+    """Pairs of I/O queues of the library, over memory like the guest's and the data of the namespaces, by NSID."""
+
+    def __init__(self, module):
+        self.module, self.memory, self.blocks = module, flat_memory(), {}
+
+    def begin(self):
+        self.pairs, self.has_failed = {}, False
+
+    def create(self, number, rings, depths):
+        """Creates a submission queue, and the completion queue of its own."""
+        self.pairs[number] = (self.module.SubmissionQueue(number, rings[1], depths[1]),
+                              self.module.CompletionQueue(rings[0], depths[0]))
+
+    def fill_holes(self, *words):
+        """Writes FFh to the pages without memory that an entry may name, itself or by a list in at most two pages."""
+        for _ in range(2):
+            last = words[-1] & ~7
+            if last < PAGES * PAGE:
+                words += struct.unpack(f'<{(PAGE - last % PAGE) // 8}Q', self.memory[last:(last | PAGE - 1) + 1])
+        for page in {word & -PAGE for word in words if PAGES * PAGE <= word < REACHED}:
+            self.memory[page:page + PAGE] = b'\xff' * PAGE
+
+    def take(self, pair):
+        """Takes the next entry of a pair, and returns whether there was one that could be completed."""
+        entry = self.module.queue_next(*pair, self.memory)
+        self.has_failed |= entry is not None and any(queue.base >= PAGES * PAGE for queue in pair)
+        if entry is None or self.has_failed:
+            return False
+        _, _, _, nsid, _, _, *prps = ENTRY.unpack(entry)[:8]
+        self.fill_holes(*prps)
+        self.module.queue_turn(*pair, self.memory, self.blocks.get(nsid))
+        return True
+
+    def take_all(self):
+        for pair in self.pairs.values():
+            while self.take(pair):
+                pass
 
 
 class Random(Served):
     def setUp(self):
         super().setUp()
-        self.stop(self.server)
         file = DEMO.read_bytes() + (b'[[namespace]]\nnsid = 2\nbytes = 163840\nformat = 1\ncontrollers = [0]\n'
                                     b'[[namespace]]\nnsid = 4\nbytes = 51200\nformat = 2\nextended = true\n'
                                     b'controllers = [0]\n')
         self.kept = self.folder / 'kept'
         self.kept.mkdir()
-        self.server = self.start('--subsystem', self.file('four.toml', file), '--data', self.kept)
+        self.restart('--subsystem', self.file('four.toml', file), '--data', self.kept)
 
     def test_random_entries(self):
         for seed in SEEDS:
             with self.subTest(seed):
                 self.random_entries(random.Random(seed))
 
+    def stored(self, nsid):
+        return (self.kept / f'subsystem0.namespace{nsid}').read_bytes()
+
     def random_entries(self, lot):
         drive = Drive(f'{self.path}0', layout=[(0, PAGES * PAGE)])
         self.addCleanup(drive.close)
-        self.model = Model(bytearray(PAGES * PAGE), 32 * PAGE)
+        module = module_of(library())
+        self.model = Model(module)
         for nsid, blocks, size in NAMESPACES:
-            with open(self.kept / f'subsystem0.namespace{nsid}', 'rb') as file:
-                self.model.data[nsid] = bytearray(file.read()), size
-                self.assertEqual(len(self.model.data[nsid][0]), blocks * size)
+            data = bytearray(self.stored(nsid))
+            self.assertEqual(len(data), blocks * size)
+            self.model.blocks[nsid] = module.Blocks(data, nsid, size, greatest_transfer=32 * PAGE)
         self.begin(drive, lot)
         try:
             self.steps(drive, lot)
@@ -90,29 +131,28 @@ class Random(Served):
         """Enables the controller with its own queues in the last pages, and creates random queues."""
         drive.set_config(COMMAND, MASTER, 2)
         drive.enable(rings=((PAGES - 2) * PAGE, (PAGES - 1) * PAGE), slots=(64, 64))
-        model = self.model
-        model.submissions, model.completions, model.has_failed = {}, {}, False
+        self.model.begin()
         for number, to in zip(lot.sample(range(1, 65), 3), lot.sample(range(1, 65), 3)):
             rings, depths = lot.sample(range(PAGES - 4), 2), lot.choices((2, 3, 16, 64), k=2)
             if lot.random() < 0.02:
                 rings[lot.randrange(2)] = PAGES + 1
-            self.assertEqual(drive.create_completions(to, rings[0] * PAGE, depths[0]), 0)
-            self.assertEqual(drive.create_submissions(number, rings[1] * PAGE, depths[1], to), 0)
-            model.completions[to] = Queue(rings[0] * PAGE, depths[0])
-            model.submissions[number] = Queue(rings[1] * PAGE, depths[1], to)
+            rings = [page * PAGE for page in rings]
+            self.assertEqual(drive.create_completions(to, rings[0], depths[0]), 0)
+            self.assertEqual(drive.create_submissions(number, rings[1], depths[1], to), 0)
+            self.model.create(number, rings, depths)
         drive.register(0)
-        model.memory[:] = drive.pieces[0].bytes[:]
+        self.model.memory[:PAGES * PAGE] = drive.pieces[0].bytes[:]
 
     def fill(self, drive, address, data):
         """Writes the guest's memory, also in the model."""
         if address + len(data) <= (PAGES - 2) * PAGE:
             drive.at(address, len(data))[:] = data
-            self.model.put(address, data)
+            self.model.memory[address:address + len(data)] = data
 
     def step(self, drive, lot, step):
         """Puts entries into a queue, with lists and data, and rings doorbells of any queue."""
-        model, number = self.model, lot.choice(list(self.model.submissions))
-        queue = model.submissions[number]
+        number = lot.choice(list(self.model.pairs))
+        submissions, completions = self.model.pairs[number]
         for _ in range(lot.randrange(4)):
             kind = lot.randrange(4)
             if kind == 0:
@@ -124,39 +164,32 @@ class Random(Served):
                 ranges = [(0, lot.randrange(9), near(lot, lot.randrange(blocks))) for _ in range(4)]
                 self.fill(drive, place(lot) & ~3, b''.join(struct.pack('<IIQ', *each) for each in ranges))
             else:            # what is stored, for a comparison
-                data, size = model.data[lot.choice(NAMESPACES)[0]]
-                self.fill(drive, place(lot), bytes(data[:8 * size]))
-        to = queue.completions
-        head = lot.choice((*[model.completions[to].next] * 2, lot.randrange(70), lot.getrandbits(32)))
-        drive.set_register(0x1004 + 8 * to, head)
-        model.ring_head(to, head)
-        self.run_all()
+                blocks = self.model.blocks[lot.choice(NAMESPACES)[0]]
+                self.fill(drive, place(lot), blocks.data[:8 * blocks.block_size])
+        head = lot.choice((*[completions.posted % completions.depth] * 2, lot.randrange(70), lot.getrandbits(32)))
+        drive.set_register(HEAD + 8 * drive.submissions[number].completions, head)
+        completions.head(head)
+        self.model.take_all()
         self.agree(drive, step)
-        count = lot.randrange(queue.depth)
+        count = lot.randrange(submissions.depth)
         for at in range(count):
-            self.fill(drive, queue.ring + 64 * ((queue.doorbell + at) % queue.depth), entry(lot, step + at))
-        tail = lot.choice((*[(queue.doorbell + count) % queue.depth] * 6, lot.randrange(70), lot.getrandbits(32)))
-        drive.set_register(0x1000 + 8 * number, tail)
-        model.ring_tail(number, tail)
-        while model.take(number):
-            pass
-
-    def run_all(self):
-        """Lets the model take entries that waited for room. (Each submission queue has its own completion queue.)"""
-        for number in self.model.submissions:
-            while self.model.take(number):
-                pass
+            slot = (submissions.rung + at) % submissions.depth
+            self.fill(drive, submissions.base + 64 * slot, entry(lot, step + at))
+        tail = (submissions.rung + count) % submissions.depth
+        tail = lot.choice((*[tail] * 6, lot.randrange(70), lot.getrandbits(32)))
+        drive.set_register(TAIL + 8 * number, tail)
+        submissions.tail(tail)
+        self.model.take_all()
 
     def agree(self, drive, step):
         """Waits until all of the memory is as in the model, and compares the data from time to time."""
-        model = self.model
+        model, got = self.model, drive.pieces[0].bytes
 
         def is_equal():
-            return drive.register(CSTS) == (3 if model.has_failed else 1) and drive.pieces[0].bytes[:] == model.memory
+            return drive.register(CSTS) == (3 if model.has_failed else 1) and got[:] == model.memory[:PAGES * PAGE]
         if not is_equal() and not until(is_equal, 5):
             self.assertEqual(drive.register(CSTS), 3 if model.has_failed else 1, step)
-            self.fail((step, differing(drive.pieces[0].bytes[:], model.memory)))
+            self.fail((step, differing(got[:], model.memory[:PAGES * PAGE])))
         if step % 20 == 19:
-            for nsid, (data, _) in model.data.items():
-                with open(self.kept / f'subsystem0.namespace{nsid}', 'rb') as file:
-                    self.assertEqual(file.read(), data, (step, nsid))
+            for nsid, blocks in model.blocks.items():
+                self.assertEqual(self.stored(nsid), blocks.data, (step, nsid))

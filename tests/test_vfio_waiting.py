@@ -15,7 +15,8 @@ import sys
 import threading
 import time
 
-from tests.as_client import BAR, BIND, DMA_MAP, MESSAGES, PIN, REGION_READ, VERSION
+from tests.as_client import (
+    BAR, BIND, DMA_MAP, MESSAGES, PIN, REGION_READ, VERSION, access, mapping, message)
 from tests.driver import PAGE, counter, memory_file
 from tests.modelled import works
 from tests.served import EINVAL, EMFILE, ENOENT, Served
@@ -58,7 +59,6 @@ class Waiting(Served):
     def goes_on(self, ctrl=1):
         """Checks that another client is served, whatever waits meanwhile."""
         other = self.guest(ctrl)
-        other.enable()
         self.assertEqual(other.serial(), f'S{ctrl}')
         other.close()
 
@@ -71,6 +71,15 @@ class Waiting(Served):
             yield
         finally:
             os.kill(self.server.process.pid, signal.SIGCONT)
+
+    def receivers(self):
+        """Returns the processes of the server that take descriptors."""
+        number = self.server.process.pid
+        return [int(word) for word in pathlib.Path(f'/proc/{number}/task/{number}/children').read_text().split()]
+
+    def signal_receivers(self, number):
+        for receiver in self.receivers():
+            os.kill(receiver, number)
 
     def test_file_system(self):
         # a file of a file system that doesn't answer is refused, and only its own client waits until it is closed
@@ -87,15 +96,13 @@ class Waiting(Served):
         running.comes(f'answered {EINVAL}\n'.encode())
         self.goes_on()
         # the server ends although its receiver can't
-        self.stop(self.server)
-        self.server = self.start()
+        self.restart()
         running.process.kill()
         running.end()
 
     def test_locked_memory(self):
         # memory whose lock is held is read and written
         guest = self.guest()
-        guest.enable()
         page = AbsentPage(self)
         page.write(guest.pieces[0].file)
         self.assertEqual(guest.serial(), 'S0')
@@ -110,11 +117,11 @@ class Waiting(Served):
             page.write(ends[1])
             rights = [(socket.SOL_SOCKET, socket.SCM_RIGHTS, struct.pack('=i', ends[0]))]
             client.number += 1
-            message = struct.pack('<HHIIIIIQQQ', client.number, DMA_MAP, 48, 0, 0, 32, 3, 0, 0, PAGE)
+            maps = message(DMA_MAP, mapping(), client.number)
             with self.stopped():
-                client.socket.sendmsg([message[:1]], rights, flags)
+                client.socket.sendmsg([maps[:1]], rights, flags)
                 os.close(ends[0])
-            client.socket.sendall(message[1:])
+            client.socket.sendall(maps[1:])
             self.assertEqual(client.heard()[3], EINVAL)
             self.goes_on()
             # (the next client of this controller waits until it is closed)
@@ -142,7 +149,7 @@ class Waiting(Served):
         file = os.dup(lingering.fileno())
         lingering.close()
         with self.stopped():
-            client.say(DMA_MAP, struct.pack('<IIQQQ', 32, 3, 0, 0, PAGE), [file])
+            client.say(DMA_MAP, mapping(), [file])
             os.close(file)
         self.assertEqual(client.heard()[3], EINVAL)
         self.goes_on()
@@ -152,19 +159,16 @@ class Waiting(Served):
     def test_killed_receiver(self):
         # without its receiver, a client is served until it sends a descriptor, and the next one has another receiver
         client = self.greeted()
-        for number in self.receivers():
-            os.kill(number, signal.SIGKILL)
+        self.signal_receivers(signal.SIGKILL)
         self.assertEqual(client.config(0), 0x0010_1b36)
-        client.say(DMA_MAP, struct.pack('<IIQQQ', 32, 3, 0, 0, PAGE), [memory_file(PAGE)])
+        client.say(DMA_MAP, mapping(), [memory_file(PAGE)])
         self.assertTrue(client.is_closed())
         # (nor is anything left of a client whose receiver ends before it answers)
         client = self.greeted()
-        for number in self.receivers():
-            os.kill(number, signal.SIGSTOP)
-        client.say(DMA_MAP, struct.pack('<IIQQQ', 32, 3, 0, 0, PAGE), [memory_file(PAGE)])
+        self.signal_receivers(signal.SIGSTOP)
+        client.say(DMA_MAP, mapping(), [memory_file(PAGE)])
         self.assertTrue(self.is_silent(client))
-        for number in self.receivers():
-            os.kill(number, signal.SIGKILL)
+        self.signal_receivers(signal.SIGKILL)
         self.assertTrue(client.is_closed())
         self.goes_on(0)
         # a server that is killed leaves none
@@ -180,7 +184,7 @@ class Waiting(Served):
             client.socket.setblocking(False)
             with contextlib.suppress(BlockingIOError):
                 while True:
-                    client.say(REGION_READ, struct.pack('<QII', 0, BAR, 0x4000))
+                    client.say(REGION_READ, access(BAR, 0, 0x4000))
             self.server.process.send_signal(number)
             self.assertEqual(self.server.end().status, -number)
             client.socket.settimeout(LIMIT)
@@ -194,7 +198,7 @@ class Waiting(Served):
         client, ends = self.greeted(), os.pipe()
         page.write(ends[1])
         with self.stopped():
-            client.say(DMA_MAP, struct.pack('<IIQQQ', 32, 3, 0, 0, PAGE), [ends[0]])
+            client.say(DMA_MAP, mapping(), [ends[0]])
             os.close(ends[0])
             self.server.process.terminate()
         self.assertEqual(self.server.end().status, -signal.SIGTERM)
@@ -207,20 +211,23 @@ class Waiting(Served):
         for request in PTRACE_SEIZE, PTRACE_INTERRUPT:
             self.assertEqual(LIBC.ptrace(request, number, None, None), 0)
         os.waitpid(number, 0)
-        self.stop(self.server)
-        self.server = self.start()
+        self.restart()
 
-    def receivers(self):
-        """Returns the processes of the server that take descriptors."""
-        number = self.server.process.pid
-        return [int(word) for word in pathlib.Path(f'/proc/{number}/task/{number}/children').read_text().split()]
+    def test_what_receivers_have(self):
+        # a receiver keeps neither memory of another guest nor data, which would outlast them
+        first, second = self.guest(0), self.guest(1)
+        self.assertEqual((first.serial(), second.config(0)), ('S0', 0x0010_1b36))
+        self.assertIn('memfd:', pathlib.Path(f'/proc/{self.server.process.pid}/maps').read_text())
+        for number in self.receivers():
+            self.assertNotIn('memfd:', pathlib.Path(f'/proc/{number}/maps').read_text())
+            self.assertFalse([name for name in os.listdir(f'/proc/{number}/fd')
+                              if 'memfd:' in os.readlink(f'/proc/{number}/fd/{name}')])
 
     def test_few_descriptors(self):
         # where none is left, a request is refused by EMFILE, or a client waits, and the server goes on
         outcomes = set()
         for most in range(8, 14):
-            self.stop(self.server)
-            self.server = self.start(by=('sh', '-c', 'ulimit -n "$0"; exec "$@"', str(most)))
+            self.restart(by=('sh', '-c', 'ulimit -n "$0"; exec "$@"', str(most)))
             outcomes.add(self.mapped())
             before = self.spent()
             time.sleep(0.5)
@@ -248,9 +255,7 @@ class Waiting(Served):
         self.assertEqual(guest.set_irqs(BIND, MESSAGES, file=counter()), 0 if count else EMFILE)
         guest.close()
         guest = self.guest(layout=[(at * 64 * PAGE, 64 * PAGE) for at in range(count)])
-        if count:
-            guest.enable()
-            for at in range(count):
-                self.assertEqual(guest.serial((64 * at + 8) * PAGE), 'S0')
+        for at in range(count):
+            self.assertEqual(guest.serial((64 * at + 8) * PAGE), 'S0')
         guest.close()
         return count

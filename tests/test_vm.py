@@ -2,7 +2,6 @@
 terminal and signals, and that nothing of this machine is changed; and, with tests/as_machine.py in the machine's place,
 how runs end, are killed, and can't begin."""
 
-import contextlib
 import fcntl
 import functools
 import os
@@ -18,12 +17,13 @@ import tempfile
 import termios
 import unittest
 
-from tests.modelled import CLIENT, WARNINGS
-from tests.support import (LIMIT, TOP, USERS, Case, Running, end_all, environment, left_running, process_folder,
+from tests.modelled import CLIENT, WARNINGS, installed, why_no_sandbox
+from tests.support import (LIMIT, MARK, TOP, USERS, Case, Running, end_all, environment, left_running, process_folder,
                            processes, run, until)
 from tests.test_qemu import kernel, program
 
-SHORT = '-DMOST_START=3', '-DMOST_BY_KVM=3', '-DMOST_SILENCE=3', '-DMOST_END=2', '-DPERIOD=1'
+KVM = "'/dev/kvm'"
+SHORT = ('20, 900, 300, 60, 10', '3, 3, 3, 2, 1'),
 NEEDED = 'virtio_pci', 'virtio_console', '9pnet_virtio', '9p', 'overlay', 'nvme'
 MIB = 1 << 20
 # A drive with a namespace for a file system.
@@ -53,20 +53,24 @@ SILENT = b'nvme-model: the machine has ended without a word, as by a kill, or by
 QEMU = '#!/bin/sh\ncase $* in *kvm*) exit 1 ;; *) echo vfio-user-pci ;; esac\n'
 # (the Python that every user can run)
 PYTHON = shutil.which('python3', path='/usr/bin:/bin') or sys.executable
-MACHINE = f'#!/bin/sh\nexec {PYTHON} {TOP}/tests/as_machine.py\n'
+MACHINE = f'#!/bin/sh\nexec {PYTHON} {TOP}/tests/as_machine.py "$@"\n'
 
 
 @functools.lru_cache(maxsize=None)
-def parts(server, *options):
-    """Returns the folder of the programs, with the server, or the text of a script in its place."""
+def parts(server, *changes):
+    """Returns the folder of the programs, with the server, or the text of a script in its place, which has no KVM, and
+    with changes of texts of vm.py."""
     folder = pathlib.Path(tempfile.mkdtemp(dir=process_folder()))
     folder.chmod(0o755)
-    files = [CLIENT / 'vm_streams.c', '-pthread', *WARNINGS]
-    subprocess.run(['cc', '-g', '-O1', *options, '-o', folder / 'vm', CLIENT / 'vm.c', *files], check=True)
     guest = folder / 'vm_guest.static', CLIENT / 'vm_guest.c'
-    subprocess.run(['cc', '-O1', '-static', '-o', *guest, *files], check=True)
-    for name in 'vm.sh', 'vm_guest.sh':
+    subprocess.run(['cc', '-O1', '-static', '-pthread', *WARNINGS, '-o', *guest], check=True)
+    for name in 'vm.py', 'vm_guest.sh':
         shutil.copy(CLIENT / name, folder)
+    text = (folder / 'vm.py').read_text()
+    for old, new in {**{KVM: "'/none'" for _ in range(isinstance(server, str))}, **dict(changes)}.items():
+        assert text.count(old) == 1, old
+        text = text.replace(old, new)
+    (folder / 'vm.py').write_text(text)
     if isinstance(server, str):
         (folder / 'qemu').write_text(server)
     else:
@@ -100,18 +104,18 @@ class Machine(Case):
         self.place = installation()
         self.env = {'PATH': f'{self.place}:{os.environ["PATH"]}', 'TMPDIR': self.folder / 'none'}
 
-    def command(self, *words, options=()):
-        return [parts(MACHINE, *options) / 'vm.sh', '--vm', '--kernel', self.place / 'boot/vmlinuz-1.0', *words]
+    def command(self, *words, changes=()):
+        return [parts(MACHINE, *changes) / 'vm.py', '--vm', '--kernel', self.place / 'boot/vmlinuz-1.0', *words]
 
-    def machine(self, name, *words, options=(), **more):
-        """Runs a command in a machine that does what the function of this name does."""
-        return run(*self.command(*(words or ['true']), options=options), env={**self.env, 'MACHINE': name}, **more)
+    def machine(self, name, *words, changes=(), **more):
+        """Runs a command in a machine of this name (tests/as_machine.py)."""
+        return run(*self.command(*(words or ['true']), changes=changes), env={**self.env, 'MACHINE': name}, **more)
 
     def started(self, name):
-        """Waits for a process whose name begins so, and returns its number."""
+        """Waits for a process that runs this file, and returns its number."""
         found = []
         self.assertTrue(until(lambda: found.extend(
-            {*left_running()} & {*processes('comm', lambda text: text.startswith(name))}) or found))
+            {*left_running()} & {*processes('cmdline', lambda text: f'/{name}\0'.encode() in text)}) or found))
         return found[0]
 
     def fails(self, ended, reason):
@@ -142,25 +146,72 @@ class Ends(Machine):
     def test_silence(self):
         for name in 'is_silent', 'falls_silent':
             with self.subTest(name):
-                self.fails(self.machine(name, options=SHORT), "the machine doesn't answer")
-        if os.access('/dev/kvm', os.W_OK):
-            self.file('qemu-system-x86_64', b'#!/bin/sh\necho vfio-user-pci\n').chmod(0o755)
-            with_kvm = {**self.env, 'PATH': f'{self.folder}:{self.env["PATH"]}'}
-            ended = run(*self.command('true', options=SHORT), env={**with_kvm, 'MACHINE': 'is_silent'})
-            self.ends(ended, 72, b'', b"nvme-model: the machine doesn't answer: --no-kvm may help\n")
-        self.ends(self.machine('lives', options=SHORT), 0, b'', b'')
-        self.ends(self.machine('stays', options=SHORT), 3, b'', b'')
+                self.fails(self.machine(name, changes=SHORT), "the machine doesn't answer")
+        # (a machine in which nothing has run by KVM is emulated, if it is silent or QEMU refuses it)
+        told = b'nvme-model: KVM runs no machine here, so its processors are emulated; --no-kvm saves 3 seconds\n'
+        by_kvm = *SHORT, (KVM, repr(str(self.file('kvm', b''))))
+        self.ends(self.machine('needs_emulation', changes=by_kvm), 3, b'tcg\n', told)
+        self.ends(self.machine('refuses_kvm', changes=by_kvm), 3, b'tcg\n', b'')
+        self.ends(self.machine('dies_by_kvm', changes=by_kvm), 72, b'', SILENT)
+        self.ends(self.machine('needs_emulation', '--no-kvm', 'true', changes=by_kvm), 3, b'tcg\n', b'')
+        self.fails(self.machine('falls_silent', changes=by_kvm), "the machine doesn't answer")
+        self.ends(self.machine('is_silent', changes=by_kvm), 72, b'',
+                  told + b"nvme-model: the machine doesn't answer\n")
+        self.ends(self.machine('lives', changes=SHORT), 0, b'', b'')
+        self.ends(self.machine('stays', changes=SHORT), 3, b'', b'')
+
+    def test_what_the_machine_is_told(self):
+        # (modules that are packed, or part of the kernel, each after those that it needs)
+        zst = '.zst' * bool(shutil.which('zstd'))
+        order = ('virtio.ko.gz', 'virtio-ring.ko.xz', 'virtio_pci.ko', 'virtio_console.ko', '9pnet_virtio.ko',
+                 f'9pnet.ko{zst}', '9p.ko', 'nvme-core.ko', 'nvme.ko')
+        needs = {'virtio_pci.ko': 'virtio-ring.ko.xz virtio.ko.gz', '9p.ko': order[5], 'nvme.ko': 'nvme-core.ko'}
+        modules = self.folder / 'modules'
+        modules.mkdir()
+        for name in order:
+            tool = {'.gz': 'gzip', '.xz': 'xz', '.zst': 'zstd'}.get(pathlib.Path(name).suffix, 'cat')
+            packed = subprocess.run([tool], input=name.encode(), stdout=subprocess.PIPE, check=True)
+            (modules / name).write_bytes(packed.stdout)
+        (modules / 'modules.dep').write_text(''.join(f'{name}: {needs.get(name, "")}\n' for name in order))
+        (modules / 'modules.builtin').write_text('kernel/fs/overlayfs/overlay.ko\n')
+        # (a Python in the C locale gives itself a variable, and takes others)
+        variables = [f'PATH={self.env["PATH"]}', 'MACHINE=tells_files', 'PYTHONPATH=/none', 'x=a\nb', f'{MARK}=1']
+        words = self.command('--modules', modules, '--net', '--share', modules, '--', b'a  b', '', b'\xff', '--net')
+        ended = run('env', '-i', *variables, *words, cwd=modules)
+        told = dict(part.split(b' ', 1) for part in ended.out.split(b'\0')[:-1])
+        told[b'variables'] = {*told[b'variables'].split(b'|')}
+        self.assertEqual(told, {
+            b'settings': f'modules {modules}\nnetwork\nshare0 {modules}'.encode(), b'words': b'a  b||\xff|--net|',
+            b'variables': {b'', *map(str.encode, variables)}, b'place': f'{socket.gethostname()}|{modules}'.encode(),
+            **{f'module{place}'.encode(): name.encode() for place, name in enumerate(order)}})
+
+    def test_newest_kernel(self):
+        boot, modules = self.folder / 'boot', self.folder / 'modules'
+        boot.mkdir()
+        changes = [(f"'{path}'", repr(str(place))) for path, place in (('/boot', boot), ('/lib/modules', modules))]
+        words = parts('#!/bin/sh\necho "nvme-model: $*"\n', *changes) / 'vm.py', '--no-kvm', 'true'
+        for name in '5.9', '6.1.0-9', '6.1.0-57', '10.0', '10.1':
+            shutil.copytree(self.place / 'lib/modules/1.0', modules / name, symlinks=True)
+        self.fails(run(*words, env=self.env), 'no kernel of /boot can be read and has its modules: install '
+                   'linux-image-amd64, or unpack\nthat package (apt-get download, dpkg-deb -x, depmod -b) and name the '
+                   'kernel by --kernel')
+        # (each is newer than those before it, and the last one has no modules)
+        (modules / '10.1/modules.dep').unlink()
+        (boot / 'vmlinuz-10.1').write_bytes(b'')
+        for path in boot / 'vmlinuz-5.9', boot / 'vmlinuz-6.1.0-9', boot / 'vmlinuz-6.1.0-57', modules / '10.0/vmlinuz':
+            path.write_bytes(b'')
+            self.assertIn(f' -kernel {path} ', run(*words, env=self.env).err.decode())
 
     def test_kills(self):
         # whichever process is killed, nothing is left, and the others say why
         for name in 'is_silent', 'falls_silent':
-            for victim in b'vm\n', b'python':
+            for victim in 'vm.py', 'as_machine.py':
                 with self.subTest(name, victim=victim):
                     running = Running(*self.command('true'), env={**self.env, 'MACHINE': name})
-                    self.started(b'python')
+                    self.started('as_machine.py')
                     os.kill(self.started(victim), signal.SIGKILL)
                     ended = running.end()
-                    if victim == b'vm\n':
+                    if victim == 'vm.py':
                         self.assertEqual(ended.status, -signal.SIGKILL)
                     else:
                         self.ends(ended, 72, SILENT)
@@ -176,7 +227,7 @@ class Ends(Machine):
         self.leaves_no_process()
         for number in signal.SIGTERM, signal.SIGINT, signal.SIGUSR1:
             running = Running(*self.command('true'), env={**self.env, 'MACHINE': 'is_silent'})
-            self.started(b'python')
+            self.started('as_machine.py')
             running.process.send_signal(number)
             self.ends(running.end(), 128 + number, b'')
             self.leaves_no_process()
@@ -223,11 +274,7 @@ class Refusals(Machine):
             self.fails(self.machine('copy', '--share', path, 'true'), f'--share {path}: there is no such folder')
 
     def test_what_is_missing(self):
-        tools = self.folder / 'tools'
-        tools.mkdir()
-        for name in 'sh', 'dirname', 'cat', 'sed', 'sort', 'awk', 'grep', 'readlink', 'timeout':
-            (tools / name).symlink_to(shutil.which(name))
-        self.env['PATH'] = tools
+        self.env['PATH'] = '/none'
         self.fails(self.machine('copy'), 'there is no qemu-system-x86_64: install QEMU (qemu-system-x86)')
         self.env['PATH'] = f'{self.place}:{os.environ["PATH"]}'
         missing = self.folder / 'missing'
@@ -243,11 +290,25 @@ class Refusals(Machine):
         (lacking / 'modules.dep').write_text(''.join(f'kernel/{name}.ko:\n' for name in NEEDED))
         ended = self.machine('copy', '--modules', lacking, 'true')
         self.ends(ended, 72, b'')
-        self.assertIn(f"nvme-model: {lacking}/kernel/virtio_pci.ko can't be unpacked\n".encode(), ended.err)
+        self.assertIn(f"nvme-model: {lacking}/kernel/virtio_pci.ko can't be unpacked: ".encode(), ended.err)
+
+    def test_no_python(self):
+        if why_no_sandbox():
+            self.skipTest(why_no_sandbox())
+        without = 'bwrap', '--dev-bind', '/', '/', '--bind', '/dev/null', os.path.realpath('/usr/bin/python3')
+        launcher = self.folder / 'bin/nvme-model'
+        launcher.parent.mkdir()
+        shutil.copy(installed(), launcher)
+        shutil.copytree(parts(MACHINE), self.folder / 'lib/nvme-model')
+        self.ends(run(*without, launcher, '--vm', 'true'), 72, b'',
+                  b'nvme-model: --vm needs python3 (apt install python3): Permission denied\n')
+        self.ends(run(launcher, '--vm', '--kernel', self.place / 'boot/vmlinuz-1.0', 'true',
+                      env={**self.env, 'MACHINE': 'killed'}), 128 + signal.SIGUSR1, b'', b'')
 
     def test_words(self):
-        # what QEMU and the server are given: KVM only if a machine runs with it, and polling only without either
-        folder = parts('#!/bin/sh\necho "nvme-model: $*"\n')
+        # what QEMU and the server are given: KVM only if QEMU takes it, and polling only without either
+        server = '#!/bin/sh\ncase $* in *kvm*) qemu-system-x86_64 -accel kvm || exit ;; esac\necho "nvme-model: $*"\n'
+        folder = parts(server, (KVM, repr(str(self.file('kvm', b'')))))
         for kvm, devices, wanted in (
                 (1, 'vfio-user-pci', ('-accel tcg -cpu max -smp 3', 'mitigations=off -serial')),
                 (0, 'vfio-user-pci', ('-accel kvm -cpu host -smp 3', 'mitigations=off -serial')),
@@ -259,10 +320,10 @@ class Refusals(Machine):
                 path = f'{self.folder}:{os.environ["PATH"]}'
                 words = '--vm', '--kernel', self.place / 'boot/vmlinuz-1.0', '--cpus', '3', '--subsystem', 'a b', 'true'
                 for more in (), ('--no-kvm',):
-                    said = run(folder / 'vm.sh', *more, *words, env={'PATH': path}).err.decode()
+                    said = run(folder / 'vm.py', *more, *words, env={'PATH': path}).err.decode()
                     self.assertIn('nvme-model: --qemu --memory 1G --subsystem a b -- -accel ', said)
                     self.assertIn(' -fsdev local,id=root,path=/,security_model=none,readonly=on,multidevs=remap ', said)
-                    if more or not os.access('/dev/kvm', os.W_OK):
+                    if more:
                         self.assertIn('-accel tcg', said)
                     else:
                         self.assertEqual([word for word in wanted if word not in said], [], said)
@@ -305,7 +366,7 @@ class Boot(Case):
             (self.folder / name).chmod(0o666)
         self.output = os.open(self.folder / 'out', os.O_RDONLY | os.O_NONBLOCK)
         found, modules = kernel()
-        words = [self.parts / 'vm.sh', '--no-kvm', '--kernel', found, '--modules', modules, '--share', self.shared,
+        words = [self.parts / 'vm.py', '--no-kvm', '--kernel', found, '--modules', modules, '--share', self.shared,
                  '--subsystem', self.drive, 'sh', TOP / 'tests/vm_boot.sh', self.data, self.shared, 'a  b']
         env = {'PS1': 'outside: ', 'TERM': 'dumb', 'HOME': '/none', 'VARIABLE': 'a  value', 'TMPDIR': self.temporary,
                'machine': '\n'.join(map(str, words)), 'IFS': '\n'}
@@ -383,7 +444,7 @@ class Boot(Case):
 
     def signals(self):
         self.assertEqual(self.hears(b'signals\n'), '')
-        number, = {*left_running()} & {*processes('comm', lambda text: text == b'vm\n')}
+        number, = {*left_running()} & {*processes('cmdline', lambda text: b'/vm.py\0' in text)}
         for name in 'HUP', 'INT', 'QUIT', 'USR1', 'USR2', 'TERM':
             os.kill(number, getattr(signal, f'SIG{name}'))
             self.assertEqual(self.hears(f'{name}\n'.encode()), '')

@@ -120,8 +120,7 @@ class Hung(WaitingCase):
         rest = 'until test -e "$2/started"; do sleep 0.1; done; ' + OTHERS + 'rm -f "$2/started"; echo go; sleep 1000'
         for way in ways():
             with self.subTest(way=way):
-                copy = self.file('hung_memory.py', (PROGRAMS / 'hung_memory.py').read_bytes())
-                out = self.ends_by_signal(self.mounted(script, rest, way, [copy]))
+                out = self.ends_by_signal(self.mounted(script, rest, way, [self.programs() / 'hung_memory.py']))
                 self.assertEqual(out, b'ready\n10\n1\ngo\n')
 
     def test_folders(self):
@@ -137,8 +136,8 @@ class Hung(WaitingCase):
             (self.folder / 'changing').touch()
         for way in ways():
             with self.subTest(way=way):
-                copy = self.file('hung_memory.py', (PROGRAMS / 'hung_memory.py').read_bytes())
-                out = self.ends_by_signal(self.mounted(script, rest, way, [copy], meanwhile=change))
+                words = [self.programs() / 'hung_memory.py']
+                out = self.ends_by_signal(self.mounted(script, rest, way, words, meanwhile=change))
                 self.assertEqual(out, b'ready\n10\ngo\n')
 
 
@@ -160,10 +159,8 @@ class Processes(WaitingCase):
         def go_on():
             self.assertTrue(do_helpers(ASKING, 1))
             signals(DEVICES, SIGCONT)()
-        script = 'step; (nvme id-ctrl /dev/nvme0 | grep -c S0) & step; wait'
-        for user in USERS:
-            running = self.stepped(script, signals(DEVICES, SIGSTOP), go_on, user=user)
-            self.ends(running.end(), 0, b'step\nstep\n1\n')
+        self.gives('step; (nvme id-ctrl /dev/nvme0 | grep -c S0) & step; wait', signals(DEVICES, SIGSTOP), go_on,
+                   out=b'step\nstep\n1\n')
 
     def test_messages(self):
         # what a program writes to standard error is handed to nobody, so it comes although the helpers are stopped
@@ -176,14 +173,10 @@ class Processes(WaitingCase):
 
     def test_many_callers(self):
         # more callers than helpers wait for a device, and each gets its answer
-        script = ('step; for i in $(seq 100); do (nvme id-ctrl /dev/nvme0 | grep -c S0) & done; step; '
-                  'echo x > "$1"; cat "$1"; step; wait')
-        for user in USERS:
-            with self.subTest(user=user):
-                running = self.stepped(script, signals(DEVICES, SIGSTOP),
-                                       lambda: self.assertTrue(do_helpers(ASKING, 100)), signals(DEVICES, SIGCONT),
-                                       user=user, words=[self.folder / f'file{len(user)}'])
-                self.ends(running.end(), 0, b'step\nstep\nx\nstep\n' + b'1\n' * 100)
+        self.gives('step; for i in $(seq 100); do (nvme id-ctrl /dev/nvme0 | grep -c S0) & done; step; '
+                   'f="$1-$(id -u)"; echo x > "$f"; cat "$f"; step; wait', signals(DEVICES, SIGSTOP),
+                   lambda: self.assertTrue(do_helpers(ASKING, 100)), signals(DEVICES, SIGCONT),
+                   words=[self.folder / 'file'], out=b'step\nstep\nx\nstep\n' + b'1\n' * 100)
 
     def kill_helpers(self):
         """Kills the helpers as soon as one of them waits for its keeper. All are stopped before, because one that is
@@ -198,26 +191,17 @@ class Processes(WaitingCase):
 
     def test_killed_helpers(self):
         # the call of a helper that is killed fails, and others take its place
-        script = 'step; (nvme id-ctrl /dev/nvme0 2>&1 | grep -o "Input/output error") & step; wait; step; ' + OTHERS * 2
-        for user in USERS:
-            with self.subTest(user=user):
-                running = self.stepped(script, signals(DEVICES, SIGSTOP), self.kill_helpers,
-                                       signals(DEVICES, SIGCONT), user=user, words=['x', self.folder])
-                self.ends(running.end(), 0, b'step\nstep\nInput/output error\nstep\n' + b'10\n1\n' * 2)
+        self.gives('step; (nvme id-ctrl /dev/nvme0 2>&1 | grep -o "Input/output error") & step; wait; step; ' +
+                   OTHERS * 2, signals(DEVICES, SIGSTOP), self.kill_helpers, signals(DEVICES, SIGCONT),
+                   words=['x', self.folder], out=b'step\nstep\nInput/output error\nstep\n' + b'10\n1\n' * 2)
 
     def test_killed_keeper(self):
         # nothing answers for its device any more, so all ends
-        for user in USERS:
-            with self.subTest(user=user):
-                running = self.stepped('step; sleep 1000', signals(KEEPERS, SIGKILL), user=user)
-                self.ends(running.end(), 72, b'step\nnvme-model: the process that talks with a device was killed\n')
+        self.gives('step; sleep 1000', signals(KEEPERS, SIGKILL), status=72,
+                   out=b'step\nnvme-model: the process that talks with a device was killed\n')
 
     def test_killed_launcher(self):
-        for user in USERS:
-            with self.subTest(user=user):
-                running = self.stepped('step; sleep 1000', signals(LAUNCHER, SIGKILL), user=user)
-                self.ends(running.end(), 137, b'step\n')
-                self.leaves_nothing()
+        self.gives('step; sleep 1000', signals(LAUNCHER, SIGKILL), status=137, out=b'step\n')
 
     def spent(self):
         """Returns how many ticks the launcher, its keeper and its helpers have run."""
@@ -231,13 +215,7 @@ class Processes(WaitingCase):
 
     def test_idle(self):
         # none of the launcher's processes takes a turn in vain, after a node was written or made longer
-        program = ('import ctypes, os\n'
-                   'node = os.open("/dev/nvme0n2", os.O_RDWR)\n'
-                   'ctypes.CDLL(None).syscall(18, node, b"x", 1, 9999)\n')
-        for user in USERS:
-            with self.subTest(user=user):
-                running = self.stepped(f'python3 -c "$1"; {CUT}step', self.is_idle, user=user, words=[program])
-                self.ends(running.end(), 0, GREW + b'step\n')
+        self.gives(f'busybox sh -c "seq 2000 > /dev/nvme0n2"; {CUT}step', self.is_idle, out=GREW + b'step\n')
 
     @unittest.skipUnless(IS_ROOT, 'root alone can take groups')
     def test_many_groups(self):
@@ -260,40 +238,27 @@ class Processes(WaitingCase):
 
     def test_many_orphans(self):
         # a signal is passed on while processes without parents stop and end
-        script = ('import os, signal\n'
-                  'print("go", flush=True)\n'
-                  'while True:\n'
-                  '    if os.fork() == 0:\n'
-                  '        if os.fork() == 0:\n'
-                  '            os.kill(os.getpid(), signal.SIGSTOP)\n'
-                  '        os._exit(0)\n'
-                  '    os.wait()\n'
-                  '    os.kill(-1, signal.SIGKILL)\n')
+        script = f'exec python3 {self.programs()}/orphans.py'
         for user in USERS:
             with self.subTest(user=user):
-                self.assertEqual(self.ends_by_signal(self.begun(user, 'exec python3 -c "$1"', script)), b'go\n')
+                self.assertEqual(self.ends_by_signal(self.begun(user, script)), b'go\n')
 
     def test_trace_that_nobody_reads(self):
         for user in USERS:
             with self.subTest(user=user):
                 reader, writer = os.pipe()
+                self.addCleanup(os.close, writer)
                 command = self.command('sh', '-c', 'while nvme id-ctrl /dev/nvme0 > /dev/null; do :; done',
                                        options=['--trace', '--refuse', 'format=0x2002'])
-                process = subprocess.Popen([*user, *command], stderr=writer, stdout=subprocess.DEVNULL,
-                                           env=environment())
-                self.addCleanup(process.kill)
-                self.assertTrue(until(lambda: not select.select([], [writer], [], 0)[1]), 'the pipe is never full')
-                process.terminate()
-                self.assertEqual(process.wait(LIMIT), 143)
                 # the pipe may be full from the start
-                process = subprocess.Popen([*user, *command], stderr=writer, stdout=subprocess.DEVNULL,
-                                           env=environment())
-                self.addCleanup(process.kill)
-                self.assertTrue(until(lambda: named()[b'device']), 'no device is started')
-                process.terminate()
-                self.assertEqual(process.wait(LIMIT), 143)
+                for is_there in (lambda: not select.select([], [writer], [], 0)[1], lambda: named()[b'device']):
+                    process = subprocess.Popen([*user, *command], stderr=writer, stdout=subprocess.DEVNULL,
+                                               env=environment())
+                    self.addCleanup(process.kill)
+                    self.assertTrue(until(is_there), 'the pipe is never full, or no device is started')
+                    process.terminate()
+                    self.assertEqual(process.wait(LIMIT), 143)
                 os.close(reader)
-                os.close(writer)
                 self.leaves_nothing()
 
     def test_limits_of_the_caller(self):
@@ -322,12 +287,9 @@ class Processes(WaitingCase):
     def test_no_watchers(self):
         # without inotify, nothing would tell of nodes that become longer
         user = 'setpriv', '--reuid=54400', '--regid=54400', '--clear-groups'
-        taker = subprocess.Popen([*user, 'python3', '-c', 'import ctypes, signal\n'
-                                  'while ctypes.CDLL(None).inotify_init1(0) >= 0: pass\n'
-                                  'print("full", flush=True)\nsignal.pause()'], stdout=subprocess.PIPE,
-                                 env=environment())
-        self.addCleanup(taker.kill)
-        self.assertEqual(taker.stdout.readline(), b'full\n')
+        taker = Running(*user, 'python3', self.programs() / 'watches.py')
+        self.addCleanup(taker.process.kill)
+        taker.comes(b'full\n')
         ended = run(*user, *self.command('true'))
         self.ends(ended, 72, b'', b'nvme-model: changes of nodes can\'t be watched (inotify): Too many open files\n')
 
@@ -335,12 +297,9 @@ class Processes(WaitingCase):
         # that a device was lost is reported before the command can see it
         late = self.folder / 'late.so'
         subprocess.run(['cc', *WARNINGS, '-shared', '-fPIC', '-o', late, PROGRAMS / 'late.c'], check=True)
-        script = 'step; while test -c /dev/nvme0; do :; done; echo gone'
-        for user in USERS:
-            with self.subTest(user=user):
-                running = self.stepped(script, signals(DEVICES, SIGKILL), user=(*user, 'env', f'LD_PRELOAD={late}'))
-                self.ends(running.end(), 0,
-                          b'step\nnvme-model: the device ended, or answered what was not asked\ngone\n')
+        self.gives('step; while test -c /dev/nvme0; do :; done; echo gone', signals(DEVICES, SIGKILL),
+                   by=['env', f'LD_PRELOAD={late}'],
+                   out=b'step\nnvme-model: the device ended, or answered what was not asked\ngone\n')
 
     @unittest.skipUnless(IS_ROOT, 'root alone can take the number of a user without processes')
     def test_too_few_processes(self):
@@ -358,36 +317,5 @@ class Processes(WaitingCase):
 
     def test_many_changes(self):
         # more files are written than the kernel tells while a keeper waits; a node that became longer gets its length
-        program = ('import ctypes, os\n'
-                   'call = ctypes.CDLL(None).syscall\n'
-                   'def step():\n'
-                   '    print("step", flush=True)\n'
-                   '    input()\n'
-                   'def length():\n'
-                   '    return os.lseek(os.open("/dev/nvme0n2", 0), 0, 2)\n'
-                   'step()\n'
-                   'controller = os.open("/dev/nvme0", os.O_RDWR)\n'
-                   'if os.fork() == 0:\n'
-                   '    call(16, controller, 0x4e44)\n'
-                   '    os._exit(0)\n'
-                   'for number in range(10000):\n'
-                   '    for name in "/dev/one", "/dev/other":\n'
-                   '        os.close(os.open(name, os.O_WRONLY | os.O_CREAT))\n'
-                   'node = os.open("/dev/nvme0n2", os.O_RDWR)\n'
-                   'call(18, node, b"x", 1, 9999)\n'
-                   'os.close(node)\n'
-                   'print(length())\n'
-                   'step()\n'
-                   'os.wait()\n'
-                   'while length() != 4608:\n'
-                   '    pass\n'
-                   'print("end")\n')
-        for user in USERS:
-            with self.subTest(user=user):
-                running = self.stepped('python3 -c "$1"', signals(DEVICES, SIGSTOP), signals(DEVICES, SIGCONT),
-                                       user=user, words=[program])
-                self.ends(running.end(), 0, b'step\n10000\nstep\n' + GREW + b'end\n')
-
-
-if __name__ == '__main__':
-    unittest.main()
+        self.gives(f'python3 {self.programs()}/grows.py', signals(DEVICES, SIGSTOP), signals(DEVICES, SIGCONT),
+                   out=b'step\n10000\nstep\n' + GREW + b'end\n')

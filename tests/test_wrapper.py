@@ -4,6 +4,7 @@ the same bytes as the built program."""
 
 import os
 import re
+import shlex
 import shutil
 import signal
 import time
@@ -11,8 +12,7 @@ import unittest
 
 from tests.modelled import works
 from tests.support import (DEMO, IS_ROOT, LIMIT, NOBODY, TOP, Case, Running, copy_sources, left_running, program, run,
-                           until)
-from tests.test_installed import OPTIONS
+                           table, until)
 
 SCRIPT = program('nvme_script')
 LINE = b'nvme-script: this run is unproved and takes about a minute; ./nvme-script --build makes the proved program'
@@ -43,7 +43,8 @@ class Copy(Case):
         shutil.copy(TOP / 'tests/stand_in_rt', self.kit / 'bin/rt')
         (self.kit / 'KIT-ID').write_text('a kit\n')
         (self.kit / 'out').write_bytes(ANSWER)
-        self.env = {'PATH': f'{self.kit}/bin:{os.environ["PATH"]}', 'TMPDIR': self.temporary}
+        self.env = {'PATH': f'{self.kit}/bin:{os.environ["PATH"]}', 'TMPDIR': self.temporary, 'copy': self.copy,
+                    'kit': self.kit}
         self.command = self.copy / 'nvme-script'
         self.answer_ended(0)
         self.files = self.files_of_copy()
@@ -55,15 +56,11 @@ class Copy(Case):
         self.assertEqual(list(self.temporary.iterdir()), [])
         self.assertEqual(self.files_of_copy(), self.files)
 
-    def answer(self, status, messages):
-        """Sets what the next `rt try` says."""
-        (self.kit / 'status').write_text(f'{status}\n')
-        (self.kit / 'err').write_bytes(messages)
-
     def answer_ended(self, status, messages=b''):
-        """Sets what `rt try` says of a run that ended."""
+        """Sets what the next `rt try` says, of a run that ended."""
         lines = b'interpreter: no-answer: a reason\nchecked: ended status=N\nrun=ended status=N runners=1 proved=no\n'
-        self.answer(status, messages + lines.replace(b'=N', b'=%d' % status))
+        (self.kit / 'status').write_text(f'{status}\n')
+        (self.kit / 'err').write_bytes(messages + lines.replace(b'=N', b'=%d' % status))
 
     def given(self, name):
         """Returns what the stand-in was given under this name."""
@@ -97,18 +94,8 @@ class Copy(Case):
     def is_unproved(self):
         self.ends(self.script(), 0, ANSWER, LINE + b'\n')
 
-    def says(self, ended, status, text):
-        """Checks that a run ended with a last message that has this text."""
-        self.ends(ended, status)
-        self.assertRegex(ended.err.splitlines()[-1], b'^nvme-script: .*' + re.escape(text), ended)
 
-    def says_alone(self, ended, status, text):
-        """Checks that a run ended with this one message after the line, and no output."""
-        self.says(ended, status, text)
-        self.assertEqual((ended.out, ended.err.splitlines()[:-1]), (b'', [LINE]), ended)
-
-
-class WhichProgram(Copy):
+class WhichProgram(Copy, transcripts='which_program'):
     def setUp(self):
         super().setUp()
         self.is_unproved()
@@ -134,19 +121,6 @@ class WhichProgram(Copy):
                 path.write_bytes(before)
             self.is_proved()
 
-    def test_no_program(self):
-        self.made.unlink()
-        self.is_unproved()
-
-    def test_edit_in_a_crate_above(self):
-        with open(self.copy / 'crates/nv_tests/src/lib.rt', 'a') as tests:
-            tests.write('// a test\n')
-        self.is_proved()
-
-    def test_no_rt(self):
-        self.env['PATH'] = '/usr/bin:/bin'
-        self.is_proved()
-
     def test_minutes_that_are_left(self):
         """Those of nvme_script count for another program only if it isn't built."""
         table = (TOP / 'README.md').read_text()
@@ -162,17 +136,8 @@ class WhichProgram(Copy):
 
     def test_advice(self):
         # a second line says what to do about the usual mistakes
-        see, read = 'nvme-script --help shows the options', 'a script is read from standard input: nvme-script < FILE'
-        needs, twice, alone = '--depth needs a value', '--depth is given twice', '--help takes no other argument'
-        rows = {see: ['-h', '--bogus', '--pace=1 -q', '--bogus=3 x', '--help=1', '---', '--depth 8 --explain'],
-                read: ['-', 'x.nvme', '--depth 8 x', '--subsystem=-x x', '--window 1 -'],
-                needs: ['--depth', '--depth -1', '--depth --', '--depth --pace', '--window 1 --depth'],
-                twice: ['--depth 8 --depth 8', '--depth=8 --depth'],
-                alone: ['--help --help', '--help x', '--pace 1 --help']}
-        self.is_refused('arguments', [
-            *((words.split(), advice) for advice, all_words in rows.items() for words in all_words), ([''], read),
-            (['--build', 'now'], '--build takes no other argument'), (['--depth='], "--depth takes a number, not ''"),
-            *((['--depth', value], f"--depth takes a number, not '{value}'") for value in ('many', '8k', '+8', '8 '))])
+        self.is_refused('arguments', [*((shlex.split(words), advice) for words, advice in table('advice')),
+                                      (['--depth', '8 '], "--depth takes a number, not '8 '")])
 
     def test_files_that_are_not_read(self):
         most = self.file('most.toml', DEMO.read_bytes().ljust(1 << 20))
@@ -189,32 +154,6 @@ class WhichProgram(Copy):
         self.folder.chmod(0o755)
         first, *words = [*(NOBODY if IS_ROOT else ()), self.command, '--subsystem', path]
         self.refuses(words, 'subsystem: unreadable', f"you may not read '{path}'", command=first)
-
-    def test_what_the_program_finds(self):
-        see, explain = 'nvme-script --help shows what each option takes', 'nvme-script --explain --subsystem'
-        for words in '--depth 4294967296', '--depth 08', '--depth f':
-            self.refuses(words.split(), 'arguments', see)
-        for words, field in ('--depth 1', 'depth'), ('--window 32', 'window'), ('--page-size 5000', 'page_size'):
-            self.refuses(words.split(), f'geometry: {field}', see)
-        text = DEMO.read_bytes()
-        for old, new, fault, advice in (
-                (b'4608', b'9437185', 'capacity', "the namespaces of '{0}' have more bytes together than tnvmcap"),
-                (b'[0]', b'[7]', 'attachment',
-                 "a namespace of '{0}' has an unknown controller, one twice, or several without 'shared = true'"),
-                (b'nn = 4', b'nn = 0', 'out of range top.nn', explain + " '{0}' < /dev/null says where"),
-                (b'nn = 4', b'nn =', 'not TOML', explain + " '{0}' < /dev/null says where")):
-            path = self.file('faulty.toml', text.replace(old, new))
-            self.refuses(['--subsystem', path], f'subsystem: {fault}', advice.format(path))
-
-    def test_what_is_not_refused(self):
-        # a file that can be read only once is read by the run alone
-        for words in '--', '--subsystem /dev/stdin':
-            with self.subTest(words):
-                wanted = run(SCRIPT, *words.split(), source=DEMO)
-                self.assertNotEqual(wanted.status, 3, wanted)
-                self.ends(self.script(*words.split(), source=DEMO), wanted.status, wanted.out, wanted.err)
-        line = 'cat "$1" | "$0" --subsystem /dev/stdin'
-        self.ends(self.script('-c', line, self.command, DEMO, command='sh'), 0, b'', b'')
 
     def test_advice_on_a_terminal(self):
         explain = b'nvme-script: nvme-script --explain < SCRIPT says what is wrong with a line\n'
@@ -240,7 +179,7 @@ class WhichProgram(Copy):
         self.assertEqual(talk.process.wait(LIMIT), 3)
 
 
-class Builds(Copy):
+class Builds(Copy, transcripts='builds'):
     def begun(self):
         """Starts a build that waits in its first steps."""
         build = Running(self.command, '--build', env=self.env)
@@ -252,7 +191,9 @@ class Builds(Copy):
             with self.subTest(number.name):
                 build = self.begun()
                 self.ends(self.script(), 0, ANSWER, LINE + b', and a build is under way\n')
-                self.says(self.script('--build'), 72, b'a build is under way already')
+                ended = self.script('--build')
+                self.ends(ended, 72)
+                self.assertIn(b'a build is under way already', ended.err)
                 build.process.send_signal(number)
                 self.assertEqual(build.process.wait(LIMIT), -number, build.line)
                 self.assertTrue(until(lambda: self.script().err == LINE + b'\n'), 'a build is said to be under way')
@@ -282,31 +223,6 @@ class Builds(Copy):
         ended = self.script('-Urm', 'sh', '-c', script, self.copy, place, command='unshare')
         self.ends(ended, 72, b'', b'nvme-script: the disk is full: a build needs 6 GB in %s\n' % os.fsencode(place))
 
-    def test_packages(self):
-        tools = self.folder / 'tools'
-        tools.mkdir()
-        missing = {'cc', 'bwrap', 'python3'}
-        for tool in {name for folder in ('/usr/bin', '/bin') for name in os.listdir(folder)} - missing:
-            (tools / tool).symlink_to(f'/usr/bin/{tool}' if os.path.exists(f'/usr/bin/{tool}') else f'/bin/{tool}')
-        self.env['PATH'] = f'{self.kit}/bin:{tools}'
-        self.says(self.script('--build'), 72, b'the toolchain needs python3: apt install python3')
-        ended = self.script(command=self.copy / 'tools/library')
-        self.ends(ended, 72, b'', b'nvme-controller: the library needs a C compiler: apt install gcc\n')
-        # a build of the device names what commands need besides
-        (self.kit / 'go').touch()
-        (tools / 'python3').symlink_to('/usr/bin/python3')
-        ended = self.script('nvme_device', command=self.copy / 'tools/build')
-        self.assertIn(b'nvme-device: what runs over the device needs more: apt install gcc bubblewrap\n', ended.err)
-
-    def test_failed(self):
-        (self.kit / 'go').touch()
-        (self.kit / 'fails').touch()
-        ended = self.script('--build')
-        self.ends(ended, 72)
-        self.assertRegex(ended.err, rb'(?m)^nvme-script: nv_.* could not be built; rt said:$', ended)
-        self.assertEqual(ended.err.splitlines()[-1], b'a proof failed', ended)
-        self.is_unproved()
-
     def test_sources_that_change_and_change_back(self):
         build = self.begun()
         below = (self.copy / BELOW).read_bytes()
@@ -317,86 +233,20 @@ class Builds(Copy):
         build.comes(b'the sources changed during the build: build once more\n')
         self.is_unproved()
 
-    def test_built(self):
-        (self.kit / 'go').touch()
-        total = len(run('tools/crates').out.splitlines())
-        self.assertGreater(total, 10)
-        ended = self.script('--build')
-        self.says(ended, 0, b'built and proved: %d crates' % total)
-        self.assertIn(b'nvme-script: building nv_bits, 1 of %d\n' % total, ended.err)
-        self.is_proved()
-        self.says(self.script('--build'), 0, b'nothing to do')
 
+class Left(Copy):
+    """Checks that scripts leave nothing behind."""
 
-class Texts(Copy):
-    def test_help_and_version(self):
-        # they need no program, and are texts only as the only argument
-        ended = self.script('--help')
-        self.ends(ended, 0, err=b'')
-        self.assertEqual(ended.out.splitlines()[0], b'usage: nvme-script [--subsystem FILE] [OPTION NUMBER].. < SCRIPT')
-        for option in OPTIONS:
-            self.assertIn(option.encode(), ended.out)
-        version = (TOP / 'VERSION').read_text().strip()
-        self.ends(self.script('--version'), 0, f'nvme-script {version}\n'.encode(), b'')
-        for option in '--help', '--version':
-            self.assertEqual(self.script(option, out='/dev/full').status, 72)
-
-    def test_of_the_model_without_a_build(self):
-        # neither a library nor a device was built
-        shutil.copy(TOP / 'nvme-model', self.copy)
-        shutil.copytree(TOP / 'client', self.copy / 'client')
-        for words, out in ((('--qemu', '--help'), b'usage: nvme-model --qemu '), (('--version',), b'nvme-model '),
-                           (('--help',), b'usage: nvme-model [OPTION..]')):
-            ended = run(self.copy / 'nvme-model', *words)
-            self.ends(ended, 0, err=b'')
-            self.assertTrue(ended.out.startswith(out), ended)
-        self.assertEqual(run(self.copy / 'nvme-model', '--qemu', '--help', '-x').status, 72)
-        ended = run(self.copy / 'nvme-model', '--build', 'now')
-        self.ends(ended, 72, b'', b'nvme-model: --build takes no other argument\n')
-
-    def test_beside_an_installation(self):
-        # a clone in the folder of an installation runs its own sources
-        other = self.folder / 'lib/nvme-model/nvme_script'
-        other.parent.mkdir(parents=True)
-        shutil.copy('/bin/false', other)
-        self.is_unproved()
-
-
-class Unproved(Copy):
-    def test_what_the_program_gives(self):
-        messages = b'line 1: bogus\nrun=ended, says a line\n'
-        for status in range(7):
-            with self.subTest(status):
-                self.answer_ended(status, messages)
-                self.ends(self.script(), status, ANSWER, LINE + b'\n' + messages)
-                self.assertEqual(self.given('input'), b'list-ns /dev/nvme0\n')
+    def transcribe(self, transcript):
+        super().transcribe(transcript)
         self.leaves_nothing()
 
-    def test_what_is_no_run(self):
-        for status, said, end, text in (
-                (4, b'here\nthe end of the output:\n| x\nchecked: fault kind=overflow in=f: a sum\nrun=fault', 70,
-                 b'a check stopped this run: kind=overflow'),
-                (6, b'checked: no-answer: the program wrote more than 1048576 bytes to standard output\nrun=no-answer',
-                 71, b'at most 1 MiB'),
-                (6, b'checked: no-answer: the program did not end within the time limit\nrun=no-answer', 71,
-                 b'has 600 seconds')):
-            with self.subTest(text):
-                self.answer(status, said + b' proved=no\n')
-                self.says_alone(self.script(), end, text)
 
-    def test_sources_that_rt_refuses(self):
-        self.answer(1, b'error: a type is wrong\nrun=none proved=no\n')
-        ended = self.script()
-        self.says(ended, 72, b'rt did not run these sources')
-        self.assertIn(b'\nerror: a type is wrong\n', ended.err)
+class Texts(Copy, transcripts='wrapper_texts'):
+    pass
 
-    def test_no_rt(self):
-        tools = self.env['PATH'] = self.folder / 'tools'
-        tools.mkdir()
-        for tool in 'sh readlink dirname awk sort cut find sha256sum cmp sed cat head grep'.split():
-            (tools / tool).symlink_to(shutil.which(tool))
-        self.says(self.script(), 72, b'rt is not on the path')
 
+class Unproved(Left, transcripts='wrapper_unproved'):
     def test_arguments(self):
         # arguments are passed on unchanged, except for those that aren't UTF-8, in whose place another one is refused
         words = '--', '', 'a  b', 'x\ny', 'x\u00e9', '--depth', '*', '--'
@@ -450,20 +300,7 @@ class SubsystemFiles(Copy):
         self.assertEqual((self.given('file'), self.given('input')), (b'file in a pipe', b''))
 
 
-class Streams(Copy):
-    def test_input_that_cannot_be_read(self):
-        for ended in self.script(source=self.folder), self.script('-c', '"$0" <&-', self.command, command='sh'):
-            self.says_alone(ended, 71, b'standard input could not be read')
-        self.leaves_nothing()
-
-    def test_output_that_cannot_be_written(self):
-        self.says(self.script(out='/dev/full'), 71, b'could not be written')
-
-    def test_nothing_is_run_where_the_line_cannot_be_written(self):
-        self.ends(self.script(err='/dev/full'), 71, b'')
-        self.assertIsNone(self.given('input'))
-        self.leaves_nothing()
-
+class Streams(Left, transcripts='wrapper_streams'):
     def test_terminal(self):
         talk = Running(self.command, terminal=True, env=self.env)
         talk.comes(b'nvme-script: an unproved run reads its whole script first, so it takes a file or a pipe and no '

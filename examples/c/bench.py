@@ -11,7 +11,7 @@ ERROR_FIELDS = 'error_count', 'sqid', 'cmdid', 'status_field', 'parm_err_loc', '
 
 
 class Host:
-    """A host's driver for controller 0, polled."""
+    """A host's driver for controller 0, polled, which sends one command at a time."""
 
     def __init__(self, machine):
         self.machine, self.memory, self.sent = machine, bytearray(16 * PAGE), 0
@@ -19,7 +19,7 @@ class Host:
             machine.write32(0, offset, value)
 
     def send(self, opcode, nsid=0, cdw10=0, data=b''):
-        """Sends a command with a page of data, and answers dword 0 of its completion, or None where it is refused."""
+        """Sends a command with a page of data, and returns dword 0 and the status of its completion."""
         slot = self.sent % DEPTH
         self.memory[DATA:DATA + PAGE] = data.ljust(PAGE, b'\0')
         entry = struct.pack('<IIQQQQI20x', opcode | self.sent << 16, nsid, 0, 0, DATA, 0, cdw10)
@@ -32,39 +32,49 @@ class Host:
             sys.exit("bench: not this command's completion")
         self.machine.write32(0, HEAD_DOORBELL, (slot + 1) % DEPTH)
         self.sent += 1
-        if word >> 1:
-            print(f'NVMe status: {status_text(word >> 1)} ({word >> 1:#x})', file=sys.stderr)
-            return None
-        return dword0
-
-    def list_namespaces(self):
-        self.send(0x06, cdw10=0x02)
-        for index, nsid in enumerate(struct.unpack_from('<1024I', self.memory, DATA)):
-            if nsid:
-                print(f'[{index:4}]:{nsid:#x}')
+        return dword0, word >> 1
 
     def create_namespace(self, blocks):
-        nsid = self.send(0x0d, data=struct.pack('<QQ', blocks, blocks))
-        if nsid is not None:
-            print(f'create-ns: Success, created nsid:{nsid}')
+        return self.send(0x0d, data=struct.pack('<QQ', blocks, blocks))
 
     def attach_namespace(self, nsid, ctrl):
-        if self.send(0x15, nsid, data=struct.pack('<HH', 1, ctrl)) is not None:
-            print(f'attach-ns: Success, nsid:{nsid}')
-
-    def show_error(self):
-        self.send(0x06, cdw10=0x01)
-        self.send(0x02, 0xffffffff, 0x01 | (64 // 4 - 1) << 16)
-        print(f'{"entry":20}: 0')
-        for name, value in zip(ERROR_FIELDS, ErrorEntry.of(self.memory[DATA:DATA + 64])):
-            print(f'{name:20}: {value}' if name in ('error_count', 'sqid') else f'{name:20}: {value:#x}')
+        return self.send(0x15, nsid, data=struct.pack('<HH', 1, ctrl))
 
 
-with Machine(open(sys.argv[1], 'rb').read() if len(sys.argv) > 1 else None) as opened:
-    host = Host(opened)
-    host.list_namespaces()
-    host.create_namespace(4096)
-    host.attach_namespace(2, 0)
-    host.list_namespaces()
-    host.create_namespace(14328)
-    host.show_error()
+def list_namespaces(host):
+    host.send(0x06, cdw10=0x02)
+    for index, nsid in enumerate(struct.unpack_from('<1024I', host.memory, DATA)):
+        if nsid:
+            print(f'[{index:4}]:{nsid:#x}')
+
+
+def show(text, answer):
+    """Prints that a command succeeded, with dword 0 in the text, or its status."""
+    dword0, status = answer
+    if status:
+        print(f'NVMe status: {status_text(status)} ({status:#x})', file=sys.stderr)
+    else:
+        print(text.format(dword0))
+
+
+def show_error(host):
+    host.send(0x06, cdw10=0x01)
+    host.send(0x02, 0xffffffff, 0x01 | (64 // 4 - 1) << 16)
+    print(f'{"entry":20}: 0')
+    for name, value in zip(ERROR_FIELDS, ErrorEntry.of(host.memory[DATA:DATA + 64])):
+        print(f'{name:20}: {value}' if name in ('error_count', 'sqid') else f'{name:20}: {value:#x}')
+
+
+def main(path=None):
+    with Machine(path and open(path, 'rb').read()) as machine:
+        host = Host(machine)
+        list_namespaces(host)
+        show('create-ns: Success, created nsid:{}', host.create_namespace(4096))
+        show('attach-ns: Success, nsid:2', host.attach_namespace(2, 0))
+        list_namespaces(host)
+        show('create-ns: Success, created nsid:{}', host.create_namespace(14328))
+        show_error(host)
+
+
+if __name__ == '__main__':
+    main(*sys.argv[1:])

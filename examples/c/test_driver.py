@@ -1,12 +1,12 @@
 #!/usr/bin/env python3
 """A unit test of a driver, without a device: `python3 -m unittest test_driver`, with nvme_controller.py on PYTHONPATH.
 
-The driver that is tested is a small one, `Driver`. Put your own in its place."""
+The driver that is tested is that of bench.py. Put your own in its place."""
 
-import struct
 import unittest
 
-from nvme_controller import ACQ, AQA, CC, CSTS, HEAD_DOORBELL, TAIL_DOORBELL, Machine, status_text
+from bench import DATA, DEPTH, Host
+from nvme_controller import CSTS, Machine, status_text
 
 SUBSYSTEM = b"""
 version = 1
@@ -22,40 +22,13 @@ mn = "A drive for a test"
 fr = "1.0"
 elpe = 3
 """
-PAGE, DEPTH, DATA = 4096, 8, 0x2000
-
-
-class Driver:
-    """Sends commands to controller 0, one at a time."""
-
-    def __init__(self, machine):
-        self.machine, self.memory, self.sent = machine, bytearray(16 * PAGE), 0
-        machine.write32(0, AQA, (DEPTH - 1) << 16 | (DEPTH - 1))
-        machine.write64(0, ACQ, 0x1000)
-        machine.write32(0, CC, 0x00460001)
-
-    def send(self, opcode, cdw10=0, data=b''):
-        """Sends a command with a page of data. Returns dword 0 and the status of its completion."""
-        slot, phase = self.sent % DEPTH, 1 - self.sent // DEPTH % 2
-        self.memory[DATA:DATA + PAGE] = data.ljust(PAGE, b'\0')
-        self.memory[64 * slot:64 * slot + 64] = struct.pack('<BxH20xQ8xI20x', opcode, self.sent, DATA, cdw10)
-        self.sent += 1
-        self.machine.write32(0, TAIL_DOORBELL, self.sent % DEPTH)
-        self.machine.turn(0, self.memory)
-        dword0, cid, word = struct.unpack_from('<I8xHH', self.memory, 0x1000 + 16 * slot)
-        assert (cid, word & 1) == (self.sent - 1, phase), 'there is no completion'
-        self.machine.write32(0, HEAD_DOORBELL, self.sent % DEPTH)
-        return dword0, word >> 1
-
-    def create_namespace(self, blocks):
-        return self.send(0x0d, data=struct.pack('<QQ', blocks, blocks))
 
 
 class DriverTest(unittest.TestCase):
     def setUp(self):
         self.machine = Machine(SUBSYSTEM)
         self.addCleanup(self.machine.close)
-        self.driver = Driver(self.machine)
+        self.driver = Host(self.machine)
 
     def test_is_ready(self):
         self.assertEqual(self.machine.read32(0, CSTS), 1)

@@ -1,10 +1,11 @@
 /* Makes each call that the launcher's filter decides about, on nodes and on files of /sys: by the numbers of programs
    of 32 bits (int 80h) and, if it is a program of 64 bits, once more by their own. Prints the name of each call with
-   what it gives: an error's number as a negative one, or 0 for a file that was opened. It is linked without any
-   library, and its input is a node. */
+   what it gives: an error's number as a negative one, or 0 for a file or process that was made. It is linked without
+   any library, and its input is a node. */
 #include <stddef.h>
 
-enum { WRITING = 1, BOTH = 2, CUT = 01000, HERE = -100, TO_GROUP = 4, NEW_USERS = 0x10000000, NEW_GROUPS = 0x02000000 };
+enum { WRITING = 1, BOTH = 2, CUT = 01000, HERE = -100, TO_GROUP = 4 };
+enum { NEW_USERS = 0x10000000, NEW_GROUPS = 0x02000000, ENDS = 17 /* SIGCHLD */ };
 enum { OPEN, CLOSE, WRITE, EXIT, PIPE, GETPID, PIDFD_OPEN, FORK, WAIT }; /* places in the next list */
 static const short used[][2] = {{2, 5}, {3, 6}, {1, 4}, {60, 1}, {22, 42}, {39, 20}, {434, 434}, {57, 2}, {61, 114}};
 
@@ -63,10 +64,10 @@ static void tell(const char *name, long result) {
 }
 
 /* A call, by its two numbers, with arguments of which some are descriptors that are known only then. */
-enum { OPENS = 1000, FILE = 1001, INPUT, END_OF_PIPE, PROCESS };
+enum { CLONES = 999, OPENS = 1000, FILE = 1001, INPUT, END_OF_PIPE, PROCESS };
 static const struct {
     const char *name;
-    short numbers[2], is_opening;
+    short numbers[2], kind;
     long words[5];
 } rows[] = {
     {"open", {2, 5}, OPENS, {(long)node, BOTH | CUT}},
@@ -114,6 +115,9 @@ static const struct {
     {"ioctl of a controller", {16, 54}, 0, {FILE, 0x4e40}},
     {"ioctl of a block device", {16, 54}, 0, {FILE, 0x1268, (long)room}},
     {"ioctl of a geometry", {16, 54}, 0, {FILE, 0x301, (long)room}},
+    {"unshare of groups", {272, 310}, 0, {NEW_GROUPS}},
+    {"clone of groups", {56, 120}, CLONES, {NEW_GROUPS | ENDS}},
+    {"clone", {56, 120}, CLONES, {NEW_USERS | NEW_GROUPS | ENDS}},
     {"unshare", {272, 310}, 0, {NEW_USERS | NEW_GROUPS}}};
 
 static void try_all(void) {
@@ -130,8 +134,10 @@ static void try_all(void) {
             words[place] = word >= FILE && word <= PROCESS ? known[word - FILE] : word;
         }
         long result = call(rows[at].numbers, words[0], words[1], words[2], words[3], words[4]);
-        if (rows[at].is_opening && result >= 0) {
-            use(CLOSE, result, 0, 0);
+        if (rows[at].kind == CLONES && result == 0)
+            use(EXIT, 0, 0, 0);
+        if (rows[at].kind && result >= 0) {
+            use(rows[at].kind == CLONES ? WAIT : CLOSE, result, 0, 0);
             result = 0;
         }
         tell(rows[at].name, result);

@@ -20,6 +20,8 @@ int main(void) {
             answer.length = sizeof first;
         if (way == 'l')
             answer.length = asked.length + 1;
+        if (way == 'b' && !is_list)
+            answer.length = asked.length + 1;
         if (way == 'f' && !is_list)
             answer.status = 6;
         if (way == 'o' && asked.entry[0] == 0x0a)

@@ -10,37 +10,12 @@ use nv_script::READ_SIZE;
 use nv_subsystem::Subsystem;
 use std::alloc::{AllocError, Global};
 
-/// What a line writes to one of the two streams, and the state of the first controller after it.
+/// What a line writes to each of the two streams, and the state of the first controller after it.
 #[derive(Drop)]
 pub struct TriedLine {
     pub out: String,
     pub message: String,
     pub kept: Kept,
-}
-
-/// One of the two streams that a line may write to.
-#[derive(Clone, Copy, PartialEq, Eq)]
-pub enum Stream {
-    Output,
-    Messages,
-}
-
-impl Stream {
-    /// Returns what a line writes to this stream.
-    pub(crate) fn of(self, line: &TriedLine) -> &str {
-        match self {
-            Stream::Output => line.out.as_str(),
-            Stream::Messages => line.message.as_str(),
-        }
-    }
-
-    /// Returns the other stream.
-    pub(crate) fn other(self) -> Stream {
-        match self {
-            Stream::Output => Stream::Messages,
-            Stream::Messages => Stream::Output,
-        }
-    }
 }
 
 /// A script over the subsystem of a file, and its lines.
@@ -50,8 +25,7 @@ pub struct Case {
     /// The state of the first controller before the first line.
     pub before: Kept,
     pub script: String,
-    /// The greatest number of bytes of the script that one read returns, in runs where memory is
-    /// refused.
+    /// The greatest number of bytes of the script that one read returns.
     pub most: usize,
     pub lines: Vec<TriedLine>,
 }
@@ -121,20 +95,6 @@ impl Case {
         let number = self.lines.len().saturating_add(1);
         let message = format!(in alloc; "line {number}: NVMe status: {status}\n")?;
         self.add(line, String::new(alloc), message, Kept { counts, cache })
-    }
-
-    /// Returns what the first `lines` lines write to a stream.
-    pub(crate) fn text(
-        &self,
-        alloc: Global,
-        stream: Stream,
-        lines: usize,
-    ) -> Result<String, AllocError> {
-        let mut text = String::new(alloc);
-        for line in self.lines.iter().take(lines) {
-            text.push_str(stream.of(line))?;
-        }
-        Ok(text)
     }
 
     /// Returns the state of the first controller after `lines` lines.

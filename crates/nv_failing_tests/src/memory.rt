@@ -43,7 +43,7 @@ fn left_beginning(alloc: Global, case: &Case, run: &CutRun) -> Result<bool, Allo
 
 /// Runs a script, and checks what it left behind. An error is one outside the run.
 pub(crate) fn run_case(alloc: Global, case: &Case) -> io::Result<Left> {
-    let run = CutRun::of(alloc, case, case.most, u64::MAX)?;
+    let run = CutRun::of(alloc, case)?;
     let lines = case.lines.len();
     let is_right = match run.end {
         RunEnd::Status(status) => {

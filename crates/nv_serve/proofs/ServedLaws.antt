@@ -68,11 +68,11 @@ reads_more requests r = flat_map-append bytes_of requests (r ∷ [])
     ∙ ap (λ xs. flat_map bytes_of requests ++ xs) (append-nil (bytes_of r))
 
 -- one more complete request that was read and answered extends what was read and executed by it
-pub stands_more : (p now : Point) {later : Point} {old mid new : SourceState} {requests : List Request}
+pub stands_more : {p now later : Point} {old mid new : SourceState} {requests : List Request}
     {answers : List Answer} (r : Request) (a : Answer) → Stands p now old mid requests answers → IsWhole r
     → Reads r mid new → IsAnswer now r a → later ≡ after_one now r
     → Stands p later old new (requests ++ r ∷ []) (answers ++ a ∷ [])
-stands_more p now {later} {old} {mid} {new} {requests} {answers} r a stands whole read answer next = record {
+stands_more {p} {now} {later} {old} {mid} {new} {requests} {answers} r a stands whole read answer next = record {
   answered = answered_more p requests answers r a stands.answered whole
       (subst (λ q. IsAnswer q r a) stands.reached answer);
   reached = next ∙ ap (λ q. after_one q r) stands.reached ∙ sym (fold-append after_one p requests (r ∷ []));
@@ -93,9 +93,9 @@ pub taken_first : {s : SinkState} → s.has_failed ≡ false → HasTaken s s []
 taken_first {s} ready = record { taken = Appends-same s.taken; not_failed = ready }
 
 -- after one more answer was written, the sink took it too
-pub taken_more : (old mid new : SinkState) (answers : List Answer) (a : Answer) → HasTaken old mid answers
+pub taken_more : {old mid new : SinkState} {answers : List Answer} (a : Answer) → HasTaken old mid answers
     → Appends mid.taken new.taken (answer_bytes a) → new.has_failed ≡ false → HasTaken old new (answers ++ a ∷ [])
-taken_more old mid new answers a so_far wrote ready =
+taken_more {old} {mid} {new} {answers} a so_far wrote ready =
     let all : texts (answers ++ a ∷ []) ≡ texts answers ++ answer_bytes a =
     flat_map-append answer_bytes answers (a ∷ []) ∙ ap (λ xs. texts answers ++ xs) (append-nil (answer_bytes a)) in
     record {
@@ -105,10 +105,10 @@ taken_more old mid new answers a so_far wrote ready =
     }
 
 -- if only a beginning of one more answer was written, the sink took a part of all answers
-pub taken_part : (old mid new : SinkState) (answers : List Answer) (a : Answer) → HasTaken old mid answers
+pub taken_part : {old mid new : SinkState} {answers : List Answer} (a : Answer) → HasTaken old mid answers
     → WritesAll false mid.taken new.taken (answer_bytes a) → new.has_failed ≡ true
     → HasTakenPart old new (answers ++ a ∷ [])
-taken_part old mid new answers a so_far wrote failed = record {
+taken_part {old} {mid} {new} {answers} a so_far wrote failed = record {
   before = answers;
   last = a;
   part = wrote.0;
@@ -157,14 +157,18 @@ nothing source = record { bytes = Consumes-same source.to_come; given = omega ar
 pub still_open : {source : SourceState} → IsReady source → IsOpen source
 still_open ready = record { not_failed = ready.not_failed; not_ended = ready.not_ended }
 
-module _ (p : Point) {now : Point} {old mid : SourceState} {requests : List Request} {answers : List Answer}
-    (stands : Stands p now old mid requests answers) (did : List Request → Type 0) (done : did requests)
-    (before after : Streams) (same : before.source ≡ old) where
+-- without a further answer, the sink took the same answers
+none_more : {old new : SinkState} {answers : List Answer} → HasTaken old new answers → HasTaken old new (answers ++ [])
+none_more {old} {new} {answers} taken = subst (HasTaken old new) (sym (append-nil answers)) taken
+
+module _ {p now : Point} {mid : SourceState} {requests : List Request} {answers : List Answer}
+    {did : List Request → Type 0} {before after : Streams}
+    (stands : Stands p now before.source mid requests answers) (done : did requests) where
   -- what was served and a rest with its answer are right for the end that was reached
-  pub ends_at : (end : RequestsEnd) (rest : Request) (last : List Answer) → Reads rest mid after.source
+  pub ends_at : {end : RequestsEnd} (rest : Request) (last : List Answer) → Reads rest mid after.source
       → IsRest rest last → IsEnd end rest requests (answers ++ last) before after
       → IsServed p did end now.subsystem before after
-  ends_at end rest last read rest_is end_is = record {
+  ends_at {end} rest last read rest_is end_is = record {
     requests = requests;
     answers = answers;
     rest = rest;
@@ -172,51 +176,46 @@ module _ (p : Point) {now : Point} {old mid : SourceState} {requests : List Requ
     done = done;
     answered = stands.answered;
     reached = ap (λ (q : Point). q.subsystem) stands.reached;
-    was_read = rw same (Consumes-join old.to_come mid.to_come after.source.to_come (flat_map bytes_of requests)
-        (bytes_of rest) stands.was_read read.bytes);
-    count = rw same (omega (
+    was_read = Consumes-join before.source.to_come mid.to_come after.source.to_come (flat_map bytes_of requests)
+        (bytes_of rest) stands.was_read read.bytes;
+    count = omega (
       arith,
       stands.count,
       read.given,
       length-append (flat_map bytes_of requests) (bytes_of rest),
-    ));
+    );
     rest_is = rest_is;
     end_is = end_is;
   }
 
   module _ (taken : HasTaken before.out after.out answers) where
-    -- without a further answer, the sink took the same answers
-    all : HasTaken before.out after.out (answers ++ [])
-    all = subst (HasTaken before.out after.out) (sym (append-nil answers)) taken
-
     -- the end is Done if the source ended between two requests
     pub ends_done : Reads (request [] []) mid after.source → HasEnded after.source
         → IsServed p did Done now.subsystem before after
-    ends_done read ended = ends_at Done (request [] []) [] read (IsRest.none refl refl) (refl, ended, all)
+    ends_done read ended = ends_at (request [] []) [] read (IsRest.none refl refl) (refl, ended, none_more taken)
 
     -- the end is Short if the source ended inside a request
     pub ends_short : {rest : Request} → IsCutShort rest → bytes_of rest ≢ [] → Reads rest mid after.source
         → HasEnded after.source → IsServed p did Short now.subsystem before after
     ends_short {rest} cut some read ended =
-        ends_at Short rest [] read (IsRest.cut cut refl) (cut, some, ended, all)
+        ends_at rest [] read (IsRest.cut cut refl) (cut, some, ended, none_more taken)
 
     -- the end is Read if the source failed between two requests or inside one
     pub ends_failed : {rest : Request} → IsCutShort rest → Reads rest mid after.source
         → HasFailed after.source → IsServed p did Read now.subsystem before after
-    ends_failed {rest} cut read failed = ends_at Read rest [] read (IsRest.cut cut refl)
-        (inl (cut, failed), all)
+    ends_failed {rest} cut read failed = ends_at rest [] read (IsRest.cut cut refl) (inl (cut, failed), none_more taken)
 
     -- the end is Read if the greatest number of requests was reached
     pub ends_full : after.source ≡ mid → IsOpen after.source → length requests ≡ request_limit
         → IsServed p did Read now.subsystem before after
-    ends_full here ready many = ends_at Read (request [] []) [] (rw here (nothing mid)) (IsRest.none refl refl)
-        (inr (refl, ready, many), all)
+    ends_full here ready many = ends_at (request [] []) [] (rw here (nothing mid)) (IsRest.none refl refl)
+        (inr (refl, ready, many), none_more taken)
 
   -- the end is Write if the last answer wasn't written, and nothing more was read
   pub ends_unwritten : after.source ≡ mid → IsOpen after.source → HasTakenPart before.out after.out answers
       → IsServed p did Write now.subsystem before after
   ends_unwritten here ready part =
-      ends_at Write (request [] []) [] (rw here (nothing mid)) (IsRest.none refl refl)
+      ends_at (request [] []) [] (rw here (nothing mid)) (IsRest.none refl refl)
       (inr refl, ready, subst (HasTakenPart before.out after.out) (sym (append-nil answers)) part)
 
 -- what was served stays served if its calls are described otherwise

@@ -19,10 +19,18 @@ use Rattle.nv_serve.specs.declared.header.Header.{Header}
 use Rattle.nv_serve.specs.declared.header.Kind.{Kind}
 use Rattle.nv_serve.specs.declared.header.Kind.TheVariants.{Unknown}
 use Rattle.nv_serve.specs.inner.Serving.{point_of}
+use Rattle.nv_driver.specs.inner.Linked.{next_cids_of}
+use Rattle.std.proofs.lemmas.List.{length-map}
 
 -- an answer whose data is at the front of a buffer
 abbrev pub front : AnswerHeader → List ℕ → Answer
 front a buffer = record { header = a; payload = take a.length buffer }
+
+-- the controller of a header is one of a driver's
+there : (b : BusValue) (d : DriverValue) (h : Header) → h.controller < length d.pairs
+    → has_controller (point_of b d) h ≡ true
+there b d h below =
+    let in_point : h.controller < length (next_cids_of d) = rw (length-map d.pairs _) below in grind arith
 
 -- an entry that the driver sent leaves the point after that entry
 pub sent_on : (b b' : BusValue) (d : DriverValue) {d' : DriverValue} (c : ℕ) (e : Sqe) (bytes : List ℕ)
@@ -41,18 +49,21 @@ reset_on b b' d {d'} c state driver =
     let next = cids_reset d d' c driver in λ i. point (state i) (next i)
 
 -- the point after a header whose controller exists is the one after a request of its kind
-pub left_by : (p : Point) (h : Header) (bytes : List ℕ) {after : Point} → h.controller < length p.next_cids
-    → after ≡ after_kind h.kind p h bytes → after ≡ after_header p h bytes
-left_by p h bytes below is =
-    let there : has_controller p h ≡ true = grind (arith) in is ∙ sym (ap (λ b. after_if b p h bytes) there)
+pub left_by : (b : BusValue) (d : DriverValue) (h : Header) (bytes : List ℕ) {kind : Kind} {after : Point}
+    → h.controller < length d.pairs → h.kind ≡ kind → after ≡ after_kind kind (point_of b d) h bytes
+    → after ≡ after_header (point_of b d) h bytes
+left_by b d h bytes {kind} {after} below kind_is is =
+    subst (λ x. after ≡ after_if x (point_of b d) h bytes) (sym (there b d h below))
+    (subst (λ k. after ≡ after_kind k (point_of b d) h bytes) (sym kind_is) is)
 
 -- and this is its answer, whose data is at the front of a buffer
-pub answered_by : (p : Point) (h : Header) (bytes buffer : List ℕ) {kind : Kind} {header a : AnswerHeader}
-    → h.controller < length p.next_cids → h.kind ≡ kind → a ≡ header
-    → IsAnswerByKind kind p h bytes (front header buffer) → IsAnswerToHeader p h bytes (front a buffer)
-answered_by p h bytes buffer {kind} {header} {a} below kind_is same is =
-    let there : has_controller p h ≡ true = grind (arith) in
-    subst (λ b. IsAnswerIf b p h bytes (front a buffer)) (sym there)
+pub answered_by : (b : BusValue) (d : DriverValue) (h : Header) (bytes buffer : List ℕ) {kind : Kind}
+    {header a : AnswerHeader} → h.controller < length d.pairs → h.kind ≡ kind → a ≡ header
+    → IsAnswerByKind kind (point_of b d) h bytes (front header buffer)
+    → IsAnswerToHeader (point_of b d) h bytes (front a buffer)
+answered_by b d h bytes buffer {kind} {header} {a} below kind_is same is =
+    let p = point_of b d in
+    subst (λ x. IsAnswerIf x p h bytes (front a buffer)) (sym (there b d h below))
     (subst (λ k. IsAnswerByKind k p h bytes (front a buffer)) (sym kind_is)
     (subst (λ x. IsAnswerByKind kind p h bytes (front x buffer)) (sym same) is))
 
@@ -75,9 +86,9 @@ returned_by b d c e bytes {told} {out} rest {n} below answer received full =
 
 -- a driver does what a request of this kind says if its controller exists
 pub does_kind : {B : Type 0} (k : Calls B) (d : DriverValue) (h : Header) (bytes : List ℕ) (old : B)
-    (d' : DriverValue) (new : B) (kind : Kind) → h.controller < length d.pairs → h.kind ≡ kind
-    → DoesKind k kind d h bytes old d' new → Does k d h bytes old d' new
-does_kind k d h bytes old d' new kind below is done =
+    (d' : DriverValue) (new : B) {kind : Kind} → h.controller < length d.pairs → h.kind ≡ kind → DoesKind k kind d h bytes old d' new
+    → Does k d h bytes old d' new
+does_kind k d h bytes old d' new {kind} below is done =
     let there : kind_done d h ≡ h.kind = grind arith in
     subst (λ x. DoesKind k x d h bytes old d' new) (sym (there ∙ is)) done
 

@@ -1,6 +1,6 @@
 //! Readers and writers of the standard library as the streams of a run. They transfer pieces, end
 //! and fail, and each call of a stream is one call of the reader or writer below it. In
-//! `nv_failing_tests`, each call fails in turn.
+//! `tests/test_faults.py`, each call fails in turn.
 
 ghost use Rattle.std.specs.Prelude.{◌≤◌, length};
 

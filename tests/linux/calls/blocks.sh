@@ -25,11 +25,12 @@ def closed(path, flags):
     return 'opened'
 
 
-NUMBERS = {'RO': (0x125e, 4), 'SIZE': (0x1260, 8), 'RA': (0x1263, 8), 'FRA': (0x1265, 8), 'SECT': (0x1267, 2), 'SSZ': (0x1268, 4),
-           'BSZ': (0x80081270, 8), 'SIZE64': (0x80081272, 8), 'IOMIN': (0x1278, 4), 'IOOPT': (0x1279, 4), 'ALIGNOFF': (0x127a, 4),
-           'PBSZ': (0x127b, 4), 'DISCARDZEROES': (0x127c, 4), 'ROTATIONAL': (0x127e, 2), 'ZONESZ': (0x80041284, 4),
-           'NRZONES': (0x80041285, 4), 'GEO': (0x301, 16)}
-UNKNOWN = {'REPORTZONE': 0xc0101282, 'SG_IO': 0x2285, 'CDROM': 0x5331, 'FIONREAD': 0x541b, 'IDENTITY': 0x30d, 'OPAL': 0x401870dd}
+NUMBERS = {'RO': (0x125e, 4), 'SIZE': (0x1260, 8), 'RA': (0x1263, 8), 'FRA': (0x1265, 8), 'SECT': (0x1267, 2),
+           'SSZ': (0x1268, 4), 'BSZ': (0x80081270, 8), 'SIZE64': (0x80081272, 8), 'IOMIN': (0x1278, 4),
+           'IOOPT': (0x1279, 4), 'ALIGNOFF': (0x127a, 4), 'PBSZ': (0x127b, 4), 'DISCARDZEROES': (0x127c, 4),
+           'ROTATIONAL': (0x127e, 2), 'ZONESZ': (0x80041284, 4), 'NRZONES': (0x80041285, 4), 'GEO': (0x301, 16)}
+UNKNOWN = {'REPORTZONE': 0xc0101282, 'SG_IO': 0x2285, 'CDROM': 0x5331, 'FIONREAD': 0x541b, 'IDENTITY': 0x30d,
+           'OPAL': 0x401870dd}
 for mode in 'r', 'rw':
     print('== ioctls of a block device,', mode)
     file = os.open(BLOCK, MODES[mode])
@@ -43,7 +44,8 @@ for mode in 'r', 'rw':
     for size in 8192, 513, 0, 256, 512, 1024, 4096:
         says(f'BSZSET {size}', lambda: asked(file, 0x40081271, struct.pack('q', size)))
     for name, request in ('DISCARD', 0x1277), ('SECDISCARD', 0x127d), ('ZEROOUT', 0x127f):
-        for first, size in (0, 512), (0, 0), (256, 512), (0, 100), (END, 512), (END - 512, 1024), ((1 << 64) - 512, 1024):
+        for first, size in ((0, 512), (0, 0), (256, 512), (0, 100), (END, 512), (END - 512, 1024),
+                            ((1 << 64) - 512, 1024)):
             says(f'{name} {first} {size}', lambda: asked(file, request, struct.pack('QQ', first, size)))
     os.close(file)
 file = os.open(BLOCK, os.O_RDONLY)
@@ -58,18 +60,20 @@ for path in '/dev/nvme0', '/dev/ng0n1':
         for name, call in {'read': lambda: os.read(file, 10), 'pread': lambda: os.pread(file, 10, 0),
                            'readv': lambda: os.readv(file, [bytearray(4)]), 'read 0': lambda: os.read(file, 0),
                            'write': lambda: os.write(file, b'x'), 'write 0': lambda: os.write(file, b''),
-                           'pwrite': lambda: os.pwrite(file, b'x', 0), 'truncate': lambda: os.ftruncate(file, 0)}.items():
+                           'pwrite': lambda: os.pwrite(file, b'x', 0),
+                           'truncate': lambda: os.ftruncate(file, 0)}.items():
             says(name, call)
-        for name, request, size in (('SUBMIT_IO', 0x40304e42, 48), ('IO_CMD', 0xc0484e43, 72), ('IO64_CMD', 0xc0504e48, 80),
-                                    ('ID', 0x4e40, 0), ('SUBSYS_RESET', 0x4e45, 0), ('RESCAN', 0x4e46, 0), ('SIZE64', 0x80081272, 8)):
+        for name, request, size in (('SUBMIT_IO', 0x40304e42, 48), ('IO_CMD', 0xc0484e43, 72),
+                                    ('IO64_CMD', 0xc0504e48, 80), ('ID', 0x4e40, 0), ('SUBSYS_RESET', 0x4e45, 0),
+                                    ('RESCAN', 0x4e46, 0), ('SIZE64', 0x80081272, 8)):
             says(name, lambda: asked(file, request, bytes(size)) if size else fcntl.ioctl(file, request))
         os.close(file)
     says('exclusive', lambda: (os.open(path, os.O_RDWR | os.O_EXCL), os.open(path, os.O_RDWR | os.O_EXCL)) and 'twice')
 
 print('== direct writes')
 file, memory = os.open(BLOCK, os.O_RDWR | os.O_DIRECT), memoryview(mmap.mmap(-1, 8192))
-for at, offset, size in ((0, 0, 512), (1, 0, 512), (2, 0, 512), (4, 0, 512), (512, 0, 512), (0, 256, 512), (0, 0, 100), (0, 0, 1024),
-                         (0, END, 512), (0, END, 100), (0, 512, 0), (0, 100, 0)):
+for at, offset, size in ((0, 0, 512), (1, 0, 512), (2, 0, 512), (4, 0, 512), (512, 0, 512), (0, 256, 512), (0, 0, 100),
+                         (0, 0, 1024), (0, END, 512), (0, END, 100), (0, 512, 0), (0, 100, 0)):
     says(f'from {at} at {offset} {size}', lambda: os.pwritev(file, [memory[at:at + size]], offset))
 says('two', lambda: os.pwritev(file, [memory[:256], memory[256:512]], 0))
 says('to the end', lambda: os.pwritev(file, [memory[:1024]], END - 512))
@@ -103,16 +107,20 @@ file = os.open(BLOCK, os.O_RDWR)
 says('ROSET', lambda: asked(file, 0x125d, struct.pack('i', 5)))
 says('RO', lambda: asked(file, 0x125e, bytes(4)))
 print(open('/sys/block/nvme0n1/ro').read().strip(), open('/sys/block/nvme0n2/ro').read().strip())
-for name, call in {'write': lambda: os.write(file, b'x'), 'write 0': lambda: os.write(file, b''), 'at the end': lambda: os.pwrite(file, b'x', END),
+for name, call in {'write': lambda: os.write(file, b'x'), 'write 0': lambda: os.write(file, b''),
+                   'at the end': lambda: os.pwrite(file, b'x', END),
                    'DISCARD': lambda: asked(file, 0x1277, struct.pack('QQ', 0, 512)), 'read': lambda: os.read(file, 4),
-                   'ZEROOUT': lambda: asked(file, 0x127f, struct.pack('QQ', 0, 512)), 'SECDISCARD': lambda: asked(file, 0x127d, bytes(16)),
-                   'sync': lambda: os.fsync(file), 'open': lambda: closed(BLOCK, os.O_WRONLY | os.O_TRUNC),
+                   'ZEROOUT': lambda: asked(file, 0x127f, struct.pack('QQ', 0, 512)),
+                   'SECDISCARD': lambda: asked(file, 0x127d, bytes(16)), 'sync': lambda: os.fsync(file),
+                   'open': lambda: closed(BLOCK, os.O_WRONLY | os.O_TRUNC),
                    'mode': lambda: oct(os.stat(BLOCK).st_mode & 0o7000)}.items():
     says(name, call)
 END
-mkfs.ext4 -q -F /dev/nvme0n1; echo "mkfs $?"; wipefs -a /dev/nvme0n1; nvme write /dev/nvme0n1 -s 0 -c 0 -z 512 -d /dev/zero
+mkfs.ext4 -q -F /dev/nvme0n1; echo "mkfs $?"; wipefs -a /dev/nvme0n1
+nvme write /dev/nvme0n1 -s 0 -c 0 -z 512 -d /dev/zero
 nvme reset /dev/nvme0; nvme ns-rescan /dev/nvme0; sleep 1; blockdev --getro /dev/nvme0n1
 nvme format /dev/nvme0n1 -l 0 -f; blockdev --getro /dev/nvme0n1
-nvme detach-ns /dev/nvme0 -n 1 -c 0; sleep 1; nvme attach-ns /dev/nvme0 -n 1 -c 0; sleep 1; blockdev --getro /dev/nvme0n1
+nvme detach-ns /dev/nvme0 -n 1 -c 0; sleep 1; nvme attach-ns /dev/nvme0 -n 1 -c 0; sleep 1
+blockdev --getro /dev/nvme0n1
 blockdev --getra --getbsz /dev/nvme0n2
 nvme format /dev/nvme0n2 -l 4 -f; blockdev --getra --getbsz --getss /dev/nvme0n2

@@ -1,15 +1,14 @@
-use Rattle.std.proofs.Common.{List, ◌∙◌, ◌++◌, [], ◌∷◌, arith, refl, take, inl}
+use Rattle.std.proofs.Common.{◌∙◌, ◌++◌, [], ◌∷◌, arith, refl, take, inl}
 use Rattle.std.proofs.lemmas.List.{length-append}
-use Rattle.nv_serve.specs.inner.Answer.{answer}
 use Rattle.nv_driver.specs.BringingUp.{Still}
-use Rattle.nv_serve.specs.Handling.{DoesAll, calls}
-use Rattle.nv_serve.specs.Header.{Request, sent_length}
+use Rattle.nv_serve.specs.inner.Answer.{answer}
+use Rattle.nv_serve.specs.Handling.{calls}
+use Rattle.nv_serve.specs.Header.{sent_length}
 use Rattle.nv_serve.specs.inner.Reading.{request}
-use Rattle.nv_serve.specs.Served.{IsRest, streams, too_long}
+use Rattle.nv_serve.specs.Served.{IsRest, too_long}
 use Rattle.nv_serve.specs.inner.Serving.{point_of}
-use Rattle.nv_serve.specs.declared.ends.RequestsEnd.TheVariants.{TooLong, Write}
 use Rattle.nv_serve.proofs.ServedLaws.{does_more}
-use Rattle.nv_serve.proofs.ServedLaws.{Stands, ends_at, ends_done, ends_failed, ends_full, ends_short, ends_unwritten}
+use Rattle.nv_serve.proofs.ServedLaws.{ends_at, ends_done, ends_failed, ends_full, ends_short, ends_unwritten}
 use Rattle.nv_serve.proofs.ServedLaws.{still_open, request_few, stands_first, stands_more, taken_first, taken_more}
 use Rattle.nv_serve.proofs.ServedLaws.{taken_part}
 use Rattle.nv_serve.proofs.serving.serve_all.Goals as goal
@@ -32,99 +31,48 @@ loop-init g c = record {
 
 pub returns-in-Nothing-clause-served : goal.returns-in-Nothing-clause-served
 returns-in-Nothing-clause-served g c =
-    let all = calls g.B.Bus.meaning g.B.Bus.was_written (Still g.B.Bus.was_read) g.B.Zeroing.was_zeroed
-    g.B.Ringing.was_rung g.B.Bus.was_turned in
-    let did = λ (requests : List Request). DoesAll all c.args.driver.now requests c.args.bus.now c.loop.driver
-    c.loop.bus in
-    let p = point_of (g.B.Bus.meaning c.args.bus.now) c.args.driver.now in
-    let before = streams (g.R.Source.state c.args.source.now) (g.O.Sink.state c.args.out.now) in
     let s = c.loop.invariant.stands in
     let t = c.in-Nothing.ensures.taken in
-    ends_done p s.2 did s.5 before
-    (streams (g.R.Source.state c.take_request.new.source) (g.O.Sink.state c.loop.out)) refl s.3 t.0 t.1
+    ends_done s.2 s.5 s.3 t.0 t.1
 
 pub returns-in-Short-clause-served : goal.returns-in-Short-clause-served
 returns-in-Short-clause-served g c =
-    let all = calls g.B.Bus.meaning g.B.Bus.was_written (Still g.B.Bus.was_read) g.B.Zeroing.was_zeroed
-    g.B.Ringing.was_rung g.B.Bus.was_turned in
-    let did = λ (requests : List Request). DoesAll all c.args.driver.now requests c.args.bus.now c.loop.driver
-    c.loop.bus in
-    let p = point_of (g.B.Bus.meaning c.args.bus.now) c.args.driver.now in
-    let before = streams (g.R.Source.state c.args.source.now) (g.O.Sink.state c.args.out.now) in
     let s = c.loop.invariant.stands in
     let t = c.in-Short.ensures.taken in
-    ends_short p s.2 did s.5 before
-    (streams (g.R.Source.state c.take_request.new.source) (g.O.Sink.state c.loop.out)) refl s.3 t.1 t.2 t.3 t.4
+    ends_short s.2 s.5 s.3 t.1 t.2 t.3 t.4
 
 pub returns-in-Failed-clause-served : goal.returns-in-Failed-clause-served
 returns-in-Failed-clause-served g c =
-    let all = calls g.B.Bus.meaning g.B.Bus.was_written (Still g.B.Bus.was_read) g.B.Zeroing.was_zeroed
-    g.B.Ringing.was_rung g.B.Bus.was_turned in
-    let did = λ (requests : List Request). DoesAll all c.args.driver.now requests c.args.bus.now c.loop.driver
-    c.loop.bus in
-    let p = point_of (g.B.Bus.meaning c.args.bus.now) c.args.driver.now in
-    let before = streams (g.R.Source.state c.args.source.now) (g.O.Sink.state c.args.out.now) in
     let s = c.loop.invariant.stands in
     let t = c.in-Failed.ensures.taken in
-    ends_failed p s.2 did s.5 before
-    (streams (g.R.Source.state c.take_request.new.source) (g.O.Sink.state c.loop.out)) refl s.3 t.1 t.2 t.3
+    ends_failed s.2 s.5 s.3 t.1 t.2 t.3
 
 pub returns-clause-served : goal.returns-clause-served
 returns-clause-served g c =
-    let all = calls g.B.Bus.meaning g.B.Bus.was_written (Still g.B.Bus.was_read) g.B.Zeroing.was_zeroed
-    g.B.Ringing.was_rung g.B.Bus.was_turned in
-    let did = λ (requests : List Request). DoesAll all c.args.driver.now requests c.args.bus.now c.loop.driver
-    c.loop.bus in
-    let p = point_of (g.B.Bus.meaning c.args.bus.now) c.args.driver.now in
-    let before = streams (g.R.Source.state c.args.source.now) (g.O.Sink.state c.args.out.now) in
     let s = c.loop.invariant.stands in
-    ends_full p s.2 did s.5 before (streams (g.R.Source.state c.loop.source) (g.O.Sink.state c.loop.out)) refl s.3 refl
-    (still_open c.loop.invariant.ready) (omega (arith, s.4, c.loop-test.false, c.loop.auto.counter-end))
+    ends_full s.2 s.5 s.3 refl (still_open c.loop.invariant.ready)
+    (omega (arith, s.4, c.loop-test.false, c.loop.auto.counter-end))
 
 pub returns-then-respond-clause-served : goal.returns-then-respond-clause-served
 returns-then-respond-clause-served g c =
-    let all = calls g.B.Bus.meaning g.B.Bus.was_written (Still g.B.Bus.was_read) g.B.Zeroing.was_zeroed
-    g.B.Ringing.was_rung g.B.Bus.was_turned in
-    let did = λ (requests : List Request). DoesAll all c.args.driver.now requests c.args.bus.now c.loop.driver
-    c.loop.bus in
-    let p = point_of (g.B.Bus.meaning c.args.bus.now) c.args.driver.now in
-    let before = streams (g.R.Source.state c.args.source.now) (g.O.Sink.state c.args.out.now) in
-    let after = streams (g.R.Source.state c.take_request.new.source) (g.O.Sink.state c.respond.new.out) in
     let s = c.loop.invariant.stands in
     let t = c.in-TooLong.ensures.taken in
-    let taken = taken_more (g.O.Sink.state c.args.out.now) (g.O.Sink.state c.loop.out)
-    (g.O.Sink.state c.respond.new.out) s.1 too_long s.3 (rw c.bare-refusal.ensures at c.if-respond.ensures.text)
+    let taken = taken_more too_long s.3 (rw c.bare-refusal.ensures at c.if-respond.ensures.text)
     c.if-respond.ensures.failure in
-    ends_at p s.2 did s.5 before after refl TooLong (request c.take_request.new.header []) (too_long ∷ []) t.1
-    (IsRest.long t.0 refl) (t.0, still_open t.2, taken)
+    ends_at s.2 s.5 (request c.take_request.new.header []) (too_long ∷ []) t.1 (IsRest.long t.0 refl)
+    (t.0, still_open t.2, taken)
 
 pub returns-else-respond-clause-served : goal.returns-else-respond-clause-served
 returns-else-respond-clause-served g c =
-    let all = calls g.B.Bus.meaning g.B.Bus.was_written (Still g.B.Bus.was_read) g.B.Zeroing.was_zeroed
-    g.B.Ringing.was_rung g.B.Bus.was_turned in
-    let did = λ (requests : List Request). DoesAll all c.args.driver.now requests c.args.bus.now c.loop.driver
-    c.loop.bus in
-    let p = point_of (g.B.Bus.meaning c.args.bus.now) c.args.driver.now in
-    let before = streams (g.R.Source.state c.args.source.now) (g.O.Sink.state c.args.out.now) in
-    let after = streams (g.R.Source.state c.take_request.new.source) (g.O.Sink.state c.respond.new.out) in
     let s = c.loop.invariant.stands in
     let t = c.in-TooLong.ensures.taken in
-    let part = taken_part (g.O.Sink.state c.args.out.now) (g.O.Sink.state c.loop.out)
-    (g.O.Sink.state c.respond.new.out) s.1 too_long s.3 (rw c.bare-refusal.ensures at c.if-respond.ensures.text)
+    let part = taken_part too_long s.3 (rw c.bare-refusal.ensures at c.if-respond.ensures.text)
     c.if-respond.ensures.failure in
-    ends_at p s.2 did s.5 before after refl Write (request c.take_request.new.header []) (too_long ∷ []) t.1
-    (IsRest.long t.0 refl) (inl t.0, still_open t.2, part)
+    ends_at s.2 s.5 (request c.take_request.new.header []) (too_long ∷ []) t.1 (IsRest.long t.0 refl)
+    (inl t.0, still_open t.2, part)
 
 pub returns-then-not-respond-clause-served : goal.returns-then-not-respond-clause-served
 returns-then-not-respond-clause-served g c =
-    let all = calls g.B.Bus.meaning g.B.Bus.was_written (Still g.B.Bus.was_read) g.B.Zeroing.was_zeroed
-    g.B.Ringing.was_rung g.B.Bus.was_turned in
-    let did = λ (requests : List Request). DoesAll all c.args.driver.now requests c.args.bus.now c.handle.new.driver
-    c.handle.new.bus in
-    let p = point_of (g.B.Bus.meaning c.args.bus.now) c.args.driver.now in
-    let now = point_of (g.B.Bus.meaning c.loop.bus) c.loop.driver in
-    let before = streams (g.R.Source.state c.args.source.now) (g.O.Sink.state c.args.out.now) in
-    let after = streams (g.R.Source.state c.take_request.new.source) (g.O.Sink.state c.respond-in-loop.new.out) in
     let s = c.loop.invariant.stands in
     let t = c.in-Request.ensures.taken in
     let h = c.handle in
@@ -132,24 +80,16 @@ returns-then-not-respond-clause-served g c =
     let r = request c.take_request.new.header (take (sent_length c.in-Request.header) c.take_request.new.sent) in
     let a = answer done.answer (take done.answer.length h.new.received) in
     let len = c.sent_length-len.ensures.length in
-    let part = taken_part (g.O.Sink.state c.args.out.now) (g.O.Sink.state c.loop.out)
-    (g.O.Sink.state c.respond-in-loop.new.out) s.1 a s.3 c.if-not-respond.ensures.text
-    c.if-not-respond.ensures.failure in
-    let more : Stands p (point_of (g.B.Bus.meaning h.new.bus) h.new.driver) (g.R.Source.state c.args.source.now)
-    (g.R.Source.state c.take_request.new.source) (s.0 ++ r ∷ []) (s.1 ++ a ∷ []) =
-    stands_more p now r a s.2 t.2 t.3 (rw (← t.0) (rw len at done.ensures.answer))
-    (rw (← t.0) (rw len at done.ensures.reached)) in
-    ends_unwritten p more did
-    (does_more all c.args.driver.now c.loop.driver h.new.driver c.args.bus.now c.loop.bus h.new.bus s.0 r s.5
-    (rw (← t.0) (rw len at done.ensures.steps)))
-    before after refl refl (still_open t.4) part
+    let all = calls g.B.Bus.meaning g.B.Bus.was_written (Still g.B.Bus.was_read) g.B.Zeroing.was_zeroed
+    g.B.Ringing.was_rung g.B.Bus.was_turned in
+    ends_unwritten {now = point_of (g.B.Bus.meaning h.new.bus) h.new.driver}
+    (stands_more r a s.2 t.2 t.3 (rw (← t.0) (rw len at done.ensures.answer))
+    (rw (← t.0) (rw len at done.ensures.reached)))
+    (does_more all _ c.loop.driver h.new.driver _ c.loop.bus h.new.bus s.0 r s.5 (rw (← t.0) (rw len at done.ensures.steps)))
+    refl (still_open t.4) (taken_part a s.3 c.if-not-respond.ensures.text c.if-not-respond.ensures.failure)
 
 pub loop-preserved : goal.loop-preserved
 loop-preserved g c =
-    let all = calls g.B.Bus.meaning g.B.Bus.was_written (Still g.B.Bus.was_read) g.B.Zeroing.was_zeroed
-    g.B.Ringing.was_rung g.B.Bus.was_turned in
-    let p = point_of (g.B.Bus.meaning c.args.bus.now) c.args.driver.now in
-    let now = point_of (g.B.Bus.meaning c.loop.bus) c.loop.driver in
     let inv = c.loop.invariant in
     let s = inv.stands in
     let t = c.in-Request.ensures.taken in
@@ -158,6 +98,8 @@ loop-preserved g c =
     let r = request c.take_request.new.header (take (sent_length c.in-Request.header) c.take_request.new.sent) in
     let a = answer done.answer (take done.answer.length h.new.received) in
     let len = c.sent_length-len.ensures.length in
+    let all = calls g.B.Bus.meaning g.B.Bus.was_written (Still g.B.Bus.was_read) g.B.Zeroing.was_zeroed
+    g.B.Ringing.was_rung g.B.Bus.was_turned in
     record {
       ready = t.4;
       out_ready = c.if-not-respond.ensures.failure;
@@ -169,13 +111,10 @@ loop-preserved g c =
       stands = (
         s.0 ++ r ∷ [],
         s.1 ++ a ∷ [],
-        stands_more p now r a s.2 t.2 t.3 (rw (← t.0) (rw len at done.ensures.answer))
+        stands_more r a s.2 t.2 t.3 (rw (← t.0) (rw len at done.ensures.answer))
             (rw (← t.0) (rw len at done.ensures.reached)),
-        taken_more (g.O.Sink.state c.args.out.now) (g.O.Sink.state c.loop.out)
-            (g.O.Sink.state c.respond-in-loop.new.out) s.1 a s.3 c.if-not-respond.ensures.text
-            c.if-not-respond.ensures.failure,
+        taken_more a s.3 c.if-not-respond.ensures.text c.if-not-respond.ensures.failure,
         length-append s.0 (r ∷ []) ∙ omega (arith, s.4),
-        does_more all c.args.driver.now c.loop.driver h.new.driver c.args.bus.now c.loop.bus h.new.bus s.0 r s.5
-            (rw (← t.0) (rw len at done.ensures.steps)),
+        does_more all _ c.loop.driver h.new.driver _ c.loop.bus h.new.bus s.0 r s.5 (rw (← t.0) (rw len at done.ensures.steps)),
       );
     }
