@@ -1,19 +1,15 @@
 -- How long the text and the JSON of a device are.
-use Rattle.std.proofs.Common.{◌≡◌, ℕ, zero, suc, ◌+◌, ◌*◌, ◌/◌, ◌%◌, ◌^◌, ◌<◌, ◌≤◌, arith, Bool, true, false, refl}
-use Rattle.std.proofs.Common.{List, [], ◌∷◌, ◌++◌, length, length-append}
-use Rattle.std.proofs.lemmas.Grind.{common_steps}
-use Rattle.std.specs.Prelude.{codes, ◌==◌, nat_le, if◌then◌else◌}
-use Rattle.std.specs.Fmt.{decimal, digit_glyph, digits, digits_onto}
-use Rattle.std.specs.List.{All, list_all, take_while}
-use Rattle.std.proofs.lemmas.Bool.Decides.{nat_tests}
+use Rattle.nv_print.proofs.Words.{[], ℕ, ◌%◌, ◌*◌, ◌++◌, ◌+◌, ◌/◌, ◌<◌, ◌==◌, ◌^◌, ◌∷◌, ◌≡◌, ◌≤◌, All, Bool, List}
+use Rattle.nv_print.proofs.Words.{ListedDevice, arith, common_steps, compact_text, decimal, digit_glyph, digits_onto}
+use Rattle.nv_print.proofs.Words.{escape, false, if◌then◌else◌, is_printable, length, length-append, nat_tests, node_of}
+use Rattle.nv_print.proofs.Words.{object_of, printable, quoted, refl, suc, take_while, true, zero}
+use Rattle.std.specs.Prelude.{codes, nat_le}
+use Rattle.std.specs.Fmt.{digits}
+use Rattle.std.specs.List.{list_all}
 use Rattle.std.proofs.lemmas.List.Elements.{All-append, All-take}
 use Rattle.std.proofs.lemmas.List.Sums.{AllPass-from_list_all}
-use Rattle.json.specs.Print.{escape, escape_byte, quoted}
-use Rattle.serde_json.specs.Written.{compact_text}
-use Rattle.nv_print.specs.Devices.{device_line, fields_of_device, node_of}
-use Rattle.nv_print.specs.Field.{object_of}
-use Rattle.nv_print.specs.Text.{is_printable, printable}
-use Rattle.nv_print.specs.declared.device.ListedDevice.{ListedDevice}
+use Rattle.json.specs.Print.{escape_byte}
+use Rattle.nv_print.specs.Devices.{device_line, fields_of_device}
 use Rattle.nv_print.proofs.JsonLengths.{object_length}
 use Rattle.nv_print.proofs.Lengths.{decimal_length, decimal_short, left_length, printable_length, right_length}
 use Rattle.nv_print.proofs.PrintableLaws.{each_printable}

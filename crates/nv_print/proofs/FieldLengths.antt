@@ -1,13 +1,8 @@
 -- How long the text and the JSON of fields are.
-use Rattle.std.proofs.Common.{ℕ, ◌+◌, ◌*◌, ◌≤◌, arith, List, [], ◌∷◌, length, length-append}
-use Rattle.std.proofs.lemmas.Grind.{common_steps}
-use Rattle.std.specs.Prelude.{flat_map}
-use Rattle.std.specs.Fmt.{decimal}
-use Rattle.serde_json.specs.Written.{compact_text}
-use Rattle.nv_print.specs.Field.{Field, Shape, as_text, in_decimal, in_hexadecimal, in_six_digits, wide, field_line}
-use Rattle.nv_print.specs.Field.{fields_text, object_of, shape_data, shape_text}
-use Rattle.nv_print.specs.Text.{six_digits}
-use Rattle.nv_print.specs.Records.{field_within}
+use Rattle.nv_print.proofs.Words.{[], ℕ, ◌*◌, ◌+◌, ◌∷◌, ◌≤◌, Field, List, arith, as_text, common_steps, compact_text}
+use Rattle.nv_print.proofs.Words.{decimal, field_line, field_within, fields_text, flat_map, in_decimal, in_hexadecimal}
+use Rattle.nv_print.proofs.Words.{length, length-append, object_of, shape_data, six_digits}
+use Rattle.nv_print.specs.Field.{Shape, in_six_digits, shape_text, wide}
 use Rattle.nv_print.proofs.JsonLengths.{members_length, object_length}
 use Rattle.nv_print.proofs.Lengths.{decimal_length, hexadecimal_length, left_length, quoted_length, six_digits_length}
 

@@ -1,11 +1,7 @@
 -- Texts to which one more field is added.
-use Rattle.std.proofs.Common.{◌≡◌, ◌∙◌, ℕ, ◌+◌, ◌<◌, ap, ap₂, append_assoc, sym, List, [], ◌∷◌, ◌++◌, length, take}
-use Rattle.std.proofs.Common.{get_or}
-use Rattle.std.proofs.Common.{arith}
-use Rattle.std.proofs.lemmas.Grind.{common_steps}
+use Rattle.nv_print.proofs.Words.{[], ℕ, ◌++◌, ◌+◌, ◌<◌, ◌∙◌, ◌∷◌, ◌≡◌, Field, List, ap, append_assoc, ap₂, arith}
+use Rattle.nv_print.proofs.Words.{common_steps, flat_map, get_or, length, sym, take}
 use Rattle.std.proofs.lemmas.List.{flat_map_more, take_more}
-use Rattle.std.specs.Prelude.{flat_map}
-use Rattle.nv_print.specs.Field.{Field}
 
 -- fields and further fields that are equal form equal lists
 pub and_field : {x y : Field} {xs ys : List Field} → x ≡ y → xs ≡ ys → x ∷ xs ≡ y ∷ ys

@@ -1,15 +1,11 @@
 -- Hexadecimal digits, written from the last to the first.
-use Rattle.std.proofs.Common.{◌≡◌, ℕ, zero, suc, ◌-◌, ◌/◌, ◌%◌, ◌<◌, ◌≤◌, ap, arith, refl, Bool, true, false}
-use Rattle.std.proofs.Common.{List, [], ◌∷◌, drop, length, length-set, set, take}
-use Rattle.std.proofs.lemmas.Grind.{common_steps}
-use Rattle.std.specs.Prelude.{◌==◌, if◌then◌else◌, replicate}
-use Rattle.std.specs.Fmt.{digit_glyph, digits, digits_onto}
-use Rattle.std.specs.Str.{IsAscii, IsUtf8}
-use Rattle.std.proofs.lemmas.Bool.Decides.{nat_tests}
+use Rattle.nv_print.proofs.Words.{[], ℕ, ◌%◌, ◌-◌, ◌/◌, ◌<◌, ◌==◌, ◌∷◌, ◌≡◌, ◌≤◌, Bool, IsAscii, IsAscii-append}
+use Rattle.nv_print.proofs.Words.{IsAscii-cons, IsAscii-nil, IsUtf8, IsUtf8-from_ascii, List, ap, arith, common_steps}
+use Rattle.nv_print.proofs.Words.{digit_glyph, digits_onto, drop, false, hexadecimal, if◌then◌else◌, length, length-set}
+use Rattle.nv_print.proofs.Words.{nat_tests, refl, set, six_digits, suc, take, true, zero}
+use Rattle.std.specs.Prelude.{replicate}
+use Rattle.std.specs.Fmt.{digits}
 use Rattle.std.proofs.lemmas.List.{length-drop, take_all}
-use Rattle.std.proofs.lemmas.Str.{IsAscii-append, IsUtf8-from_ascii}
-use Rattle.std.proofs.lemmas.Str.Ascii.{IsAscii-cons, IsAscii-nil}
-use Rattle.nv_print.specs.Text.{hexadecimal, six_digits}
 
 -- the character of the last hexadecimal digit of a number
 abbrev last_digit : ℕ → ℕ

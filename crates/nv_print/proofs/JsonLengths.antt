@@ -1,15 +1,12 @@
 -- How long the compact text of JSON is.
-use Rattle.std.proofs.Common.{◌≡◌, ℕ, suc, ◌+◌, ◌*◌, ◌≤◌, arith, Bool, true, false, List, [], ◌∷◌, ◌++◌, length}
-use Rattle.std.proofs.Common.{length-append, map, nat_cmp, Ordering, Less, Equal, Greater}
-use Rattle.std.proofs.lemmas.Grind.{common_steps}
-use Rattle.std.specs.List.{All}
+use Rattle.nv_print.proofs.Words.{[], ℕ, ◌*◌, ◌++◌, ◌+◌, ◌∷◌, ◌≡◌, ◌≤◌, All, Bool, Data, Field, List, Members, arith}
+use Rattle.nv_print.proofs.Words.{array, common_steps, compact_text, false, items_of, length, length-append, map}
+use Rattle.nv_print.proofs.Words.{member, no_members, object, object_of, put, quoted, shape_data, suc, true}
+use Rattle.std.proofs.Common.{Equal, Greater, Less, Ordering, nat_cmp}
 use Rattle.std.specs.Cmp.Lexicographic.{slice_cmp}
 use Rattle.std.specs.Ordering.{match_ordering}
-use Rattle.json.specs.Print.{quoted}
-use Rattle.serde_json.specs.Data.{Data, Members, no_members, member, put, array, object}
-use Rattle.serde_json.specs.View.{items_of}
-use Rattle.serde_json.specs.Written.{comma_if, compact_text, items_text, members_text}
-use Rattle.nv_print.specs.Field.{Field, object_of, shape_data, with_fields}
+use Rattle.serde_json.specs.Written.{comma_if, items_text, members_text}
+use Rattle.nv_print.specs.Field.{with_fields}
 use Rattle.nv_print.proofs.Lengths.{quoted_length}
 
 -- the greatest length that a member adds: its key, a colon, its value and a comma

@@ -1,16 +1,12 @@
 -- How long texts are.
-use Rattle.std.proofs.Common.{◌≡◌, ◌∙◌, ℕ, zero, suc, ◌+◌, ◌-◌, ◌*◌, ◌/◌, ◌%◌, ◌^◌, ◌<◌, ◌≤◌, arith, Bool, true, false}
-use Rattle.std.proofs.Common.{ap, List, [], ◌∷◌, length, length-append}
-use Rattle.std.proofs.lemmas.Grind.{common_steps}
-use Rattle.std.specs.Prelude.{◌==◌, if◌then◌else◌}
-use Rattle.std.specs.Fmt.{decimal, digit_glyph, digits, digits_onto}
+use Rattle.nv_print.proofs.Words.{[], ℕ, ◌%◌, ◌*◌, ◌+◌, ◌-◌, ◌/◌, ◌<◌, ◌==◌, ◌^◌, ◌∙◌, ◌∷◌, ◌≡◌, ◌≤◌, Bool, List, ap}
+use Rattle.nv_print.proofs.Words.{arith, common_steps, decimal, digit_glyph, digits_onto, escape, false, hexadecimal}
+use Rattle.nv_print.proofs.Words.{if◌then◌else◌, left, length, length-append, length-take, nat_tests, printable, quoted}
+use Rattle.nv_print.proofs.Words.{right, six_digits, suc, true, zero}
+use Rattle.std.specs.Fmt.{digits}
 use Rattle.std.proofs.lemmas.Fmt.{length-decimal-le}
-use Rattle.std.proofs.lemmas.List.{length-replicate, length-take}
-use Rattle.std.proofs.lemmas.Bool.Decides.{nat_tests}
-use Rattle.json.specs.Print.{escape, escape_byte, quoted}
-use Rattle.nv_print.specs.Text.{hexadecimal, six_digits}
-use Rattle.nv_print.specs.Text.{left, right}
-use Rattle.nv_print.specs.Text.{printable}
+use Rattle.std.proofs.lemmas.List.{length-replicate}
+use Rattle.json.specs.Print.{escape_byte}
 
 -- of two texts of at most n bytes, the chosen one has at most n bytes
 either : (t : Bool) (x y : List ℕ) (n : ℕ) → length x ≤ n → length y ≤ n → length (if t then x else y) ≤ n

@@ -1,3 +1,4 @@
+pub mod Words
 pub mod HexadecimalDigits
 pub mod Padding
 pub mod Fields

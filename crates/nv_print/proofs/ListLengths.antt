@@ -1,24 +1,16 @@
 -- How long the texts and the JSON of lists are.
-use Rattle.std.proofs.Common.{ℕ, suc, ◌+◌, ◌*◌, ◌^◌, ◌<◌, ◌≤◌, arith, Bool, true, false, List, [], ◌∷◌, ◌++◌, length}
-use Rattle.std.proofs.Common.{length-append, map, min, get_or, ◌%◌}
-use Rattle.std.proofs.lemmas.Grind.{common_steps}
-use Rattle.std.specs.Prelude.{codes, ◌==◌, filter, if◌then◌else◌, ⊤}
-use Rattle.std.specs.List.{All}
-use Rattle.std.proofs.lemmas.List.{length-take}
-use Rattle.serde_json.specs.Data.{Data, array, no_members, number, unsigned}
-use Rattle.serde_json.specs.View.{items_of}
-use Rattle.serde_json.specs.Written.{compact_text}
+use Rattle.nv_print.proofs.Words.{[], ℕ, ◌%◌, ◌*◌, ◌++◌, ◌+◌, ◌<◌, ◌==◌, ◌^◌, ◌∷◌, ◌≤◌, All, Bool, Data, ErrorEntry}
+use Rattle.nv_print.proofs.Words.{IdNs, Lbaf, List, arith, array, common_steps, compact_text, entries_text, entry_text}
+use Rattle.nv_print.proofs.Words.{false, field, field_line, fields_text, filter, formats_of, get_or, holds_error}
+use Rattle.nv_print.proofs.Words.{if◌then◌else◌, in_decimal, items_of, lbaf_line, length, length-append, length-take}
+use Rattle.nv_print.proofs.Words.{lines_of, map, no_members, nsid_line, nsids_text, number, object_of, suc, true}
+use Rattle.nv_print.proofs.Words.{unsigned}
+use Rattle.std.proofs.Common.{min}
+use Rattle.std.specs.Prelude.{⊤, codes}
 use Rattle.nv_layout.specs.Limits.{most_nsids}
-use Rattle.nv_layout.specs.declared.error_entry.ErrorEntry.{ErrorEntry}
-use Rattle.nv_layout.specs.declared.id_ns.IdNs.{IdNs}
-use Rattle.nv_layout.specs.declared.id_ns.Lbaf.{Lbaf}
-use Rattle.nv_print.specs.Field.{field, field_line, fields_text, in_decimal, members_of, object_of}
-use Rattle.nv_print.specs.Records.{fields_of_id_ns, fields_of_lbaf, formats_of}
-use Rattle.nv_print.specs.Records.{lbaf_line, mark_of, namespace_data, namespace_text}
-use Rattle.nv_print.specs.Records.{entries_data, entries_text, entry_text, fields_of_entry}
-use Rattle.nv_print.specs.Records.{holds_error}
-use Rattle.nv_print.specs.Records.{nsid_line, nsids_data, nsids_text}
-use Rattle.nv_print.specs.Text.{lines_of}
+use Rattle.nv_print.specs.Field.{members_of}
+use Rattle.nv_print.specs.Records.{entries_data, fields_of_entry, fields_of_id_ns, fields_of_lbaf, mark_of}
+use Rattle.nv_print.specs.Records.{namespace_data, namespace_text, nsids_data}
 use Rattle.nv_print.proofs.FieldLengths.{field_line-length, members_length-width, within_length}
 use Rattle.nv_print.proofs.JsonLengths.{items_length, list_object_length, put_length, with_fields_length}
 use Rattle.nv_print.proofs.Lengths.{decimal_length, decimal_short, hexadecimal_short, quoted_length, right_length}

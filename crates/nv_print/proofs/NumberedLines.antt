@@ -1,8 +1,6 @@
 -- Lines, one after another.
-use Rattle.std.proofs.Common.{◌≡◌, ◌∙◌, ℕ, zero, suc, ◌+◌, ◌<◌, ap, sym, arith, List, [], ◌∷◌, ◌++◌, append_assoc}
-use Rattle.std.proofs.Common.{append-nil, length, take, get_or}
-use Rattle.std.proofs.lemmas.Grind.{common_steps}
-use Rattle.nv_print.specs.Text.{lines_of}
+use Rattle.nv_print.proofs.Words.{[], ℕ, ◌++◌, ◌+◌, ◌<◌, ◌∙◌, ◌∷◌, ◌≡◌, List, ap, append-nil, append_assoc, arith}
+use Rattle.nv_print.proofs.Words.{common_steps, get_or, length, lines_of, suc, sym, take, zero}
 
 module _ {A : Type 0} (line : ℕ → A → List ℕ) where
   -- the lines of i + 1 elements from number k on are the lines of the first i and the line of element i

@@ -1,13 +1,11 @@
 -- Spaces in columns, and the text after a key.
-use Rattle.std.proofs.Common.{◌≡◌, ◌∙◌, ℕ, ◌+◌, ◌-◌, ◌≤◌, zero, suc, ap, refl, arith, List, []}
-use Rattle.std.proofs.Common.{◌∷◌, ◌++◌, append_assoc, drop, length, length-append, take}
-use Rattle.std.proofs.lemmas.Grind.{common_steps}
+use Rattle.nv_print.proofs.Words.{[], ℕ, ◌++◌, ◌+◌, ◌-◌, ◌∙◌, ◌∷◌, ◌≡◌, ◌≤◌, IsAscii, IsAscii-append, IsAscii-cons}
+use Rattle.nv_print.proofs.Words.{IsAscii-nil, List, ap, append_assoc, arith, common_steps, drop, left, length}
+use Rattle.nv_print.proofs.Words.{length-append, refl, right, suc, take, zero}
 use Rattle.std.specs.Prelude.{codes, replicate}
-use Rattle.std.specs.Str.{IsAscii, IsCharBoundary}
+use Rattle.std.specs.Str.{IsCharBoundary}
 use Rattle.std.proofs.lemmas.List.{drop-append-le, drop-replicate, take-replicate}
-use Rattle.std.proofs.lemmas.Str.{IsAscii-append, IsCharBoundary-from_ascii}
-use Rattle.std.proofs.lemmas.Str.Ascii.{IsAscii-cons, IsAscii-nil}
-use Rattle.nv_print.specs.Text.{left, right}
+use Rattle.std.proofs.lemmas.Str.{IsCharBoundary-from_ascii}
 
 -- ---- spaces
 

@@ -1,12 +1,7 @@
 -- The text of a log is that of the entries that it has, because those after them hold no error.
-use Rattle.std.proofs.Common.{◌≡◌, ◌∙◌, ℕ, zero, suc, ◌+◌, ◌-◌, List, [], ◌∷◌, ◌++◌, ap, length, refl, replicate}
-use Rattle.std.proofs.Common.{sym, take}
-use Rattle.std.specs.Prelude.{flat_map}
-use Rattle.nv_layout.specs.ErrorEntry.{no_entry}
-use Rattle.nv_layout.specs.declared.error_entry.ErrorEntry.{ErrorEntry}
-use Rattle.nv_print.specs.Records.{entries_text, entry_text}
-use Rattle.nv_print.specs.Text.{lines_of}
-use Rattle.nv_print.specs.inner.Tokens.{error_tokens}
+use Rattle.nv_print.proofs.Words.{[], ℕ, ◌++◌, ◌+◌, ◌-◌, ◌∙◌, ◌∷◌, ◌≡◌, ErrorEntry, List, ap, entries_text, entry_text}
+use Rattle.nv_print.proofs.Words.{error_tokens, flat_map, length, lines_of, no_entry, refl, suc, sym, take, zero}
+use Rattle.std.proofs.Common.{replicate}
 
 -- entries without an error after the others add no lines
 lines_past : (i : ℕ) (es : List ErrorEntry) (m : ℕ)

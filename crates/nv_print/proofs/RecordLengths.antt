@@ -1,14 +1,9 @@
 -- How long the text and the JSON of a record are.
-use Rattle.std.proofs.Common.{◌+◌, ◌*◌, ◌≤◌, arith, length}
-use Rattle.serde_json.specs.Written.{compact_text}
-use Rattle.nv_layout.specs.declared.error_entry.ErrorEntry.{ErrorEntry}
+use Rattle.nv_print.proofs.Words.{◌*◌, ◌+◌, ◌≤◌, ErrorEntry, IdNs, Lbaf, arith, compact_text, fields_text, length}
+use Rattle.nv_print.proofs.Words.{object_of}
 use Rattle.nv_layout.specs.declared.id_ctrl.IdCtrl.{IdCtrl}
-use Rattle.nv_layout.specs.declared.id_ns.IdNs.{IdNs}
-use Rattle.nv_layout.specs.declared.id_ns.Lbaf.{Lbaf}
 use Rattle.nv_layout.specs.declared.smart.Smart.{Smart}
-use Rattle.nv_print.specs.Field.{fields_text, object_of}
-use Rattle.nv_print.specs.Records.{fields_of_id_ctrl, fields_of_id_ns, fields_of_lbaf}
-use Rattle.nv_print.specs.Records.{fields_of_entry, fields_of_smart}
+use Rattle.nv_print.specs.Records.{fields_of_entry, fields_of_id_ctrl, fields_of_id_ns, fields_of_lbaf, fields_of_smart}
 use Rattle.nv_print.specs.inner.Records.{texts_length}
 use Rattle.nv_print.proofs.FieldLengths.{fields_text-length, fields_width, members_width, object_width}
 use Rattle.nv_print.proofs.Lengths.{printable_length}

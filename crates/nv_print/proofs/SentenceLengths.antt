@@ -1,13 +1,12 @@
 -- How long the line of a command without a record is.
-use Rattle.std.proofs.Common.{ℕ, ◌+◌, ◌≤◌, arith, Bool, List, length, length-append}
-use Rattle.std.proofs.lemmas.Grind.{common_steps}
+use Rattle.nv_print.proofs.Words.{ℕ, ◌+◌, ◌≤◌, Bool, List, arith, common_steps, length, length-append}
 use Rattle.nv_layout.specs.Feature.{row_of}
 use Rattle.nv_layout.specs.declared.feature.Feature.{Feature}
-use Rattle.nv_layout.specs.declared.feature.Feature.TheVariants as feature
 use Rattle.nv_print.specs.Message.{feature_set, feature_text, feature_value, select_text, success_line}
 use Rattle.nv_print.specs.declared.select.Select.{Select}
-use Rattle.nv_print.specs.declared.select.Select.TheVariants as select
 use Rattle.nv_print.proofs.Lengths.{decimal_length, hexadecimal_length}
+use Rattle.nv_layout.specs.declared.feature.Feature.TheVariants as feature
+use Rattle.nv_print.specs.declared.select.Select.TheVariants as select
 
 -- the line of a success is at most 65 bytes longer than its words
 pub success_length : (words : List ℕ) (nsid : ℕ) → length (success_line words nsid) ≤ length words + 65

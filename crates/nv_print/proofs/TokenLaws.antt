@@ -1,25 +1,18 @@
 -- The tokens of objects and of lists, from those of their parts.
-use Rattle.std.proofs.Common.{◌≡◌, ◌∙◌, ℕ, ◌+◌, ◌<◌, ap, append_assoc, refl, subst, sym, Bool, true, false}
-use Rattle.std.proofs.Common.{List, [], ◌∷◌, ◌++◌, get_or, length, map, take}
-use Rattle.std.proofs.Common.{arith}
-use Rattle.std.proofs.lemmas.Grind.{common_steps}
-use Rattle.std.specs.Prelude.{codes, filter, flat_map, if◌then◌else◌}
+use Rattle.nv_print.proofs.Words.{[], ℕ, ◌++◌, ◌+◌, ◌<◌, ◌∙◌, ◌∷◌, ◌≡◌, Adds, Bool, Data, ErrorEntry, Field, List}
+use Rattle.nv_print.proofs.Words.{ListedDevice, Members, Token, ap, append_assoc, arith, array, as_text, before}
+use Rattle.nv_print.proofs.Words.{common_steps, data_tokens, error_tokens, false, field, field_tokens, filter, flat_map}
+use Rattle.nv_print.proofs.Words.{get_or, holds_error, if◌then◌else◌, in_decimal, items_of, length, map, member}
+use Rattle.nv_print.proofs.Words.{no_members, node_of, object, object_of, printable, put, refl, subst, sym, take, true}
+use Rattle.std.specs.Prelude.{codes}
 use Rattle.std.proofs.lemmas.List.Folds.{flat_map-map}
-use Rattle.json.specs.Token as json
-use Rattle.json.specs.Token.{Token}
 use Rattle.json.specs.Tree.{items_tokens, members_tokens}
 use Rattle.json.specs.Written.{Written}
-use Rattle.serde_json.specs.Data.{Data, Members, array, member, no_members, object, put}
-use Rattle.serde_json.specs.View.{items_of}
 use Rattle.serde_json.specs.Written.{items_outline, members_outline}
-use Rattle.nv_layout.specs.declared.error_entry.ErrorEntry.{ErrorEntry}
-use Rattle.nv_print.specs.Devices.{fields_of_device, node_of}
-use Rattle.nv_print.specs.Field.{Field, as_text, field, in_decimal, object_of}
-use Rattle.nv_print.specs.Records.{fields_of_entry, holds_error}
-use Rattle.nv_print.specs.Text.{printable}
-use Rattle.nv_print.specs.declared.device.ListedDevice.{ListedDevice}
-use Rattle.nv_print.specs.inner.Tokens.{Adds, before, data_tokens, error_tokens, field_tokens}
+use Rattle.nv_print.specs.Devices.{fields_of_device}
+use Rattle.nv_print.specs.Records.{fields_of_entry}
 use Rattle.nv_print.proofs.Fields.{flat_map_next}
+use Rattle.json.specs.Token as json
 
 -- ---- tokens that are added in turn
 

@@ -1,7 +1,4 @@
-use Rattle.std.proofs.Common.{◌∙◌, ◌++◌, ◌∷◌, [], ap, string_bytes}
-use Rattle.std.specs.Fmt.{decimal}
-use Rattle.nv_print.specs.Devices.{node_of}
-use Rattle.nv_print.specs.Text.{left, printable, right}
+use Rattle.nv_print.proofs.Words.{[], ◌++◌, ◌∙◌, ◌∷◌, ap, decimal, left, node_of, printable, right, string_bytes}
 use Rattle.nv_print.proofs.Fields.{columns_more}
 use Rattle.nv_print.proofs.devices.push_device.Goals as goal
 

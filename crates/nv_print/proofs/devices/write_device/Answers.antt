@@ -1,8 +1,6 @@
-use Rattle.std.proofs.Common.{◌≡◌, ◌∙◌, ◌++◌, List, [], ℕ, ap, codes, rules, string_bytes, subst}
-use Rattle.std.proofs.lemmas.Result.{on_ok_weaker}
-use Rattle.nv_print.specs.Devices.{node_of}
-use Rattle.nv_print.specs.Field.{as_text, field, in_decimal}
-use Rattle.nv_print.specs.inner.Tokens.{Adds, field_tokens}
+use Rattle.nv_print.proofs.Words.{[], ℕ, ◌++◌, ◌∙◌, ◌≡◌, Adds, List, ap, as_text, field, field_tokens, in_decimal}
+use Rattle.nv_print.proofs.Words.{node_of, on_ok_weaker, rules, string_bytes, subst}
+use Rattle.std.proofs.Common.{codes}
 use Rattle.nv_print.proofs.TokenLaws.{device_added}
 use Rattle.nv_print.proofs.devices.write_device.Goals as goal
 

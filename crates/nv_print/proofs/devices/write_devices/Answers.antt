@@ -1,7 +1,6 @@
-use Rattle.std.proofs.Common.{arith, codes}
-use Rattle.std.proofs.lemmas.Result.{on_ok_weaker}
+use Rattle.nv_print.proofs.Words.{arith, object_of, on_ok_weaker}
+use Rattle.std.proofs.Common.{codes}
 use Rattle.nv_print.specs.Devices.{fields_of_device}
-use Rattle.nv_print.specs.Field.{object_of}
 use Rattle.nv_print.proofs.JsonLengths.{list_object_length}
 use Rattle.nv_print.proofs.TokenLaws.{list_added}
 use Rattle.nv_print.proofs.devices.write_devices.Goals as goal

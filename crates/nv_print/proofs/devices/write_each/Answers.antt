@@ -1,9 +1,6 @@
-use Rattle.std.proofs.Common.{◌≤◌, length, rules}
+use Rattle.nv_print.proofs.Words.{◌≤◌, compact_text, data_tokens, length, object_of, rules}
 use Rattle.std.proofs.lemmas.List.Elements.{All-more}
-use Rattle.serde_json.specs.Written.{compact_text}
 use Rattle.nv_print.specs.Devices.{fields_of_device}
-use Rattle.nv_print.specs.Field.{object_of}
-use Rattle.nv_print.specs.inner.Tokens.{data_tokens}
 use Rattle.nv_print.proofs.TokenLaws.{next_added}
 use Rattle.nv_print.proofs.devices.write_each.Goals as goal
 

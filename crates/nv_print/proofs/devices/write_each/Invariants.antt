@@ -1,10 +1,5 @@
-use Rattle.std.proofs.Common.{◌≤◌, length, take}
-use Rattle.std.specs.Prelude.{flat_map}
-use Rattle.std.specs.List.{All}
-use Rattle.serde_json.specs.Written.{compact_text}
+use Rattle.nv_print.proofs.Words.{◌≤◌, Adds, All, compact_text, data_tokens, flat_map, length, object_of, take}
 use Rattle.nv_print.specs.Devices.{fields_of_device}
-use Rattle.nv_print.specs.Field.{object_of}
-use Rattle.nv_print.specs.inner.Tokens.{Adds, data_tokens}
 use Rattle.nv_print.proofs.devices.write_each.Given as goal
 
 abbrev pub invariant-loop-device : goal.invariant-loop-device

@@ -1,5 +1,4 @@
-use Rattle.std.proofs.Common.{◌≡◌, ◌++◌, string_bytes, take}
-use Rattle.nv_print.specs.Field.{fields_text}
+use Rattle.nv_print.proofs.Words.{◌++◌, ◌≡◌, fields_text, string_bytes, take}
 use Rattle.nv_print.proofs.field.push_fields.Given as goal
 
 abbrev pub invariant-loop-field : goal.invariant-loop-field

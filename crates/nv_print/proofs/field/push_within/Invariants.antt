@@ -1,6 +1,4 @@
-use Rattle.std.proofs.Common.{◌≡◌, ◌++◌, string_bytes, take}
-use Rattle.std.specs.Prelude.{flat_map}
-use Rattle.nv_print.specs.Records.{field_within}
+use Rattle.nv_print.proofs.Words.{◌++◌, ◌≡◌, field_within, flat_map, string_bytes, take}
 use Rattle.nv_print.proofs.field.push_within.Given as goal
 
 abbrev pub invariant-loop-field : goal.invariant-loop-field

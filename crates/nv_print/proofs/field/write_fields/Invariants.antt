@@ -1,6 +1,4 @@
-use Rattle.std.proofs.Common.{take}
-use Rattle.std.specs.Prelude.{flat_map}
-use Rattle.nv_print.specs.inner.Tokens.{Adds, field_tokens}
+use Rattle.nv_print.proofs.Words.{Adds, field_tokens, flat_map, take}
 use Rattle.nv_print.proofs.field.write_fields.Given as goal
 
 abbrev pub invariant-loop-field : goal.invariant-loop-field

@@ -1,5 +1,4 @@
-use Rattle.std.proofs.Common.{arith}
-use Rattle.std.proofs.lemmas.Grind.{common_steps}
+use Rattle.nv_print.proofs.Words.{arith, common_steps}
 use Rattle.nv_print.proofs.HexadecimalDigits.{six_digits_utf8}
 use Rattle.nv_print.proofs.hexadecimal.six_digits_in.Goals as goal
 

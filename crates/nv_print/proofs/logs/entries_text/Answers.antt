@@ -1,6 +1,4 @@
-use Rattle.std.proofs.Common.{◌∙◌, ◌++◌, ap, arith, get_or, string_bytes, sym}
-use Rattle.nv_layout.specs.ErrorEntry.{no_entry}
-use Rattle.nv_print.specs.Records.{entry_text}
+use Rattle.nv_print.proofs.Words.{◌++◌, ◌∙◌, ap, arith, entry_text, get_or, no_entry, string_bytes, sym}
 use Rattle.nv_print.proofs.NumberedLines.{lines_of_next}
 use Rattle.nv_print.proofs.PresentEntries.{text_present}
 use Rattle.nv_print.proofs.logs.entries_text.Goals as goal

@@ -1,10 +1,6 @@
-use Rattle.std.proofs.Common.{List, codes, subst}
-use Rattle.std.specs.Prelude.{filter}
-use Rattle.std.proofs.lemmas.Result.{on_ok_weaker}
-use Rattle.json.specs.Token.{Token}
-use Rattle.nv_print.specs.Field.{object_of}
-use Rattle.nv_print.specs.Records.{fields_of_entry, holds_error}
-use Rattle.nv_print.specs.inner.Tokens.{Adds}
+use Rattle.nv_print.proofs.Words.{Adds, List, Token, filter, holds_error, object_of, on_ok_weaker, subst}
+use Rattle.std.proofs.Common.{codes}
+use Rattle.nv_print.specs.Records.{fields_of_entry}
 use Rattle.nv_print.proofs.TokenLaws.{errors_are, list_added}
 use Rattle.nv_print.proofs.logs.write_entries.Goals as goal
 

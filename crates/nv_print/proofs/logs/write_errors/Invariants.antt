@@ -1,6 +1,4 @@
-use Rattle.std.proofs.Common.{take}
-use Rattle.std.specs.Prelude.{flat_map}
-use Rattle.nv_print.specs.inner.Tokens.{Adds, error_tokens}
+use Rattle.nv_print.proofs.Words.{Adds, error_tokens, flat_map, take}
 use Rattle.nv_print.proofs.logs.write_errors.Given as goal
 
 abbrev pub invariant-loop-index : goal.invariant-loop-index

@@ -1,8 +1,6 @@
-use Rattle.std.proofs.Common.{◌∙◌, ap, codes, sym}
-use Rattle.serde_json.specs.Data.{no_members}
-use Rattle.nv_print.specs.Field.{field, in_hexadecimal}
+use Rattle.nv_print.proofs.Words.{◌∙◌, ap, before, field, in_hexadecimal, no_members, sym}
+use Rattle.std.proofs.Common.{codes}
 use Rattle.nv_print.specs.Records.{fields_of_entry}
-use Rattle.nv_print.specs.inner.Tokens.{before}
 use Rattle.nv_print.proofs.Fields.{and_field, and_last}
 use Rattle.nv_print.proofs.members.entry_members.Goals as goal
 

@@ -1,7 +1,6 @@
-use Rattle.std.proofs.Common.{ap₂, codes, sym}
-use Rattle.serde_json.specs.Data.{member, no_members}
+use Rattle.nv_print.proofs.Words.{ap₂, before, member, no_members, sym}
+use Rattle.std.proofs.Common.{codes}
 use Rattle.nv_print.specs.Records.{fields_of_id_ns}
-use Rattle.nv_print.specs.inner.Tokens.{before}
 use Rattle.nv_print.proofs.Fields.{and_field, and_last}
 use Rattle.nv_print.proofs.members.id_ns_members.Goals as goal
 

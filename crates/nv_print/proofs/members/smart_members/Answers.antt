@@ -1,7 +1,5 @@
-use Rattle.std.proofs.Common.{ap, sym}
-use Rattle.serde_json.specs.Data.{no_members}
+use Rattle.nv_print.proofs.Words.{ap, before, no_members, sym}
 use Rattle.nv_print.specs.Records.{fields_of_smart}
-use Rattle.nv_print.specs.inner.Tokens.{before}
 use Rattle.nv_print.proofs.Fields.{and_field, and_last}
 use Rattle.nv_print.proofs.members.smart_members.Goals as goal
 

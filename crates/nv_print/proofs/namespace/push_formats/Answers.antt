@@ -1,6 +1,4 @@
-use Rattle.std.proofs.Common.{◌∙◌, ◌++◌, ap, get_or, string_bytes}
-use Rattle.nv_layout.specs.declared.id_ns.Lbaf.{Lbaf}
-use Rattle.nv_print.specs.Records.{lbaf_line}
+use Rattle.nv_print.proofs.Words.{◌++◌, ◌∙◌, Lbaf, ap, get_or, lbaf_line, string_bytes}
 use Rattle.nv_print.proofs.NumberedLines.{text_and_line_next}
 use Rattle.nv_print.proofs.namespace.push_formats.Goals as goal
 

@@ -1,6 +1,4 @@
-use Rattle.std.proofs.Common.{◌≡◌, ◌++◌, take, string_bytes}
-use Rattle.nv_print.specs.Records.{lbaf_line}
-use Rattle.nv_print.specs.Text.{lines_of}
+use Rattle.nv_print.proofs.Words.{◌++◌, ◌≡◌, lbaf_line, lines_of, string_bytes, take}
 use Rattle.nv_print.proofs.namespace.push_formats.Given as goal
 
 abbrev pub invariant-loop-index : goal.invariant-loop-index

@@ -1,8 +1,5 @@
-use Rattle.std.proofs.Common.{take}
-use Rattle.std.specs.Prelude.{flat_map}
-use Rattle.nv_print.specs.Field.{object_of}
+use Rattle.nv_print.proofs.Words.{Adds, data_tokens, flat_map, object_of, take}
 use Rattle.nv_print.specs.Records.{fields_of_lbaf}
-use Rattle.nv_print.specs.inner.Tokens.{Adds, data_tokens}
 use Rattle.nv_print.proofs.namespace.write_formats.Given as goal
 
 abbrev pub invariant-loop-format : goal.invariant-loop-format

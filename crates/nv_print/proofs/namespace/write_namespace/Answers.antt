@@ -1,12 +1,7 @@
-use Rattle.std.proofs.Common.{List, codes, map, subst, sym}
-use Rattle.std.specs.Prelude.{flat_map}
-use Rattle.std.proofs.lemmas.Result.{on_ok_weaker}
-use Rattle.serde_json.specs.Data.{Data, Members, array, object}
-use Rattle.serde_json.specs.View.{items_of}
-use Rattle.nv_layout.specs.declared.id_ns.Lbaf.{Lbaf}
-use Rattle.nv_print.specs.Field.{object_of}
-use Rattle.nv_print.specs.Records.{fields_of_id_ns, fields_of_lbaf, formats_of}
-use Rattle.nv_print.specs.inner.Tokens.{Adds, data_tokens}
+use Rattle.nv_print.proofs.Words.{Adds, Data, Lbaf, List, Members, array, data_tokens, flat_map, formats_of, items_of}
+use Rattle.nv_print.proofs.Words.{map, object, object_of, on_ok_weaker, subst, sym}
+use Rattle.std.proofs.Common.{codes}
+use Rattle.nv_print.specs.Records.{fields_of_id_ns, fields_of_lbaf}
 use Rattle.nv_print.proofs.TokenLaws.{among_added}
 use Rattle.nv_print.proofs.namespace.write_namespace.Goals as goal
 

@@ -1,5 +1,4 @@
-use Rattle.std.proofs.Common.{◌∙◌, ◌++◌, ap, get_or, sym}
-use Rattle.nv_print.specs.Records.{nsid_line}
+use Rattle.nv_print.proofs.Words.{◌++◌, ◌∙◌, ap, get_or, nsid_line, sym}
 use Rattle.nv_print.proofs.NumberedLines.{lines_of_next}
 use Rattle.nv_print.proofs.ns_list.nsids_text.Goals as goal
 

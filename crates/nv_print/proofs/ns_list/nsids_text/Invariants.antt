@@ -1,5 +1,4 @@
-use Rattle.std.proofs.Common.{◌≡◌, string_bytes, take}
-use Rattle.nv_print.specs.Records.{nsids_text}
+use Rattle.nv_print.proofs.Words.{◌≡◌, nsids_text, string_bytes, take}
 use Rattle.nv_print.proofs.ns_list.nsids_text.Given as goal
 
 abbrev pub invariant-loop-index : goal.invariant-loop-index

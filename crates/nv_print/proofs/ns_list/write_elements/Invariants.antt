@@ -1,7 +1,4 @@
-use Rattle.std.proofs.Common.{take}
-use Rattle.std.specs.Prelude.{flat_map}
-use Rattle.serde_json.specs.Data.{number, unsigned}
-use Rattle.nv_print.specs.inner.Tokens.{Adds, data_tokens}
+use Rattle.nv_print.proofs.Words.{Adds, data_tokens, flat_map, number, take, unsigned}
 use Rattle.nv_print.proofs.ns_list.write_elements.Given as goal
 
 abbrev pub invariant-loop-nsid : goal.invariant-loop-nsid

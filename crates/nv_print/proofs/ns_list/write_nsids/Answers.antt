@@ -1,6 +1,5 @@
+use Rattle.nv_print.proofs.Words.{number, on_ok_weaker, unsigned}
 use Rattle.std.proofs.Common.{codes}
-use Rattle.std.proofs.lemmas.Result.{on_ok_weaker}
-use Rattle.serde_json.specs.Data.{number, unsigned}
 use Rattle.nv_print.proofs.TokenLaws.{list_added}
 use Rattle.nv_print.proofs.ns_list.write_nsids.Goals as goal
 

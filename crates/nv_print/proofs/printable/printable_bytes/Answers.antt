@@ -1,6 +1,4 @@
-use Rattle.std.proofs.Common.{◌∙◌, ◌-◌, ap, length, subst, sym, take, ℕ}
-use Rattle.std.specs.Str.{IsTrimAsciiEnd}
-use Rattle.nv_print.specs.Text.{printable}
+use Rattle.nv_print.proofs.Words.{ℕ, ◌-◌, ◌∙◌, IsTrimAsciiEnd, ap, length, printable, subst, sym, take}
 use Rattle.nv_print.proofs.PrintableLaws.{printable_is_utf8, printable_padded, trimmed_is}
 use Rattle.nv_print.proofs.printable.printable_bytes.Goals as goal
 

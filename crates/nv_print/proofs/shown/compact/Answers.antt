@@ -1,8 +1,7 @@
-use Rattle.std.proofs.Common.{◌∙◌, ◌++◌, ap₂}
+use Rattle.nv_print.proofs.Words.{◌++◌, ◌∙◌, ap₂, data_tokens}
 use Rattle.json.specs.Print.{print}
 use Rattle.serde_json.proofs.Texts.{print-outline}
 use Rattle.nv_print.specs.Shown.{data_of}
-use Rattle.nv_print.specs.inner.Tokens.{data_tokens}
 use Rattle.nv_print.proofs.shown.compact.Goals as goal
 
 pub returns-clause-exact : goal.returns-clause-exact

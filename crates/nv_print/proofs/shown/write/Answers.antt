@@ -1,5 +1,4 @@
-use Rattle.std.proofs.Common.{rules, arith, sym}
-use Rattle.std.proofs.lemmas.Result.{on_ok_weaker}
+use Rattle.nv_print.proofs.Words.{arith, on_ok_weaker, rules, sym}
 use Rattle.nv_print.proofs.ListLengths.{entries_json_length, namespace_json_length, nsids_json_length}
 use Rattle.nv_print.proofs.RecordLengths.{id_ctrl_json, smart_json}
 use Rattle.nv_print.proofs.shown.write.Goals as goal
