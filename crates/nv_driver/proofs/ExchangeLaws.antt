@@ -1,37 +1,23 @@
 -- A single entry: a run of one request, with its data in the pages behind those of all controllers.
-use Rattle.std.proofs.Common.{[], ◌≡◌, ◌∙◌, ℕ, ◌+◌, ◌*◌, ◌≤◌, ◌%◌, List, ◌∷◌, ap, arith, get_or, length, min}
-use Rattle.std.proofs.Common.{Err, Ok, refl, subst, sym}
-use Rattle.nv_bits.specs.Numbers.{NumberSet}
-use Rattle.nv_host.specs.PageSets.{Pages, all_of}
-use Rattle.nv_prp.specs.Buffer.{IsBuffer, buffer_places}
-use Rattle.nv_layout.specs.declared.cqe.Status.{Status}
-use Rattle.nv_bus.specs.declared.told.Told.{Told}
-use Rattle.nv_bus.specs.Entry.{status_in, told_by}
-use Rattle.nv_driver.proofs.Words.{Answer, Asked, BusValue, Delivers, Geometry, IsLeft, IsReady}
-use Rattle.nv_driver.proofs.Words.{QueuePair, QueuePairFields, Request, RequestPlace, Run, Sent, Sqe, SqeFits, Transfer}
-use Rattle.nv_driver.proofs.Words.{after_some, greatest_limit, length_of, limit_bounds, limit_of, mul-le-mul_right}
-use Rattle.nv_driver.proofs.Words.{numbered, padded, pages_of_entry, pair_value, place_in, received_from, run_of, side}
-use Rattle.nv_driver.proofs.Words.{step_of, transfer_for}
-use Rattle.nv_driver.specs.Alone.{Comes, IsReceived, asked_in, entry_step}
-use Rattle.nv_driver.specs.Batch.{numbered_request}
-use Rattle.nv_driver.specs.CommandPages.{all_pages}
-use Rattle.nv_driver.specs.Request.{request_for}
-use Rattle.nv_driver.specs.Schedule.{bytes_read}
+use Rattle.nv_driver.proofs.Words.{[], ℕ, ◌%◌, ◌*◌, ◌+◌, ◌∙◌, ◌∷◌, ◌≡◌, ◌≤◌, Answer, AreSendable, Asked, BusValue}
+use Rattle.nv_driver.proofs.Words.{CommandPages, Delivers, Err, Geometry, HasRoom, IsBuffer, IsHeard, IsLeft, IsReady}
+use Rattle.nv_driver.proofs.Words.{IsReceived, IsRequest, IsRunOf, KeepsOutside, List, NumberSet, Ok, Pages, QueuePair}
+use Rattle.nv_driver.proofs.Words.{QueuePairFields, Request, RequestPlace, Requests, Run, Sent, Sqe, SqeFits, Status}
+use Rattle.nv_driver.proofs.Words.{Told, Transfer, after_some, all_of, all_pages, ap, arith, asked_in, bytes_read}
+use Rattle.nv_driver.proofs.Words.{entry_step, get_or, greatest_limit, length, length-take, length_of, limit_bounds}
+use Rattle.nv_driver.proofs.Words.{limit_of, min, mul-le-mul_right, numbered, numbered_request, padded, pages_of_entry}
+use Rattle.nv_driver.proofs.Words.{pair_value, place_in, received_from, refl, request_for, requests_in, run_of, side}
+use Rattle.nv_driver.proofs.Words.{step_of, subst, sym, told_by, transfer_for}
+use Rattle.nv_prp.specs.Buffer.{buffer_places}
+use Rattle.nv_bus.specs.Entry.{status_in}
+use Rattle.nv_driver.specs.Alone.{Comes}
 use Rattle.nv_driver.specs.inner.Alone.{came_with}
-use Rattle.nv_driver.specs.inner.Exchange.{KeepsOutside}
-use Rattle.nv_driver.specs.inner.UnderWay.{IsHeard}
-use Rattle.nv_driver.specs.UnderWay.{AreSendable, IsRunOf, requests_in}
-use Rattle.nv_driver.specs.declared.command_pages.CommandPages.{CommandPages}
-use Rattle.nv_driver.specs.declared.requests.Requests.{Requests}
 use Rattle.nv_driver.proofs.AnswerLaws.{IsAnswerTo, answer_sound}
 use Rattle.nv_driver.proofs.CommandPageLaws.{own_is}
 use Rattle.nv_driver.proofs.PaddingLaws.{length-padded}
 use Rattle.nv_driver.proofs.RequestLaws.{every_entry}
 use Rattle.nv_driver.proofs.ShareLaws.{few_of_entry}
 use Rattle.nv_driver.proofs.UnderWayLaws.{request_is, room_few}
-use Rattle.nv_driver.proofs.Words.{IsRequest}
-use Rattle.nv_bus.specs.Call.{HasRoom}
-use Rattle.std.proofs.Common.{length-take}
 
 -- the data that comes back by a status belongs to the answer with this status
 comes_by : (asked : Asked) (a : Answer) (status : Status) (bytes : List ℕ) → status ≡ status_in a

@@ -1,24 +1,20 @@
 -- Pages that are taken from a set one after another, and returned.
-use Rattle.std.proofs.Common.{◌≡◌, ◌≢◌, ◌∙◌, ℕ, zero, suc, ◌+◌, ◌<◌, ◌≤◌, ◌==◌, ◌&&◌, ◌||◌, inl, inr, not}
-use Rattle.std.proofs.Common.{All, AllPairs, Bool, true, false, List, [], ◌∷◌, ◌++◌, ap, arith, get_or, length}
-use Rattle.std.proofs.Common.{length-append, length-take, nat_eq, refl, take, subst, sym}
-use Rattle.std.proofs.Common.{IfSome, IsSome, MatchOption, None, Option, Some, is_some, nat_cmp}
-use Rattle.std.proofs.lemmas.Bool.{both_ways, cases_lt, or_cases, or_from, or_right}
-use Rattle.std.proofs.lemmas.Bool.Decides.{nat_tests}
-use Rattle.std.proofs.lemmas.List.{get_or-take, get_or_default}
-use Rattle.std.proofs.lemmas.List.Elements.{All-push}
-use Rattle.std.proofs.lemmas.List.Folds.{list_any-append, list_any_none}
+use Rattle.nv_driver.proofs.Words.{[], ℕ, ◌&&◌, ◌++◌, ◌+◌, ◌<◌, ◌==◌, ◌||◌, ◌∙◌, ◌∷◌, ◌≡◌, ◌≢◌, ◌≤◌, All, All-push}
+use Rattle.nv_driver.proofs.Words.{AllPairs, AreLowest, AreTaken, Bool, IsOf, List, MatchOption, None, NumberSet}
+use Rattle.nv_driver.proofs.Words.{Option, Pages, Some, ap, arith, both_ways, cases_lt, false, fold, get_or}
+use Rattle.nv_driver.proofs.Words.{get_or-take, get_or_default, inl, inr, length, length-append, length-take}
+use Rattle.nv_driver.proofs.Words.{list_any-append, nat_eq, nat_tests, not, refl, subst, suc, sym, take, true}
+use Rattle.nv_driver.proofs.Words.{with_pages, without, zero}
+use Rattle.std.proofs.Common.{IfSome, IsSome, is_some, nat_cmp}
+use Rattle.std.proofs.lemmas.Bool.{or_cases, or_from, or_right}
+use Rattle.std.proofs.lemmas.List.Folds.{list_any_none}
 use Rattle.std.proofs.lemmas.List.Quantifiers.{all_pairs_push}
 use Rattle.std.proofs.lemmas.List.Sums.{fold_push}
 use Rattle.std.specs.Cmp.{nat_cmp_total}
+use Rattle.std.specs.List.{list_any}
+use Rattle.nv_bits.proofs.NumberLaws.{contains-insert, contains-remove, has_one as some_in, same_numbers}
+use Rattle.nv_host.specs.PageSets.{IsLowest, insert}
 use Rattle.std.specs.FinMap as map_of
-use Rattle.std.specs.List.{fold, list_any}
-use Rattle.nv_bits.proofs.NumberLaws.{contains-insert, contains-remove, same_numbers}
-use Rattle.nv_bits.proofs.NumberLaws.{has_one as some_in}
-use Rattle.nv_bits.specs.Numbers.{NumberSet}
-use Rattle.nv_host.specs.PageSets.{IsLowest, IsOf, Pages, insert}
-use Rattle.nv_driver.specs.CommandPages.{AreLowest, AreTaken, without}
-use Rattle.nv_driver.specs.inner.CommandPages.{with_pages}
 
 -- ---- members of sets
 

@@ -1,25 +1,18 @@
 -- The pages of several outstanding commands.
-use Rattle.std.proofs.Common.{◌≡◌, ◌≢◌, ◌∙◌, ℕ, zero, suc, ◌+◌, ◌*◌, ◌<◌, ◌≤◌, ◌&&◌, ◌||◌, not, All}
-use Rattle.std.proofs.Common.{AllPairs, Bool, true, false, List, [], ◌∷◌}
-use Rattle.std.proofs.Common.{◌++◌, add-one, ap, append-nil, append_assoc, arith, get_or, length}
-use Rattle.std.proofs.Common.{length-append, nat_eq, refl, subst, sym, take}
-use Rattle.std.proofs.Math.Seq.{take-length}
-use Rattle.std.proofs.lemmas.Bool.{both_ways, or_parts}
-use Rattle.std.proofs.lemmas.Bool.Decides.{nat_tests}
+use Rattle.nv_driver.proofs.Words.{[], ℕ, ◌&&◌, ◌*◌, ◌++◌, ◌+◌, ◌<◌, ◌||◌, ◌∙◌, ◌∷◌, ◌≡◌, ◌≢◌, ◌≤◌, All, AllPairs}
+use Rattle.nv_driver.proofs.Words.{AreTaken, Bool, IsOf, List, Pages, Sent, add-one, ap, append-nil, arith, both_ways}
+use Rattle.nv_driver.proofs.Words.{false, fold, get_or, get_or_append_left, get_or_default, length, length-append}
+use Rattle.nv_driver.proofs.Words.{list_any-append, nat_eq, nat_tests, not, own_pages, pages_of_all, refl, subst, suc}
+use Rattle.nv_driver.proofs.Words.{sym, take, take-length, take_more, true, with_pages, without, zero}
+use Rattle.std.proofs.Common.{append_assoc}
+use Rattle.std.proofs.lemmas.Bool.{or_parts}
 use Rattle.std.proofs.lemmas.List.Kept.{AllPairs-cons}
-use Rattle.std.proofs.lemmas.List.{get_or-append-add, get_or_append_left, get_or_default, take_more}
+use Rattle.std.proofs.lemmas.List.{get_or-append-add}
 use Rattle.std.proofs.lemmas.List.Elements.{All-append}
 use Rattle.std.proofs.lemmas.Grind.{fold-append}
-use Rattle.std.proofs.lemmas.List.Folds.{list_any-append}
-use Rattle.std.specs.List.{fold}
+use Rattle.nv_driver.proofs.PageSetLaws.{Taking, in_all, is_in, left_in, not_before, not_in, same_pages, taking_more}
+use Rattle.nv_driver.proofs.PageSetLaws.{taking_none, with_in, without_in, without_none}
 use Rattle.std.specs.FinMap as map_of
-use Rattle.nv_host.specs.PageSets.{IsOf, Pages}
-use Rattle.nv_driver.specs.CommandPages.{AreTaken, without}
-use Rattle.nv_driver.specs.inner.CommandPages.{with_pages}
-use Rattle.nv_driver.specs.Schedule.{Sent, own_pages}
-use Rattle.nv_driver.specs.UnderWay.{pages_of_all}
-use Rattle.nv_driver.proofs.PageSetLaws.{Taking, without_in, in_all, is_in, left_in, not_before, not_in, same_pages}
-use Rattle.nv_driver.proofs.PageSetLaws.{taking_more, taking_none, with_in, without_none}
 
 -- ---- lists of pages, one after another
 

@@ -1,7 +1,5 @@
-use Rattle.std.proofs.Common.{◌≡◌, ◌<◌, ◌∙◌, arith, length, rules, length-take, refl, subst, sym, take}
-use Rattle.std.proofs.Math.ListN.{length-set}
-use Rattle.std.proofs.lemmas.List.{take_more_set}
-use Rattle.nv_driver.specs.CommandPages.{AreLowest}
+use Rattle.nv_driver.proofs.Words.{◌<◌, ◌∙◌, ◌≡◌, AreLowest, arith, length, length-set, length-take, refl, rules, subst}
+use Rattle.nv_driver.proofs.Words.{sym, take, take_more_set}
 use Rattle.nv_driver.proofs.PageSetLaws.{Taking, has_one, lowest_next, lowest_none, some_taken, taking_next}
 use Rattle.nv_driver.proofs.PageSetLaws.{taking_none}
 use Rattle.nv_driver.proofs.command_pages.CommandPages.take.Goals as goal
