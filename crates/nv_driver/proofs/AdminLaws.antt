@@ -1,24 +1,15 @@
 -- Commands and resets of a driver, over the queue pairs of its controllers.
-use Rattle.std.proofs.Common.{◌≡◌, ◌≢◌, ◌∙◌, ◌⊎◌, ℕ, ◌+◌, ◌-◌, ◌*◌, ◌<◌, ◌≤◌, List, ap, arith, get_or, inl, inr, length}
-use Rattle.std.proofs.Common.{map, refl, subst, sym}
-use Rattle.std.proofs.Math.ListN.{length-set}
-use Rattle.std.proofs.lemmas.List.{get_or-set_other, map-set}
+use Rattle.nv_driver.proofs.Words.{ℕ, ◌*◌, ◌+◌, ◌-◌, ◌<◌, ◌∙◌, ◌≡◌, ◌≢◌, ◌≤◌, ◌⊎◌, BusValue, Cqe, DriverValue, Geometry}
+use Rattle.nv_driver.proofs.Words.{GoesOver, HoldsTags, IsApart, IsDriver, IsLaid, IsLeft, IsLinked, IsPlaced, IsQuiet}
+use Rattle.nv_driver.proofs.Words.{IsReady, IsSettled, KeepsBelow, List, PagedBytes, Pages, QueuePair, QueuePairFields}
+use Rattle.nv_driver.proofs.Words.{World, after_command, after_commands, ap, arith, bank_at, banks_of, cases_eq}
+use Rattle.nv_driver.proofs.Words.{cases_lt, cqe_of_bytes, driver_value, end_of, get_or, get_or-map, get_or-set_other}
+use Rattle.nv_driver.proofs.Words.{get_or-set_same, get_or_default, idle_bank, inl, inr, length, length-map, length-set}
+use Rattle.nv_driver.proofs.Words.{map, map-set, mps_of, mul-le-mul_right, new_bank, no_pair, page_count, pages_behind}
+use Rattle.nv_driver.proofs.Words.{pages_of_command, pair_at, pair_value, refl, side, slice_set, subst, sym}
 use Rattle.std.proofs.lemmas.List.Elements.{All-set}
-use Rattle.nv_layout.specs.Cqe.{cqe_of_bytes}
 use Rattle.nv_queue.specs.Numbers.{kept_number, next}
-use Rattle.nv_driver.proofs.Words.{BusValue, Cqe, DriverValue, Geometry, HoldsTags, IsApart, IsDriver, IsLaid, IsLeft}
-use Rattle.nv_driver.proofs.Words.{IsQuiet, IsReady, KeepsBelow, PagedBytes, QueuePair, QueuePairFields, after_command}
-use Rattle.nv_driver.proofs.Words.{bank_at, cases_eq, cases_lt, driver_value, end_of, get_or-map, get_or-set_same}
-use Rattle.nv_driver.proofs.Words.{get_or_default, idle_bank, length-map, mps_of, mul-le-mul_right, new_bank}
-use Rattle.nv_driver.proofs.Words.{pair_value, side, slice_set}
-use Rattle.nv_driver.specs.Driver.{IsPlaced, after_commands, page_count, pages_behind, pair_at, no_pair}
-use Rattle.nv_host.specs.PageSets.{Pages}
-use Rattle.nv_driver.specs.Sending.{GoesOver}
-use Rattle.nv_driver.proofs.Words.{World}
-use Rattle.nv_driver.specs.Linked.{IsLinked}
-use Rattle.nv_driver.specs.Layout.{pages_of_command, set_pages}
-use Rattle.nv_driver.specs.Registers.{banks_of}
-use Rattle.nv_driver.specs.Settled.{IsSettled}
+use Rattle.nv_driver.specs.Layout.{set_pages}
 use Rattle.nv_driver.specs.inner.Exchange.{Side}
 
 -- ---- before the command

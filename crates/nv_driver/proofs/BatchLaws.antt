@@ -1,12 +1,10 @@
 -- Requests one at a time: their answers, the state after them, and those of a list of requests.
-use Rattle.std.proofs.Common.{◌≡◌, ◌∙◌, ℕ, zero, suc, ◌+◌, ◌<◌, List, [], ◌∷◌, ◌++◌, add-one, ap, arith, get_or, length}
-use Rattle.std.proofs.Common.{map, refl, take, ◌%◌, ◌≤◌, sym}
+use Rattle.nv_driver.proofs.Words.{[], ℕ, ◌%◌, ◌++◌, ◌+◌, ◌<◌, ◌∙◌, ◌∷◌, ◌≡◌, ◌≤◌, Answer, List, Request, Sent, State}
+use Rattle.nv_driver.proofs.Words.{add-one, after, answers_of_all, answers_to, ap, arith, cid_after, from_cid, get_or}
+use Rattle.nv_driver.proofs.Words.{length, length-map, map, mod_below, numbered, numbered_request, received_as, refl}
+use Rattle.nv_driver.proofs.Words.{state_after_all, step_after, step_of, suc, sym, take, zero}
 use Rattle.std.proofs.lemmas.List.{take-map, take-take}
-use Rattle.nv_driver.proofs.Words.{Answer, Request, Sent, State, answers_to, length-map, mod_below, cid_after}
-use Rattle.nv_driver.proofs.Words.{numbered, step_of}
-use Rattle.nv_driver.specs.Request.{received_as}
-use Rattle.nv_driver.specs.Schedule.{Numbered, after, answers_of_all, state_after_all, step_after}
-use Rattle.nv_driver.specs.Batch.{from_cid, numbered_request}
+use Rattle.nv_driver.specs.Schedule.{Numbered}
 
 -- ---- requests that were sent
 

@@ -1,15 +1,10 @@
 -- The pages of a command, as `build` requires them.
-use Rattle.std.proofs.Common.{◌≡◌, ◌∙◌, ℕ, ◌+◌, ◌*◌, ◌≤◌, All, List, [], ◌∷◌, ap, arith, drop}
-use Rattle.std.proofs.Common.{get_or, length, length-drop, length-take, refl, subst, suc, sym}
+use Rattle.nv_driver.proofs.Words.{[], ℕ, ◌*◌, ◌+◌, ◌∙◌, ◌∷◌, ◌≡◌, ◌≤◌, All, AreDistinct, CommandPages, Geometry}
+use Rattle.nv_driver.proofs.Words.{IsGeometry, IsOf, IsPlaceFor, LiesInPages, List, Pages, Run, Sent, all_pages, ap}
+use Rattle.nv_driver.proofs.Words.{arith, data_count, drop, get_or, length, length-drop, length-take, mul-le-mul_right}
+use Rattle.nv_driver.proofs.Words.{own_pages, place_in, refl, subst, suc, sym}
 use Rattle.std.specs.Prelude.{slice_index}
 use Rattle.nv_host.specs.Pages.{HasPage}
-use Rattle.nv_host.specs.PageSets.{IsOf, Pages}
-use Rattle.nv_driver.proofs.Words.{AreDistinct, Geometry, IsGeometry, IsPlaceFor, Sent, mul-le-mul_right, own_pages}
-use Rattle.nv_driver.specs.CommandPages.{all_pages}
-use Rattle.nv_driver.specs.declared.command_pages.CommandPages.{CommandPages}
-use Rattle.nv_driver.specs.Layout.{data_count}
-use Rattle.nv_driver.specs.Submitting.{place_in}
-use Rattle.nv_driver.specs.UnderWay.{LiesInPages, Run}
 use Rattle.nv_driver.proofs.ShareLaws.{data_fits}
 
 -- how many pages a command has

@@ -1,28 +1,21 @@
 -- A list of requests: its beginning, its progress and its end.
-use Rattle.std.proofs.Common.{◌≡◌, ◌∙◌, ℕ, ◌<◌, ◌≤◌, List, ap, arith, inl, inr, length, subst, sym, take, [], All, refl}
-use Rattle.std.proofs.Common.{drop, false, true}
-use Rattle.nv_driver.proofs.Words.{Answer, Batch, BusValue, Geometry, HasAnswers, IsLeft, IsReady, IsRequest, Request}
-use Rattle.nv_driver.proofs.Words.{limit_of}
-use Rattle.nv_driver.proofs.Words.{IsTold, IsUnderWay, QueuePairFields, Run, after_some, cases_eq, cases_lt, pair_value}
-use Rattle.nv_driver.proofs.Words.{run_of, side}
-use Rattle.nv_driver.specs.Batch.{from_cid}
-use Rattle.nv_driver.specs.Schedule.{answers_of_all, state_after_all}
-use Rattle.nv_driver.specs.BringingUp.{BusTurn, TailWrite, Write}
+use Rattle.nv_driver.proofs.Words.{[], ℕ, ◌<◌, ◌∙◌, ◌≡◌, ◌≤◌, All, Answer, Batch, BusTurn, BusValue, CommandPages}
+use Rattle.nv_driver.proofs.Words.{Geometry, HasAnswers, IsLeft, IsReady, IsRequest, IsTold, IsUnderWay, KeepsOutside}
+use Rattle.nv_driver.proofs.Words.{List, QueuePairFields, Request, Run, TailWrite, Write, after_some, answers_of_all}
+use Rattle.nv_driver.proofs.Words.{ap, arith, cases_eq, cases_lt, drop, false, from_cid, inl, inr, left_of, length}
+use Rattle.nv_driver.proofs.Words.{limit_of, numbered_of, pages_of_all, pair_value, refl, run_of, run_on, side}
+use Rattle.nv_driver.proofs.Words.{state_after_all, subst, sym, take, take-length, true, without}
 use Rattle.nv_queue.specs.Numbers.{slot_of}
-use Rattle.nv_driver.specs.UnderWay.{RunOn, numbered_of, run_on, pages_of_all}
-use Rattle.nv_driver.specs.CommandPages.{without}
-use Rattle.nv_driver.specs.declared.command_pages.CommandPages.{CommandPages}
-use Rattle.std.proofs.Math.Seq.{drop-length, take-length}
+use Rattle.nv_driver.specs.UnderWay.{RunOn}
+use Rattle.std.proofs.Math.Seq.{drop-length}
 use Rattle.nv_driver.proofs.WindowPageLaws.{taken_none}
 use Rattle.nv_driver.specs.inner.Pace.{IsPaced}
-use Rattle.nv_driver.specs.inner.UnderWay.{left_of}
 use Rattle.nv_driver.proofs.BatchLaws.{length-answers_of_all, length-from_cid}
 use Rattle.nv_driver.proofs.UnderWayLaws.{counts, world}
 use Rattle.nv_driver.proofs.OnWayLaws.{begins, left_after}
-use Rattle.nv_driver.specs.inner.Exchange.{KeepsOutside}
 use Rattle.nv_driver.proofs.QuietLaws.{outside_kept, pair_kept}
-use Rattle.nv_driver.proofs.OnWayLaws as W
 use Rattle.nv_driver.proofs.RoundLaws.{no_more, state_on, tells_on}
+use Rattle.nv_driver.proofs.OnWayLaws as W
 
 -- a round makes progress: it collects an answer, or reports what wasn't reported
 pub comes_further : (n : ℕ) (b b' : Batch) → b.collected < n → b.collected ≤ b'.collected

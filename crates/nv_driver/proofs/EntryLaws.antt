@@ -1,38 +1,31 @@
 -- The effect of taking one entry in a turn, and what doesn't change.
-use Rattle.std.proofs.Common.{[], ◌≡◌, ◌∙◌, ℕ, ◌+◌, ◌-◌, ◌*◌, ◌<◌, ◌≤◌, true, Err, List, Ok, Result, ap, arith, get_or}
-use Rattle.std.proofs.Common.{inl, inr, length, refl, subst, sym, ◌≢◌}
-use Rattle.nv_layout.specs.Cqe.{CqeFits}
-use Rattle.nv_prp.specs.inner.Buffer.{ChangesOnly}
+use Rattle.nv_driver.proofs.Words.{[], ℕ, ◌*◌, ◌+◌, ◌-◌, ◌<◌, ◌∙◌, ◌≡◌, ◌≢◌, ◌≤◌, Answer, AreApart, AreOthers}
+use Rattle.nv_driver.proofs.Words.{AreOutside, Asked, Call, ChangesOnly, Cqe, CqeFits, Delivers, Err, GoesBy, HasRings}
+use Rattle.nv_driver.proofs.Words.{Holds, HoldsTags, IsAnswered, IsOwn, IsWellFormed, Keeps, KeepsList, List, Ok}
+use Rattle.nv_driver.proofs.Words.{Result, Scene, Sent, Setting, Sqe, State, StatusCode, StaysNamed, Takes, Transfer}
+use Rattle.nv_driver.proofs.Words.{World, ap, arith, asked_step, bank_with, bytes_at, bytes_to_host, call_of, cases_eq}
+use Rattle.nv_driver.proofs.Words.{cases_lt, completion_at, completion_with, data_of, device_rings, distance, entry}
+use Rattle.nv_driver.proofs.Words.{get_or, get_or_default, inl, inr, length, length-written_at, limit_of, number}
+use Rattle.nv_driver.proofs.Words.{numbered, page_size_bounds, places, pointed, posted_as, received_from, refl, scene}
+use Rattle.nv_driver.proofs.Words.{slot, step_of, subst, sym, tagged, true, with_completion}
 use Rattle.nv_prp.specs.Place.{read_at, written_at}
-use Rattle.nv_queue.specs.Numbers.{distance}
-use Rattle.nv_queue.specs.Slots.{with_completion, posted_as}
 use Rattle.nv_queue.specs.inner.Slots.{WritesCompletion}
 use Rattle.nv_queue.proofs.SlotLaws.{length-with_completion, put_written}
 use Rattle.nv_queue.proofs.TagLaws.{tags_after}
-use Rattle.nv_command.specs.Reply.{data_of}
 use Rattle.nv_command.proofs.TravelLaws.{replies_fit}
 use Rattle.nv_register.specs.declared.rings.Rings.{Rings}
 use Rattle.nv_model.specs.Step.{Step}
-use Rattle.nv_model.specs.WellFormed.{IsWellFormed}
-use Rattle.nv_bus.specs.Call.{Call, call_of, command_in}
-use Rattle.nv_bus.specs.Entry.{MovesBy, One, asked_step, Scene, completion_with, scene, step_unless}
-use Rattle.nv_bus.proofs.TagLaws.{tagged}
+use Rattle.nv_bus.specs.Call.{command_in}
+use Rattle.nv_bus.specs.Entry.{MovesBy, One, step_unless}
 use Rattle.nv_bus.proofs.TurnLaws.{can_means}
-use Rattle.nv_bus.specs.Turn.{can_take, Takes}
-use Rattle.nv_driver.proofs.Words.{Answer, AreApart, AreOthers, AreOutside, Asked, Cqe, Delivers, GoesBy}
-use Rattle.nv_driver.proofs.Words.{HasRings, Holds, HoldsTags, IsAnswered, Keeps, KeepsList, Sent, Setting, Sqe, State}
-use Rattle.nv_driver.proofs.Words.{StatusCode, StaysNamed, Transfer, World, bank_with, bytes_at, bytes_to_host}
-use Rattle.nv_driver.proofs.Words.{cases_eq, cases_lt, completion_at, device_rings, entry, get_or_default}
-use Rattle.nv_driver.proofs.Words.{length-written_at, limit_of, number, numbered, page_size_bounds, places}
-use Rattle.nv_driver.proofs.Words.{pointed, received_from, slot, step_of}
-use Rattle.nv_driver.specs.Keeping.{IsOwn}
-use Rattle.nv_driver.proofs.AnswerLaws.{answered, completion_fits, IsAnswerTo, answer_sound, asked_controllers}
-use Rattle.nv_driver.proofs.AnswerLaws.{asked_keeps, asked_limit, holds_on}
+use Rattle.nv_bus.specs.Turn.{can_take}
+use Rattle.nv_driver.proofs.AnswerLaws.{IsAnswerTo, answer_sound, answered, asked_controllers, asked_keeps, asked_limit}
+use Rattle.nv_driver.proofs.AnswerLaws.{completion_fits, holds_on}
 use Rattle.nv_driver.proofs.DataLaws.{ArePlaces, received_back, received_same, written-nothing}
-use Rattle.nv_driver.proofs.CountLaws.{number_above, number_next, number_below, slot_inside, slots_differ}
-use Rattle.nv_driver.proofs.RegionLaws.{written_list, Stays, stays_apart, stays_beside, data_keeps, length-places}
-use Rattle.nv_driver.proofs.RegionLaws.{ChangesOnlyAt, apart-sym, completion_keeps, completion_same, holds_sent_on}
-use Rattle.nv_driver.proofs.RegionLaws.{submission_same}
+use Rattle.nv_driver.proofs.CountLaws.{number_above, number_below, number_next, slot_inside, slots_differ}
+use Rattle.nv_driver.proofs.RegionLaws.{ChangesOnlyAt, Stays, apart-sym, completion_keeps, completion_same, data_keeps}
+use Rattle.nv_driver.proofs.RegionLaws.{holds_sent_on, length-places, stays_apart, stays_beside, submission_same}
+use Rattle.nv_driver.proofs.RegionLaws.{written_list}
 use Rattle.nv_driver.proofs.PointerLaws.{call_at, entry_call, stays_in}
 use Rattle.nv_driver.proofs.BatchLaws.{after_more}
 

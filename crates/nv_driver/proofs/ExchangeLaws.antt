@@ -1,38 +1,23 @@
 -- A single entry: a run of one request, with its data in the pages behind those of all controllers.
-use Rattle.std.proofs.Common.{[], ◌≡◌, ◌∙◌, ℕ, ◌+◌, ◌*◌, ◌≤◌, ◌%◌, List, ◌∷◌, ap, arith, get_or, length, min}
-use Rattle.std.proofs.Common.{Err, Ok, refl, subst, sym}
-use Rattle.std.specs.FinSet as set
-use Rattle.nv_host.specs.PageSets.{Pages, consecutive}
-use Rattle.nv_prp.specs.Buffer.{IsBuffer, buffer_places}
-use Rattle.nv_layout.specs.declared.cqe.Status.{Status}
-use Rattle.nv_bus.specs.declared.told.Told.{Told}
-use Rattle.nv_bus.specs.Entry.{status_in, told_by}
-use Rattle.nv_driver.proofs.Words.{Answer, Asked, BusValue, Delivers, Geometry, IsLeft, IsReady}
-use Rattle.nv_driver.proofs.Words.{QueuePair, QueuePairFields, Request, RequestPlace, Run, Sent, Sqe, SqeFits, Transfer}
-use Rattle.nv_driver.proofs.Words.{after_some, greatest_limit, length_of, limit_bounds, limit_of, mul-le-mul_right}
-use Rattle.nv_driver.proofs.Words.{numbered, padded, pages_of_entry, pair_value, place_in, received_from, run_of, side}
-use Rattle.nv_driver.proofs.Words.{step_of, transfer_for}
-use Rattle.nv_driver.specs.Alone.{Comes, IsReceived, asked_in, entry_step}
-use Rattle.nv_driver.specs.Batch.{numbered_request}
-use Rattle.nv_driver.specs.CommandPages.{all_pages}
-use Rattle.nv_driver.specs.Request.{request_for}
-use Rattle.nv_driver.specs.Schedule.{bytes_read}
+use Rattle.nv_driver.proofs.Words.{[], ℕ, ◌%◌, ◌*◌, ◌+◌, ◌∙◌, ◌∷◌, ◌≡◌, ◌≤◌, Answer, AreSendable, Asked, BusValue}
+use Rattle.nv_driver.proofs.Words.{CommandPages, Delivers, Err, Geometry, HasRoom, IsBuffer, IsHeard, IsLeft, IsReady}
+use Rattle.nv_driver.proofs.Words.{IsReceived, IsRequest, IsRunOf, KeepsOutside, List, NumberSet, Ok, Pages, QueuePair}
+use Rattle.nv_driver.proofs.Words.{QueuePairFields, Request, RequestPlace, Requests, Run, Sent, Sqe, SqeFits, Status}
+use Rattle.nv_driver.proofs.Words.{Told, Transfer, after_some, all_of, all_pages, ap, arith, asked_in, bytes_read}
+use Rattle.nv_driver.proofs.Words.{entry_step, get_or, greatest_limit, length, length-take, length_of, limit_bounds}
+use Rattle.nv_driver.proofs.Words.{limit_of, min, mul-le-mul_right, numbered, numbered_request, padded, pages_of_entry}
+use Rattle.nv_driver.proofs.Words.{pair_value, place_in, received_from, refl, request_for, requests_in, run_of, side}
+use Rattle.nv_driver.proofs.Words.{step_of, subst, sym, told_by, transfer_for}
+use Rattle.nv_prp.specs.Buffer.{buffer_places}
+use Rattle.nv_bus.specs.Entry.{status_in}
+use Rattle.nv_driver.specs.Alone.{Comes}
 use Rattle.nv_driver.specs.inner.Alone.{came_with}
-use Rattle.nv_driver.specs.inner.Exchange.{KeepsOutside}
-use Rattle.nv_driver.specs.inner.UnderWay.{IsHeard}
-use Rattle.nv_driver.specs.UnderWay.{AreSendable, IsRunOf, requests_in}
-use Rattle.nv_driver.specs.declared.command_pages.CommandPages.{CommandPages}
-use Rattle.nv_driver.specs.declared.requests.Requests.{Requests}
 use Rattle.nv_driver.proofs.AnswerLaws.{IsAnswerTo, answer_sound}
 use Rattle.nv_driver.proofs.CommandPageLaws.{own_is}
 use Rattle.nv_driver.proofs.PaddingLaws.{length-padded}
 use Rattle.nv_driver.proofs.RequestLaws.{every_entry}
 use Rattle.nv_driver.proofs.ShareLaws.{few_of_entry}
 use Rattle.nv_driver.proofs.UnderWayLaws.{request_is, room_few}
-use Rattle.nv_driver.proofs.Words.{IsRequest}
-use Rattle.nv_bus.specs.Call.{HasRoom}
-use Rattle.std.proofs.Common.{length-take}
-use Rattle.std.specs.Ordering.{nat_cmp}
 
 -- the data that comes back by a status belongs to the answer with this status
 comes_by : (asked : Asked) (a : Answer) (status : Status) (bytes : List ℕ) → status ≡ status_in a
@@ -44,7 +29,7 @@ comes_by (Err code) (Err refused) status bytes is sound delivered = rw (is, soun
 
 -- a queue pair is as ready with other pages behind its rings, of which all are free
 pub ready_with : {g : Geometry} {bus : BusValue} {c : ℕ} {l : QueuePairFields} {now : ℕ} {bytes : List ℕ} (s : Pages)
-    → IsReady g bus c l now bytes → s.members ≡ set.from_list (consecutive s.first s.count)
+    → IsReady g bus c l now bytes → s.members ≡ all_of s.first s.count
     → l.completion.base + 16 * l.submission.depth ≤ s.first * g.page_size
     → (s.first + s.count) * g.page_size ≤ length bytes → IsReady g bus c (record l { pages = s }) now bytes
 ready_with s ready free behind inside = assumption (free, behind, inside, ready)
@@ -54,7 +39,7 @@ pub record CanPass (g : Geometry) (bus : BusValue) (c : ℕ) (l : QueuePairField
     (s : Pages) : Type 0 where
   pub ready : IsReady g bus c l now bytes
   pub fits : SqeFits e
-  pub free : s.members ≡ set.from_list (consecutive s.first s.count)
+  pub free : s.members ≡ all_of s.first s.count
   pub behind : l.pages.first + l.pages.count ≤ s.first
   pub inside : (s.first + s.count) * g.page_size ≤ length bytes
   pub room : pages_of_entry g.page_size ≤ s.count
@@ -98,7 +83,7 @@ module _ {g : Geometry} {bus : BusValue} {c : ℕ} {l : QueuePairFields} {now : 
       → IsLeft g c end (after_some 1 (pair_value (record l { pages = s })))
       (side bus (record l { pages = s }) now bytes) (side bus' l' now' mem) → l'.pages ≡ s
   pages_back {l' = l'} h =
-      let pages : ℕ → ℕ → set.FinSet nat_cmp → Pages = λ first count members.
+      let pages : ℕ → ℕ → NumberSet → Pages = λ first count members.
       record { first = first; count = count; members = members } in
       let first = ap (λ (v : QueuePair). v.first_page) h.pair in
       let count = ap (λ (v : QueuePair). v.page_count) h.pair in

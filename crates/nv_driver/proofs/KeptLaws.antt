@@ -1,18 +1,14 @@
 -- What a schedule preserves from its beginning on, when a doorbell is rung or an answer is collected.
-use Rattle.std.proofs.Common.{◌≡◌, ◌↔◌, ◌∙◌, ℕ, ◌+◌, ◌*◌, ◌%◌, ◌<◌, ◌≤◌, length-append, [], ◌∷◌, ◌++◌, ap, arith}
-use Rattle.std.proofs.Common.{get_or, inl, inr, length, refl, subst, sym}
-use Rattle.std.proofs.Math.Nat.{mod-eq_of_lt}
+use Rattle.nv_driver.proofs.Words.{[], ℕ, ◌%◌, ◌*◌, ◌++◌, ◌+◌, ◌<◌, ◌↔◌, ◌∙◌, ◌∷◌, ◌≡◌, ◌≤◌, AreInOrder, Bell, Collect}
+use Rattle.nv_driver.proofs.Words.{Happens, Holds, HoldsTags, IsAwaitedThere, IsIdle, IsReadable, Keeps, RegisterBank}
+use Rattle.nv_driver.proofs.Words.{Sent, Setting, State, Tell, World, answer_awaited, answers_to, ap, arith, awaited}
+use Rattle.nv_driver.proofs.Words.{bank_with, cases_lt, completion_at, device_rings, get_or, get_or_append_left}
+use Rattle.nv_driver.proofs.Words.{get_or_default, get_or_push, inl, inr, length, length-append, mod-eq_of_lt, number}
+use Rattle.nv_driver.proofs.Words.{refl, slot, subst, sym, with_register_at}
 use Rattle.nv_queue.specs.Numbers.{kept_number, phase_of}
 use Rattle.nv_queue.proofs.SlotLaws.{not_own}
-use Rattle.nv_queue.specs.Slots.{IsAwaitedThere}
 use Rattle.nv_queue.proofs.TagLaws.{tag_below_here, tag_there}
-use Rattle.nv_driver.proofs.Words.{Bell, Collect, Happens, Holds, HoldsTags, IsReadable, Keeps, RegisterBank, Sent}
-use Rattle.nv_driver.proofs.Words.{Setting, State, Tell, World, answer_awaited, answers_to, bank_with, cases_lt}
-use Rattle.nv_driver.proofs.Words.{completion_at, device_rings, get_or_append_left, get_or_default, get_or_push, number}
-use Rattle.nv_driver.proofs.Words.{slot, with_register_at}
-use Rattle.nv_driver.specs.Schedule.{IsIdle, awaited}
 use Rattle.nv_driver.proofs.CountLaws.{head_told, number_above, number_below, numbers_differ, slot_inside, tail_rung}
-use Rattle.nv_driver.specs.Keeping.{AreInOrder}
 use Rattle.nv_driver.proofs.AnswerLaws.{holds_on}
 use Rattle.nv_driver.proofs.BatchLaws.{answer_at}
 

@@ -1,17 +1,16 @@
 -- The effect of a new driver, its commands and its resets on command identifiers and register banks.
-use Rattle.std.proofs.Common.{◌≡◌, ◌∙◌, ℕ, ◌+◌, ◌<◌, zero, suc, arith, zero-add, List, [], ◌∷◌, ◌++◌, ap, sym, subst}
-use Rattle.std.proofs.Common.{refl, true, length, map, get_or, set, ◌≢◌, ◌↔◌, Option, None, Some, Result, Ok, Err}
+use Rattle.nv_driver.proofs.Words.{[], ℕ, ◌++◌, ◌+◌, ◌<◌, ◌↔◌, ◌∙◌, ◌∷◌, ◌≡◌, ◌≢◌, BusValue, DriverValue, Err, Geometry}
+use Rattle.nv_driver.proofs.Words.{IsLinked, List, None, Ok, Option, QueuePair, Result, Some, after_command, ap, arith}
+use Rattle.nv_driver.proofs.Words.{cid_after, enabled_in, get_or, get_or-map, idle_bank, length, length-map, map}
+use Rattle.nv_driver.proofs.Words.{map-append, map-range_with_len_more, map-set, mps_of, no_pair, pair_at, pair_of}
+use Rattle.nv_driver.proofs.Words.{pairs_of, refl, renewed_pair, replicate, subst, suc, sym, true, zero}
+use Rattle.std.proofs.Common.{set, zero-add}
 use Rattle.std.proofs.Math.Seq.{map-set_same}
-use Rattle.std.proofs.lemmas.List.{length-set, map-append, map-set, replicate_more}
-use Rattle.std.proofs.lemmas.List.FromFn.{map-range_with_len_more}
-use Rattle.nv_driver.proofs.Words.{BusValue, DriverValue, Geometry, QueuePair, after_command, enabled_in, get_or-map}
-use Rattle.nv_driver.proofs.Words.{idle_bank, length-map, mps_of, cid_after, pair_of, pairs_of, renewed_pair}
-use Rattle.nv_driver.proofs.Words.{replicate}
-use Rattle.nv_driver.specs.Driver.{after_reset, new_driver, no_pair, pair_at}
+use Rattle.std.proofs.lemmas.List.{length-set, replicate_more}
+use Rattle.nv_driver.specs.Driver.{after_reset, new_driver}
 use Rattle.nv_driver.specs.inner.Driver.{error_without}
 use Rattle.nv_driver.specs.Geometry.{fault_of}
 use Rattle.nv_driver.specs.Exchange.{after_one}
-use Rattle.nv_driver.specs.Linked.{IsLinked}
 use Rattle.nv_driver.specs.inner.Linked.{next_cids_of}
 use Rattle.nv_driver.specs.declared.error.DriverError.{DriverError}
 use Rattle.nv_driver.specs.declared.geometry_field.GeometryField.{GeometryField}

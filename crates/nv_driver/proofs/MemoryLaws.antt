@@ -1,22 +1,14 @@
 -- The memory of a new driver, with a queue pair for each controller.
-use Rattle.std.specs.Prelude.{slice_index_or}
-use Rattle.std.proofs.Common.{◌≡◌, ◌∙◌, ℕ, ◌+◌, ◌*◌, ◌<◌, ◌≤◌, ◌^◌, All, List, ap, arith, below_more, inl, length, []}
-use Rattle.std.proofs.Common.{◌∷◌, ◌++◌, map, refl, subst, sym}
-use Rattle.std.proofs.Math.Nat.{mul-div_cancel, mul-le-mul, zero-add}
-use Rattle.std.proofs.lemmas.Grind.{div_ceil_times}
-use Rattle.std.proofs.lemmas.List.{map-append}
-use Rattle.std.proofs.lemmas.List.Elements.{All-push}
-use Rattle.std.proofs.lemmas.List.FromFn.{get_or-map-range_with_len, map-range_with_len_more}
-use Rattle.nv_driver.proofs.Words.{Geometry, HoldsTags, IsDriver, IsGeometry, IsLaid, IsQuiet, KeepsBelow, PagedBytes}
-use Rattle.nv_driver.proofs.Words.{QueuePair, QueuePairFields, driver_value, driver_with, end_of, get_or-map}
-use Rattle.nv_driver.proofs.Words.{length-map, length-map-range_with_len, length-replicate, mul-le-mul_right}
-use Rattle.nv_driver.proofs.Words.{page_size_bounds, pair_of, pair_pages, pair_value, pairs_of, replicate}
-use Rattle.nv_driver.specs.Driver.{page_count, pages_behind}
-use Rattle.nv_host.specs.PageSets.{Pages, consecutive}
-use Rattle.std.specs.FinSet as set
-use Rattle.std.proofs.Common.{◌-◌}
-use Rattle.nv_driver.specs.Layout.{completion_pages, pages_of, set_pages, submission_pages}
-use Rattle.nv_driver.specs.Settled.{IsSettled}
+use Rattle.nv_driver.proofs.Words.{[], ℕ, ◌*◌, ◌++◌, ◌+◌, ◌-◌, ◌<◌, ◌^◌, ◌∙◌, ◌∷◌, ◌≡◌, ◌≤◌, All, All-push, Geometry}
+use Rattle.nv_driver.proofs.Words.{HoldsTags, IsDriver, IsGeometry, IsLaid, IsQuiet, IsSettled, KeepsBelow, List}
+use Rattle.nv_driver.proofs.Words.{PagedBytes, Pages, QueuePair, QueuePairFields, all_of, ap, arith, below_more}
+use Rattle.nv_driver.proofs.Words.{div_ceil_times, driver_value, driver_with, end_of, get_or-map}
+use Rattle.nv_driver.proofs.Words.{get_or-map-range_with_len, inl, length, length-map, length-map-range_with_len}
+use Rattle.nv_driver.proofs.Words.{length-replicate, map, map-append, map-range_with_len_more, mul-le-mul_right}
+use Rattle.nv_driver.proofs.Words.{page_count, page_size_bounds, pages_behind, pages_of, pair_of, pair_pages}
+use Rattle.nv_driver.proofs.Words.{pair_value, pairs_of, refl, replicate, slice_index_or, subst, sym, zero-add}
+use Rattle.std.proofs.Math.Nat.{mul-div_cancel, mul-le-mul}
+use Rattle.nv_driver.specs.Layout.{completion_pages, set_pages, submission_pages}
 use Rattle.nv_driver.proofs.AdminLaws.{slots_stay}
 
 -- ---- the numbers of pages
@@ -152,7 +144,7 @@ pub record IsFirst (g : Geometry) (n more : ℕ) (mem : PagedBytes) (pairs : Lis
 -- all pages from this one on
 abbrev pub all_pages_from : (first count : ℕ) → Pages
 all_pages_from first count =
-    record { first = first; count = count; members = set.from_list (consecutive first count) }
+    record { first = first; count = count; members = all_of first count }
 
 -- a new memory with the pages of the queue pairs and others
 module _ {g : Geometry} {n m pages : ℕ} {made : PagedBytes} (more : ℕ) (is : IsGeometry g) (same : m ≡ n)

@@ -1,25 +1,21 @@
 -- Requests on their way: what submissions, doorbells, turns and collections leave.
-use Rattle.std.proofs.Common.{[], min, ◌≡◌, ◌∙◌, ℕ, ◌+◌, ◌-◌, ◌*◌, ◌<◌, ◌≤◌, ◌==◌, ◌++◌, ◌∷◌, List, ap, arith}
-use Rattle.std.proofs.Common.{false, get_or, inl, length, length-append, not, refl, subst, sym, true}
-use Rattle.std.proofs.Math.ListN.{length-set}
-use Rattle.std.proofs.lemmas.List.{set-get_or, set-set}
-use Rattle.nv_queue.proofs.KeptLaws.{between_kept, first_kept}
+use Rattle.nv_driver.proofs.Words.{[], ℕ, ◌*◌, ◌++◌, ◌+◌, ◌-◌, ◌<◌, ◌==◌, ◌∙◌, ◌∷◌, ◌≡◌, ◌≤◌, Answer, AreApart, Bell}
+use Rattle.nv_driver.proofs.Words.{BusValue, Collect, Course, Cqe, Event, Geometry, Happens, HasFreeSlot, Holds}
+use Rattle.nv_driver.proofs.Words.{IsAwaitedThere, IsBus, IsLeft, IsOnWay, IsPlaceFor, IsReady, IsRequest}
+use Rattle.nv_driver.proofs.Words.{IsSubmittedAt, IsTold, KeepsBelow, List, MaySubmit, Pages, QueuePairFields}
+use Rattle.nv_driver.proofs.Words.{RegisterBank, Request, RequestPlace, Run, Sent, Setting, State, Submit, Tell, Turn}
+use Rattle.nv_driver.proofs.Words.{World, after_some, answer_awaited, ap, arith, awaited, awaited_completion, bank_at}
+use Rattle.nv_driver.proofs.Words.{beginning, between_kept, cid_after, cid_at, collect_ring, collected_one}
+use Rattle.nv_driver.proofs.Words.{completion_at, entry, false, first_kept, get_or, get_or-set_same, inl, known_to}
+use Rattle.nv_driver.proofs.Words.{length, length-append, length-set, length_of, limit_of, min, mod_below}
+use Rattle.nv_driver.proofs.Words.{mul-le-mul_right, nat_tests, new_bank, not, number, pair_value, refl, run_of}
+use Rattle.nv_driver.proofs.Words.{sent_at, set-get_or, set-set, setting_of, side, slice_set, slot, submit_ring, subst}
+use Rattle.nv_driver.proofs.Words.{sym, true, way, with_register_at, with_submission, world_of}
 use Rattle.nv_queue.specs.Numbers.{first_in_slot, next, slot_of}
 use Rattle.nv_queue.specs.Rings.{submitted_one, told_all}
-use Rattle.nv_queue.specs.Slots.{IsAwaitedThere}
-use Rattle.nv_driver.proofs.Words.{Answer, AreApart, Bell, BusValue, Collect, Cqe, Geometry, Happens}
-use Rattle.nv_driver.proofs.Words.{HasFreeSlot, Holds, IsBus, IsLeft, IsOnWay, IsPlaceFor, IsReady, IsRequest}
-use Rattle.nv_driver.proofs.Words.{IsSubmittedAt, IsTold, KeepsBelow, QueuePairFields, RegisterBank, Request}
-use Rattle.nv_driver.proofs.Words.{RequestPlace, Run, Sent, Setting, State, Submit, Tell, Turn, World, after_some}
-use Rattle.nv_driver.proofs.Words.{answer_awaited, awaited_completion, bank_at, collected_one, completion_at}
-use Rattle.nv_driver.proofs.Words.{entry, get_or-set_same, known_to, length_of, limit_of, mod_below}
-use Rattle.nv_driver.proofs.Words.{mul-le-mul_right, nat_tests, new_bank, cid_after, number, pair_value, run_of}
-use Rattle.nv_driver.proofs.Words.{sent_at, setting_of, side, slice_set, slot, submit_ring, way, with_register_at}
-use Rattle.nv_driver.proofs.Words.{with_submission}
-use Rattle.nv_driver.specs.Schedule.{Doing, Event, Follows, MaySubmit, awaited, collect_ring}
+use Rattle.nv_driver.specs.Schedule.{Doing, Follows}
 use Rattle.nv_driver.specs.inner.Submitting.{CanCollect}
-use Rattle.nv_host.specs.PageSets.{Pages}
-use Rattle.nv_driver.specs.UnderWay.{Course, Way, beginning, first_world, pair_after, cid_at, world_by, world_of}
+use Rattle.nv_driver.specs.UnderWay.{Way, first_world, pair_after, world_by}
 use Rattle.nv_driver.proofs.BatchLaws.{cid_next}
 use Rattle.nv_driver.proofs.CountLaws.{number_above, number_below, number_next}
 use Rattle.nv_driver.proofs.KeptLaws.{bell_keeps, collect_keeps, idle_keeps, is_found, tell_keeps}

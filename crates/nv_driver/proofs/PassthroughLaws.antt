@@ -1,18 +1,11 @@
 -- An entry of a driver, over the queue pairs of its controllers and the pages after them.
-use Rattle.std.proofs.Common.{◌≡◌, ◌∙◌, ℕ, ◌+◌, ◌*◌, ◌<◌, ◌≤◌, List, ap, arith, get_or, length, map, subst, sym}
-use Rattle.std.proofs.Math.ListN.{length-set}
-use Rattle.nv_driver.proofs.Words.{DriverValue, Geometry, HasEntryPages, PagedBytes, QueuePair}
-use Rattle.nv_driver.proofs.Words.{QueuePairFields, driver_with, end_of, length-map}
-use Rattle.nv_driver.proofs.Words.{length-map-range_with_len, mul-le-mul_right, pages_of_entry, pair_of, pair_pages}
-use Rattle.nv_driver.proofs.Words.{pair_value, slice_set}
-use Rattle.nv_driver.specs.Driver.{page_count, pages_behind}
+use Rattle.nv_driver.proofs.Words.{ℕ, ◌*◌, ◌+◌, ◌-◌, ◌<◌, ◌∙◌, ◌≡◌, ◌≤◌, BusValue, DriverValue, Geometry, HasEntryPages}
+use Rattle.nv_driver.proofs.Words.{IsLinked, List, PagedBytes, Pages, QueuePair, QueuePairFields, Sqe, SqeFits, ap}
+use Rattle.nv_driver.proofs.Words.{arith, driver_with, end_of, get_or, length, length-map, length-map-range_with_len}
+use Rattle.nv_driver.proofs.Words.{length-set, map, mul-le-mul_right, page_count, pages_behind, pages_of}
+use Rattle.nv_driver.proofs.Words.{pages_of_entry, pair_of, pair_pages, pair_value, refl, slice_set, subst, sym}
 use Rattle.nv_driver.proofs.ExchangeLaws.{CanPass}
 use Rattle.nv_driver.proofs.AdminLaws.{HasPair, below, placed_at, ready_at, shape_at}
-use Rattle.nv_driver.proofs.Words.{BusValue, Sqe, SqeFits}
-use Rattle.nv_driver.specs.Linked.{IsLinked}
-use Rattle.std.proofs.Common.{refl, ◌-◌}
-use Rattle.nv_driver.specs.Layout.{pages_of}
-use Rattle.nv_host.specs.PageSets.{Pages}
 use Rattle.nv_driver.proofs.MemoryLaws.{pair_ends}
 
 -- the pages behind those of a driver's controllers

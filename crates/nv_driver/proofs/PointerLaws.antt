@@ -1,20 +1,16 @@
 -- A command whose pages are prepared: what a controller reads of its entry.
-use Rattle.std.proofs.Common.{◌≡◌, ◌∙◌, ◌^◌, ℕ, refl, inl, inr, ◌+◌, ◌*◌, ◌<◌, ◌≤◌, List, Err, Ok, Result, ap, arith}
-use Rattle.std.proofs.Common.{length, sym}
-use Rattle.std.proofs.lemmas.Grind.{div_ceil_times}
-use Rattle.std.specs.Int.{div_ceil}
+use Rattle.nv_driver.proofs.Words.{ℕ, ◌*◌, ◌+◌, ◌<◌, ◌>>=◌, ◌^◌, ◌∙◌, ◌≡◌, ◌≤◌, Asked, Call, Err, FromHost, HasRoom}
+use Rattle.nv_driver.proofs.Words.{HoldsSent, IsRequest, KeepsList, List, NoData, Ok, Result, Sent, Setting, Sqe}
+use Rattle.nv_driver.proofs.Words.{StatusCode, StaysNamed, ToHost, Transfer, ap, arith, call_of, cases_lt, command_of}
+use Rattle.nv_driver.proofs.Words.{data_length, div_ceil, div_ceil_times, entry, inl, inr, length, length_of, moves_of}
+use Rattle.nv_driver.proofs.Words.{mul-le-mul_right, page_size_bounds, pages_for, pages_of_entry, places, pointed, refl}
+use Rattle.nv_driver.proofs.Words.{sent_from, sym, transfer_of, within}
 use Rattle.nv_host.specs.Pages.{IsPageSize}
 use Rattle.nv_prp.specs.Buffer.{IsFor, buffer_place, buffer_places}
 use Rattle.nv_prp.proofs.PlaceLaws.{table-same}
 use Rattle.nv_prp.specs.Transfer.{IsLegal, PrpTransfer, place_of, transfer, transfer_places}
-use Rattle.nv_command.specs.Decoding.{command_of, transfer_of}
-use Rattle.nv_layout.specs.Steps.{◌>>=◌}
-use Rattle.nv_bus.specs.Call.{Call, HasRoom, call_of, data_places, moves_of, places_of, within}
+use Rattle.nv_bus.specs.Call.{data_places, places_of}
 use Rattle.nv_bus.proofs.CallLaws.{legal_places, no_places}
-use Rattle.nv_driver.proofs.Words.{Asked, FromHost, HoldsSent, IsRequest, KeepsList, NoData, Sent, Setting, Sqe}
-use Rattle.nv_driver.proofs.Words.{StatusCode, StaysNamed, ToHost, Transfer, cases_lt, data_length, entry, length_of}
-use Rattle.nv_driver.proofs.Words.{mul-le-mul_right, page_size_bounds, pages_of_entry, places, pointed, sent_from}
-use Rattle.nv_driver.specs.Layout.{pages_for}
 use Rattle.nv_driver.proofs.DataLaws.{nothing}
 use Rattle.nv_driver.proofs.RegionLaws.{length-places}
 

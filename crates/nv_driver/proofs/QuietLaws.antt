@@ -1,15 +1,10 @@
 -- A queue pair without outstanding commands: the schedule that begins there, and its state after a schedule has ended.
-use Rattle.std.proofs.Common.{subst, ◌≡◌, ℕ, ◌+◌, ◌-◌, ◌*◌, ◌<◌, ◌≤◌, All, Bool, List, ap, arith, false, get_or, inr}
-use Rattle.std.proofs.Common.{length, refl}
-use Rattle.nv_queue.specs.Rings.{CollectNumbers}
-use Rattle.nv_driver.proofs.Words.{AreOutside, BusValue, Geometry, IsApart, IsLaid, IsOf, IsQuiet, IsReady, KeepsBelow}
-use Rattle.nv_driver.proofs.Words.{QueuePair, QueuePairFields, Sent, World, bank_with, device_rings}
-use Rattle.nv_driver.proofs.Words.{limit_of, mul-le-mul_right, own_pages, pair_value, submit_ring}
-use Rattle.nv_driver.specs.Keeping.{OthersStay}
-use Rattle.nv_driver.specs.Schedule.{IsIdle, collect_ring}
-use Rattle.nv_driver.specs.UnderWay.{beginning, setting}
-use Rattle.nv_host.specs.PageSets.{Pages}
-use Rattle.nv_driver.specs.inner.Exchange.{KeepsOutside}
+use Rattle.nv_driver.proofs.Words.{ℕ, ◌*◌, ◌+◌, ◌-◌, ◌<◌, ◌≡◌, ◌≤◌, All, AreOutside, Bool, BusValue, CollectNumbers}
+use Rattle.nv_driver.proofs.Words.{Geometry, IsApart, IsIdle, IsLaid, IsOf, IsQuiet, IsReady, KeepsBelow, KeepsOutside}
+use Rattle.nv_driver.proofs.Words.{List, OthersStay, Pages, QueuePair, QueuePairFields, Sent, World, ap, arith}
+use Rattle.nv_driver.proofs.Words.{bank_with, beginning, collect_ring, device_rings, false, get_or, inr, length}
+use Rattle.nv_driver.proofs.Words.{limit_of, mul-le-mul_right, own_pages, pair_value, refl, submit_ring, subst}
+use Rattle.nv_driver.specs.UnderWay.{setting}
 use Rattle.nv_driver.proofs.KeptLaws.{number_zero}
 
 -- ---- the beginning

@@ -1,26 +1,21 @@
 -- The registers of a controller while it is enabled.
-use Rattle.std.proofs.Common.{◌≡◌, ◌∙◌, ℕ, zero, suc, ◌+◌, ◌-◌, ◌*◌, ◌/◌, ◌%◌, ◌^◌, ◌<◌, ◌≤◌, ap, sym, refl, below_more}
-use Rattle.std.proofs.Common.{arith, true, false, List, length, map, slice_set}
-use Rattle.std.specs.Prelude.{slice_index_or}
-use Rattle.std.proofs.Math.Nat.{mul-mod_left, zero-add}
-use Rattle.std.proofs.lemmas.List.{get_or-set_other, same_lists, set-get_or, set-set}
-use Rattle.std.proofs.lemmas.List.FromFn.{get_or-map-range_with_len}
+use Rattle.nv_driver.proofs.Words.{ℕ, ◌%◌, ◌*◌, ◌+◌, ◌-◌, ◌/◌, ◌<◌, ◌^◌, ◌∙◌, ◌≡◌, ◌≤◌, BusValue, Geometry, IsGeometry}
+use Rattle.nv_driver.proofs.Words.{List, QueuePair, RegisterBank, ap, arith, bank_at, below_more, enabled_in, false}
+use Rattle.nv_driver.proofs.Words.{get_or-map, get_or-map-range_with_len, get_or-set_other, get_or-set_same}
+use Rattle.nv_driver.proofs.Words.{get_or_default, idle_bank, idle_banks, if◌then◌else◌, is_enabled, length, length-map}
+use Rattle.nv_driver.proofs.Words.{length-map-range_with_len, map, mps_of, nat_tests, new_bank, pair_of, pair_pages}
+use Rattle.nv_driver.proofs.Words.{pairs_of, refl, reset_if, set-get_or, set-set, slice_index_or, state_written, suc}
+use Rattle.nv_driver.proofs.Words.{sym, true, with_queues, with_register_at, zero, zero-add}
+use Rattle.std.proofs.Common.{slice_set}
+use Rattle.std.proofs.Math.Nat.{mul-mod_left}
+use Rattle.std.proofs.lemmas.List.{same_lists}
 use Rattle.nv_host.specs.Pages.{IsPageSize}
 use Rattle.nv_layout.specs.Bits.{bits}
 use Rattle.nv_register.specs.Dwords.{aqa_of_dword, cc_of_dword}
 use Rattle.nv_register.specs.RegisterBank.{can_start, new_rings, with_cc, with_high, with_low}
-use Rattle.nv_register.specs.Readiness.{is_enabled}
 use Rattle.nv_register.specs.declared.register.Sizes.{Sizes}
-use Rattle.nv_register.specs.declared.readiness.Readiness.TheVariants.{Off, Failed, Ready}
-use Rattle.nv_model.specs.Step.{reset_if}
-use Rattle.nv_bus.specs.Bus.{state_written}
-use Rattle.nv_driver.proofs.Words.{BusValue, Geometry, IsGeometry, QueuePair, RegisterBank, bank_at, enabled_in}
-use Rattle.nv_driver.proofs.Words.{get_or-map, get_or-set_same, get_or_default, idle_bank, if◌then◌else◌, length-map}
-use Rattle.nv_driver.proofs.Words.{length-map-range_with_len, mps_of, nat_tests, new_bank, pair_of, pair_pages}
-use Rattle.nv_driver.proofs.Words.{pairs_of, with_register_at}
+use Rattle.nv_register.specs.declared.readiness.Readiness.TheVariants.{Failed, Off, Ready}
 use Rattle.nv_driver.specs.Layout.{submission_pages}
-use Rattle.nv_driver.specs.inner.Registers.{with_queues}
-use Rattle.nv_driver.specs.Registers.{idle_banks}
 
 -- ---- writes of one controller, one after another
 

@@ -1,20 +1,16 @@
 -- The subsystem and the queue pairs when controllers are disabled and reset.
-use Rattle.std.proofs.Common.{◌≡◌, ◌∙◌, ℕ, ◌+◌, ◌*◌, ◌≤◌, List, ap, arith, length, ◌<◌, Bool, refl, subst, sym}
-use Rattle.std.proofs.Math.ListN.{length-set}
-use Rattle.nv_host.specs.Bytes.{with_bytes}
-use Rattle.nv_host.proofs.BytesLaws.{length-with_bytes}
-use Rattle.nv_register.specs.Readiness.{is_enabled}
-use Rattle.nv_model.specs.Step.{reset, reset_if, reset_where}
-use Rattle.nv_model.proofs.ResetLaws.{reset_first, reset_first_more}
-use Rattle.nv_driver.proofs.Words.{BusValue, Geometry, HoldsTags, IsBus, IsLaid, IsLeft, IsQuiet, IsReady, KeepsBelow}
-use Rattle.nv_driver.proofs.Words.{QueuePair, QueuePairFields, RegisterBank, State, bank_at, bytes_at, enabled_in}
-use Rattle.nv_driver.proofs.Words.{get_or-set_same, idle_bank, if◌then◌else◌, length-map, length-replicate, mps_of}
-use Rattle.nv_driver.proofs.Words.{new_bank, pair_of, pair_value, renewed_pair, replicate, side, slice_set}
+use Rattle.nv_driver.proofs.Words.{ℕ, ◌*◌, ◌+◌, ◌<◌, ◌∙◌, ◌≡◌, ◌≤◌, Bool, BusValue, Geometry, HoldsTags, IsBus, IsLaid}
+use Rattle.nv_driver.proofs.Words.{IsLeft, IsPlaced, IsQuiet, IsReady, KeepsBelow, List, QueuePair, QueuePairFields}
+use Rattle.nv_driver.proofs.Words.{RegisterBank, State, ap, arith, bank_at, bytes_at, enabled_in, get_or-set_same}
+use Rattle.nv_driver.proofs.Words.{idle_bank, if◌then◌else◌, is_enabled, length, length-map, length-replicate}
+use Rattle.nv_driver.proofs.Words.{length-set, mps_of, new_bank, pair_of, pair_value, refl, renewed_pair, replicate}
+use Rattle.nv_driver.proofs.Words.{reset_first, reset_if, side, slice_set, subst, sym, with_bytes, with_queues}
 use Rattle.nv_driver.proofs.Words.{with_register_at}
-use Rattle.nv_driver.specs.Driver.{IsPlaced}
+use Rattle.nv_host.proofs.BytesLaws.{length-with_bytes}
+use Rattle.nv_model.specs.Step.{reset, reset_where}
+use Rattle.nv_model.proofs.ResetLaws.{reset_first_more}
 use Rattle.nv_driver.proofs.RegionLaws.{written_keeps}
 use Rattle.nv_driver.proofs.RegisterLaws.{enabled_at, kept_queues}
-use Rattle.nv_driver.specs.inner.Registers.{with_queues}
 
 -- ---- a completion ring is zeroed
 

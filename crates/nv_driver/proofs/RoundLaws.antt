@@ -1,45 +1,30 @@
 -- A list of requests while it is executed: doorbells, turns and answers.
-use Rattle.std.specs.Prelude.{set}
-use Rattle.std.proofs.Common.{min, ◌≡◌, ◌∙◌, ℕ, ◌+◌, ◌-◌, ◌<◌, ◌≤◌, List, ap, arith, inl, inr, length, subst, sym, take}
-use Rattle.std.proofs.Common.{[], ◌∷◌, ◌++◌, get_or, length-take, length-append, All, refl, ◌≢◌, ◌%◌, AllPairs, add-one}
-use Rattle.std.proofs.Common.{false, true}
-use Rattle.nv_driver.proofs.Words.{Answer, Batch, BusValue, Command, Cqe, HasAnswers, Holds, IsAnswered, IsBus}
-use Rattle.nv_driver.proofs.Words.{IsOnWay, IsReadable, IsTold, IsUnderWay, QueuePairFields, Request, Run, Sent}
-use Rattle.nv_driver.proofs.Words.{answers_to, awaited_completion, bank_at, collected_one, completion_at, known_to}
-use Rattle.nv_driver.proofs.Words.{length_of}
-use Rattle.nv_driver.proofs.Words.{get_or_default, own_pages, received_from, request_of, setting_of, slice_set, slot}
-use Rattle.nv_driver.proofs.Words.{transfer_by, way, with_register_at, Bell, Collect, Tell, Turn}
-use Rattle.nv_driver.specs.Schedule.{places as places_of, Event, answer_from, answer_to, state_after_all, step_after}
-use Rattle.nv_driver.specs.Batch.{from_cid}
-use Rattle.nv_driver.specs.BringingUp.{BusTurn, TailWrite, Write}
+use Rattle.nv_driver.proofs.Words.{[], ℕ, ◌%◌, ◌++◌, ◌+◌, ◌-◌, ◌<◌, ◌∙◌, ◌∷◌, ◌≡◌, ◌≢◌, ◌≤◌, All, AllPairs, Answer}
+use Rattle.nv_driver.proofs.Words.{AreReceived, AreTaken, Batch, Bell, BusTurn, BusValue, Collect, Command}
+use Rattle.nv_driver.proofs.Words.{CommandPages, Cqe, DoesNext, Event, HasAnswers, Holds, IsAnswered, IsBuffer, IsBus}
+use Rattle.nv_driver.proofs.Words.{IsDue, IsHeard, IsHeld, IsOf, IsOnWay, IsPlaceFor, IsReadable, IsRunOf, IsSendable}
+use Rattle.nv_driver.proofs.Words.{IsTold, IsToldInTime, IsUnderWay, LiesInPages, List, Pages, QueuePairFields, Request}
+use Rattle.nv_driver.proofs.Words.{RequestPlace, Requests, Run, Sent, Status, TailWrite, Tell, Told, Turn, Write}
+use Rattle.nv_driver.proofs.Words.{add-one, all_pages, answer_to, answers_to, ap, arith, awaited_completion, bank_at}
+use Rattle.nv_driver.proofs.Words.{collected_one, completion_at, false, free_pages, from_cid, get_or, get_or_default}
+use Rattle.nv_driver.proofs.Words.{greatest_limit, held_pages, inl, inr, known_to, length, length-append, length-set}
+use Rattle.nv_driver.proofs.Words.{length-take, length_of, min, own_pages, pages_of_all, place_in, received_from, refl}
+use Rattle.nv_driver.proofs.Words.{request_of, set, setting_of, slice_set, slot, state_after_all, step_after, subst}
+use Rattle.nv_driver.proofs.Words.{sym, take, take_more, take_more_set, transfer_by, true, way, with_pages}
+use Rattle.nv_driver.proofs.Words.{with_register_at, without, world_of}
+use Rattle.nv_driver.specs.Schedule.{answer_from, places as places_of}
 use Rattle.nv_queue.specs.Numbers.{slot_of}
-use Rattle.nv_driver.specs.UnderWay.{DoesNext, IsDue, IsHeld, LiesInPages, IsToReport, free_pages, held_pages}
-use Rattle.nv_driver.specs.UnderWay.{TookNothing, pages_of_all, world_of}
-use Rattle.nv_driver.specs.CommandPages.{AreTaken, all_pages, without}
-use Rattle.nv_driver.specs.inner.CommandPages.{with_pages}
-use Rattle.nv_driver.specs.Submitting.{RequestPlace, place_in}
-use Rattle.nv_driver.specs.declared.command_pages.CommandPages.{CommandPages}
-use Rattle.nv_host.specs.PageSets.{IsOf, Pages}
-use Rattle.nv_prp.specs.Buffer.{IsBuffer, buffer_places}
-use Rattle.std.specs.FinSet as set
+use Rattle.nv_driver.specs.UnderWay.{IsToReport, TookNothing}
+use Rattle.nv_prp.specs.Buffer.{buffer_places}
 use Rattle.std.proofs.Math.Seq.{drop-cons}
 use Rattle.nv_driver.proofs.CommandPageLaws.{own_is, place_of_set}
 use Rattle.nv_driver.proofs.WindowPageLaws.{given_back, gone, taken_first, taken_rest}
-use Rattle.nv_driver.specs.inner.Pace.{IsToldInTime}
-use Rattle.nv_driver.proofs.BatchLaws.{state_is, answer_at, answers_are, length-answers}
+use Rattle.nv_driver.proofs.BatchLaws.{answer_at, answers_are, length-answers, state_is}
 use Rattle.nv_driver.proofs.UnderWayLaws.{counts, few_of, has_collected, held, is_full, request_is, room_few, world}
 use Rattle.nv_driver.proofs.PointerLaws.{entry_pages_few}
-use Rattle.nv_driver.proofs.Words.{IsPlaceFor, greatest_limit}
-use Rattle.nv_driver.specs.inner.UnderWay.{AreReceived, IsHeard}
-use Rattle.nv_driver.specs.UnderWay.{IsRunOf}
-use Rattle.nv_driver.specs.declared.requests.Requests.{Requests}
-use Rattle.nv_driver.specs.declared.requests.Requests.TheVariants as sends
-use Rattle.nv_bus.specs.declared.told.Told.{Told}
-use Rattle.nv_layout.specs.declared.cqe.Status.{Status}
-use Rattle.std.proofs.Math.ListN.{length-set}
-use Rattle.std.proofs.lemmas.List.{take_more, take_more_set}
-use Rattle.nv_command.specs.Logs.{IsSendable}
 use Rattle.nv_driver.proofs.TurnLaws.{no_command}
+use Rattle.std.specs.FinMap as map_of
+use Rattle.nv_driver.specs.declared.requests.Requests.TheVariants as sends
 use Rattle.nv_bus.specs.Turn as T
 use Rattle.nv_driver.proofs.OnWayLaws as W
 
@@ -47,7 +32,7 @@ use Rattle.nv_driver.proofs.OnWayLaws as W
 pub record CanGive (s : Pages) (o : CommandPages) : Type 0 where
   pub few : o.count ≤ 259
   pub own : All (λ p. IsOf s.first s.count p) (all_pages o)
-  pub none : All (λ p. set.contains s.members p ≡ false) (all_pages o)
+  pub none : All (λ p. map_of.contains_key s.members p ≡ false) (all_pages o)
   pub distinct : AllPairs (λ p q. p ≢ q) (all_pages o)
 
 -- dword 0 and status of a completion

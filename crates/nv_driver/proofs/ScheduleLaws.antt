@@ -1,12 +1,11 @@
 -- Bytes that don't change, writes elsewhere, and every schedule.
-use Rattle.std.proofs.Common.{◌≡◌, ◌∙◌, ℕ, ◌+◌, ◌≤◌, List, [], ◌∷◌, ◌++◌, arith, get_or, inl, inr, length}
-use Rattle.std.proofs.Common.{length-append, refl, subst, sym, suc, ◌<◌, ap, ◌≢◌, All}
-use Rattle.nv_driver.proofs.Words.{AreOthers, Bell, Collect, Cqe, Happens, HasRings, Keeps, Sent, Setting, State}
-use Rattle.nv_driver.proofs.Words.{Submit, Tell, Turn, World, answer_awaited, page_size_bounds, slot}
-use Rattle.nv_driver.specs.Schedule.{Elsewhere, LeavesOutstanding, Event, EveryScheduleIsSerial, IsSerial, Runs}
-use Rattle.nv_driver.specs.Keeping.{OthersStay}
+use Rattle.nv_driver.proofs.Words.{[], ℕ, ◌++◌, ◌+◌, ◌<◌, ◌∙◌, ◌∷◌, ◌≡◌, ◌≢◌, ◌≤◌, All, AreOthers, Bell, Collect, Cqe}
+use Rattle.nv_driver.proofs.Words.{Event, Happens, HasRings, Keeps, List, OthersStay, Sent, Setting, State, Submit}
+use Rattle.nv_driver.proofs.Words.{Tell, Turn, World, answer_awaited, ap, arith, get_or, inl, inr, length}
+use Rattle.nv_driver.proofs.Words.{length-append, page_size_bounds, refl, slot, subst, suc, sym}
+use Rattle.nv_driver.specs.Schedule.{Elsewhere, EveryScheduleIsSerial, IsSerial, LeavesOutstanding, Runs}
 use Rattle.nv_driver.proofs.SubmitLaws.{submit_keeps, submit_others}
-use Rattle.nv_driver.proofs.TurnLaws.{turn_leaves, turn_keeps, turn_takes}
+use Rattle.nv_driver.proofs.TurnLaws.{turn_keeps, turn_leaves, turn_takes}
 use Rattle.nv_driver.proofs.CountLaws.{slot_inside}
 use Rattle.nv_driver.proofs.AnswerLaws.{holds_on}
 use Rattle.nv_driver.proofs.PointerLaws.{stays_in}

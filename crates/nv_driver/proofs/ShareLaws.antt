@@ -1,7 +1,6 @@
 -- How many pages the data of a request has.
-use Rattle.std.proofs.Common.{ℕ, ◌+◌, ◌*◌, ◌≤◌, arith, refl}
-use Rattle.nv_driver.proofs.Words.{Geometry, IsGeometry, greatest_limit}
-use Rattle.nv_driver.specs.Layout.{data_count, pages_for}
+use Rattle.nv_driver.proofs.Words.{ℕ, ◌*◌, ◌+◌, ◌≤◌, Geometry, IsGeometry, arith, data_count, greatest_limit, pages_for}
+use Rattle.nv_driver.proofs.Words.{refl}
 use Rattle.nv_driver.proofs.PointerLaws.{enough_of, entry_pages_few}
 
 -- the data fits in its pages, which with those of a list are no more than the pages for `most` bytes

@@ -1,22 +1,16 @@
 -- What doesn't change at a submission.
-use Rattle.std.proofs.Common.{◌≡◌, ◌∙◌, ℕ, ◌+◌, ◌*◌, ◌<◌, ◌≤◌, List, [], ◌∷◌, ◌++◌, ap, arith, get_or, inl, inr, length}
-use Rattle.std.proofs.Common.{length-append, subst, sym, refl}
-use Rattle.std.proofs.lemmas.List.{take-append-le}
-use Rattle.nv_prp.proofs.BufferLaws.{rest_distinct}
+use Rattle.nv_driver.proofs.Words.{[], ℕ, ◌*◌, ◌++◌, ◌+◌, ◌<◌, ◌∙◌, ◌∷◌, ◌≡◌, ◌≤◌, AreApart, AreOutside, ChangesOnly}
+use Rattle.nv_driver.proofs.Words.{Happens, HasRings, Holds, HoldsSent, IsOwn, IsPrepared, IsReadable, Keeps, List}
+use Rattle.nv_driver.proofs.Words.{MaySubmit, OthersStay, Sent, Setting, SqeFits, State, StaysNamed, Submit}
+use Rattle.nv_driver.proofs.Words.{SubmitNumbers, World, after, answers_to, ap, arith, bytes_at, cases_lt, data_length}
+use Rattle.nv_driver.proofs.Words.{entry, get_or, get_or_append_left, get_or_push, inl, inr, length, length-append}
+use Rattle.nv_driver.proofs.Words.{page_size_bounds, places, refl, rest_distinct, slot, submission_at, submit_ring}
+use Rattle.nv_driver.proofs.Words.{subst, sym, take-append-le, with_submission}
 use Rattle.nv_queue.proofs.SlotLaws.{length-with_submission, push_written}
-use Rattle.nv_queue.specs.Slots.{submission_at}
-use Rattle.nv_driver.proofs.Words.{AreApart, AreOutside, Happens, HasRings, Holds, HoldsSent, IsPrepared, IsReadable}
-use Rattle.nv_driver.proofs.Words.{Keeps, Sent, Setting, SqeFits, State, StaysNamed, Submit, World, answers_to}
-use Rattle.nv_driver.proofs.Words.{bytes_at, cases_lt, data_length, entry, get_or_append_left, get_or_push}
-use Rattle.nv_driver.proofs.Words.{page_size_bounds, places, slot, submit_ring, with_submission}
-use Rattle.nv_driver.specs.Schedule.{MaySubmit, after}
 use Rattle.nv_driver.proofs.CountLaws.{slot_inside, slots_differ}
 use Rattle.nv_driver.proofs.AnswerLaws.{holds_on}
-use Rattle.nv_driver.specs.Keeping.{IsOwn, OthersStay}
-use Rattle.nv_prp.specs.inner.Buffer.{ChangesOnly}
-use Rattle.nv_queue.specs.Rings.{SubmitNumbers}
-use Rattle.nv_driver.proofs.RegionLaws.{Stays, stays_apart, stays_beside, ChangesOnlyAt, buffer_data, completion_same}
-use Rattle.nv_driver.proofs.RegionLaws.{holds_sent_on, submission_keeps, submission_same}
+use Rattle.nv_driver.proofs.RegionLaws.{ChangesOnlyAt, Stays, buffer_data, completion_same, holds_sent_on, stays_apart}
+use Rattle.nv_driver.proofs.RegionLaws.{stays_beside, submission_keeps, submission_same}
 use Rattle.nv_driver.proofs.PointerLaws.{stays_in}
 use Rattle.nv_driver.proofs.SubmittingLaws.{others_kept}
 use Rattle.nv_driver.proofs.BatchLaws.{answers-append, length-answers}

@@ -1,14 +1,12 @@
 -- What doesn't change in a turn.
-use Rattle.std.proofs.Common.{◌≡◌, ◌∙◌, ℕ, zero, suc, ◌+◌, ◌<◌, [], ap, arith, length, refl, subst, sym}
-use Rattle.nv_command.specs.declared.command.Command.TheVariants.{ActiveList}
-use Rattle.nv_bus.specs.Entry.{Scene, scene}
+use Rattle.nv_driver.proofs.Words.{[], ℕ, ◌+◌, ◌<◌, ◌∙◌, ◌≡◌, ActiveList, AreOthers, Happens, Keeps, Scene, Sent}
+use Rattle.nv_driver.proofs.Words.{Setting, State, Takes, Turn, World, ap, arith, bank_with, bytes_at, device_rings}
+use Rattle.nv_driver.proofs.Words.{length, refl, request_of, scene, subst, suc, sym, zero}
 use Rattle.nv_bus.proofs.TurnLaws.{turn_count_is}
-use Rattle.nv_bus.specs.Turn.{BankTurn, RingsLie, Site, Taken, Takes, ready_bank, turn_count, site}
-use Rattle.nv_driver.proofs.Words.{AreOthers, Happens, Keeps, Sent, Setting, State, Turn, World, bank_with, bytes_at}
-use Rattle.nv_driver.proofs.Words.{device_rings, request_of}
+use Rattle.nv_bus.specs.Turn.{BankTurn, RingsLie, Site, Taken, ready_bank, site, turn_count}
 use Rattle.nv_driver.specs.Schedule.{least}
 use Rattle.nv_driver.proofs.CountLaws.{number_above, number_below}
-use Rattle.nv_driver.proofs.EntryLaws.{entry_keeps, entry_others, world_after, is_done, can_go, now}
+use Rattle.nv_driver.proofs.EntryLaws.{can_go, entry_keeps, entry_others, is_done, now, world_after}
 
 -- a placeholder for a command
 abbrev pub no_command : Sent

@@ -1,43 +1,28 @@
 -- A list of commands while a controller executes it: what holds meanwhile, and submissions.
-use Rattle.std.proofs.Common.{[], ◌≡◌, ◌∙◌, ℕ, ◌+◌, ◌*◌, ◌<◌, ◌≤◌, All, List, ◌∷◌, ◌++◌, ap, arith, get_or, length}
-use Rattle.std.proofs.Common.{length-append, min, refl, subst, sym, take}
-use Rattle.std.proofs.lemmas.List.{map_push, take_more}
+use Rattle.nv_driver.proofs.Words.{[], ℕ, ◌%◌, ◌*◌, ◌++◌, ◌+◌, ◌-◌, ◌<◌, ◌∙◌, ◌∷◌, ◌≡◌, ◌≢◌, ◌≤◌, All, AreApart}
+use Rattle.nv_driver.proofs.Words.{AreInOrder, AreLowest, AreTaken, Batch, BusTurn, BusValue, CommandPages, Course}
+use Rattle.nv_driver.proofs.Words.{DoesNext, FromHost, Geometry, HasFreeSlot, HasRoom, IsDue, IsHeld, IsOf, IsOnWay}
+use Rattle.nv_driver.proofs.Words.{IsRequest, IsRunOf, IsSubmittedAt, IsToldInTime, IsUnderWay, LiesInPages, List}
+use Rattle.nv_driver.proofs.Words.{NoData, NumberSet, Pages, QueuePairFields, Request, Requests, Run, Sent, Submit}
+use Rattle.nv_driver.proofs.Words.{TailWrite, ToHost, Transfer, World, Write, all_pages, ap, arith, both_ways, cid_at}
+use Rattle.nv_driver.proofs.Words.{data_count, drop, drop-append-le, free_pages, get_or, get_or-drop, get_or-set_other}
+use Rattle.nv_driver.proofs.Words.{get_or-set_same, greatest_limit, held_pages, length, length-append, length-drop}
+use Rattle.nv_driver.proofs.Words.{length-set, length-take, length_of, limit_of, min, mod_below, mul-le-mul_right}
+use Rattle.nv_driver.proofs.Words.{numbered, numbered_of, own_pages, pages_for, pages_of_all, place_in, refl, sent_at}
+use Rattle.nv_driver.proofs.Words.{set, setting_of, slot, slots_apart, subst, sym, take, take_more, true, way, without}
+use Rattle.nv_driver.proofs.Words.{world_of}
+use Rattle.std.proofs.lemmas.List.{map_push}
 use Rattle.nv_queue.specs.Numbers.{next, slot_of}
-use Rattle.nv_driver.proofs.Words.{Batch, BusValue, Geometry, HasFreeSlot, IsOnWay, IsRequest}
-use Rattle.nv_driver.proofs.Words.{IsSubmittedAt, IsUnderWay, QueuePairFields, Request, Run, Sent, World}
-use Rattle.nv_driver.proofs.Words.{length_of, limit_of, numbered, own_pages}
-use Rattle.nv_driver.proofs.Words.{Submit, Transfer, sent_at, setting_of, slot, way}
-use Rattle.nv_driver.specs.UnderWay.{IsRunOf}
-use Rattle.nv_driver.specs.declared.requests.Requests.{Requests}
-use Rattle.nv_bus.specs.Call.{HasRoom}
-use Rattle.nv_driver.proofs.Words.{FromHost, NoData, ToHost, greatest_limit}
-use Rattle.nv_driver.specs.Keeping.{AreInOrder}
-use Rattle.nv_driver.specs.Layout.{pages_for}
-use Rattle.nv_driver.specs.BringingUp.{BusTurn, TailWrite, Write}
-use Rattle.nv_driver.specs.UnderWay.{Course, DoesNext, HasCollected, IsDue, LiesInPages, numbered_of, sent_in_window}
-use Rattle.nv_driver.specs.UnderWay.{cid_at, world_of}
-use Rattle.nv_driver.specs.inner.Pace.{IsToldInTime}
+use Rattle.nv_driver.specs.UnderWay.{HasCollected, sent_in_window}
 use Rattle.nv_driver.proofs.BatchLaws.{length-from_cid, request_at}
 use Rattle.nv_driver.proofs.CommandPageLaws.{first_two, own_is, place_of_set}
 use Rattle.nv_driver.proofs.ShareLaws.{data_fits}
-use Rattle.nv_driver.proofs.PageSetLaws.{full_length, in_of, is_in}
+use Rattle.nv_driver.proofs.PageSetLaws.{in_of, is_in}
 use Rattle.nv_driver.proofs.WindowPageLaws.{few_pages, fresh, page_of_one, pages-append, taken_also, taken_len}
 use Rattle.nv_driver.proofs.WindowPageLaws.{without_also}
-use Rattle.std.specs.FinSet as set
-use Rattle.std.specs.Prelude.{set}
-use Rattle.std.proofs.Common.{◌≢◌, ◌%◌, ◌-◌, drop, length-drop, length-take, true}
-use Rattle.std.proofs.Math.ListN.{length-set}
-use Rattle.std.proofs.lemmas.Bool.{both_ways}
-use Rattle.std.proofs.lemmas.List.{drop-append-le, get_or-drop, get_or-set_other, get_or-set_same}
-use Rattle.nv_host.specs.PageSets.{IsOf, Pages}
-use Rattle.nv_queue.proofs.KeptLaws.{slots_apart}
-use Rattle.nv_driver.proofs.Words.{AreApart, mod_below, mul-le-mul_right}
-use Rattle.nv_driver.specs.CommandPages.{AreLowest, AreTaken, all_pages, without}
-use Rattle.nv_driver.specs.Layout.{data_count}
-use Rattle.nv_driver.specs.Submitting.{place_in}
-use Rattle.nv_driver.specs.UnderWay.{IsHeld, free_pages, held_pages, pages_of_all}
-use Rattle.nv_driver.specs.declared.command_pages.CommandPages.{CommandPages}
+use Rattle.nv_bits.proofs.NumberLaws.{len-all_of}
 use Rattle.nv_driver.proofs.SubmitLaws.{each_more}
+use Rattle.std.specs.FinMap as map_of
 use Rattle.nv_driver.proofs.OnWayLaws as W
 
 -- ---- the requests of a run
@@ -108,14 +93,14 @@ module _ {B : Type 0} {wrote : Write B} {rang : TailWrite B} {turned : BusTurn B
 
   -- there are enough pages for one more request
   pub set_has : {what : Requests} (of : IsRunOf r what) → b.sent < b.collected + r.geometry.window
-      → b.sent < length r.requests → pages_for of.most r.geometry.page_size ≤ set.len l.pages.members
+      → b.sent < length r.requests → pages_for of.most r.geometry.page_size ≤ map_of.len l.pages.members
   set_has of more below =
       let each = pages_for of.most r.geometry.page_size in
       let pages = r.pair.pages in
       let xs = drop b.collected u.course.sent in
-      let all = ap (set.len) u.begun.quiet.free ∙ full_length pages.first pages.count in
+      let all = ap (λ (m : NumberSet). map_of.len m) u.begun.quiet.free ∙ len-all_of pages.first pages.count in
       let rest = taken_len pages held u.taken in
-      let now_has = ap (λ (p : Pages). set.len p.members) u.left in
+      let now_has = ap (λ (p : Pages). map_of.len p.members) u.left in
       let few = few_pages each xs (λ n d h.
       subst (λ (x : Sent). length (own_pages x) ≤ each) (sym (get_or-drop b.collected u.course.sent n d))
       (let low : b.collected + n < b.sent = omega (arith, h, u.sent, length-drop b.collected u.course.sent) in

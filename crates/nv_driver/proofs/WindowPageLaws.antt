@@ -1,23 +1,18 @@
 -- The pages of several outstanding commands.
-use Rattle.std.proofs.Common.{◌≡◌, ◌≢◌, ◌∙◌, ℕ, zero, suc, ◌+◌, ◌*◌, ◌<◌, ◌≤◌, ◌&&◌, ◌||◌, not, All}
-use Rattle.std.proofs.Common.{AllPairs, Bool, true, false, List, [], ◌∷◌}
-use Rattle.std.proofs.Common.{◌++◌, add-one, ap, append-nil, append_assoc, arith, get_or, length}
-use Rattle.std.proofs.Common.{length-append, nat_eq, refl, subst, sym, take}
-use Rattle.std.proofs.Math.Seq.{take-length}
-use Rattle.std.proofs.lemmas.Bool.{both_ways, or_parts}
-use Rattle.std.proofs.lemmas.Bool.Decides.{nat_tests}
+use Rattle.nv_driver.proofs.Words.{[], ℕ, ◌&&◌, ◌*◌, ◌++◌, ◌+◌, ◌<◌, ◌||◌, ◌∙◌, ◌∷◌, ◌≡◌, ◌≢◌, ◌≤◌, All, AllPairs}
+use Rattle.nv_driver.proofs.Words.{AreTaken, Bool, IsOf, List, Pages, Sent, add-one, ap, append-nil, arith, both_ways}
+use Rattle.nv_driver.proofs.Words.{false, fold, get_or, get_or_append_left, get_or_default, length, length-append}
+use Rattle.nv_driver.proofs.Words.{list_any-append, nat_eq, nat_tests, not, own_pages, pages_of_all, refl, subst, suc}
+use Rattle.nv_driver.proofs.Words.{sym, take, take-length, take_more, true, with_pages, without, zero}
+use Rattle.std.proofs.Common.{append_assoc}
+use Rattle.std.proofs.lemmas.Bool.{or_parts}
 use Rattle.std.proofs.lemmas.List.Kept.{AllPairs-cons}
-use Rattle.std.proofs.lemmas.List.{get_or-append-add, get_or_append_left, get_or_default, take_more}
+use Rattle.std.proofs.lemmas.List.{get_or-append-add}
 use Rattle.std.proofs.lemmas.List.Elements.{All-append}
-use Rattle.std.proofs.lemmas.List.Folds.{list_any-append}
-use Rattle.std.specs.FinSet as set
-use Rattle.nv_host.specs.PageSets.{IsOf, Pages}
-use Rattle.nv_driver.specs.CommandPages.{AreTaken, without}
-use Rattle.nv_driver.specs.inner.CommandPages.{with_pages}
-use Rattle.nv_driver.specs.Schedule.{Sent, own_pages}
-use Rattle.nv_driver.specs.UnderWay.{pages_of_all}
-use Rattle.nv_driver.proofs.PageSetLaws.{Taking, difference_in, in_all, is_in, left_in, not_before, not_in, same_pages}
-use Rattle.nv_driver.proofs.PageSetLaws.{taking_more, taking_none, union_in, without_none}
+use Rattle.std.proofs.lemmas.Grind.{fold-append}
+use Rattle.nv_driver.proofs.PageSetLaws.{Taking, in_all, is_in, left_in, not_before, not_in, same_pages, taking_more}
+use Rattle.nv_driver.proofs.PageSetLaws.{taking_none, with_in, without_in, without_none}
+use Rattle.std.specs.FinMap as map_of
 
 -- ---- lists of pages, one after another
 
@@ -67,10 +62,10 @@ pairs_append (x ∷ ps) qs first second none =
 
 -- how many pages are left
 pub taken_len : (s : Pages) (ps : List ℕ) → AreTaken s ps
-    → set.len (without s ps).members + length ps ≡ set.len s.members
+    → map_of.len (without s ps).members + length ps ≡ map_of.len s.members
 taken_len s ps t =
     let all = (so_far (length ps) (omega arith)).len in
-    subst (λ qs. set.len (without s qs).members + length qs ≡ set.len s.members) (take-length ps) all
+    subst (λ qs. map_of.len (without s qs).members + length qs ≡ map_of.len s.members) (take-length ps) all
   where
     so_far : (n : ℕ) → n ≤ length ps → Taking s (without s (take n ps)) (take n ps)
     so_far zero h = subst (λ x. Taking s x []) (taking_none s).left (taking_none s)
@@ -78,8 +73,8 @@ taken_len s ps t =
         let qs = take n ps in
         let p = get_or ps n 0 in
         let below : n < length ps = omega arith in
-        let there : set.contains (without s qs).members p ≡ true =
-        grind (arith, difference_in s.members qs p, t.had n 0 below, not_before ps n below t.distinct) in
+        let there : map_of.contains_key (without s qs).members p ≡ true =
+        grind (arith, without_in s.members qs p, t.had n 0 below, not_before ps n below t.distinct) in
         let more = taking_more s (without s qs) _ qs p (so_far n (omega arith)) there (t.own n 0 below) refl in
         rw (← add-one n, take_more ps n 0 below) (subst (λ x. Taking s x (qs ++ p ∷ [])) more.left more)
 
@@ -87,13 +82,13 @@ taken_len s ps t =
 pub taken_also : (s : Pages) (ps qs : List ℕ) → AreTaken s ps → AreTaken (without s ps) qs → AreTaken s (ps ++ qs)
 taken_also s ps qs first second = record {
   own = All-append (λ p. IsOf s.first s.count p) ps qs first.own second.own;
-  had = All-append (λ p. set.contains s.members p ≡ true) ps qs first.had
+  had = All-append (λ p. map_of.contains_key s.members p ≡ true) ps qs first.had
       (λ i d h. (left_in s ps _ (second.had i d h)).0);
   distinct = pairs_append ps qs first.distinct second.distinct (λ i d h. (left_in s ps _ (second.had i d h)).1);
 }
 
 pub without_also : (s : Pages) (ps qs : List ℕ) → without (without s ps) qs ≡ without s (ps ++ qs)
-without_also s ps qs = same_pages s _ _ (λ q. grind (arith, difference_in, is_in-append))
+without_also s ps qs = ap (λ m. record s { members = m }) (sym (fold-append map_of.remove s.members ps qs))
 
 -- a page that is taken was not taken before
 pub fresh : (s : Pages) (ps qs : List ℕ) → AreTaken (without s ps) qs → (i d : ℕ) → i < length qs
@@ -103,38 +98,38 @@ fresh s ps qs second i d h = (left_in s ps (get_or qs i d) (second.had i d h)).1
 pub taken_first : (s : Pages) (qs ps : List ℕ) → AreTaken s (qs ++ ps) → AreTaken s qs
 taken_first s qs ps t = record {
   own = all_left (λ p. IsOf s.first s.count p) qs ps t.own;
-  had = all_left (λ p. set.contains s.members p ≡ true) qs ps t.had;
+  had = all_left (λ p. map_of.contains_key s.members p ≡ true) qs ps t.had;
   distinct = pairs_left qs ps t.distinct;
 }
 
 pub taken_rest : (s : Pages) (qs ps : List ℕ) → AreTaken s (qs ++ ps) → AreTaken s ps
 taken_rest s qs ps t = record {
   own = all_right (λ p. IsOf s.first s.count p) qs ps t.own;
-  had = all_right (λ p. set.contains s.members p ≡ true) qs ps t.had;
+  had = all_right (λ p. map_of.contains_key s.members p ≡ true) qs ps t.had;
   distinct = pairs_right qs ps t.distinct;
 }
 
 pub gone : (s : Pages) (qs ps : List ℕ) (i d : ℕ) → i < length qs
-    → set.contains (without s (qs ++ ps)).members (get_or qs i d) ≡ false
-gone s qs ps i d h = all_left (λ p. set.contains (without s (qs ++ ps)).members p ≡ false) qs ps (without_none s
+    → map_of.contains_key (without s (qs ++ ps)).members (get_or qs i d) ≡ false
+gone s qs ps i d h = all_left (λ p. map_of.contains_key (without s (qs ++ ps)).members p ≡ false) qs ps (without_none s
     (qs ++ ps)) i d h
 
 -- the first pages are given back
 pub given_back : (s : Pages) (qs ps : List ℕ) → AreTaken s (qs ++ ps)
     → with_pages (without s (qs ++ ps)) qs ≡ without s ps
-given_back s qs ps t = same_pages s _ _ (λ q. by_parts q (difference_in s.members (qs ++ ps) q)
-    (difference_in s.members ps q)
-    (union_in (set.difference s.members (set.from_list (qs ++ ps))) qs q))
+given_back s qs ps t = same_pages s _ _ (λ q. by_parts q (without_in s.members (qs ++ ps) q)
+    (without_in s.members ps q)
+    (with_in (fold map_of.remove s.members (qs ++ ps)) qs q))
   where
-    had : (q : ℕ) → is_in qs q ≡ true → (set.contains s.members q ≡ true) × (is_in ps q ≡ false)
+    had : (q : ℕ) → is_in qs q ≡ true → (map_of.contains_key s.members q ≡ true) × (is_in ps q ≡ false)
     had q e = (
-      in_all (λ p. set.contains s.members p ≡ true) qs q (taken_first s qs ps t).had e,
+      in_all (λ p. map_of.contains_key s.members p ≡ true) qs q (taken_first s qs ps t).had e,
       apart_in qs ps
           t.distinct q e,
     )
 
-    by_parts : (q : ℕ) {a b c : Bool} → a ≡ (set.contains s.members q && not (is_in (qs ++ ps) q))
-        → b ≡ (set.contains s.members q && not (is_in ps q)) → c ≡ (a || is_in qs q) → c ≡ b
+    by_parts : (q : ℕ) {a b c : Bool} → a ≡ (map_of.contains_key s.members q && not (is_in (qs ++ ps) q))
+        → b ≡ (map_of.contains_key s.members q && not (is_in ps q)) → c ≡ (a || is_in qs q) → c ≡ b
     by_parts q e f g = grind (arith, is_in-append qs ps q, had q, e, f, g)
 
 -- none is taken

@@ -1,9 +1,8 @@
 -- The value of a driver, by its fields, and what holds for them between two calls.
 use Rattle.std.specs.Prelude.{◌≡◌, ℕ, ◌+◌, ◌-◌, ◌*◌, ◌/◌, ◌<◌, ◌≤◌, ◌^◌, All, List, length, map}
 use Rattle.std.specs.Prelude.{slice_index_or, slice_set}
-use Rattle.std.specs.FinSet as set
 use Rattle.nv_host.specs.Pages.{PagedBytes}
-use Rattle.nv_host.specs.PageSets.{Pages, consecutive}
+use Rattle.nv_host.specs.PageSets.{Pages, all_of}
 use Rattle.nv_driver.specs.Exchange.{after_one, after_some}
 use Rattle.nv_driver.specs.Geometry.{IsGeometry}
 use Rattle.nv_driver.specs.QueuePair.{QueuePair, renewed_pair}
@@ -49,7 +48,7 @@ abbrev pub pages_behind : Geometry → (controllers pages : ℕ) → Pages
 pages_behind g controllers pages = record {
   first = pages_of g controllers;
   count = pages - pages_of g controllers;
-  members = set.from_list (consecutive (pages_of g controllers) (pages - pages_of g controllers));
+  members = all_of (pages_of g controllers) (pages - pages_of g controllers);
 }
 
 -- the queue pairs are where they were placed, without outstanding commands, in a memory of whole pages, of

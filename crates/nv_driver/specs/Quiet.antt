@@ -1,7 +1,6 @@
 -- A controller's rings and pages when no command is outstanding.
 use Rattle.std.specs.Prelude.{◌≡◌, false}
-use Rattle.std.specs.FinSet as set
-use Rattle.nv_host.specs.PageSets.{consecutive}
+use Rattle.nv_host.specs.PageSets.{all_of}
 use Rattle.nv_driver.specs.QueuePair.{QueuePair}
 use Rattle.nv_driver.specs.declared.queue_pair.QueuePair.{QueuePair as QueuePairFields}
 
@@ -12,7 +11,7 @@ pub record IsQuiet (l : QueuePairFields) : Type 0 where
   pub collected : l.completion.collected ≡ l.submission.submitted
   pub told : l.completion.told ≡ l.submission.submitted
   pub untold : l.completion.untold ≡ false
-  pub free : l.pages.members ≡ set.from_list (consecutive l.pages.first l.pages.count)
+  pub free : l.pages.members ≡ all_of l.pages.first l.pages.count
 
 -- the value of a queue pair without outstanding commands
 abbrev pub pair_value : QueuePairFields → QueuePair

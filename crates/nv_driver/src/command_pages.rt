@@ -1,7 +1,7 @@
 //! The pages that one request has in the host's memory.
 
 ghost use Rattle.std.specs.Prelude.{◌≡◌, ◌≢◌, ◌≤◌, All, AllPairs, false, length};
-ghost use Rattle.std.specs.FinSet as set;
+ghost use Rattle.std.specs.FinMap as map_of;
 ghost use Rattle.nv_host.specs.PageSets.{IsOf};
 ghost use Rattle.nv_driver.specs.CommandPages.{AreLowest, AreTaken, all_pages, without};
 ghost use Rattle.nv_driver.specs.inner.CommandPages.{with_pages};
@@ -33,7 +33,7 @@ impl CommandPages {
     /// Takes the `count` lowest pages of a set, in order, in place of those before.
     pub(crate) fn take(&mut self, free: &mut PageSet, count: usize)
         requires few { count ≤ 259 }
-        requires enough { count ≤ set.len free.old.members }
+        requires enough { count ≤ map_of.len free.old.members }
         ensures count { self.new.count ≡ count }
         ensures long { length self.new.numbers ≡ 259 }
         ensures taken { AreTaken free.old (all_pages self.new) }
@@ -50,7 +50,7 @@ impl CommandPages {
     pub(crate) fn give(&self, free: &mut PageSet)
         requires few { self.now.count ≤ 259 }
         requires own { All (λ p. IsOf free.old.first free.old.count p) (all_pages self.now) }
-        requires none { All (λ p. set.contains free.old.members p ≡ false) (all_pages self.now) }
+        requires none { All (λ p. map_of.contains_key free.old.members p ≡ false) (all_pages self.now) }
         requires distinct { AllPairs (λ p q. p ≢ q) (all_pages self.now) }
         ensures { free.new ≡ with_pages free.old (all_pages self.now) }
     {

@@ -1,3 +1,2 @@
-pub mod PageSetLaws
 pub mod BytesLaws
 pub mod PageLaws

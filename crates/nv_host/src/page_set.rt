@@ -1,8 +1,8 @@
 //! Sets of page numbers.
 
-ghost use Rattle.std.specs.Prelude.{◌≡◌, ◌+◌, ◌<◌, ◌^◌, ℕ, false, true, IfOk, IfSome, MatchOption};
-ghost use Rattle.std.specs.FinSet as set;
-ghost use Rattle.nv_host.specs.PageSets.{IsOf, consecutive};
+ghost use Rattle.std.specs.Prelude.{◌≡◌, ◌+◌, ◌<◌, ◌^◌, false, IfOk, IfSome, MatchOption};
+ghost use Rattle.std.specs.FinMap as map;
+ghost use Rattle.nv_host.specs.PageSets.{IsLowest, IsOf, all_of, insert};
 
 use crate::Memory;
 use nv_bits::BitSet;
@@ -22,13 +22,13 @@ pub struct PageSet {
 impl Model for PageSet {
     ghost use Rattle.std.specs.Coded.{codes};
     ghost use Rattle.std.specs.FinMap as map;
-    ghost use Rattle.nv_host.specs.PageSets.{Pages, pages_of};
+    ghost use Rattle.nv_host.specs.PageSets.{Pages};
 
     ghost Value = { Pages };
 
     ghost coded = { Prim.hlevel (codes, map.code) };
 
-    ghost view = { λ s. pages_of s.free };
+    ghost view = { λ s. s.free };
 }
 
 impl PageSet {
@@ -37,11 +37,7 @@ impl PageSet {
     pub fn new(alloc: Global, first: PageNo, count: u32) -> Result<PageSet, Memory>
         requires { first + count < 2 ^ 32 }
         ensures { IfOk result (λ s. s
-            ≡ record {
-              first = first;
-              count = count;
-              members = set.from_list (consecutive first count);
-            }) }
+            ≡ record { first = first; count = count; members = all_of first count }) }
     {
         match BitSet::full(alloc, first, count) {
             Ok(free) => Ok(PageSet { free }),
@@ -53,12 +49,10 @@ impl PageSet {
     /// stays so.
     pub fn take(&mut self) -> Option<PageNo>
         ensures taken { MatchOption result
-            ((self.old.members ≡ set.empty) × (self.new ≡ self.old))
-            (λ page. (set.contains self.old.members page ≡ true)
-            × (self.new ≡ record self.old { members = set.remove self.old.members page })) }
-        ensures lowest { IfSome result (λ page. (other : ℕ) → other < page
-            → set.contains self.old.members other ≡ false) }
-        ensures of_these { IfSome result (λ page. IsOf self.old.first self.old.count page) }
+            ((self.old.members ≡ map.empty) × (self.new ≡ self.old))
+            (λ page. IsLowest self.old.members page
+            × (self.new ≡ record self.old { members = map.remove self.old.members page })) }
+        ensures of_these { IfSome result (IsOf self.old.first self.old.count) }
     {
         self.free.take_lowest()
     }
@@ -66,8 +60,8 @@ impl PageSet {
     /// Adds a page number of the range, which must not be in the set.
     pub fn give(&mut self, page: PageNo)
         requires of_these { IsOf self.old.first self.old.count page }
-        requires outside { set.contains self.old.members page ≡ false }
-        ensures { self.new ≡ record self.old { members = set.insert self.old.members page } }
+        requires outside { map.contains_key self.old.members page ≡ false }
+        ensures { self.new ≡ record self.old { members = insert self.old.members page } }
     {
         self.free.insert(page);
     }

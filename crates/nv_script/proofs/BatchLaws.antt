@@ -1,33 +1,22 @@
 -- A batch of commands that ask a controller for namespaces, and one command at a time.
-use Rattle.std.proofs.Common.{◌≡◌, ◌∙◌, ℕ, suc, ◌+◌, ◌<◌, ◌%◌, arith, ap, sym, refl, List, [], ◌∷◌, ◌++◌, length, map}
-use Rattle.std.proofs.Common.{get_or, set, Result, Ok, Err, subst, take, drop}
-use Rattle.std.proofs.lemmas.Grind.{common_steps}
-use Rattle.std.specs.Prelude.{Contains, IfErr, OnOk}
+use Rattle.nv_script.proofs.Words.{[], ℕ, ◌++◌, ◌+◌, ◌<◌, ◌∙◌, ◌∷◌, ◌≡◌, Answer, Command, Contains, DriverValue, Err}
+use Rattle.nv_script.proofs.Words.{IdentifyController, IsHandedOn, IsListed, List, ListLeaves, Listing, NoText, Ok}
+use Rattle.nv_script.proofs.Words.{QueuePair, Result, Standing, State, answer_received, answers_to, ap, arith, asked}
+use Rattle.nv_script.proofs.Words.{asked_all, common_steps, drop, get_or, get_or-map, get_or-take, length, length-map}
+use Rattle.nv_script.proofs.Words.{length-take-le, listing_of, map, map-append, namespace_orders, next_cids_of}
+use Rattle.nv_script.proofs.Words.{order_of, pair_at, refl, step, subst, suc, sym, take, take-append-drop}
+use Rattle.nv_script.proofs.Words.{take-append_seam}
+use Rattle.std.proofs.Common.{◌%◌, set}
+use Rattle.std.specs.Prelude.{IfErr, OnOk}
 use Rattle.std.proofs.Math.Nat.{mod-add-mod}
-use Rattle.std.proofs.Math.Seq.{take-append_seam}
-use Rattle.std.proofs.lemmas.List.{ext_get_or, get_or-map, get_or-set_same, get_or-take, length-map, length-set}
-use Rattle.std.proofs.lemmas.List.{length-take-le, map-append, map-set, set-set, take-append-drop}
-use Rattle.nv_command.specs.Received.{answer_received}
-use Rattle.nv_command.specs.declared.command.Command.{Command}
-use Rattle.nv_command.specs.declared.command.Command.TheVariants.{IdentifyController, IdentifyNamespace}
+use Rattle.std.proofs.lemmas.List.{ext_get_or, get_or-set_same, length-set, map-set, set-set}
+use Rattle.nv_command.specs.declared.command.Command.TheVariants.{IdentifyNamespace}
 use Rattle.nv_driver.specs.Batch.{answers_of, state_after}
-use Rattle.nv_driver.specs.Driver.{after_commands, pair_at, no_pair}
-use Rattle.nv_driver.specs.QueuePair.{QueuePair}
-use Rattle.nv_driver.specs.Answer.{Answer}
-use Rattle.nv_driver.specs.Settled.{DriverValue}
-use Rattle.nv_model.specs.State.{State}
-use Rattle.nv_model.specs.Step.{cid_after, step}
+use Rattle.nv_driver.specs.Driver.{after_commands, no_pair}
+use Rattle.nv_model.specs.Step.{cid_after}
 use Rattle.nv_model.specs.Ranges.{cid_count}
-use Rattle.nv_script.specs.Outcomes.{order_of}
-use Rattle.nv_driver.specs.inner.Linked.{next_cids_of}
-use Rattle.nv_script.specs.inner.Listing.{IsHandedOn, IsListed, ListLeaves, Standing, answers_to}
-use Rattle.nv_script.specs.inner.Listing.{asked, asked_all}
-use Rattle.nv_script.specs.Orders.{namespace_orders}
-use Rattle.nv_script.specs.Shown.{listing_of}
-use Rattle.nv_script.specs.declared.listing.Listing.{Listing}
-use Rattle.nv_script.specs.declared.performing.NoText.{NoText}
-use Rattle.nv_script.specs.declared.performing.NoText.TheVariants as stop
 use Rattle.nv_script.proofs.ListLaws.{begun_all, listing_asked}
+use Rattle.nv_script.specs.declared.performing.NoText.TheVariants as stop
 
 -- ---- the commands
 

@@ -1,22 +1,15 @@
 -- A piece of a script, line by line.
-use Rattle.std.proofs.Common.{◌≡◌, ℕ, ◌+◌, ◌<◌, List, [], ◌∷◌, ◌++◌, length, take, get_or, eqb, true}
-use Rattle.std.proofs.Common.{sym, ap, subst, ◌∙◌, append_assoc, append-nil, arith}
-use Rattle.std.proofs.lemmas.Grind.{common_steps}
+use Rattle.nv_script.proofs.Words.{[], ℕ, ◌++◌, ◌+◌, ◌<◌, ◌∙◌, ◌∷◌, ◌≡◌, Left, List, RunEnd, Session, Stands, State}
+use Rattle.nv_script.proofs.Words.{after, ap, append-nil, append_assoc, arith, buffer_after, buffer_of, common_steps}
+use Rattle.nv_script.proofs.Words.{eqb, get_or, get_or-take, is_byte, length, length-append, length-take-le, nat_tests}
+use Rattle.nv_script.proofs.Words.{pieces, subst, sym, take, true, whole}
 use Rattle.std.proofs.Math.Seq.{take-append-add}
-use Rattle.std.proofs.lemmas.Bool.Decides.{nat_tests}
-use Rattle.std.proofs.lemmas.List.{get_or-append-add, get_or-take, length-append, length-take-le}
+use Rattle.std.proofs.lemmas.List.{get_or-append-add}
 use Rattle.std.specs.Prelude.{Option, Some}
-use Rattle.memchr.specs.Find.{IsFirstByte, is_byte}
-use Rattle.nv_model.specs.State.{State}
-use Rattle.nv_script.specs.Cuts.{IsCutIn, Left}
-use Rattle.nv_script.specs.inner.Feeding.{Stands}
-use Rattle.nv_script.specs.Results.{after, whole}
-use Rattle.nv_script.specs.ScriptLines.{pieces}
-use Rattle.nv_script.specs.inner.ScriptLines.{buffer_after, buffer_of}
-use Rattle.nv_script.specs.declared.ends.RunEnd.{RunEnd}
-use Rattle.nv_script.specs.declared.session.Session.{Session}
-use Rattle.nv_script.proofs.PieceLaws.{HasNoNewline, buffer_after-buffer_of, pieces-newline, pieces-others}
-use Rattle.nv_script.proofs.PieceLaws.{taken-more, whole-more}
+use Rattle.memchr.specs.Find.{IsFirstByte}
+use Rattle.nv_script.specs.Cuts.{IsCutIn}
+use Rattle.nv_script.proofs.PieceLaws.{HasNoNewline, buffer_after-buffer_of, pieces-newline, pieces-others, taken-more}
+use Rattle.nv_script.proofs.PieceLaws.{whole-more}
 
 -- the lines with newlines of these bytes are executed, and the last piece is in the buffer
 abbrev pub Fed : State → List ℕ → Option (List ℕ) → Left → Session → Type 0

@@ -1,35 +1,16 @@
 -- The first two commands of `list` to a controller: for its data, and for the NSIDs that are attached to it.
-use Rattle.std.proofs.Common.{◌≡◌, ◌∙◌, ℕ, ◌<◌, ap, sym, subst, refl, List, [], ◌∷◌, ◌++◌, length, Ok, Err}
-use Rattle.std.proofs.Common.{arith}
-use Rattle.std.proofs.lemmas.Grind.{common_steps}
-use Rattle.std.specs.Prelude.{Contains}
-use Rattle.std.proofs.lemmas.List.Elements.{Contains-append_left}
-use Rattle.nv_bits.specs.Above.{above}
-use Rattle.nv_command.specs.Received.{answer_received}
-use Rattle.nv_command.specs.declared.command.Command.{Command}
-use Rattle.nv_command.specs.declared.command.Command.TheVariants.{ActiveList, IdentifyController}
-use Rattle.nv_command.specs.declared.reply.Reply.{Reply}
-use Rattle.nv_command.specs.declared.reply.Reply.TheVariants as reply
-use Rattle.nv_bus.specs.Bus.{BusValue}
-use Rattle.nv_driver.specs.Driver.{after_command, pair_at}
-use Rattle.nv_driver.specs.Answer.{Answer}
-use Rattle.nv_driver.specs.Settled.{DriverValue}
-use Rattle.nv_model.proofs.LookupLaws.{controller}
-use Rattle.nv_model.specs.Conditions.{active_nsids}
-use Rattle.nv_model.specs.State.{State}
-use Rattle.nv_model.specs.Step.{step}
-use Rattle.nv_script.specs.Outcomes.{Send}
-use Rattle.nv_script.specs.Outcomes.{Exchange, Order, exchange_of, exchange_with, order_of}
-use Rattle.nv_driver.specs.inner.Linked.{next_cids_of}
-use Rattle.nv_script.specs.inner.Listing.{IsHandedOn, IsListed, ListLeaves, Standing, answers_to}
-use Rattle.nv_script.specs.inner.Listing.{asked, nsids_told}
-use Rattle.nv_script.specs.Orders.{namespace_orders, orders_of_controller}
-use Rattle.nv_script.specs.Shown.{listing_told}
-use Rattle.nv_script.specs.declared.listing.Listing.{Listing}
-use Rattle.nv_script.specs.declared.performing.NoText.{NoText}
-use Rattle.nv_script.specs.declared.performing.NoText.TheVariants as stop
+use Rattle.nv_script.proofs.Words.{[], ℕ, ◌++◌, ◌<◌, ◌∙◌, ◌∷◌, ◌≡◌, ActiveList, Answer, BusValue, Command, Contains}
+use Rattle.nv_script.proofs.Words.{Contains-append_left, DriverValue, Err, Exchange, IdentifyController, IsHandedOn}
+use Rattle.nv_script.proofs.Words.{IsListed, List, ListLeaves, Listing, NoText, Ok, Order, Reply, Send, Standing, State}
+use Rattle.nv_script.proofs.Words.{above, active_nsids, after_command, answer_received, answers_to, ap, arith, asked}
+use Rattle.nv_script.proofs.Words.{common_steps, controller, exchange_of, exchange_with, length, listing_told}
+use Rattle.nv_script.proofs.Words.{namespace_orders, next_cids_of, order_of, orders_of_controller, pair_at, refl, step}
+use Rattle.nv_script.proofs.Words.{subst, sym}
+use Rattle.nv_script.specs.inner.Listing.{nsids_told}
 use Rattle.nv_script.proofs.LinkLaws.{sent, still_known}
 use Rattle.nv_script.proofs.LookupLaws.{asked_alike, sends}
+use Rattle.nv_command.specs.declared.reply.Reply.TheVariants as reply
+use Rattle.nv_script.specs.declared.performing.NoText.TheVariants as stop
 
 -- one command
 module _ (w : Standing) (b new : BusValue) (d after : DriverValue) (listing : Listing) (c : ℕ) (k : Command)

@@ -1,3 +1,4 @@
+pub mod Words
 pub mod OutcomeLaws
 pub mod QueryLaws
 pub mod LookupLaws

@@ -1,31 +1,24 @@
 -- What one line leaves behind, by how its text was printed.
-use Rattle.std.proofs.Common.{◌≡◌, ◌≢◌, ◌⊎◌, ◌∙◌, ℕ, ◌+◌, List, [], ◌++◌, length, take, sym, ap, subst, refl, inl, inr}
-use Rattle.std.proofs.Common.{append-nil, arith, Bool, Option, None, Some, Result, Ok, Err}
-use Rattle.std.proofs.lemmas.Grind.{common_steps}
+use Rattle.nv_script.proofs.Words.{[], ℕ, ◌++◌, ◌+◌, ◌∙◌, ◌≡◌, Bool, Err, Left, LineResult, List, None, Ok, OutWrite}
+use Rattle.nv_script.proofs.Words.{Progress, Request, Result, RunEnd, Session, State, ap, append-nil, arith}
+use Rattle.nv_script.proofs.Words.{common_steps, inl, inr, left_at, length, next_cids_of, orders_of, outcome_of, refl}
+use Rattle.nv_script.proofs.Words.{subst, sym, take, take_all}
+use Rattle.std.proofs.Common.{◌≢◌, ◌⊎◌, Option, Some}
 use Rattle.std.specs.Prelude.{unwrap_or}
 use Rattle.std.specs.Io.KnownBytes.{Appends}
-use Rattle.std.proofs.lemmas.List.{take_all}
-use Rattle.nv_model.specs.State.{State}
-use Rattle.nv_script.specs.Cuts.{Holds, Left, left_at, state_amid}
+use Rattle.nv_script.specs.Cuts.{Holds, state_amid}
 use Rattle.nv_script.specs.inner.Feeding.{LineLeaves, PrintLeaves, ReportLeaves}
-use Rattle.nv_script.specs.Orders.{orders_of}
-use Rattle.nv_script.specs.Outcomes.{outcome_of}
 use Rattle.nv_layout.specs.Steps.{◌>>=◌}
 use Rattle.nv_line.specs.Line.{NeedsNoMemory, begun, reading, reading_from}
-use Rattle.nv_script.specs.Results.{LineResult, Progress, line_result, request_result, result_at, said_at}
-use Rattle.nv_driver.specs.inner.Linked.{next_cids_of}
-use Rattle.nv_script.specs.declared.ends.RunEnd.{RunEnd}
-use Rattle.nv_script.specs.declared.ends.RunEnd.TheVariants.{OutWrite}
-use Rattle.nv_script.specs.declared.session.Session.{Session}
+use Rattle.nv_script.specs.Results.{line_result, request_result, result_at, said_at}
 use Rattle.nv_line.specs.Request.{request_of}
 use Rattle.nv_line.specs.Word.{without_nvme, words_of}
 use Rattle.nv_line.specs.declared.fault.LineFault.{LineFault}
-use Rattle.nv_line.specs.declared.fault.LineFault.TheVariants as fault
 use Rattle.nv_line.specs.declared.line.Line.{Line}
-use Rattle.nv_line.specs.declared.line.Line.TheVariants as line
-use Rattle.nv_line.specs.declared.request.Request.{Request}
 use Rattle.nv_line.specs.declared.verb.Verb.{Verb}
 use Rattle.nv_stream.proofs.Taking.{Appends-at, Appends-join}
+use Rattle.nv_line.specs.declared.fault.LineFault.TheVariants as fault
+use Rattle.nv_line.specs.declared.line.Line.TheVariants as line
 
 -- a stream that took x also took x with an empty text after it
 took_none : (a b : Option (List ℕ)) (x y : List ℕ) → y ≡ [] → Appends a b x → Appends a b (x ++ y)

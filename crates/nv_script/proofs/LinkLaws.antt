@@ -1,28 +1,14 @@
 -- The effect of a new driver, its commands and its resets on command identifiers.
-use Rattle.std.proofs.Common.{◌≡◌, ◌∙◌, ℕ, ◌<◌, ap, length, subst, sym, Result, Ok}
-use Rattle.std.proofs.Common.{arith}
-use Rattle.std.proofs.lemmas.Grind.{common_steps}
-use Rattle.std.specs.Prelude.{replicate}
-use Rattle.std.proofs.lemmas.List.{length-map, length-replicate}
-use Rattle.nv_layout.specs.declared.cqe.Status.{Status}
-use Rattle.nv_command.specs.Received.{answer_received}
-use Rattle.nv_command.specs.declared.command.Command.{Command}
-use Rattle.nv_command.specs.declared.reply.Reply.{Reply}
-use Rattle.nv_command.specs.declared.reply.Reply.TheVariants.{Done}
+use Rattle.nv_script.proofs.Words.{ℕ, ◌<◌, ◌∙◌, ◌≡◌, BusValue, Command, Done, DriverValue, IsLinked, Ok, QueuePair}
+use Rattle.nv_script.proofs.Words.{Reply, Reset, Result, Session, Status, after_command, answer_received, ap, arith}
+use Rattle.nv_script.proofs.Words.{common_steps, exchange_of, exchange_with, length, length-map, next_cids_of, order_of}
+use Rattle.nv_script.proofs.Words.{pair_at, replicate, step, subst, sym}
+use Rattle.std.proofs.lemmas.List.{length-replicate}
 use Rattle.nv_model.specs.Step.{reset}
-use Rattle.nv_model.specs.Step.{step}
-use Rattle.nv_bus.specs.Bus.{BusValue}
-use Rattle.nv_driver.specs.Driver.{after_command, after_reset, new_driver, pair_at}
-use Rattle.nv_driver.specs.Linked.{IsLinked}
-use Rattle.nv_driver.specs.inner.Linked.{next_cids_of}
-use Rattle.nv_driver.specs.QueuePair.{QueuePair}
-use Rattle.nv_driver.specs.Settled.{DriverValue}
+use Rattle.nv_driver.specs.Driver.{after_reset, new_driver}
 use Rattle.nv_driver.specs.declared.geometry.Geometry.{Geometry}
-use Rattle.nv_driver.proofs.LinkedLaws.{first_cids, pair_count, same_pairs, next_cid_is, cids_after, cids_reset}
-use Rattle.nv_script.specs.Outcomes.{Reset}
-use Rattle.nv_script.specs.Outcomes.{exchange_of, exchange_with, order_of}
+use Rattle.nv_driver.proofs.LinkedLaws.{cids_after, cids_reset, first_cids, next_cid_is, pair_count, same_pairs}
 use Rattle.nv_script.specs.inner.Link.{IsFirst}
-use Rattle.nv_script.specs.declared.session.Session.{Session}
 
 -- a session with a new driver, line number 0 and status 0 is a first one
 pub first_session : (g : Geometry) (old new : BusValue) (d : DriverValue) (session : Session) → IsLinked new d

@@ -1,22 +1,11 @@
 -- How the parts of `list` form the whole.
-use Rattle.std.proofs.Common.{◌≡◌, ◌∙◌, ℕ, ◌+◌, ◌<◌, ap, drop, get_or, length, map, refl, sym, subst, List, [], ◌∷◌}
-use Rattle.std.proofs.Common.{◌++◌, append_assoc, append-nil, Result, Ok, Err}
-use Rattle.std.proofs.Common.{arith}
-use Rattle.std.proofs.lemmas.Grind.{common_steps}
-use Rattle.std.specs.Prelude.{Contains}
+use Rattle.nv_script.proofs.Words.{[], ℕ, ◌++◌, ◌+◌, ◌<◌, ◌∙◌, ◌∷◌, ◌≡◌, Answer, AreBegun, Command, Contains}
+use Rattle.nv_script.proofs.Words.{Contains-append_left, Err, IsListed, List, ListLeaves, Listing, NoText, Ok, Order}
+use Rattle.nv_script.proofs.Words.{Result, Send, Standing, State, answers_to, ap, append-nil, append_assoc, arith}
+use Rattle.nv_script.proofs.Words.{asked, asked_all, common_steps, drop, exchange_of, fold-append, get_or, length}
+use Rattle.nv_script.proofs.Words.{listing_of, listing_told, map, no_listing, order_of, refl, subst, sym}
 use Rattle.std.proofs.lemmas.List.{at_drop_more}
-use Rattle.std.proofs.lemmas.List.Elements.{Contains-append_left, Contains-append_right}
-use Rattle.std.proofs.lemmas.List.Sums.{fold-append}
-use Rattle.nv_command.specs.declared.command.Command.{Command}
-use Rattle.nv_driver.specs.Answer.{Answer}
-use Rattle.nv_model.specs.State.{State}
-use Rattle.nv_script.specs.Outcomes.{Send}
-use Rattle.nv_script.specs.Outcomes.{Order, exchange_of, order_of}
-use Rattle.nv_script.specs.inner.Listing.{AreBegun, IsListed, ListLeaves, Standing, answers_to}
-use Rattle.nv_script.specs.inner.Listing.{asked, asked_all}
-use Rattle.nv_script.specs.Shown.{listing_of, listing_told, no_listing}
-use Rattle.nv_script.specs.declared.listing.Listing.{Listing}
-use Rattle.nv_script.specs.declared.performing.NoText.{NoText}
+use Rattle.std.proofs.lemmas.List.Elements.{Contains-append_right}
 use Rattle.nv_script.specs.declared.performing.NoText.TheVariants as stop
 
 -- before the first command

@@ -1,18 +1,12 @@
 -- The commands of `list` in a well-formed subsystem, controller by controller.
-use Rattle.std.proofs.Common.{◌≡◌, ◌∙◌, ℕ, suc, ◌+◌, ◌-◌, ◌<◌, ◌≤◌, arith, ap, Bool, true, false, List, [], ◌∷◌, ◌++◌}
-use Rattle.std.proofs.Common.{append-nil, length}
-use Rattle.std.proofs.lemmas.Grind.{common_steps}
-use Rattle.std.specs.Prelude.{All, filter, flat_map, if◌then◌else◌, nat_lt}
-use Rattle.std.specs.List.{range_with_len}
+use Rattle.nv_script.proofs.Words.{[], ℕ, ◌++◌, ◌+◌, ◌-◌, ◌<◌, ◌∙◌, ◌∷◌, ◌≡◌, ◌≤◌, ActiveList, Bool, IdentifyController}
+use Rattle.nv_script.proofs.Words.{IsAlike, IsWellFormed, List, Order, State, above, active_nsids, ap, append-nil}
+use Rattle.nv_script.proofs.Words.{arith, common_steps, controller, false, flat_map, if◌then◌else◌, length}
+use Rattle.nv_script.proofs.Words.{namespace_orders, nat_lt, order_of, orders_of_controller, orders_of_list}
+use Rattle.nv_script.proofs.Words.{range_with_len, suc, true}
+use Rattle.std.specs.Prelude.{All, filter}
 use Rattle.std.proofs.lemmas.List.Elements.{All-tail}
-use Rattle.nv_command.specs.declared.command.Command.TheVariants.{ActiveList, IdentifyController}
-use Rattle.nv_bits.specs.Above.{above}
-use Rattle.nv_model.proofs.LookupLaws.{IsAlike, IsInside, active_inside, attached, controller, namespace}
-use Rattle.nv_model.specs.Conditions.{active_nsids}
-use Rattle.nv_model.specs.State.{State}
-use Rattle.nv_model.specs.WellFormed.{IsWellFormed}
-use Rattle.nv_script.specs.Outcomes.{Order, order_of}
-use Rattle.nv_script.specs.Orders.{namespace_orders, orders_of_controller, orders_of_list}
+use Rattle.nv_model.proofs.LookupLaws.{IsInside, active_inside, attached, namespace}
 use Rattle.nv_script.proofs.LookupLaws.{AreLookups, sends}
 
 -- ---- they are lookups

@@ -1,23 +1,17 @@
 -- What `list` leaves behind, by its state.
-use Rattle.std.proofs.Common.{◌∙◌, ℕ, ap, subst, sym, List, length, take, Some, Ok, Err}
-use Rattle.std.proofs.Math.Seq.{take-append_seam}
-use Rattle.nv_line.specs.declared.request.Query.TheVariants as query
-use Rattle.nv_print.specs.declared.shown.Shown.TheVariants as shown
-use Rattle.nv_model.specs.State.{State}
-use Rattle.nv_model.specs.WellFormed.{IsWellFormed}
-use Rattle.nv_script.specs.inner.Listing.{AreBegun, IsListed, ListLeaves, Standing, asked_all}
-use Rattle.nv_script.specs.Orders.{orders_of_list}
-use Rattle.nv_script.specs.Outcomes.{Outcome, outcome_of}
-use Rattle.nv_script.specs.inner.Performing.{QueryLeaves, NoTextLeaves}
-use Rattle.nv_script.specs.Shown.{listing_of, no_listing}
-use Rattle.nv_script.specs.declared.listing.Listing.{Listing}
-use Rattle.nv_script.specs.declared.performing.NoText.{NoText}
-use Rattle.nv_script.specs.declared.performing.NoText.TheVariants as stop
+use Rattle.nv_script.proofs.Words.{ℕ, ◌∙◌, AreBegun, Err, IsListed, IsWellFormed, List, ListLeaves, Listing, NoText}
+use Rattle.nv_script.proofs.Words.{NoTextLeaves, Ok, Outcome, QueryLeaves, Standing, State, ap, asked_all, length}
+use Rattle.nv_script.proofs.Words.{listing_of, no_listing, orders_of_list, outcome_of, subst, sym, take}
+use Rattle.nv_script.proofs.Words.{take-append_seam}
+use Rattle.std.proofs.Common.{Some}
 use Rattle.nv_script.proofs.ListLaws.{first_standing, listing_asked}
 use Rattle.nv_script.proofs.ListOrderLaws.{list_lookups, lookups-front}
 use Rattle.nv_script.proofs.LookupLaws.{AreLookups, all_accepted, none_refused}
 use Rattle.nv_script.proofs.OutcomeLaws.{accepted_with}
 use Rattle.nv_script.proofs.QueryLaws.{left_shown}
+use Rattle.nv_line.specs.declared.request.Query.TheVariants as query
+use Rattle.nv_print.specs.declared.shown.Shown.TheVariants as shown
+use Rattle.nv_script.specs.declared.performing.NoText.TheVariants as stop
 
 module _ (s now : State) (next_cids next : List ℕ) (ok : IsWellFormed s) where
   -- the standing before the first order of `list`

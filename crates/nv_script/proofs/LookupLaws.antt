@@ -1,20 +1,10 @@
 -- No command of `list` is refused, and its commands don't depend on those before.
-use Rattle.std.proofs.Common.{◌≡◌, ◌∙◌, ℕ, arith, ap, sym, subst, refl, List, [], ◌∷◌, Ok, Err, get_or, map}
-use Rattle.std.specs.Prelude.{Contains}
+use Rattle.nv_script.proofs.Words.{[], ℕ, ◌∙◌, ◌∷◌, ◌≡◌, Act, Answer, Command, Contains, Done, Err, IsAlike, List, Ok}
+use Rattle.nv_script.proofs.Words.{Order, Reply, Send, Standing, State, Status, alike-join, answers_to, ap, arith}
+use Rattle.nv_script.proofs.Words.{asked, asked_all, exchange_by, get_or, get_or-map, length-map, map, outcome_after}
+use Rattle.nv_script.proofs.Words.{outcome_of, refl, reply_of, subst, sym}
 use Rattle.std.specs.List.{AllByRecursion}
-use Rattle.std.proofs.lemmas.List.{get_or-map, length-map}
-use Rattle.nv_command.specs.declared.command.Command.{Command}
-use Rattle.nv_command.specs.declared.reply.Reply.{Reply}
-use Rattle.nv_command.specs.declared.reply.Reply.TheVariants.{Done}
-use Rattle.nv_driver.specs.Answer.{Answer}
-use Rattle.nv_layout.specs.declared.cqe.Status.{Status}
-use Rattle.nv_model.proofs.LookupLaws.{IsAlike, IsLookup, alike-join, alike-self, looked_alike, looked_received}
-use Rattle.nv_model.specs.Meaning.{reply_of}
-use Rattle.nv_model.specs.State.{State}
-use Rattle.nv_script.specs.Outcomes.{Act, Send}
-use Rattle.nv_script.specs.Outcomes.{Order, exchange_by}
-use Rattle.nv_script.specs.inner.Listing.{Standing, answers_to, asked, asked_all}
-use Rattle.nv_script.specs.Outcomes.{outcome_after, outcome_of}
+use Rattle.nv_model.proofs.LookupLaws.{IsLookup, alike-self, looked_alike, looked_received}
 use Rattle.nv_script.proofs.OutcomeLaws.{accepted_with}
 
 -- an act of `list`, if NSIDs go up to nn

@@ -1,10 +1,7 @@
 -- The outcome of commands by that of the first.
-use Rattle.std.proofs.Common.{◌≡◌, ℕ, ap, sym, List, [], ◌∷◌, None, Some, Ok, Err}
-use Rattle.nv_layout.specs.declared.cqe.Status.{Status}
-use Rattle.nv_model.specs.State.{State}
-use Rattle.nv_command.specs.declared.reply.Reply.{Reply}
-use Rattle.nv_script.specs.Outcomes.{Exchange, Order, exchange_of}
-use Rattle.nv_script.specs.Outcomes.{Outcome, outcome_after, outcome_of}
+use Rattle.nv_script.proofs.Words.{[], ℕ, ◌∷◌, ◌≡◌, Err, Exchange, List, None, Ok, Order, Outcome, Reply, State, Status}
+use Rattle.nv_script.proofs.Words.{ap, exchange_of, outcome_after, outcome_of, sym}
+use Rattle.std.proofs.Common.{Some}
 
 -- commands that were all accepted, and commands of which the last one was refused
 abbrev pub accepted_with : List Reply → State → List ℕ → Outcome

@@ -1,17 +1,14 @@
 -- Bytes that are split at their newlines.
-use Rattle.std.proofs.Common.{◌≡◌, ℕ, suc, ◌+◌, ◌<◌, List, [], ◌∷◌, ◌++◌, length, take, drop, get_or, sym, ap, ◌∙◌}
-use Rattle.std.proofs.Common.{refl, Bool, true, false, eqb, cond, append_assoc, append-nil, arith, fold}
-use Rattle.std.proofs.lemmas.Grind.{common_steps}
-use Rattle.std.proofs.lemmas.List.{take_more, take-append-drop, length-append}
-use Rattle.std.proofs.lemmas.List.Sums.{fold-append}
-use Rattle.std.proofs.lemmas.Bool.Decides.{nat_tests}
-use Rattle.std.specs.Prelude.{Option, Some, None, nat_le}
-use Rattle.memchr.specs.Find.{Nowhere, Passes, is_byte}
-use Rattle.nv_model.specs.State.{State}
-use Rattle.nv_script.specs.Cuts.{joined_lines}
-use Rattle.nv_script.specs.Results.{after, start, whole}
-use Rattle.nv_script.specs.ScriptLines.{Pieces, as_line, pieces, with_byte}
-use Rattle.nv_script.specs.inner.ScriptLines.{buffer_after, buffer_of}
+use Rattle.nv_script.proofs.Words.{[], ℕ, ◌++◌, ◌+◌, ◌<◌, ◌∙◌, ◌∷◌, ◌≡◌, Bool, List, State, after, ap, append-nil}
+use Rattle.nv_script.proofs.Words.{append_assoc, arith, as_line, buffer_after, buffer_of, common_steps, drop, eqb}
+use Rattle.nv_script.proofs.Words.{false, fold-append, get_or, is_byte, joined_lines, length, length-append, nat_tests}
+use Rattle.nv_script.proofs.Words.{pieces, refl, suc, sym, take, take-append-drop, true, whole}
+use Rattle.std.proofs.Common.{cond, fold}
+use Rattle.std.proofs.lemmas.List.{take_more}
+use Rattle.std.specs.Prelude.{None, Option, Some, nat_le}
+use Rattle.memchr.specs.Find.{Nowhere, Passes}
+use Rattle.nv_script.specs.Results.{start}
+use Rattle.nv_script.specs.ScriptLines.{Pieces, with_byte}
 
 -- the bytes with i + 1 bytes of a piece are the bytes with i bytes of it and one more
 pub taken-more : (bytes piece : List ℕ) (i : ℕ) → i < length piece

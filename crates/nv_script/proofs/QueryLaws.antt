@@ -1,38 +1,24 @@
 -- What a query leaves behind, by how many of its orders were carried out.
-use Rattle.std.proofs.Common.{◌≡◌, ◌∙◌, ℕ, ◌+◌, arith, ap, sym, refl, List, [], ◌∷◌, length, get_or, Option, None, Some}
-use Rattle.std.proofs.Common.{Result, Ok, Err}
-use Rattle.std.proofs.lemmas.Grind.{common_steps}
-use Rattle.std.specs.Option.{option_map_or}
-use Rattle.std.proofs.lemmas.List.{take_all}
-use Rattle.nv_layout.specs.declared.cqe.Status.{Status}
-use Rattle.nv_command.specs.Received.{answer_received}
-use Rattle.nv_command.specs.declared.command.Command.{Command}
-use Rattle.nv_command.specs.declared.command.Command.TheVariants.{IdentifyController}
-use Rattle.nv_command.specs.declared.refusal.Refusal.{Refusal}
-use Rattle.nv_command.specs.declared.reply.Reply.{Reply}
-use Rattle.nv_command.specs.declared.reply.Reply.TheVariants as reply
+use Rattle.nv_script.proofs.Words.{[], ℕ, ◌+◌, ◌∙◌, ◌∷◌, ◌≡◌, Ask, Command, Controller, Err, Exchange}
+use Rattle.nv_script.proofs.Words.{IdentifyController, List, NoTextLeaves, None, Ok, Order, Outcome, Query, QueryLeaves}
+use Rattle.nv_script.proofs.Words.{Refusal, Reply, Request, Result, Shown, State, Status, answer_received, ap, arith}
+use Rattle.nv_script.proofs.Words.{common_steps, exchange_of, exchange_with, get_or, length, option_map_or, order_of}
+use Rattle.nv_script.proofs.Words.{orders_of, orders_of_one, outcome_after, outcome_of, refl, refusal_of, step_by, sym}
+use Rattle.nv_script.proofs.Words.{take_all}
+use Rattle.std.proofs.Common.{Option, Some}
 use Rattle.nv_layout.specs.IdCtrl.{id_ctrl_of_bytes}
 use Rattle.nv_layout.specs.Parts.{number_at}
 use Rattle.nv_model.specs.IdentifyController.{id_ctrl_of, no_controller}
 use Rattle.nv_model.specs.Logs.{entry_count}
-use Rattle.nv_model.specs.Meaning.{refusal_of}
-use Rattle.nv_model.specs.State.{Controller, State}
-use Rattle.nv_model.specs.Step.{step_by}
-use Rattle.nv_line.specs.declared.request.Ask.{Ask}
-use Rattle.nv_line.specs.declared.request.Ask.TheVariants as ask
-use Rattle.nv_line.specs.declared.request.Query.{Query}
 use Rattle.nv_line.specs.declared.request.Query.TheVariants.{One}
-use Rattle.nv_line.specs.declared.request.Request.{Request}
-use Rattle.nv_script.specs.Outcomes.{Exchange, Order, exchange_of, exchange_with}
-use Rattle.nv_script.specs.Outcomes.{order_of}
-use Rattle.nv_script.specs.Orders.{errors_command, orders_of, orders_of_one}
+use Rattle.nv_script.specs.Orders.{errors_command}
 use Rattle.nv_script.specs.inner.Orders.{log_command}
-use Rattle.nv_script.specs.Outcomes.{Outcome, outcome_after, outcome_of}
-use Rattle.nv_script.specs.inner.Performing.{AskLeaves, IsReached, QueryLeaves, NoTextLeaves}
+use Rattle.nv_script.specs.inner.Performing.{AskLeaves, IsReached}
 use Rattle.nv_script.specs.Shown.{shown_of}
-use Rattle.nv_script.specs.declared.performing.NoText.TheVariants as stop
-use Rattle.nv_print.specs.declared.shown.Shown.{Shown}
 use Rattle.nv_script.proofs.OutcomeLaws.{accepted_first, accepted_with, refused_at_once, refused_with}
+use Rattle.nv_command.specs.declared.reply.Reply.TheVariants as reply
+use Rattle.nv_line.specs.declared.request.Ask.TheVariants as ask
+use Rattle.nv_script.specs.declared.performing.NoText.TheVariants as stop
 
 -- ---- the command for an error log is known from the first reply
 

@@ -1,35 +1,26 @@
 -- How the pieces of a run form the whole run.
-use Rattle.std.proofs.Common.{Bool, false, ◌||◌, ◌==◌, ◌≡◌, ◌∙◌, ℕ, ◌+◌, ◌<◌, ◌≤◌, List, [], ◌∷◌, ◌++◌, length, take}
-use Rattle.std.proofs.Common.{sym, ap, subst, append-nil, arith, inl, inr, ◌↔◌, Option, None, Some}
-use Rattle.std.proofs.Common.{Err}
-use Rattle.std.proofs.lemmas.Grind.{common_steps}
-use Rattle.std.specs.Prelude.{IfSome, replicate}
+use Rattle.nv_script.proofs.Words.{[], ℕ, ◌++◌, ◌+◌, ◌<◌, ◌∙◌, ◌∷◌, ◌≡◌, ◌≤◌, Bool, Err, Left, List, None, OutWrite}
+use Rattle.nv_script.proofs.Words.{Progress, RunEnd, RunState, Session, Stands, State, WasRead, ap, append-nil, arith}
+use Rattle.nv_script.proofs.Words.{as_line, common_steps, false, fault_of, inl, inr, joined_lines, length}
+use Rattle.nv_script.proofs.Words.{length-append, length-take-le, nat_tests, next_cids_of, pieces, read_size, replicate}
+use Rattle.nv_script.proofs.Words.{subst, sym, take, whole}
+use Rattle.std.proofs.Common.{◌==◌, ◌||◌, ◌↔◌, Option, Some}
+use Rattle.std.specs.Prelude.{IfSome}
 use Rattle.std.specs.Io.KnownBytes.{Consumes, IsAtEnd, Keeps}
-use Rattle.std.proofs.lemmas.Bool.Decides.{nat_tests}
-use Rattle.std.proofs.lemmas.List.{length-append, length-take-le}
-use Rattle.nv_model.specs.State.{State}
-use Rattle.nv_script.specs.Cuts.{AreFailed, IsCutShort, Left, joined_lines}
+use Rattle.nv_script.specs.Cuts.{AreFailed, IsCutShort}
 use Rattle.nv_driver.specs.inner.Driver.{error_without}
-use Rattle.nv_driver.specs.Geometry.{fault_of}
 use Rattle.nv_driver.specs.declared.error.DriverError.{DriverError}
-use Rattle.nv_driver.specs.declared.error.DriverError.TheVariants as error
 use Rattle.nv_driver.specs.declared.geometry.Geometry.{Geometry as DriverGeometry}
 use Rattle.nv_driver.specs.declared.geometry_field.GeometryField.{GeometryField}
 use Rattle.nv_script.specs.Ends.{AllEnabled, AreFaults, BringingUp, Headline, IsEndOf, IsRun, IsUp, Leaves, LeavesAll}
-use Rattle.nv_script.specs.Ends.{RunState, Runs}
-use Rattle.nv_script.specs.Ends.{RunsFrom, WasRead, begun, end_without, left_by}
-use Rattle.nv_script.specs.inner.Feeding.{LastLeaves, PieceLeaves, Stands}
-use Rattle.nv_script.specs.Results.{Progress, whole}
-use Rattle.nv_script.specs.ScriptLines.{IsReadToEnd, as_line, has_stopped, pieces, script_lines}
-use Rattle.nv_driver.specs.inner.Linked.{next_cids_of}
+use Rattle.nv_script.specs.Ends.{Runs, RunsFrom, begun, end_without, left_by}
+use Rattle.nv_script.specs.inner.Feeding.{LastLeaves, PieceLeaves}
+use Rattle.nv_script.specs.ScriptLines.{IsReadToEnd, has_stopped, script_lines}
 use Rattle.nv_stream.specs.Streams.{IsFresh, SourceState}
-use Rattle.nv_script.specs.declared.ends.RunEnd.{RunEnd}
-use Rattle.nv_script.specs.declared.ends.RunEnd.TheVariants.{Status, Geometry, NoReady, Read}
-use Rattle.nv_script.specs.declared.ends.RunEnd.TheVariants.{OutWrite, MessageWrite, Memory}
-use Rattle.nv_script.specs.declared.session.Session.{Session}
-use Rattle.nv_stream.specs.Streams.{read_size}
+use Rattle.nv_script.specs.declared.ends.RunEnd.TheVariants.{Geometry, Memory, MessageWrite, NoReady, Read, Status}
 use Rattle.nv_script.proofs.PieceLaws.{as_line-some, length-joined, length-pieces, piece-among}
 use Rattle.nv_stream.proofs.Taking.{Appends-same, Consumes-join, Consumes-nothing, Consumes-same, length-taken}
+use Rattle.nv_driver.specs.declared.error.DriverError.TheVariants as error
 
 -- a script was read to its end if a read gave no byte and one more could have been made
 pub read_to_end : (reads call before : ℕ) (script : SourceState) (count : ℕ) → before ≡ call

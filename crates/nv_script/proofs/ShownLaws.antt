@@ -1,53 +1,35 @@
 -- Whatever is accepted is shown.
-use Rattle.std.proofs.Common.{◌≡◌, ◌∙◌, ℕ, ◌/◌, ◌≤◌, zero, suc, arith, ap, refl, sym, Bool, true, false, List, []}
-use Rattle.std.proofs.Common.{◌∷◌, ◌++◌, append-nil, append_assoc, get_or, map, Option, None, Some}
-use Rattle.std.proofs.Common.{Result, Ok, Err}
-use Rattle.std.proofs.lemmas.Grind.{common_steps}
-use Rattle.std.specs.Prelude.{IsSome, flat_map, if◌then◌else◌, nat_lt}
-use Rattle.std.specs.Option.{option_map_or}
-use Rattle.std.proofs.lemmas.Bool.Decides.{nat_tests}
-use Rattle.std.proofs.lemmas.List.{map-append}
+use Rattle.nv_script.proofs.Words.{[], ℕ, ◌++◌, ◌∙◌, ◌∷◌, ◌≡◌, ◌≤◌, Act, Ask, Bool, Command, Controller, Err, Exchange}
+use Rattle.nv_script.proofs.Words.{List, Listing, None, Ok, Order, Outcome, Query, Refusal, Reply, Result, Send, Shown}
+use Rattle.nv_script.proofs.Words.{State, Status, above, active_nsids, answer_received, ap, append-nil, append_assoc}
+use Rattle.nv_script.proofs.Words.{arith, common_steps, exchange_by, exchange_of, false, flat_map, get_or}
+use Rattle.nv_script.proofs.Words.{if◌then◌else◌, listing_of, listing_told, map, map-append, namespace_orders, nat_lt}
+use Rattle.nv_script.proofs.Words.{nat_tests, option_map_or, order_of, orders_of_controller, outcome_after, outcome_of}
+use Rattle.nv_script.proofs.Words.{refl, refusal_of, reply_of, step_by, suc, sym, true}
+use Rattle.std.proofs.Common.{◌/◌, Option, Some, zero}
+use Rattle.std.specs.Prelude.{IsSome}
 use Rattle.std.proofs.lemmas.List.Concat.{flat_map-append}
-use Rattle.nv_bits.specs.Above.{above}
-use Rattle.nv_command.specs.Received.{answer_received, first_of_log, received}
+use Rattle.nv_command.specs.Received.{first_of_log, received}
 use Rattle.nv_command.specs.LogPage.{log_asked}
 use Rattle.nv_command.specs.declared.log_page.LogPage.{LogPage}
 use Rattle.nv_command.specs.declared.log_page.LogPage.TheVariants.{ErrorInformation, Health}
-use Rattle.nv_command.specs.declared.command.Command.{Command}
-use Rattle.nv_command.specs.declared.command.Command.TheVariants as command
-use Rattle.nv_command.specs.declared.refusal.Refusal.{Refusal}
-use Rattle.nv_command.specs.declared.reply.Reply.{Reply}
-use Rattle.nv_command.specs.declared.reply.Reply.TheVariants as reply
 use Rattle.nv_command.specs.declared.status_code.StatusCode.TheVariants.{InvalidFieldInCommand}
 use Rattle.nv_layout.specs.Feature.{feature_of}
 use Rattle.nv_layout.specs.declared.feature.Feature.{Feature}
-use Rattle.nv_layout.specs.declared.cqe.Status.{Status}
-use Rattle.nv_line.specs.declared.request.Ask.{Ask}
-use Rattle.nv_line.specs.declared.request.Ask.TheVariants as ask
-use Rattle.nv_line.specs.declared.request.Query.{Query}
-use Rattle.nv_line.specs.declared.request.Query.TheVariants as query
 use Rattle.nv_model.proofs.ManagementLaws.{none_holds}
 use Rattle.nv_model.specs.Features.{supported_rows}
 use Rattle.nv_model.specs.Logs.{log_reply}
-use Rattle.nv_model.specs.Conditions.{active_nsids}
-use Rattle.nv_model.specs.Meaning.{refusal_of}
-use Rattle.nv_model.specs.Meaning.{reply_of}
-use Rattle.nv_model.specs.Conditions.{first_refusal, row}
-use Rattle.nv_model.specs.State.{Controller, State, controller_at}
-use Rattle.nv_model.specs.Step.{step_by}
+use Rattle.nv_model.specs.Conditions.{Row, first_refusal, row}
+use Rattle.nv_model.specs.State.{controller_at}
 use Rattle.nv_model.specs.WellFormed.{is_supported, supported}
-use Rattle.nv_model.specs.Conditions.{Row}
 use Rattle.nv_print.specs.Message.{select_of}
 use Rattle.nv_print.specs.declared.select.Select.{Select}
-use Rattle.nv_print.specs.declared.shown.Shown.{Shown}
-use Rattle.nv_script.specs.Outcomes.{Act, Send}
 use Rattle.nv_script.specs.EachShown.{EachIsShown, IsListed, IsShown, attached_numbers, device_numbers}
-use Rattle.nv_script.specs.Outcomes.{Exchange, Order, exchange_by, exchange_of, order_of}
-use Rattle.nv_script.specs.Orders.{namespace_orders, orders_of_controller}
-use Rattle.nv_script.specs.Outcomes.{Outcome, outcome_after, outcome_of}
-use Rattle.nv_script.specs.Shown.{feature_set, feature_value, listing_of, listing_told}
-use Rattle.nv_script.specs.Shown.{shown_by, shown_of_one}
-use Rattle.nv_script.specs.declared.listing.Listing.{Listing}
+use Rattle.nv_script.specs.Shown.{feature_set, feature_value, shown_by, shown_of_one}
+use Rattle.nv_command.specs.declared.command.Command.TheVariants as command
+use Rattle.nv_command.specs.declared.reply.Reply.TheVariants as reply
+use Rattle.nv_line.specs.declared.request.Ask.TheVariants as ask
+use Rattle.nv_line.specs.declared.request.Query.TheVariants as query
 
 -- ---- a feature that a command is accepted for has a name, and so has its select
 

@@ -1,9 +1,6 @@
-use Rattle.std.proofs.Common.{◌<◌, ◌≤◌, ◌∙◌, List, ap, arith, length, refl, rules, subst, sym}
-use Rattle.nv_driver.proofs.Words.{Batch, IsLeft, Request, Run, after_some, limit_of, pair_value, side}
-use Rattle.nv_driver.specs.Schedule.{state_after_all}
-use Rattle.nv_driver.specs.UnderWay.{numbered_of}
-use Rattle.nv_driver.specs.inner.Exchange.{KeepsOutside}
-use Rattle.nv_driver.specs.inner.UnderWay.{AreReceived}
+use Rattle.nv_driver.proofs.Words.{◌<◌, ◌∙◌, ◌≤◌, AreReceived, Batch, IsLeft, KeepsOutside, List, Request, Run}
+use Rattle.nv_driver.proofs.Words.{after_some, ap, arith, length, limit_of, numbered_of, pair_value, refl, rules, side}
+use Rattle.nv_driver.proofs.Words.{state_after_all, subst, sym}
 use Rattle.nv_driver.proofs.EndLaws.{HasEnded, all_collected, begins_all, comes_further, ends_all, run_is}
 use Rattle.nv_driver.proofs.RoundLaws.{received_on}
 use Rattle.nv_driver.proofs.batch.exchange_all.Given.{Over}

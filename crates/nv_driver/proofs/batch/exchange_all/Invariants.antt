@@ -1,7 +1,4 @@
-use Rattle.std.proofs.Common.{length}
-use Rattle.nv_driver.specs.inner.Pace.{IsToldInTime}
-use Rattle.nv_driver.specs.inner.UnderWay.{AreReceived, left_of}
-use Rattle.nv_driver.specs.UnderWay.{IsUnderWay}
+use Rattle.nv_driver.proofs.Words.{AreReceived, IsToldInTime, IsUnderWay, left_of, length}
 use Rattle.nv_driver.proofs.batch.exchange_all.Given as goal
 
 abbrev pub ghost-send : goal.ghost-send

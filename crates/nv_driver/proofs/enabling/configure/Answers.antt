@@ -1,5 +1,4 @@
-use Rattle.std.proofs.Common.{◌≡◌, ℕ, arith, refl, subst}
-use Rattle.nv_driver.specs.BringingUp.{ReadsOther}
+use Rattle.nv_driver.proofs.Words.{ℕ, ◌≡◌, ReadsOther, arith, refl, subst}
 use Rattle.nv_driver.proofs.enabling.configure.Goals as goal
 
 pub returns-clause-steps : goal.returns-clause-steps

@@ -1,7 +1,5 @@
-use Rattle.std.proofs.Common.{◌≡◌, slice_set}
-use Rattle.nv_register.specs.RegisterBank.{with_register_at}
-use Rattle.nv_bus.specs.Bus.{IsBus, bank_at, state_written}
-use Rattle.nv_driver.specs.BringingUp.{ReadsOther}
+use Rattle.nv_driver.proofs.Words.{◌≡◌, IsBus, ReadsOther, bank_at, state_written, with_register_at}
+use Rattle.std.proofs.Common.{slice_set}
 use Rattle.nv_driver.proofs.enabling.configure.Given as goal
 
 -- CC was written, and CSTS was read with another RDY, which doesn't happen over a lawful bus

@@ -1,6 +1,5 @@
-use Rattle.std.proofs.Common.{◌∙◌, ap, arith, refl, subst}
-use Rattle.nv_register.specs.Readiness.{is_ready}
-use Rattle.nv_driver.proofs.Words.{Geometry, IsGeometry, QueuePair, RegisterBank, mps_of}
+use Rattle.nv_driver.proofs.Words.{◌∙◌, Geometry, IsGeometry, QueuePair, RegisterBank, ap, arith, is_ready, mps_of}
+use Rattle.nv_driver.proofs.Words.{refl, subst}
 use Rattle.nv_driver.proofs.RegisterLaws.{enabled_banks, started}
 use Rattle.nv_driver.proofs.BringingUpLaws.{configured, zeroes_own}
 use Rattle.nv_driver.proofs.ResetLaws.{zeroed_length, zeroed_others}

@@ -1,7 +1,4 @@
-use Rattle.std.proofs.Common.{◌∙◌, List, ap, arith, length, subst, sym}
-use Rattle.std.proofs.Math.ListN.{length-set}
-use Rattle.nv_driver.specs.Quiet.{IsQuiet}
-use Rattle.nv_driver.proofs.Words.{RegisterBank}
+use Rattle.nv_driver.proofs.Words.{◌∙◌, IsQuiet, List, RegisterBank, ap, arith, length, length-set, subst, sym}
 use Rattle.nv_driver.proofs.MemoryLaws.{laid_in, pair_count, pair_is, settled_at_first, tags_more}
 use Rattle.nv_driver.proofs.RegisterLaws.{above_set, all_enabled, below_set}
 use Rattle.nv_driver.proofs.BringingUpLaws.{one_more}

@@ -1,7 +1,5 @@
-use Rattle.std.proofs.Common.{◌≡◌, ℕ, ◌<◌, ◌≤◌, All, length}
-use Rattle.nv_model.proofs.ResetLaws.{reset_first}
-use Rattle.nv_driver.proofs.Words.{HoldsTags, IsBus, IsLaid, bank_at, enabled_in, idle_bank, mps_of, pair_of, pairs_of}
-use Rattle.nv_driver.specs.BringingUp.{EnablesFirst}
+use Rattle.nv_driver.proofs.Words.{ℕ, ◌<◌, ◌≡◌, ◌≤◌, All, EnablesFirst, HoldsTags, IsBus, IsLaid, bank_at, enabled_in}
+use Rattle.nv_driver.proofs.Words.{idle_bank, length, mps_of, pair_of, pairs_of, reset_first}
 use Rattle.nv_driver.proofs.enabling.enable_all.Given as goal
 
 -- the controllers below are enabled with zeroed completion rings, and the others have not changed

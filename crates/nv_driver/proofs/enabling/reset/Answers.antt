@@ -1,6 +1,5 @@
-use Rattle.std.proofs.Common.{◌∙◌, ap, arith, refl, subst}
-use Rattle.nv_register.specs.Readiness.{is_ready}
-use Rattle.nv_driver.proofs.Words.{Geometry, IsGeometry, QueuePair, RegisterBank, mps_of, pair_of}
+use Rattle.nv_driver.proofs.Words.{◌∙◌, Geometry, IsGeometry, QueuePair, RegisterBank, ap, arith, is_ready, mps_of}
+use Rattle.nv_driver.proofs.Words.{pair_of, refl, subst}
 use Rattle.nv_driver.proofs.RegisterLaws.{enabled_banks, is_off, not_stopped, started, stopped}
 use Rattle.nv_driver.proofs.BringingUpLaws.{configured, zeroes_own}
 use Rattle.nv_driver.proofs.ResetLaws.{kept_again, left_again, resets, zeroed_length, zeroed_others}

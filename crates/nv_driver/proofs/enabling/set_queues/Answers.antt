@@ -1,5 +1,4 @@
-use Rattle.std.proofs.Common.{ap, arith}
-use Rattle.nv_driver.proofs.Words.{Geometry, pair_of}
+use Rattle.nv_driver.proofs.Words.{Geometry, ap, arith, pair_of}
 use Rattle.nv_driver.proofs.RegisterLaws.{queues_written}
 use Rattle.nv_driver.proofs.BringingUpLaws.{sets_queues}
 use Rattle.nv_driver.proofs.enabling.set_queues.Goals as goal

@@ -1,8 +1,6 @@
-use Rattle.std.proofs.Common.{◌∙◌, ◌++◌, ap, arith, length}
+use Rattle.nv_driver.proofs.Words.{◌++◌, ◌∙◌, ap, arith, is_success, length, padded}
 use Rattle.nv_prp.specs.Buffer.{buffer_places}
 use Rattle.nv_prp.specs.Place.{read_at}
-use Rattle.nv_driver.specs.Request.{padded}
-use Rattle.nv_driver.specs.Schedule.{is_success}
 use Rattle.nv_driver.proofs.PaddingLaws.{came_as, padded_read}
 use Rattle.nv_driver.proofs.passthrough.receive.Goals as goal
 

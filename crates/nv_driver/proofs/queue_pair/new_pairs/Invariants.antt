@@ -1,5 +1,4 @@
-use Rattle.std.proofs.Common.{◌≡◌, All, map}
-use Rattle.nv_driver.proofs.Words.{IsQuiet, pair_value, pairs_of}
+use Rattle.nv_driver.proofs.Words.{◌≡◌, All, IsQuiet, map, pair_value, pairs_of}
 use Rattle.nv_driver.proofs.queue_pair.new_pairs.Given as goal
 
 abbrev pub invariant-loop-ctrl : goal.invariant-loop-ctrl

@@ -1,13 +1,11 @@
-use Rattle.std.proofs.Common.{◌∙◌, ◌+◌, sym, ap, refl, length, [], Some, Ok, Err}
-use Rattle.nv_script.specs.Cuts.{left_at}
-use Rattle.nv_script.specs.Orders.{orders_of}
-use Rattle.nv_script.specs.Outcomes.{outcome_of}
-use Rattle.nv_script.specs.Results.{LineResult, answer_result, message_at, output_for, quiet_result}
-use Rattle.nv_driver.specs.inner.Linked.{next_cids_of}
-use Rattle.nv_print.specs.declared.fault.FaultCause.TheVariants as cause
-use Rattle.nv_line.specs.declared.line.Line.TheVariants as line
+use Rattle.nv_script.proofs.Words.{[], ◌+◌, ◌∙◌, Err, LineResult, Ok, ap, left_at, length, next_cids_of, orders_of}
+use Rattle.nv_script.proofs.Words.{outcome_of, refl, sym}
+use Rattle.std.proofs.Common.{Some}
+use Rattle.nv_script.specs.Results.{answer_result, message_at, output_for, quiet_result}
 use Rattle.nv_script.proofs.LineLaws.{amid-all, amid-some, amid-zero, asks_fault, asks_memory, asks_request, fault_said}
 use Rattle.nv_script.proofs.LineLaws.{message_leaves, output_leaves, result_asked, result_fault, said_here}
+use Rattle.nv_print.specs.declared.fault.FaultCause.TheVariants as cause
+use Rattle.nv_line.specs.declared.line.Line.TheVariants as line
 use Rattle.nv_script.proofs.executing.execute_line.Goals as goal
 
 pub returns-in-Ok-perform-clause-left : goal.returns-in-Ok-perform-clause-left

@@ -1,10 +1,6 @@
-use Rattle.std.proofs.Common.{◌∙◌, ◌+◌, ◌++◌, ap, append_assoc, sym, subst}
-use Rattle.std.proofs.lemmas.Result.{err_from_is_err_and}
-use Rattle.nv_model.proofs.LookupLaws.{IsAlike, alike-join}
-use Rattle.nv_model.specs.WellFormed.{IsWellFormed}
-use Rattle.nv_driver.specs.inner.Linked.{next_cids_of}
-use Rattle.nv_script.specs.inner.Listing.{IsListed, asked_all}
-use Rattle.nv_script.specs.Orders.{orders_of_controller, orders_of_list}
+use Rattle.nv_script.proofs.Words.{◌++◌, ◌+◌, ◌∙◌, IsAlike, IsListed, IsWellFormed, alike-join, ap, append_assoc}
+use Rattle.nv_script.proofs.Words.{asked_all, err_from_is_err_and, next_cids_of, orders_of_controller, orders_of_list}
+use Rattle.nv_script.proofs.Words.{subst, sym}
 use Rattle.nv_script.proofs.ListLaws.{first_standing, listed_after, stopped_within}
 use Rattle.nv_script.proofs.ListOrderLaws.{controller_lookups, next_controller, no_controller_left, orders_from}
 use Rattle.nv_script.proofs.ListOrderLaws.{same_orders}

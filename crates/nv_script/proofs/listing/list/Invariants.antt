@@ -1,12 +1,5 @@
-use Rattle.std.proofs.Common.{◌≡◌, ◌-◌, ◌++◌, length, List}
-use Rattle.std.specs.Prelude.{flat_map}
-use Rattle.std.specs.List.{range_with_len}
-use Rattle.nv_model.proofs.LookupLaws.{IsAlike}
-use Rattle.nv_script.specs.Outcomes.{Order}
-use Rattle.nv_driver.specs.Linked.{IsLinked}
-use Rattle.nv_driver.specs.inner.Linked.{next_cids_of}
-use Rattle.nv_script.specs.inner.Listing.{IsListed, asked_all}
-use Rattle.nv_script.specs.Orders.{orders_of_controller, orders_of_list}
+use Rattle.nv_script.proofs.Words.{◌++◌, ◌-◌, ◌≡◌, IsAlike, IsLinked, IsListed, List, Order, asked_all, flat_map}
+use Rattle.nv_script.proofs.Words.{length, next_cids_of, orders_of_controller, orders_of_list, range_with_len}
 use Rattle.nv_script.proofs.ListLaws.{first_standing}
 use Rattle.nv_script.proofs.listing.list.Given as goal
 

@@ -1,11 +1,5 @@
-use Rattle.std.proofs.Common.{refl, [], ◌∷◌}
-use Rattle.std.proofs.lemmas.Result.{err_from_is_err_and}
-use Rattle.nv_bits.specs.Above.{above}
-use Rattle.nv_command.specs.declared.command.Command.TheVariants.{ActiveList, IdentifyController}
-use Rattle.nv_model.specs.Conditions.{active_nsids}
-use Rattle.nv_script.specs.Outcomes.{order_of}
-use Rattle.nv_driver.specs.inner.Linked.{next_cids_of}
-use Rattle.nv_script.specs.Orders.{namespace_orders, orders_of_controller}
+use Rattle.nv_script.proofs.Words.{[], ◌∷◌, ActiveList, IdentifyController, above, active_nsids, err_from_is_err_and}
+use Rattle.nv_script.proofs.Words.{namespace_orders, next_cids_of, order_of, orders_of_controller, refl}
 use Rattle.nv_script.proofs.GreetingLaws.{greeted_listed, greeted_orders, stopped_there}
 use Rattle.nv_script.proofs.ListLaws.{leaves_after}
 use Rattle.nv_script.proofs.listing.list_controller.Goals as goal

@@ -1,11 +1,7 @@
-use Rattle.std.proofs.Common.{◌∙◌, ◌++◌, take, drop}
-use Rattle.std.proofs.lemmas.Result.{err_from_is_err_and}
-use Rattle.nv_driver.specs.inner.Linked.{next_cids_of}
-use Rattle.nv_script.specs.inner.Listing.{asked_all}
-use Rattle.nv_script.specs.Orders.{namespace_orders}
+use Rattle.nv_script.proofs.Words.{◌++◌, ◌∙◌, asked_all, done_more, drop, err_from_is_err_and, namespace_orders}
+use Rattle.nv_script.proofs.Words.{next_cids_of, take}
 use Rattle.nv_script.proofs.BatchLaws.{namespaces_join, namespaces_split}
 use Rattle.nv_script.proofs.ListLaws.{listed_after, stopped_within}
-use Rattle.nv_stream.proofs.Taking.{done_more}
 use Rattle.nv_script.proofs.listing.list_namespaces.Goals as goal
 
 pub returns-in_err-list_batch-clause-left : goal.returns-in_err-list_batch-clause-left

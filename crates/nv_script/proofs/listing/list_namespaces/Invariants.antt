@@ -1,8 +1,5 @@
-use Rattle.std.proofs.Common.{◌≡◌, ◌++◌, length, List, ℕ}
-use Rattle.nv_driver.specs.Linked.{IsLinked}
-use Rattle.nv_driver.specs.inner.Linked.{next_cids_of}
-use Rattle.nv_script.specs.inner.Listing.{IsListed, Standing, asked_all}
-use Rattle.nv_script.specs.Orders.{namespace_orders}
+use Rattle.nv_script.proofs.Words.{ℕ, ◌++◌, ◌≡◌, IsLinked, IsListed, List, Standing, asked_all, length}
+use Rattle.nv_script.proofs.Words.{namespace_orders, next_cids_of}
 use Rattle.nv_script.proofs.listing.list_namespaces.Given as goal
 
 -- the first of the NSIDs were asked for

@@ -1,10 +1,5 @@
-use Rattle.std.proofs.Common.{ap, Ok, Err}
-use Rattle.std.proofs.lemmas.Result.{err_from_is_err_and}
-use Rattle.nv_command.specs.declared.command.Command.TheVariants.{IdentifyController}
-use Rattle.nv_command.specs.declared.reply.Reply.TheVariants.{Done}
-use Rattle.nv_driver.specs.inner.Linked.{next_cids_of}
-use Rattle.nv_script.specs.Orders.{orders_of_one}
-use Rattle.nv_script.specs.Outcomes.{Reset, order_of}
+use Rattle.nv_script.proofs.Words.{Done, Err, IdentifyController, Ok, Reset, ap, err_from_is_err_and, next_cids_of}
+use Rattle.nv_script.proofs.Words.{order_of, orders_of_one}
 use Rattle.nv_script.proofs.LinkLaws.{sent, still_known, was_reset}
 use Rattle.nv_script.proofs.QueryLaws.{both_accepted, only_accepted, only_refused, second_refused}
 use Rattle.nv_script.proofs.performing.last_reply.Goals as goal

@@ -1,10 +1,6 @@
-use Rattle.std.proofs.Common.{◌+◌, ◌++◌, [], arith, refl, take}
+use Rattle.nv_script.proofs.Words.{[], ◌++◌, ◌+◌, arith, done_more, err_from_is_err_and, pieces, refl, take, whole}
 use Rattle.std.proofs.lemmas.List.{length-drop}
-use Rattle.std.proofs.lemmas.Result.{err_from_is_err_and}
-use Rattle.nv_script.specs.Results.{whole}
-use Rattle.nv_script.specs.ScriptLines.{pieces}
 use Rattle.nv_script.proofs.FeedLaws.{Fed-executed, Fed-last, Fed-line, Fed-none, cut_at}
-use Rattle.nv_stream.proofs.Taking.{done_more}
 use Rattle.nv_script.proofs.running.feed.Goals as goal
 
 pub loop-end-init : goal.loop-end-init

@@ -1,7 +1,5 @@
-use Rattle.std.proofs.Common.{◌≡◌, ◌≤◌, ◌+◌, ◌++◌, false, length, List, ℕ, Option}
-use Rattle.nv_model.specs.State.{State}
-use Rattle.nv_script.specs.Cuts.{left_at}
-use Rattle.nv_driver.specs.Linked.{IsLinked}
+use Rattle.nv_script.proofs.Words.{ℕ, ◌++◌, ◌+◌, ◌≡◌, ◌≤◌, IsLinked, List, State, false, left_at, length}
+use Rattle.std.proofs.Common.{Option}
 use Rattle.nv_script.proofs.FeedLaws.{Fed}
 use Rattle.nv_script.proofs.running.feed.Given as goal
 

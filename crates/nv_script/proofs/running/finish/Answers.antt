@@ -1,11 +1,9 @@
-use Rattle.std.proofs.Common.{rules, ◌≡◌, ◌∙◌, ◌<◌, ap, sym, arith, length, [], Some}
-use Rattle.std.proofs.lemmas.Result.{err_from_is_err_and}
-use Rattle.nv_script.specs.Results.{whole}
-use Rattle.nv_script.specs.ScriptLines.{pieces}
+use Rattle.nv_script.proofs.Words.{[], ◌<◌, ◌∙◌, ◌≡◌, ap, arith, err_from_is_err_and, length, pieces, sym, whole}
+use Rattle.std.proofs.Common.{Some, rules}
 use Rattle.nv_script.proofs.PieceLaws.{buffer_of-empty, buffer_of-some, whole-more}
 use Rattle.nv_script.proofs.RunLaws.{ends_whole, last_line, no_last}
+use Rattle.nv_script.proofs.running.finish.Goals.{else-not-is_empty, then-not-is_empty+in_ok-execute_line}
 use Rattle.nv_script.proofs.running.finish.Goals as goal
-use Rattle.nv_script.proofs.running.finish.Goals.{then-not-is_empty+in_ok-execute_line, else-not-is_empty}
 
 pub returns-in_err-execute_line-clause-left : goal.returns-in_err-execute_line-clause-left
 returns-in_err-execute_line-clause-left g c s bytes o m is stands =

@@ -1,8 +1,5 @@
-use Rattle.std.proofs.Common.{◌≡◌, ◌∙◌, ◌≤◌, ◌++◌, [], arith, length, refl, sym, take}
-use Rattle.std.proofs.lemmas.Bool.Decides.{nat_tests}
-use Rattle.std.proofs.lemmas.List.{length-take-le}
-use Rattle.nv_stream.specs.Streams.{read_size}
-use Rattle.nv_script.specs.Ends.{run_state}
+use Rattle.nv_script.proofs.Words.{[], ◌++◌, ◌∙◌, ◌≡◌, ◌≤◌, arith, length, length-take-le, nat_tests, read_size, refl}
+use Rattle.nv_script.proofs.Words.{run_state, sym, take}
 use Rattle.nv_script.proofs.RunLaws.{cut_ends, cut_leaves, last_cut, piece_cut, read_first, read_more, read_none}
 use Rattle.nv_script.proofs.RunLaws.{read_to_end, stands_first}
 use Rattle.nv_script.proofs.running.run_session.Goals as goal

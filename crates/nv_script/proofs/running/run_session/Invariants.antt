@@ -1,12 +1,6 @@
-use Rattle.std.proofs.Common.{◌≡◌, ◌≤◌, ◌*◌, false, length, List, ℕ}
-use Rattle.nv_script.specs.Cuts.{left_at}
-use Rattle.nv_script.specs.Ends.{WasRead}
-use Rattle.nv_script.specs.inner.Feeding.{Stands}
-use Rattle.nv_script.specs.Results.{whole}
-use Rattle.nv_script.specs.inner.ScriptLines.{buffer_of}
-use Rattle.nv_script.specs.ScriptLines.{pieces}
-use Rattle.nv_driver.specs.Linked.{IsLinked}
-use Rattle.nv_stream.specs.Streams.{read_size}
+use Rattle.nv_script.proofs.Words.{ℕ, ◌≡◌, ◌≤◌, IsLinked, List, Stands, WasRead, buffer_of, false, left_at, length}
+use Rattle.nv_script.proofs.Words.{pieces, read_size, whole}
+use Rattle.std.proofs.Common.{◌*◌}
 use Rattle.nv_script.proofs.running.run_session.Given as goal
 
 abbrev pub invariant-loop-call : goal.invariant-loop-call

@@ -1,7 +1,6 @@
-use Rattle.std.proofs.Common.{ap, inl, subst}
-use Rattle.nv_bus.specs.Bus.{BusValue, enabled_in}
+use Rattle.nv_script.proofs.Words.{BusValue, RunState, ap, inl, run_state, subst}
+use Rattle.nv_bus.specs.Bus.{enabled_in}
 use Rattle.nv_driver.specs.BringingUp.{BringsUp, Still}
-use Rattle.nv_script.specs.Ends.{RunState, run_state}
 use Rattle.nv_driver.proofs.LinkedLaws.{all_enabled}
 use Rattle.nv_script.proofs.RunLaws.{fresh_well, is_run, with_driver}
 use Rattle.nv_script.proofs.running.run_within.Goals as goal

@@ -1,14 +1,8 @@
-use Rattle.std.proofs.Common.{[], ◌%◌, ℕ, ◌≡◌, ◌∙◌, ◌+◌, ◌<◌, ◌≤◌, List, ap, arith, get_or, length, subst, sym}
-use Rattle.nv_driver.proofs.Words.{Batch, Geometry, IsPlaceFor, IsRequest, IsSubmittedAt, Request, bytes_from_host}
-use Rattle.nv_driver.proofs.Words.{get_or-set_same, get_or_default, mod_below, length_of, limit_of, setting_of, slot}
-use Rattle.nv_driver.specs.CommandPages.{all_pages}
-use Rattle.nv_driver.specs.Layout.{data_count}
-use Rattle.nv_driver.specs.Submitting.{place_in}
-use Rattle.nv_driver.specs.inner.Submitting.{request_as}
-use Rattle.nv_driver.specs.declared.command_pages.CommandPages.{CommandPages}
+use Rattle.nv_driver.proofs.Words.{[], ℕ, ◌%◌, ◌+◌, ◌<◌, ◌∙◌, ◌≡◌, ◌≤◌, Batch, CommandPages, Geometry, IsPlaceFor}
+use Rattle.nv_driver.proofs.Words.{IsRequest, IsSubmittedAt, List, Request, all_pages, ap, arith, bytes_from_host}
+use Rattle.nv_driver.proofs.Words.{data_count, get_or, get_or-set_same, get_or_default, length, length_of, limit_of}
+use Rattle.nv_driver.proofs.Words.{mod_below, place_in, request_as, set, set-get_or, setting_of, slot, subst, sym}
 use Rattle.nv_driver.proofs.ShareLaws.{data_fits}
-use Rattle.std.specs.Prelude.{set}
-use Rattle.std.proofs.lemmas.List.{set-get_or}
 use Rattle.nv_driver.proofs.CommandPageLaws.{all_count, place_of_set}
 use Rattle.nv_driver.proofs.OnWayLaws.{has_bank}
 use Rattle.nv_driver.proofs.RoundLaws.{rings}
@@ -16,9 +10,9 @@ use Rattle.nv_driver.proofs.SubmittingLaws.{submitted_as}
 use Rattle.nv_driver.proofs.TurnLaws.{no_command}
 use Rattle.nv_driver.proofs.UnderWayLaws.{IsSentIn, free_slot, geometry_is, room_few, set_has, still_inside, submits_at}
 use Rattle.nv_driver.proofs.UnderWayLaws.{tail_after}
+use Rattle.nv_driver.proofs.batch.Batch.send.Goals.{After-outgoing-request}
 use Rattle.nv_driver.proofs.batch.Batch.send.Given as given
 use Rattle.nv_driver.proofs.batch.Batch.send.Goals as goal
-use Rattle.nv_driver.proofs.batch.Batch.send.Goals.{After-outgoing-request}
 
 pub outgoing-request-requires : goal.outgoing-request-requires
 outgoing-request-requires g c =

@@ -1,5 +1,4 @@
-use Rattle.std.proofs.Common.{◌≡◌, ◌<◌, ◌≤◌, MatchOption}
-use Rattle.nv_driver.proofs.Words.{IsUnderWay, setting_of, slot}
+use Rattle.nv_driver.proofs.Words.{◌<◌, ◌≡◌, ◌≤◌, IsUnderWay, MatchOption, setting_of, slot}
 use Rattle.nv_driver.proofs.batch.Batch.send.Given as goal
 
 abbrev pub invariant-loop-number : goal.invariant-loop-number

@@ -1,28 +1,15 @@
-use Rattle.std.proofs.Common.{[], ◌≡◌, ◌≢◌, ◌∙◌, ℕ, ◌+◌, ◌-◌, ◌*◌, ◌%◌, ◌<◌, ◌≤◌, List, ap, arith, get_or, inl, length}
-use Rattle.std.proofs.Common.{length-take, min, refl, sym}
-use Rattle.std.proofs.lemmas.List.{get_or_default, set-get_or}
-use Rattle.nv_host.specs.PageSets.{Pages}
-use Rattle.nv_driver.proofs.Words.{Batch, Geometry, QueuePairFields, Sent, mod_below}
-use Rattle.nv_driver.specs.CommandPages.{all_pages}
-use Rattle.nv_driver.specs.Submitting.{place_in}
-use Rattle.nv_driver.specs.UnderWay.{IsHeld}
-use Rattle.nv_driver.specs.declared.command_pages.CommandPages.{CommandPages}
-use Rattle.nv_driver.specs.inner.Pace.{IsToldByPace}
+use Rattle.nv_driver.proofs.Words.{[], ℕ, ◌%◌, ◌*◌, ◌+◌, ◌-◌, ◌<◌, ◌∙◌, ◌≡◌, ◌≢◌, ◌≤◌, All, AreReceived, AreSendable}
+use Rattle.nv_driver.proofs.Words.{Batch, Command, CommandPages, Geometry, IsHeld, IsSendable, IsToldByPace, List}
+use Rattle.nv_driver.proofs.Words.{Pages, QueuePairFields, Request, Sent, all_pages, ap, arith, get_or, get_or-map}
+use Rattle.nv_driver.proofs.Words.{get_or_default, inl, length, length-map, length-take, limit_of, map, min, mod_below}
+use Rattle.nv_driver.proofs.Words.{place_in, refl, request_of, requests_in, set, set-get_or, subst, sym}
 use Rattle.nv_driver.proofs.OnWayLaws.{can_collect}
-use Rattle.nv_driver.proofs.RoundLaws.{answer_buffer, answers_more, awaits, can_give, collects, count_few}
-use Rattle.nv_driver.proofs.RoundLaws.{held_one, number_inside, takes, tells_on, turns_idly, turns_on}
+use Rattle.nv_driver.proofs.RoundLaws.{answer_buffer, answers_more, awaits, can_give, collects, count_few, hears}
+use Rattle.nv_driver.proofs.RoundLaws.{held_one, number_inside, received_on, takes, tells_on, told_with, turns_idly}
+use Rattle.nv_driver.proofs.RoundLaws.{turns_on}
 use Rattle.nv_driver.proofs.UnderWayLaws.{geometry_is}
-use Rattle.nv_driver.proofs.Words.{Command, Request, limit_of, request_of}
-use Rattle.nv_driver.specs.inner.UnderWay.{AreReceived}
-use Rattle.nv_driver.specs.UnderWay.{AreSendable, requests_in}
-use Rattle.nv_command.specs.Logs.{IsSendable}
-use Rattle.nv_driver.proofs.RoundLaws.{hears, received_on, told_with}
-use Rattle.std.specs.Prelude.{set}
-use Rattle.std.proofs.Common.{All, map, subst}
-use Rattle.nv_driver.proofs.Words.{get_or-map, length-map}
 use Rattle.nv_driver.proofs.batch.Batch.turn.Given.{Over}
-use Rattle.nv_driver.proofs.batch.Batch.turn.Goals.{in-Commands, in-Entry}
-use Rattle.nv_driver.proofs.batch.Batch.turn.Goals.{then-self-pace, else-self-pace}
+use Rattle.nv_driver.proofs.batch.Batch.turn.Goals.{else-self-pace, in-Commands, in-Entry, then-self-pace}
 use Rattle.nv_driver.proofs.batch.Batch.turn.Goals as goal
 
 -- there are as many requests as commands

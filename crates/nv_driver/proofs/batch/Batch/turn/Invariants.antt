@@ -1,7 +1,5 @@
-use Rattle.std.proofs.Common.{◌≡◌, ◌+◌}
-use Rattle.nv_driver.specs.inner.UnderWay.{AreReceived}
-use Rattle.nv_driver.proofs.Words.{IsUnderWay}
-use Rattle.nv_driver.specs.inner.Pace.{IsToldByPace, IsToldInTime, taken_by_turn}
+use Rattle.nv_driver.proofs.Words.{◌+◌, ◌≡◌, AreReceived, IsToldByPace, IsToldInTime, IsUnderWay}
+use Rattle.nv_driver.specs.inner.Pace.{taken_by_turn}
 use Rattle.nv_driver.proofs.batch.Batch.turn.Given as goal
 
 abbrev pub invariant-loop : goal.invariant-loop

@@ -1,5 +1,4 @@
-use Rattle.std.proofs.Common.{arith}
-use Rattle.nv_host.proofs.PageLaws.{page_size_bounds}
+use Rattle.nv_driver.proofs.Words.{arith, page_size_bounds}
 use Rattle.nv_driver.specs.CheckedGeometry.{geometry_of}
 use Rattle.nv_driver.proofs.ShareLaws.{few_of_entry}
 use Rattle.nv_driver.proofs.checked_geometry.CheckedGeometry.page_count.Goals as goal

@@ -1,9 +1,5 @@
-use Rattle.std.proofs.Common.{◌≡◌, ◌∙◌, ap, arith, get_or, length, subst, sym, take}
-use Rattle.std.proofs.lemmas.List.{take_more}
-use Rattle.std.proofs.Math.Seq.{take-length}
-use Rattle.nv_host.specs.PageSets.{IsOf, Pages}
-use Rattle.nv_driver.specs.CommandPages.{all_pages}
-use Rattle.nv_driver.specs.inner.CommandPages.{with_pages}
+use Rattle.nv_driver.proofs.Words.{◌∙◌, ◌≡◌, IsOf, Pages, all_pages, ap, arith, get_or, length, subst, sym, take}
+use Rattle.nv_driver.proofs.Words.{take-length, take_more, with_pages}
 use Rattle.nv_driver.proofs.PageSetLaws.{giving_more, giving_none, not_given}
 use Rattle.nv_driver.proofs.command_pages.CommandPages.give.Goals as goal
 

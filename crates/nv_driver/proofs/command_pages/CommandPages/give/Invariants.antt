@@ -1,5 +1,4 @@
-use Rattle.std.proofs.Common.{◌≡◌, take}
-use Rattle.nv_driver.specs.inner.CommandPages.{with_pages}
+use Rattle.nv_driver.proofs.Words.{◌≡◌, take, with_pages}
 use Rattle.nv_driver.proofs.command_pages.CommandPages.give.Given as goal
 
 abbrev pub invariant-loop-at : goal.invariant-loop-at

@@ -1,7 +1,5 @@
-use Rattle.std.proofs.Common.{◌≡◌, ◌<◌, ◌∙◌, arith, length, rules, length-take, refl, subst, sym, take}
-use Rattle.std.proofs.Math.ListN.{length-set}
-use Rattle.std.proofs.lemmas.List.{take_more_set}
-use Rattle.nv_driver.specs.CommandPages.{AreLowest}
+use Rattle.nv_driver.proofs.Words.{◌<◌, ◌∙◌, ◌≡◌, AreLowest, arith, length, length-set, length-take, refl, rules, subst}
+use Rattle.nv_driver.proofs.Words.{sym, take, take_more_set}
 use Rattle.nv_driver.proofs.PageSetLaws.{Taking, has_one, lowest_next, lowest_none, some_taken, taking_next}
 use Rattle.nv_driver.proofs.PageSetLaws.{taking_none}
 use Rattle.nv_driver.proofs.command_pages.CommandPages.take.Goals as goal
@@ -36,7 +34,7 @@ loop-at-preserved c =
           c.take.ensures.taken c.take.ensures.of_these);
       lowest = subst (λ ps. AreLowest c.args.free.now ps) more
           (lowest_next c.args.free.now c.loop-at.free c.take.new.self (take at numbers) c.take.result c.unwrap.result
-          inv.taking.left c.unwrap.ensures c.take.ensures.taken c.take.ensures.lowest inv.lowest);
+          inv.taking.left c.unwrap.ensures c.take.ensures.taken inv.lowest);
       seven = length-set numbers at c.unwrap.result ∙ inv.seven;
     }
 

@@ -1,5 +1,4 @@
-use Rattle.std.proofs.Common.{◌≡◌, length, take}
-use Rattle.nv_driver.specs.CommandPages.{AreLowest}
+use Rattle.nv_driver.proofs.Words.{◌≡◌, AreLowest, length, take}
 use Rattle.nv_driver.proofs.PageSetLaws.{Taking}
 use Rattle.nv_driver.proofs.command_pages.CommandPages.take.Given as goal
 

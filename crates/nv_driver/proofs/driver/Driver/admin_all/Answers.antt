@@ -1,17 +1,12 @@
-use Rattle.std.proofs.Common.{◌∙◌, ◌<◌, ◌≤◌, All, List, ap, arith, get_or, length, map, min, refl, rules, subst, sym}
-use Rattle.nv_command.specs.declared.command.Command.{Command}
-use Rattle.nv_command.specs.declared.command.Command.TheVariants.{ActiveList}
-use Rattle.nv_driver.proofs.Words.{IsRequest, Request, get_or-map, length-map, length_of, limit_bounds, limit_of}
-use Rattle.nv_driver.proofs.Words.{mul-le-mul_right, transfer_by}
+use Rattle.nv_driver.proofs.Words.{◌<◌, ◌∙◌, ◌≤◌, ActiveList, All, Command, IsRequest, List, Request, SendsAll}
+use Rattle.nv_driver.proofs.Words.{after_some, ap, arith, get_or, get_or-map, length, length-map, length_of}
+use Rattle.nv_driver.proofs.Words.{limit_bounds, limit_of, map, min, mul-le-mul_right, pages_of_command, refl}
+use Rattle.nv_driver.proofs.Words.{request_of, rules, run_of, subst, sym, transfer_by}
 use Rattle.nv_driver.proofs.DataLaws.{most, shape}
 use Rattle.nv_driver.proofs.EndLaws.{answers_all}
 use Rattle.nv_driver.proofs.RequestLaws.{is_request}
 use Rattle.nv_driver.specs.Batch.{answers_of, state_after}
-use Rattle.nv_driver.specs.Layout.{most_bytes, pages_of_command}
-use Rattle.nv_driver.specs.Exchange.{after_some}
-use Rattle.nv_driver.specs.Request.{request_of}
-use Rattle.nv_driver.specs.Sending.{SendsAll}
-use Rattle.nv_driver.specs.UnderWay.{run_of}
+use Rattle.nv_driver.specs.Layout.{most_bytes}
 use Rattle.nv_driver.proofs.AdminLaws.{HasPair, cid_is, driver_after, ends_inside, goes_over, left_at, linked_after}
 use Rattle.nv_driver.proofs.AdminLaws.{ready_by, room_by, value_after}
 use Rattle.nv_driver.proofs.driver.Driver.admin_all.Given.{Over}

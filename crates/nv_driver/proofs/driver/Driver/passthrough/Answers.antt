@@ -1,12 +1,7 @@
-use Rattle.std.proofs.Common.{[], ◌∙◌, ◌∷◌, ℕ, List, ap, arith, get_or, length, refl, rules, subst, sym}
-use Rattle.nv_bus.specs.Entry.{told_by}
-use Rattle.nv_host.specs.PageSets.{Pages}
-use Rattle.nv_driver.proofs.Words.{Geometry, HasEntryPages, QueuePairFields, after_some, limit_of, place_in, run_of}
-use Rattle.nv_driver.specs.Alone.{IsReceived, asked_in, entry_step}
-use Rattle.nv_driver.specs.CommandPages.{all_pages}
-use Rattle.nv_driver.specs.Request.{request_for}
-use Rattle.nv_driver.specs.Sending.{GoesOver, SendsAll}
-use Rattle.nv_driver.specs.declared.command_pages.CommandPages.{CommandPages}
+use Rattle.nv_driver.proofs.Words.{[], ℕ, ◌∙◌, ◌∷◌, CommandPages, Geometry, GoesOver, HasEntryPages, IsReceived, List}
+use Rattle.nv_driver.proofs.Words.{Pages, QueuePairFields, SendsAll, after_some, all_pages, ap, arith, asked_in}
+use Rattle.nv_driver.proofs.Words.{entry_step, get_or, length, limit_of, place_in, refl, request_for, rules, run_of}
+use Rattle.nv_driver.proofs.Words.{subst, sym, told_by}
 use Rattle.nv_driver.proofs.AdminLaws.{HasPair, after_first, cid_is, driver_after, goes_over, left_at, linked_after}
 use Rattle.nv_driver.proofs.AdminLaws.{ready_by, shape_at, value_after}
 use Rattle.nv_driver.proofs.ExchangeLaws.{CanPass, few_pages, its_buffer, left_with, of_entry, own_ready, pages_back}

@@ -1,6 +1,4 @@
-use Rattle.nv_driver.proofs.Words.{limit_of, run_of}
-use Rattle.nv_driver.specs.UnderWay.{run_on}
-use Rattle.nv_driver.specs.UnderWay.{requests_in}
+use Rattle.nv_driver.proofs.Words.{limit_of, requests_in, run_of, run_on}
 use Rattle.nv_driver.proofs.driver.Driver.passthrough.Given as goal
 
 abbrev pub ghost-exchange_all : goal.ghost-exchange_all

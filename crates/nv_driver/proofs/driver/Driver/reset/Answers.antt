@@ -1,5 +1,4 @@
-use Rattle.std.proofs.Common.{refl, subst, sym}
-use Rattle.nv_driver.proofs.Words.{HasEntryPages, renewed_pair}
+use Rattle.nv_driver.proofs.Words.{HasEntryPages, refl, renewed_pair, subst, sym}
 use Rattle.nv_driver.proofs.AdminLaws.{HasPair, driver_after, ends_inside, linked_after, placed_at, ready_at}
 use Rattle.nv_driver.proofs.AdminLaws.{value_after}
 use Rattle.nv_driver.proofs.PassthroughLaws.{room_stays}

@@ -1,7 +1,5 @@
+use Rattle.nv_driver.proofs.Words.{◌≡◌, Cqe, IsSlotBetween, refl, subst, sym}
 use Rattle.std.specs.Prelude.{IfSome, OnSome, Option, Some}
-use Rattle.std.proofs.Common.{◌≡◌, refl, subst, sym}
-use Rattle.nv_layout.specs.declared.cqe.Cqe.{Cqe}
-use Rattle.nv_queue.specs.Numbers.{IsSlotBetween}
 use Rattle.nv_driver.proofs.SubmittingLaws.{pairs_same}
 use Rattle.nv_driver.proofs.queue_pair.QueuePair.next_completion.Goals as goal
 

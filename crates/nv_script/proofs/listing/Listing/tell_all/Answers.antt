@@ -1,11 +1,8 @@
-use Rattle.std.proofs.Common.{◌≡◌, ◌∙◌, ◌+◌, ◌<◌, ap, arith, drop, get_or, length, map, sym, true}
-use Rattle.std.specs.Prelude.{IsOk, is_ok}
+use Rattle.nv_script.proofs.Words.{◌+◌, ◌<◌, ◌∙◌, ◌≡◌, Answer, IsOk, Send, ap, arith, drop, get_or, length, listing_of}
+use Rattle.nv_script.proofs.Words.{listing_told, map, order_of, sym, true}
+use Rattle.std.specs.Prelude.{is_ok}
 use Rattle.std.proofs.lemmas.List.Elements.{at_read}
 use borrow.Author.Count.{below_more}
-use Rattle.nv_driver.specs.Answer.{Answer}
-use Rattle.nv_script.specs.Outcomes.{Send}
-use Rattle.nv_script.specs.Outcomes.{order_of}
-use Rattle.nv_script.specs.Shown.{listing_of, listing_told}
 use Rattle.nv_script.proofs.ListLaws.{told_more}
 use Rattle.nv_script.proofs.listing.Listing.tell_all.Goals as goal
 

@@ -1,8 +1,4 @@
-use Rattle.std.proofs.Common.{◌≡◌, ◌<◌, ℕ, drop, get_or, map}
-use Rattle.std.specs.Prelude.{IsOk}
-use Rattle.nv_driver.specs.Answer.{Answer}
-use Rattle.nv_script.specs.Outcomes.{order_of}
-use Rattle.nv_script.specs.Shown.{listing_of}
+use Rattle.nv_script.proofs.Words.{ℕ, ◌<◌, ◌≡◌, Answer, IsOk, drop, get_or, listing_of, map, order_of}
 use Rattle.nv_script.proofs.listing.Listing.tell_all.Given as goal
 
 -- adding the rest to the listing so far gives the same as adding everything to the first one; the answers before were

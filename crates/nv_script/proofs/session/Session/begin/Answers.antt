@@ -1,9 +1,7 @@
-use Rattle.std.proofs.Common.{refl}
-use Rattle.std.proofs.lemmas.Result.{err_from_is_err_and}
+use Rattle.nv_script.proofs.Words.{err_from_is_err_and, fault_of, refl}
 use Rattle.nv_script.proofs.LinkLaws.{first_session}
-use Rattle.nv_driver.specs.Geometry.{fault_of}
-use Rattle.nv_driver.proofs.LinkedLaws as W
 use Rattle.nv_script.proofs.RunLaws.{without}
+use Rattle.nv_driver.proofs.LinkedLaws as W
 use Rattle.nv_script.proofs.session.Session.begin.Goals as goal
 
 pub returns-in_err-driver-clause-fault : goal.returns-in_err-driver-clause-fault
