@@ -317,7 +317,7 @@ class Run:
         self.archive = archive_of([
             ('init', content(f'{PARTS}/vm_guest.static')), ('setup', content(f'{PARTS}/vm_guest.sh')),
             ('settings', os.fsencode('\n'.join(settings))), *self.begin(command),
-            *((f'module{number}', content(file)) for number, file in enumerate(files))])
+            *(('drives' if '/nvme.ko' in file else f'module{at}', content(file)) for at, file in enumerate(files))])
         self.is_by_kvm = not values['--no-kvm'] and os.access(KVM, os.W_OK)
         self.watch_signals()
 

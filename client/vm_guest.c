@@ -137,15 +137,24 @@ static void attach(const char *what, const char *where, const char *kind, unsign
         refuse(where);
 }
 
-/* Loads the modules that the host has put there, in order. */
+static void load(const char *path) {
+    int file = open(path, O_RDONLY | O_CLOEXEC);
+    if (syscall(SYS_finit_module, file, "", 0) < 0 && errno != EEXIST && errno != ENODEV)
+        refuse("its modules aren't those of its kernel");
+    close(file);
+    unlink(path);
+}
+
+/* Loads the modules that the host has put there, in order. (That for drives gets none: vm_guest.sh gives it each.) */
 static void load_modules(void) {
     char path[32];
-    for (int number = 0; snprintf(path, sizeof path, "/module%d", number), access(path, F_OK) == 0; number++) {
-        int file = open(path, O_RDONLY | O_CLOEXEC);
-        if (syscall(SYS_finit_module, file, "", 0) < 0 && errno != EEXIST && errno != ENODEV)
-            refuse("its modules aren't those of its kernel");
+    for (int number = 0; snprintf(path, sizeof path, "/module%d", number), access(path, F_OK) == 0; number++)
+        load(path);
+    if (access("/drives", F_OK) == 0) {
+        int file = open("/sys/bus/pci/drivers_autoprobe", O_WRONLY | O_CLOEXEC);
+        dprintf(file, "0");
         close(file);
-        unlink(path);
+        load("/drives");
     }
 }
 

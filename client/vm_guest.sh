@@ -40,6 +40,21 @@ own=/lib/modules/$release
     mv -f /run/shadow /run/sudoers /etc
 } 2> /dev/null
 
+# (drives one after another, because otherwise the kernel would number them as it happens to find them)
+count=0
+for class in /sys/bus/pci/devices/*/class; do
+    device=${class%/class} state=
+    device=${device##*/}
+    grep -q 0x010802 "$class" && echo "$device" > /sys/bus/pci/drivers/nvme/bind || continue
+    for tenth in $(seq 300); do
+        { read -r state < "/sys/class/nvme/nvme$count/state"; } 2> /dev/null
+        [ "$state" != live ] || break
+        sleep 0.1
+    done
+    count=$((count + 1))
+done 2> /dev/null
+echo 1 > /sys/bus/pci/drivers_autoprobe
+
 # (the rules of other devices, and their thousands of names, would take most of the time of a start)
 for daemon in /usr/lib/systemd/systemd-udevd /lib/systemd/systemd-udevd; do
     [ -x "$daemon" ] || continue

@@ -41,6 +41,12 @@ cntlid = 0
 sn = "S0"
 mn = "Demo Controller"
 fr = "1.0"
+
+[[controller]]
+cntlid = 1
+sn = "S1"
+mn = "Demo Controller"
+fr = "1.0"
 elpe = 3
 
 [[namespace]]
@@ -178,6 +184,7 @@ class Ends(Machine):
         # (a Python in the C locale gives itself a variable, and takes others)
         variables = [f'PATH={self.env["PATH"]}', 'MACHINE=tells_files', 'PYTHONPATH=/none', 'x=a\nb', f'{MARK}=1']
         words = self.command('--modules', modules, '--net', '--share', modules, '--', b'a  b', '', b'\xff', '--net')
+        os.umask(mask := os.umask(0))
         ended = run('env', '-i', *variables, *words, cwd=modules, err='&1')
         told = dict(part.split(b' ', 1) for part in ended.out.split(b'\0')[:-1])
         told[b'variables'] = {*told[b'variables'].split(b'|')}
@@ -185,8 +192,8 @@ class Ends(Machine):
             b'settings': f'modules {modules}\nnetwork\nshare0 {modules}'.encode(), b'words': b'a  b||\xff|--net|',
             b'variables': {b'', *map(str.encode, variables)}, b'place': f'{socket.gethostname()}|{modules}'.encode(),
             # (streams that are no terminal, of which the last is the second one, no terminal, and the umask)
-            b'begin': b'2 2 4 0 0 18',
-            **{f'module{place}'.encode(): name.encode() for place, name in enumerate(order)}})
+            b'begin': f'2 2 4 0 0 {mask}'.encode(), b'drives': b'nvme.ko',
+            **{f'module{place}'.encode(): name.encode() for place, name in enumerate(order[:-1])}})
 
     def test_newest_kernel(self):
         boot, modules = self.folder / 'boot', self.folder / 'modules'
@@ -467,8 +474,9 @@ class Boot(Case):
             self.assertEqual(self.hears(f'{name}\n'.encode()), '')
 
     def finds(self):
+        # (controllers have the order of the file)
         mounted = (TOP / 'examples/mounted.txt').read_text()
-        self.assertEqual(self.hears(b'files\n'), f'udev\n{mounted}1\n1\n1\n1\n1\n/sys/class/net/lo\n')
+        self.assertEqual(self.hears(b'files\n'), f'udev\n0\n1\n{mounted}1\n1\n1\n1\n1\n/sys/class/net/lo\n')
 
     def unread(self):
         self.assertEqual(self.hears(b'unread\n'), '')

@@ -31,6 +31,7 @@ echo signals
 until [ "$over" ]; do sleep 0.1; done
 
 test -e /dev/disk/by-id/nvme-Demo_Controller_S0 && echo udev
+cat /sys/class/nvme/nvme0/cntlid /sys/class/nvme/nvme1/cntlid
 sh examples/mounted.sh
 : < /dev/loop-control && grep -c '^loop ' /proc/modules
 for folder in proc sys dev run; do mount | grep -c " on /$folder "; done
