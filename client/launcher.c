@@ -210,7 +210,7 @@ static char **take_words(int *count) {
         words[(*count)++] = word;
         words[*count] = NULL;
     }
-    if (!words || fclose(from) != 0)
+    if (!words || !feof(from) || fclose(from) != 0)
         fail_by_errno("the words of the command");
     return words;
 }

@@ -100,7 +100,7 @@ static struct mount *read_mounts(void) {
             memmove(at + 1, at + 4, strlen(at + 4) + 1);
         }
     }
-    if (!mounts || fclose(file) != 0)
+    if (!mounts || !feof(file) || fclose(file) != 0)
         fail_by_errno("/proc/self/mountinfo");
     return mounts;
 }
