@@ -86,7 +86,8 @@ returned_by b d c e bytes {told} {out} rest {n} below answer received full =
 
 -- a driver does what a request of this kind says if its controller exists
 pub does_kind : {B : Type 0} (k : Calls B) (d : DriverValue) (h : Header) (bytes : List ℕ) (old : B)
-    (d' : DriverValue) (new : B) {kind : Kind} → h.controller < length d.pairs → h.kind ≡ kind → DoesKind k kind d h bytes old d' new
+    (d' : DriverValue) (new : B) {kind : Kind} → h.controller < length d.pairs → h.kind ≡ kind
+    → DoesKind k kind d h bytes old d' new
     → Does k d h bytes old d' new
 does_kind k d h bytes old d' new {kind} below is done =
     let there : kind_done d h ≡ h.kind = grind arith in

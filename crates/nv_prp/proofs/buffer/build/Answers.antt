@@ -104,4 +104,5 @@ returns-in_default-clause-others g c =
     let wrote = c.write_list.ensures in
     pages_kept _ _ c.write_list.result list.first list.second _ _ _
     (lies_at _ _ list.first list.second list.offset _ _ c.page_address.ensures.size c.requires.list
-    (c.requires.distinct 0 1 0 (omega arith) (omega arith)) wrote.value refl) (omega (arith, c.data_pages.ensures)) wrote.others
+    (c.requires.distinct 0 1 0 (omega arith) (omega arith)) wrote.value refl)
+    (omega (arith, c.data_pages.ensures)) wrote.others

@@ -20,8 +20,10 @@ loop-done-preserved g c =
     let place : part.page * g.M.PagedMemory.page_len now.mem + part.start ≡ c.args.addr + now.done =
     c.first_part-part.ensures.place ∙ now.invariant.at in
     let written = c.fill.ensures.value
-    ∙ (λ j. with_bytes (g.M.PagedMemory.bytes now.mem) (place j) (take part.len (sym (drop-drop now.done c.args.from source) j))) in
-    let most : length (take part.len (drop now.done xs)) ≤ part.len = omega (arith, length-take part.len (drop now.done xs)) in
+    ∙ (λ j. with_bytes (g.M.PagedMemory.bytes now.mem) (place j)
+    (take part.len (sym (drop-drop now.done c.args.from source) j))) in
+    let most : length (take part.len (drop now.done xs)) ≤ part.len =
+    omega (arith, length-take part.len (drop now.done xs)) in
     record {
       at = omega arith;
       within = omega arith;

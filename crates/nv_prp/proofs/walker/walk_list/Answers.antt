@@ -16,7 +16,8 @@ loop-page-init g c =
 pub returns-in_err-address : goal.returns-in_err-address
 returns-in_err-address g c =
     let p = err_from_is_err_and c.from_residual-in_err-address.result c.from_residual-in_err-address.ensures.1 in
-    let t = transfer_of (g.M.PagedMemory.page_len c.args.mem.now) (g.M.PagedMemory.bytes c.args.mem.now) c.args.pointer in
+    let t = transfer_of (g.M.PagedMemory.page_len c.args.mem.now) (g.M.PagedMemory.bytes c.args.mem.now)
+    c.args.pointer in
     rw (p.1, p.2)
     (fault_found t _ c.loop-page.page (used_of t (c.loop-page.page + 1)) c.loop-page.invariant.list
     (omega (arith, c.requires.pages)) (omega arith)
@@ -24,7 +25,8 @@ returns-in_err-address g c =
 
 pub loop-page-preserved : goal.loop-page-preserved
 loop-page-preserved g c =
-    let t = transfer_of (g.M.PagedMemory.page_len c.args.mem.now) (g.M.PagedMemory.bytes c.args.mem.now) c.args.pointer in
+    let t = transfer_of (g.M.PagedMemory.page_len c.args.mem.now) (g.M.PagedMemory.bytes c.args.mem.now)
+    c.args.pointer in
     let now = c.loop-page.invariant in
     let turn = c.in_ok-at.ensures.turn in
     let spans : c.push.new.self ≡ table (c.loop-page.page + 1) (span_of t) =
