@@ -145,7 +145,8 @@ static void load(const char *path) {
     unlink(path);
 }
 
-/* Loads the modules that the host has put there, in order. (That for drives gets none: vm_guest.sh gives it each.) */
+/* Loads the modules that the host has put there, in order. The driver of drives is bound to none yet: vm_guest.sh binds
+   it to one after another. */
 static void load_modules(void) {
     char path[32];
     for (int number = 0; snprintf(path, sizeof path, "/module%d", number), access(path, F_OK) == 0; number++)
