@@ -101,7 +101,10 @@ class Installed(Case, transcripts='installed'):
         ended = run('sh', '-euc', commands, cwd=place, env={'HOME': self.folder})
         self.assertEqual(ended.status, 0, ended)
         self.assertIn(b'controllers: 2\nstatus: 00000001\ntaken: 1\ncommand identifier: 5\nphase tag: 1\n'
-                      b'status field: 0000\nserial number: S0\n', ended.out)
+                      b'status field: 0000\nserial number: S0\ntail 4: 0\ntail 3: 1\nentries: 3\n'
+                      b'I/O status: 00000000\nI/O status: 00000000\nI/O status: 00004080\nI/O status: ffffffff\n'
+                      b'block 3: S0\ndata: S0\nqueue: 7, command identifier: 3\ncompletions: 3\nhead 3: 1\n'
+                      b'head 1: 0\ncompletions: 0\n', ended.out)
 
     def test_manual_pages_have_no_warnings(self):
         pages = [*self.prefix.glob('share/man/man1/*'), TOP / 'docs/nvme_controller.3']
