@@ -19,18 +19,18 @@ folder of this file, in ../lib or ../../lib from there, where the system finds i
 from __future__ import annotations
 
 import ctypes
+import functools
 import operator
 import os
 import pathlib
 import struct
 import subprocess
-from typing import Callable, List, NamedTuple, NoReturn, Optional, Tuple
+from typing import List, NamedTuple, NoReturn, Optional, Tuple
 
 CAP, VS, CC, CSTS, AQA, ASQ, ACQ = 0x00, 0x08, 0x14, 0x1c, 0x24, 0x28, 0x30
 TAIL_DOORBELL, HEAD_DOORBELL = 0x1000, 0x1004
 
 _NAME = 'libnvme_controller.so.1'
-_ERROR = struct.Struct('<QHHHHQIB3xQ24x')
 
 
 class Fault(Exception):
@@ -60,7 +60,7 @@ class ErrorEntry(NamedTuple):
     @classmethod
     def of(cls, data: bytes) -> ErrorEntry:
         """Returns the entry with these 64 bytes."""
-        count, sqid, cid, word, *others = _ERROR.unpack(data)
+        count, sqid, cid, word, *others = struct.unpack('<QHHHHQIB3xQ24x', data)
         return cls(count, sqid, cid, word >> 1, *others)
 
 
@@ -146,28 +146,27 @@ def _by_pkg_config() -> Optional[str]:
 
 def _load() -> ctypes.CDLL:
     """Loads the library."""
-    named = os.environ.get('NVME_CONTROLLER')
-    if named:
-        return ctypes.CDLL(named)
     folder = pathlib.Path(__file__).resolve().parent
-    for place in folder, folder.parent / 'lib', folder.parent.parent / 'lib':
-        if (place / _NAME).exists():
-            return ctypes.CDLL(str(place / _NAME))
+    places = [place / _NAME for place in (folder, folder.parent / 'lib', folder.parent.parent / 'lib')]
+    found = os.environ.get('NVME_CONTROLLER') or next((str(place) for place in places if place.exists()), None)
     try:
-        return ctypes.CDLL(_NAME)
+        return ctypes.CDLL(found or _NAME)
     except OSError as error:
+        if found:
+            raise
         found = _by_pkg_config()
         if found is None:
             raise OSError(f'{error}; the variable NVME_CONTROLLER can name the file') from None
         return ctypes.CDLL(found)
 
 
-def _library() -> ctypes.CDLL:
-    """Loads the library, and declares its calls."""
+@functools.lru_cache(maxsize=None)
+def _calls() -> ctypes.CDLL:
+    """Returns the library with its calls declared. It is loaded at the first call."""
     library = _load()
     machine, u16, u32, u64, size = (ctypes.c_void_p, ctypes.c_uint16, ctypes.c_uint32, ctypes.c_uint64, ctypes.c_size_t)
     lent, queues = (ctypes.c_void_p, size, u32), (ctypes.POINTER(SubmissionQueue), ctypes.POINTER(CompletionQueue))
-    for name, result, *arguments in [
+    for names, result, *arguments in [
             ('controller_version', ctypes.c_char_p),
             ('status_text', size, u16, ctypes.c_char_p, size),
             ('machine_open', ctypes.c_int, ctypes.c_char_p, size, ctypes.POINTER(machine), ctypes.c_char_p, size),
@@ -178,15 +177,13 @@ def _library() -> ctypes.CDLL:
             ('machine_write32', None, machine, u16, u32, u32),
             ('machine_read64', u64, machine, u16, u32),
             ('machine_write64', None, machine, u16, u32, u64),
-            ('machine_turn', u16, machine, u16, ctypes.c_void_p, size, u32, u16),
+            ('machine_turn', u16, machine, u16, *lent, u16),
             ('machine_counts', None, machine, u16, *[ctypes.POINTER(u64)] * 2),
             ('machine_log_entry', ctypes.c_int, machine, u16, size, ctypes.c_char_p),
             ('machine_identify', ctypes.c_int, machine, u16, ctypes.c_char_p),
             ('machine_namespace', ctypes.c_int, machine, u16, u32, ctypes.c_int, ctypes.c_char_p),
-            ('machine_next', ctypes.c_int, machine, u16, *lent, ctypes.c_char_p),
-            ('machine_fetch', ctypes.c_int, machine, u16, *lent, ctypes.c_char_p),
-            ('machine_complete', ctypes.c_int, machine, u16, *lent, Answer),
-            ('machine_post', ctypes.c_int, machine, u16, *lent, Answer),
+            ('machine_next machine_fetch', ctypes.c_int, machine, u16, *lent, ctypes.c_char_p),
+            ('machine_complete machine_post', ctypes.c_int, machine, u16, *lent, Answer),
             ('entry_write', u16, ctypes.c_char_p, *lent, ctypes.c_char_p, size),
             ('submission_queue_make', ctypes.c_int, *queues[:1], u16, u64, u32),
             ('completion_queue_make', ctypes.c_int, *queues[1:], u64, u32),
@@ -198,20 +195,10 @@ def _library() -> ctypes.CDLL:
             ('queue_complete', ctypes.c_int, *queues, *lent, Answer),
             ('queue_turn', ctypes.c_int, *queues, *lent, ctypes.POINTER(_Blocks)),
             ('blocks_zeroing', ctypes.c_int, ctypes.POINTER(_Blocks), ctypes.c_char_p, *lent, ctypes.POINTER(_Range))]:
-        call = getattr(library, f'nvme_{name}')
-        call.restype, call.argtypes = result, arguments
+        for name in names.split():
+            call = getattr(library, f'nvme_{name}')
+            call.restype, call.argtypes = result, arguments
     return library
-
-
-_loaded: Optional[ctypes.CDLL] = None
-
-
-def _calls() -> ctypes.CDLL:
-    """Returns the library, which is loaded at the first call."""
-    global _loaded
-    if _loaded is None:
-        _loaded = _library()
-    return _loaded
 
 
 def _number(what: str, value: int, bits: int) -> int:
@@ -353,70 +340,68 @@ class Machine:
         """Returns the number of controllers, which are numbered from 0."""
         return self._library.nvme_machine_controllers(self._open())
 
-    def _register(self, ctrl: int, offset: int) -> Tuple[ctypes.c_void_p, int, int]:
-        return self._open(), _number('controller', ctrl, 16), _number('offset', offset, 32)
+    def _call(self, name: str, ctrl: int, *arguments: object) -> int:
+        call = getattr(self._library, f'nvme_machine_{name}')
+        return call(self._open(), _number('controller', ctrl, 16), *arguments)
 
     def read32(self, ctrl: int, offset: int) -> int:
         """Returns the dword of a controller's registers at an offset."""
-        return self._library.nvme_machine_read32(*self._register(ctrl, offset))
+        return self._call('read32', ctrl, _number('offset', offset, 32))
 
     def write32(self, ctrl: int, offset: int, value: int) -> None:
         """Writes the dword of a controller's registers at an offset."""
-        self._library.nvme_machine_write32(*self._register(ctrl, offset), _number('value', value, 32))
+        self._call('write32', ctrl, _number('offset', offset, 32), _number('value', value, 32))
 
     def read64(self, ctrl: int, offset: int) -> int:
         """Returns the dword at an offset as bits 31:0, and the one after it as bits 63:32."""
-        return self._library.nvme_machine_read64(*self._register(ctrl, offset))
+        return self._call('read64', ctrl, _number('offset', offset, 32))
 
     def write64(self, ctrl: int, offset: int, value: int) -> None:
         """Writes bits 31:0 to the dword at an offset, and then bits 63:32 to the one after it."""
-        self._library.nvme_machine_write64(*self._register(ctrl, offset), _number('value', value, 64))
+        self._call('write64', ctrl, _number('offset', offset, 32), _number('value', value, 64))
 
     def turn(self, ctrl: int, memory: bytearray, page_size: int = 4096, most: int = 0xffff) -> int:
         """Lets a controller take entries, over a bytearray or another writable buffer of whole pages, and returns how
         many it took."""
-        ctrl, most, lent = _number('controller', ctrl, 16), _number('most', most, 16), _lent(memory, page_size)
-        return self._library.nvme_machine_turn(self._open(), ctrl, *lent, most)
+        return self._call('turn', ctrl, *_lent(memory, page_size), _number('most', most, 16))
 
-    def _asked(self, call: Callable[..., int], ctrl: int, size: int, *arguments: object) -> Optional[bytes]:
+    def _asked(self, name: str, ctrl: int, size: int, *arguments: object) -> Optional[bytes]:
         data = ctypes.create_string_buffer(size)
-        return data.raw if call(self._open(), _number('controller', ctrl, 16), *arguments, data) else None
+        return data.raw if self._call(name, ctrl, *arguments, data) else None
 
     def next(self, ctrl: int, memory: bytearray, page_size: int = 4096) -> Optional[bytes]:
         """Returns the entry that a turn of the controller would take next, or None."""
-        return self._asked(self._library.nvme_machine_next, ctrl, 64, *_lent(memory, page_size))
+        return self._asked('next', ctrl, 64, *_lent(memory, page_size))
 
     def fetch(self, ctrl: int, memory: bytearray, page_size: int = 4096) -> Optional[bytes]:
         """Takes that entry without a completion, which is owed to it, and returns it."""
-        return self._asked(self._library.nvme_machine_fetch, ctrl, 64, *_lent(memory, page_size))
+        return self._asked('fetch', ctrl, 64, *_lent(memory, page_size))
 
     def complete(self, ctrl: int, memory: bytearray, answer: Answer, page_size: int = 4096) -> bool:
         """Takes that entry in place of the controller, and posts its completion. Returns whether there was one."""
-        lent, ctrl = _lent(memory, page_size), _number('controller', ctrl, 16)
-        return bool(self._library.nvme_machine_complete(self._open(), ctrl, *lent, answer))
+        return bool(self._call('complete', ctrl, *_lent(memory, page_size), answer))
 
     def post(self, ctrl: int, memory: bytearray, answer: Answer, page_size: int = 4096) -> bool:
         """Posts the completion of an entry that was taken without one. Returns whether it had a free slot."""
-        lent, ctrl = _lent(memory, page_size), _number('controller', ctrl, 16)
-        return bool(self._library.nvme_machine_post(self._open(), ctrl, *lent, answer))
+        return bool(self._call('post', ctrl, *_lent(memory, page_size), answer))
 
     def identify(self, ctrl: int) -> Optional[bytes]:
         """Returns what Identify returns for a controller, or None if there is no such controller."""
-        return self._asked(self._library.nvme_machine_identify, ctrl, 4096)
+        return self._asked('identify', ctrl, 4096)
 
     def namespace(self, ctrl: int, nsid: int, is_active: bool = False) -> Optional[bytes]:
         """Returns what Identify returns for a namespace, or for one that is attached to the controller."""
-        return self._asked(self._library.nvme_machine_namespace, ctrl, 4096, _number('NSID', nsid, 32), is_active)
+        return self._asked('namespace', ctrl, 4096, _number('NSID', nsid, 32), is_active)
 
     def counts(self, ctrl: int) -> Tuple[int, int]:
         """Returns how many commands a controller refused, and how many it took."""
         refusals, commands = ctypes.c_uint64(), ctypes.c_uint64()
-        self._library.nvme_machine_counts(self._open(), _number('controller', ctrl, 16), refusals, commands)
+        self._call('counts', ctrl, refusals, commands)
         return refusals.value, commands.value
 
     def log_entry(self, ctrl: int, index: int) -> Optional[bytes]:
         """Returns the 64 bytes of an entry of a controller's error log, counted from the newest, or None."""
-        return self._asked(self._library.nvme_machine_log_entry, ctrl, 64, _number('index', index, 64))
+        return self._asked('log_entry', ctrl, 64, _number('index', index, 64))
 
     def error_log(self, ctrl: int) -> List[ErrorEntry]:
         """Returns the entries of a controller's error log, the newest first."""
