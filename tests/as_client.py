@@ -2,12 +2,14 @@
 sends, or anything else, and keeps a second machine of the library beside the server's, whose registers and memory must
 agree with the server's in each byte."""
 
+import contextlib
 import functools
-import importlib.util
+import importlib
 import mmap
 import os
 import socket
 import struct
+import sys
 
 from tests.driver import (
     ACQ, AQA, ASQ, CC, COMMAND, CSTS, HEAD, IDENTIFY, MASTER, PAGE, TAIL, Driver, counter, memory_file)
@@ -28,8 +30,7 @@ QEMU_CAPABILITIES = (b'{"capabilities": {"pgsizes": 4096, "max_msg_fds": 16, "ma
 
 
 def message(command, payload=b'', number=1, flags=REQUEST, size=None):
-    size = 16 + len(payload) if size is None else size
-    return struct.pack('<HHIII', number, command, size, flags, 0) + payload
+    return struct.pack('<HHIII', number, command, 16 + len(payload) if size is None else size, flags, 0) + payload
 
 
 def mapping(address=0, size=PAGE, offset=0, flags=READ | WRITE):
@@ -40,10 +41,6 @@ def mapping(address=0, size=PAGE, offset=0, flags=READ | WRITE):
 def access(region, offset, count):
     """Returns what the payload of an access to a region begins with."""
     return struct.pack('<QII', offset, region, count)
-
-
-class Refused(Exception):
-    """The server refused a request with this number of an error."""
 
 
 class Client:
@@ -66,10 +63,8 @@ class Client:
     def receive(self, length):
         data = b''
         while len(data) < length:
-            piece = self.socket.recv(length - len(data), socket.MSG_WAITALL)
-            if not piece:
-                raise EOFError('the server closed the connection')
-            data += piece
+            data += (piece := self.socket.recv(length - len(data)))
+            assert piece, 'the server closed the connection'
         return data
 
     def heard(self):
@@ -77,27 +72,26 @@ class Client:
         number, command, size, flags, error = struct.unpack('<HHIII', self.receive(16))
         return number, command, flags, error, self.receive(size - 16)
 
-    def ask(self, command, payload=b'', files=()):
-        """Sends a request, and returns the payload of its answer."""
+    def asked(self, command, payload=b'', files=()):
+        """Sends a request, and returns the error in its answer, or 0, and the payload."""
         self.say(command, payload, files)
         number, answered, flags, error, reply = self.heard()
         assert (number, answered) == (self.number, command), (number, answered)
-        if flags == ANSWER | ERROR:
-            assert error and not reply, (error, reply)
-            raise Refused(error)
-        assert (flags, error) == (ANSWER, 0), (flags, error)
+        assert flags == (ANSWER | ERROR if error else ANSWER) and not (error and reply), (flags, error, reply)
+        return error, reply
+
+    def ask(self, *request):
+        """Sends a request, and returns the payload of its answer."""
+        error, reply = self.asked(*request)
+        assert error == 0, error
         return reply
 
     def refusal(self, *request, **more):
         """Returns with which error a request is refused, or 0."""
-        try:
-            self.ask(*request, **more)
-        except Refused as refused:
-            return refused.args[0]
-        return 0
+        return self.asked(*request, **more)[0]
 
-    def greet(self, capabilities=QEMU_CAPABILITIES):
-        return self.ask(VERSION, struct.pack('<HH', 0, 0) + capabilities)
+    def greet(self):
+        return self.ask(VERSION, bytes(4) + QEMU_CAPABILITIES)
 
     def map(self, address, size, file=None, offset=0, flags=READ | WRITE):
         return self.refusal(DMA_MAP, mapping(address, size, offset, flags), files=[] if file is None else [file])
@@ -135,14 +129,10 @@ class Client:
         self.write(BAR, offset, value.to_bytes(size, 'little'), posted=True)
 
     def is_closed(self):
-        """Returns whether the server closes the connection, after answers that nobody reads."""
-        try:
+        """Waits until the server closes the connection, after answers that nobody reads."""
+        with contextlib.suppress(ConnectionError):
             while self.socket.recv(65536):
                 pass
-        except ConnectionError:
-            pass
-        except socket.timeout:
-            return False
         return True
 
 
@@ -163,15 +153,8 @@ def write_register(machine, ctrl, offset, value):
 @functools.lru_cache(maxsize=None)
 def module_of(place):
     """Returns the Python module of the library in this folder."""
-    found = importlib.util.spec_from_file_location('nvme_controller', place / 'nvme_controller.py')
-    module = importlib.util.module_from_spec(found)
-    found.loader.exec_module(module)
-    return module
-
-
-def flat_memory():
-    """Returns memory as the library needs it, with all that a controller reaches."""
-    return mmap.mmap(-1, REACHED, flags=mmap.MAP_PRIVATE | mmap.MAP_ANONYMOUS | 0x4000)  # (MAP_NORESERVE)
+    sys.path.insert(0, str(place))
+    return importlib.import_module('nvme_controller')
 
 
 class Piece:
@@ -193,7 +176,7 @@ class Guest(Driver, Client):
         self.machine, self.ctrl, self.pieces, self.holes = machine, ctrl, [], holes
         self.identities = []  # where Identify Controller was asked for
         if machine:
-            self.flat = flat_memory()
+            self.flat = mmap.mmap(-1, REACHED, flags=mmap.MAP_PRIVATE | mmap.MAP_ANONYMOUS | 0x4000)  # (MAP_NORESERVE)
         self.greet()
         for address, length in layout:
             self.add(Piece(address, length))

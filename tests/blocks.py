@@ -17,36 +17,29 @@ INVALID_OPCODE, INVALID_FIELD, INVALID_NAMESPACE, SEQUENCE_ERROR, OUT_OF_RANGE, 
 
 
 class Drive(Guest):
-    """A guest that has I/O queues."""
+    """A guest that has I/O queues, and the size of the blocks that it stores and loads."""
+
+    block = 512
 
     def dword0_of(self, *command, **more):
         """Returns dword 0 of a command's completion, which must be a success."""
         self.put(*command, **more)
         found = self.completion()
-        status = self.take()
-        assert status == 0, hex(status)
+        assert self.take() == 0, found
         return found.dword0
 
     def create_completions(self, number, ring, depth=16, flags=3, vector=0):
-        status = self.status_of(CREATE_COMPLETIONS, ring, dword10=number | depth - 1 << 16,
-                                dword11=flags | vector << 16)
+        status = self.status_of(CREATE_COMPLETIONS, ring, 0, 0, number | depth - 1 << 16, flags | vector << 16)
         if status == 0:
             self.completions[number] = Queue(ring, depth)
         return status
 
     def create_submissions(self, number, ring, depth=16, completions=None, flags=1):
         completions = number if completions is None else completions
-        status = self.status_of(CREATE_SUBMISSIONS, ring, dword10=number | depth - 1 << 16,
-                                dword11=flags | completions << 16)
+        status = self.status_of(CREATE_SUBMISSIONS, ring, 0, 0, number | depth - 1 << 16, flags | completions << 16)
         if status == 0:
             self.submissions[number] = Queue(ring, depth, completions)
         return status
-
-    def create_pair(self, number, rings, depths=(16, 16)):
-        """Creates a completion queue and a submission queue with one identifier."""
-        self.at(rings[1], 16 * depths[1])[:] = bytes(16 * depths[1])
-        assert self.create_completions(number, rings[1], depths[1]) == 0
-        assert self.create_submissions(number, rings[0], depths[0]) == 0
 
     def put_io(self, number, entry, rings=True):
         """Writes an entry, and rings the tail doorbell."""
@@ -73,28 +66,51 @@ class Drive(Guest):
         assert found[2:5] == (queue.next, number, 77), (found, number, queue.next)
         return found.status
 
-    def pages(self, place, count, at):
-        """Returns both PRP entries for this many bytes from a place on, with a list at another place."""
-        first = PAGE - place % PAGE
-        rest = [page for page in range(place + first, place + count, PAGE)]
+    def pages(self, place, count):
+        """Returns both PRP entries for this many bytes from a place on, perhaps with a list in page 14."""
+        rest = range(place + PAGE - place % PAGE, place + count, PAGE)
         if len(rest) < 2:
             return place, rest[0] if rest else 0
-        self.at(at, 8 * len(rest))[:] = struct.pack(f'<{len(rest)}Q', *rest)
-        return place, at
+        self.at(14 * PAGE, 8 * len(rest))[:] = struct.pack(f'<{len(rest)}Q', *rest)
+        return place, 14 * PAGE
 
-    def store(self, nsid, first, data, place=32 * PAGE, number=1, block=512, opcode=WRITE):
-        """Writes blocks, or compares them, from a place in memory."""
+    def store(self, nsid, first, data, place=32 * PAGE, number=1, opcode=WRITE):
+        """Writes blocks, or compares them, from a place in memory, and returns the status."""
         self.at(place, len(data))[:] = data
-        prps = self.pages(place, len(data), 14 * PAGE)
-        return self.io(opcode, nsid, first, len(data) // block, *prps, number=number)
+        return self.io(opcode, nsid, first, len(data) // self.block, *self.pages(place, len(data)), number)
 
-    def load(self, nsid, first, count, place=32 * PAGE, number=1, block=512):
+    def load(self, nsid, first, count, place=32 * PAGE, number=1):
         """Returns blocks that were read."""
-        size = count * block
+        size = count * self.block
         self.at(place, size)[:] = b'\x5a' * size
-        status = self.io(READ, nsid, first, count, *self.pages(place, size, 14 * PAGE), number=number)
+        status = self.io(READ, nsid, first, count, *self.pages(place, size), number)
         assert status == 0, hex(status)
         return bytes(self.at(place, size))
+
+    def read_status(self, nsid, first=0):
+        """Returns the status of a command that reads a block."""
+        return self.io(READ, nsid, first, 1, 40 * PAGE)
+
+    def create(self, blocks, flbas=0):
+        """Creates a namespace, attaches it to this controller, and returns its NSID."""
+        self.at(2 * PAGE, PAGE)[:] = struct.pack('<QQ10xBxxBB', blocks, blocks, flbas, 0, 1).ljust(PAGE, b'\0')
+        nsid = self.dword0_of(MANAGE, 2 * PAGE)
+        assert self.attach(nsid, [self.ctrl]) == 0
+        return nsid
+
+    def delete(self, nsid):
+        return self.status_of(MANAGE, nsid=nsid, dword10=1)
+
+    def format(self, nsid, how=0):
+        return self.status_of(FORMAT, nsid=nsid, dword10=how)
+
+    def attach(self, nsid, ctrls, detach=0):
+        self.at(2 * PAGE, PAGE)[:] = controller_list(ctrls)
+        return self.status_of(ATTACH, 2 * PAGE, nsid=nsid, dword10=detach)
+
+
+def controller_list(ctrls):
+    return struct.pack(f'<{len(ctrls) + 1}H', len(ctrls), *ctrls).ljust(PAGE, b'\0')
 
 
 def block_entry(opcode, nsid, first=0, count=1, prp1=0, prp2=0, flags=0, identifier=77):
@@ -103,9 +119,9 @@ def block_entry(opcode, nsid, first=0, count=1, prp1=0, prp2=0, flags=0, identif
 
 
 class Blocks(Served):
-    def drive(self, ctrl=0, pairs=1, **more):
-        """Returns a guest with I/O queues whose rings begin at page 4."""
-        drive = Drive(f'{self.path}{ctrl}', ctrl=ctrl, **more)
+    def drive(self, ctrl=0, pairs=1):
+        """Returns a guest with pairs of I/O queues whose rings begin at page 4."""
+        drive = Drive(f'{self.path}{ctrl}', ctrl=ctrl)
         self.addCleanup(drive.close)
         self.begin(drive, pairs)
         return drive
@@ -114,15 +130,6 @@ class Blocks(Served):
         drive.set_config(COMMAND, MASTER, 2)
         drive.enable()
         for number in range(1, pairs + 1):
-            drive.create_pair(number, ((2 + 2 * number) * PAGE, (3 + 2 * number) * PAGE))
-
-    def create(self, drive, blocks, flbas=0):
-        """Creates a namespace, attaches it to its creator, and returns its NSID."""
-        drive.at(2 * PAGE, PAGE)[:] = struct.pack('<QQ10xBxxBB', blocks, blocks, flbas, 0, 1).ljust(PAGE, b'\0')
-        nsid = drive.dword0_of(MANAGE, 2 * PAGE)
-        self.assertEqual(self.attach(drive, nsid, [drive.ctrl]), 0)
-        return nsid
-
-    def attach(self, drive, nsid, ctrls, detach=0):
-        drive.at(2 * PAGE, PAGE)[:] = struct.pack(f'<{len(ctrls) + 1}H', len(ctrls), *ctrls).ljust(PAGE, b'\0')
-        return drive.status_of(ATTACH, 2 * PAGE, nsid=nsid, dword10=detach)
+            ring = (2 + 2 * number) * PAGE
+            drive.at(ring + PAGE, PAGE)[:] = bytes(PAGE)
+            self.gives((drive.create_completions, number, ring + PAGE, 0), (drive.create_submissions, number, ring, 0))

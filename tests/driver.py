@@ -120,8 +120,12 @@ class Driver:
         self.put(*command, **more)
         return self.take()
 
+    def identify(self, first, second=0):
+        """Sends Identify Controller, and returns its status."""
+        return self.status_of(IDENTIFY, first, second, dword10=1)
+
     def serial(self, page=None):
         """Returns the serial number in the Identify Controller data, in the page after the queues or in another one."""
         page = 2 * self.page if page is None else page
-        assert self.status_of(IDENTIFY, page, dword10=1) == 0
+        assert self.identify(page) == 0
         return bytes(self.at(page + 4, 20)).decode().strip()

@@ -58,10 +58,13 @@ class Served(Case):
     def tearDown(self):
         self.stop(self.server)
 
+    def gives(self, *rows):
+        """Checks that the call at the beginning of each row, with its arguments, returns what is last in the row."""
+        for call, *arguments, wanted in rows:
+            self.assertEqual(call(*arguments), wanted, (call, *arguments))
+
     def answers(self, call, *rows):
-        """Checks that a call with the arguments of each row returns what is last in the row."""
-        for *arguments, wanted in rows:
-            self.assertEqual(call(*arguments), wanted, arguments)
+        self.gives(*((call, *row) for row in rows))
 
     def client(self, ctrl=0):
         client = Client(f'{self.path}{ctrl}')
