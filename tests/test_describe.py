@@ -1,4 +1,4 @@
-"""Tests nvme-describe over drives that tests/fake_drive.py stands for: what it sends, drives that misbehave, what its
+"""Tests nvme-describe over drives that tests/described.py stands for: what it sends, drives that misbehave, what its
 comments say, and 4,000 drives with random answers. What it prints is always a file that nvme-script accepts."""
 
 import errno
@@ -7,17 +7,31 @@ import re
 import struct
 import unittest.mock
 
-from tests.described import unnamed_differences, unnamed_values
-from tests.fake_drive import (EVERY, GET_FEATURES, GET_LOG, IDENTIFY, PROGRAM, REFUSED, Drive, Plain, Stopped, Wild,
-                              described, error, identity, namespace, node, nodes, ns_list, with_fields)
+from tests.described import (
+    EVERY, GET_FEATURES, GET_LOG, GREATEST, IDENTIFY, PROGRAM, REFUSED, Drive, Plain, Wild, described, error, identity,
+    namespace, ns_list, unnamed_differences, unnamed_values, with_fields)
 from tests.support import TOP, Case, program, run
 
 DRIVES = 4000
-DESCRIBE = TOP / 'nvme-describe'
-ABOVE = 2 ** 63
 
 
-class DriveCase(Case):
+def changed(**fields):
+    """Returns a plain drive whose controller has these fields."""
+    return Plain({(IDENTIFY, 1): identity(**fields)})
+
+
+def shaped(*lbads, **fields):
+    """Returns a plain drive with a namespace of these formats and fields."""
+    return Plain({(IDENTIFY, 0, EVERY): namespace(blocks=0, lbads=lbads)}, {1: namespace(lbads=lbads, **fields)})
+
+
+def reporting(fid, current, capabilities=4, default=0, saved=0):
+    """Returns a plain drive with these values of a feature."""
+    values = {0: current, 1: default, 2: saved, 3: capabilities}
+    return Plain({(GET_FEATURES, fid): lambda nsid, dword10, dword11: (0, values[dword10 >> 8 & 7], b'')})
+
+
+class Describe(Case):
     def accepted(self, text):
         """Checks that nvme-script accepts a file, and returns it."""
         self.assertLessEqual(len(text), 1048576)
@@ -25,18 +39,16 @@ class DriveCase(Case):
         return text
 
     def file_of(self, plain, **more):
-        return self.accepted(described(Drive(plain), nodes(plain.count), **more))
+        return self.accepted(described(Drive(plain), **more))
 
-    def stops(self, plain, message, paths=None):
-        with self.assertRaisesRegex(Stopped, f'^nvme-describe: {message}$'):
-            described(Drive(plain), paths or nodes(plain.count))
+    def stops(self, plain, message, paths=()):
+        with self.assertRaisesRegex(SystemExit, f'^nvme-describe: {message}$'):
+            described(Drive(plain), paths)
 
-
-class Sends(DriveCase):
     def test_other_opcodes(self):
         drive = Drive(Plain())
         controller = PROGRAM.Controller.__new__(PROGRAM.Controller)
-        controller.shown, controller.file = node(), 1000
+        controller.shown, controller.file = '/dev/nvme0', 1000
         with unittest.mock.patch('fcntl.ioctl', drive.ioctl):
             for opcode in range(256):
                 if opcode not in (GET_LOG, IDENTIFY, GET_FEATURES):
@@ -47,30 +59,23 @@ class Sends(DriveCase):
         self.assertEqual(len(drive.sent), 1)
 
     def test_commands(self):
-        """The commands of a plain drive: only these opcodes, Get Log Page with RAE, and no Select where the drive has
-        none."""
+        """The commands of a plain drive: only these opcodes, Get Log Page with RAE, no Select where the drive has none,
+        and one that is refused, for the threshold that it doesn't have."""
         for oncs, selects in (b'\x10', {0, 1, 3}), (b'\0', {0}):
             drive = Drive(changed(_520=oncs))
-            self.accepted(described(drive, nodes(1)))
+            self.accepted(described(drive))
             self.assertEqual({command[1] for command in drive.sent}, {GET_LOG, IDENTIFY, GET_FEATURES})
             self.assertEqual([command[3] for command in drive.sent if command[1] == GET_LOG], [2 | 1 << 15 | 127 << 16])
             found = {command[3] >> 8 for command in drive.sent if command[1] == GET_FEATURES}
             self.assertEqual(found, selects)
+            refused = [command[1:4] for command in drive.sent if drive.answer(*command)[0] != 0]
+            self.assertEqual(refused, [(GET_FEATURES, 0, 4)])
 
-    def test_few_refusals(self):
-        """A plain drive refuses one command: the threshold that it doesn't have."""
-        drive, plain = Drive(Plain()), Plain()
-        self.accepted(described(drive, nodes(1)))
-        refused = [command[1:4] for command in drive.sent if plain(*command)[0] != 0]
-        self.assertEqual(refused, [(GET_FEATURES, 0, 4)])
-
-
-class Misbehaving(DriveCase):
     def test_errors(self):
         """An error of any command ends the program with a message that names the node."""
         drive = Drive(Plain())
-        self.accepted(described(drive, nodes(1)))
-        answers = [Plain()(*command) for command in drive.sent]
+        described(drive)
+        answers = [drive.answer(*command) for command in drive.sent]
         self.assertGreater(len(answers), 20)
         for number in range(len(answers)):
             failing = unittest.mock.Mock(side_effect=[*answers[:number], error(errno.EIO)], count=1)
@@ -98,9 +103,7 @@ class Misbehaving(DriveCase):
 
     def test_order_and_other_nodes(self):
         """Controllers are in the order of their numbers, and nodes of namespaces are passed over."""
-        plain = Plain(count=3)
-        paths = ['/dev/nvme10', '/dev/nvme2', '/dev/nvme1']
-        text = self.accepted(described(Drive(plain), paths))
+        text = self.file_of(Plain(count=3), paths=['/dev/nvme10', '/dev/nvme2', '/dev/nvme1'])
         self.assertEqual(re.findall(r'(?m)^# (\S+) is (\S+) in the model', text),
                          [('/dev/nvme1', '/dev/nvme0'), ('/dev/nvme2', '/dev/nvme1'), ('/dev/nvme10', '/dev/nvme2')])
         self.assertEqual(re.findall(r'(?m)^cntlid = (\d+)', text), ['2', '1', '0'])
@@ -113,7 +116,7 @@ class Misbehaving(DriveCase):
             self.assertIn('# Left out (above 1024, with another format or without data): NSID 2.\n', text)
 
     def test_program(self):
-        """The program itself, with arguments that name no controller, and streams that can't be written."""
+        """The program itself, with arguments that name no controller."""
         for words, status, message in (
                 ((), 2, b'usage: .*'), (('--bogus', '/dev/nvme0'), 2, b'usage: .*'), (('/none/nvme0',), 1, None),
                 (('/dev/null',), 1, b'nvme-describe: /dev/null: this is not an NVMe controller\n'),
@@ -121,43 +124,20 @@ class Misbehaving(DriveCase):
                 (('/none/\xff\n',), 1, rb'nvme-describe: /none/\S+: No such file or directory\n'),
                 (('/dev/nvme0n1',), 1, b'nvme-describe: none of these is a controller: /dev/nvme0n1\n')):
             with self.subTest(words):
-                ended = run(DESCRIBE, *words)
+                ended = run(TOP / 'nvme-describe', *words)
                 self.ends(ended, status, b'')
                 self.assertRegex(ended.err, b'(?s)^' + (message or b'nvme-describe: .*\n') + b'$')
                 self.assertNotIn(b'Traceback', ended.err)
-        self.ends(run(DESCRIBE, '--help'), 0, err=b'')
+        self.ends(run(TOP / 'nvme-describe', '--help'), 0, err=b'')
 
-
-def changed(**fields):
-    """Returns a plain drive whose controller has these fields."""
-    return Plain({(IDENTIFY, 1): identity(**fields)})
-
-
-def shaped(*lbads, **fields):
-    """Returns a plain drive with a namespace of these formats and fields."""
-    return Plain({(IDENTIFY, 0, EVERY): namespace(blocks=0, lbads=lbads)}, {1: namespace(lbads=lbads, **fields)})
-
-
-def reporting(fid, current, capabilities=4, default=0, saved=0):
-    """Returns a plain drive with these values of a feature."""
-    values = {0: current, 1: default, 2: saved, 3: capabilities}
-    return Plain({(GET_FEATURES, fid): lambda nsid, dword10, dword11: (0, values[dword10 >> 8 & 7], b'')})
-
-
-class Comments(DriveCase):
-    """What the file can't say is in a comment above the line concerned."""
-
-    def has(self, plain, *lines, **more):
-        text = self.file_of(plain, **more)
-        joined = re.sub(r'\n# (?=[a-z(0-9])(?!nvme set)', ' ', text)
-        for line in lines:
-            self.assertIn(f'\n{line}\n', f'\n{joined}')
-        return text
-
-    def have(self, *rows):
+    def have(self, *rows, **more):
+        """Checks that what the files of drives can't say is in these lines, in a comment above the line concerned."""
         for plain, *lines in rows:
-            with self.subTest(lines):
-                self.has(plain, *lines)
+            text = self.file_of(plain, **more)
+            joined = re.sub(r'\n# (?=[a-z(0-9])(?!nvme set)', ' ', text)
+            for line in lines:
+                self.assertIn(f'\n{line}\n', f'\n{joined}')
+        return text
 
     def test_controllers(self):
         self.have(
@@ -173,11 +153,11 @@ class Comments(DriveCase):
             (changed(_768=bytes(256)), '# The drive has no SUBNQN, and Linux would give it this one.'),
             (changed(_768=b'n' * 256), 'subnqn = "' + 'n' * 223 + '"'),
             (changed(_256=b'\0'), '# Only the model has Namespace Management, Format NVM.'),
-            (changed(_280=b'\xff' * 16), f'# TNVMCAP is {2 ** 128 - 1} on the drive.\ntnvmcap = {ABOVE - 1}'),
+            (changed(_280=b'\xff' * 16), f'# TNVMCAP is {2 ** 128 - 1} on the drive.\ntnvmcap = {GREATEST}'),
             (changed(_524=b'\7'), 'crypto_erase = true'))
         text = self.file_of(changed(_80=b'\0\3\1\0', _92=b'\0\1', _2048=b'\1', _3072=b'\1\1', _524=b'\3'))
-        self.assertIn('VER 0x10300 (0x10400), OAES 0x100 (0x0)', text)
-        self.assertRegex(text, r'FNA 0x3 \(0x0\), power\n# states, bytes 3072 to 3073\.')
+        self.assertRegex(text, r'VER 0x10300 \(0x10400\), OAES 0x100 \(0x0\)(?s:.*)'
+                               r'FNA 0x3 \(0x0\), power\n# states, bytes 3072 to 3073\.')
 
     def test_namespaces(self):
         self.have(
@@ -198,17 +178,17 @@ class Comments(DriveCase):
         self.assertIn('# The drive has other values of NUSE. (Likewise NSID 2 to 1024.)\n', text)
         self.assertLess(text.count('#'), 10)
         plain = Plain({}, {nsid: namespace() for nsid in (5, 1024, 1025, 70000)})
-        self.has(plain, '# Left out (above 1024, with another format or without data): NSID 1025, 70000.')
+        self.have((plain, '# Left out (above 1024, with another format or without data): NSID 1025, 70000.'))
 
     def test_formats_of_namespaces(self):
         plain = shaped(9, 12)
         plain.namespaces = {1: namespace(lbads=(12, 9)), 2: namespace(lbads=(10,)), 3: namespace(lbads=(9, 12))}
-        text = self.has(plain, '# The drive has other values of FLBAS, the formats.', 'format = 1',
-                        '# Left out (above 1024, with another format or without data): NSID 2.')
+        text = self.have((plain, '# The drive has other values of FLBAS, the formats.', 'format = 1',
+                          '# Left out (above 1024, with another format or without data): NSID 2.'))
         self.assertEqual(re.findall(r'(?m)^nsid = (\d+)', text), ['1', '3'])
         wide = shaped(*range(9, 17), *range(9, 17), 9)
         wide.namespaces = {1: namespace(lbads=(*range(9, 17), *range(9, 17), 10), _26=b'\x20')}
-        self.has(wide, 'format = 1')
+        self.have((wide, 'format = 1'))
 
     def test_what_is_refused(self):
         formats, lists = {(IDENTIFY, 0, EVERY): 0x400b}, {(IDENTIFY, 2): 0x4002, (IDENTIFY, 0x10): 0x4002}
@@ -240,37 +220,30 @@ class Comments(DriveCase):
             (Plain(sensors), '# Feature 4 on the drive: capabilities 0x7, no threshold 0x18, no threshold 0x8.',
              'version = 2', 'over = [7, 7, 7, 7, 7, 7, 7, 7, 65535]', 'under = [7, 7, 7, 7, 7, 7, 7, 7, 0]'),
             (changed(_520=b'\0'), '# Feature 1 on the drive: capabilities not reported, default not reported.'))
-        self.has(reporting(8, 5, 5, 3, 4), '# Feature 8 on the drive: default 0x3.\nfid = 8\ndefault = 5',
-                 '# nvme set-feature /dev/nvme0 -f 8 --value 0x4 --save\n'
-                 '# nvme set-feature /dev/nvme0 -f 8 --value 0x5', is_current=True)
+        self.have((reporting(8, 5, 5, 3, 4), '# Feature 8 on the drive: default 0x3.\nfid = 8\ndefault = 5',
+                   '# nvme set-feature /dev/nvme0 -f 8 --value 0x4 --save\n'
+                   '# nvme set-feature /dev/nvme0 -f 8 --value 0x5'), is_current=True)
 
     def test_health(self):
         log = with_fields(bytearray(512), {'_32': b'\xff' * 16, '_176': b'\5', '_216': b'\1'})
-        self.has(Plain({GET_LOG: log}),
-                 f'# DATA_UNITS_READ is {2 ** 128 - 1} on the drive.\ndata_units_read = {ABOVE - 1}',
-                 '# On the drive (and in the model): num_err_log_entries 0x5 (0x0), bytes 216.')
+        self.have((Plain({GET_LOG: log}),
+                   f'# DATA_UNITS_READ is {2 ** 128 - 1} on the drive.\ndata_units_read = {GREATEST}',
+                   '# On the drive (and in the model): num_err_log_entries 0x5 (0x0), bytes 216.'))
 
-
-class Random(DriveCase):
     def test_drives(self):
         """Drives with random answers give a file that nvme-script accepts, or a message."""
         texts, messages = [], []
         for seed in range(DRIVES):
             source = random.Random(seed)
-            drive = Wild(source)
+            drive = Drive(Wild(source))
             with self.subTest(seed=seed):
-                asked = Drive(drive)
                 try:
-                    text = described(asked, nodes(drive.count), source.random() < 0.3)
-                except Stopped as stopped:
+                    texts.append(described(drive, is_current=source.random() < 0.3))
+                except SystemExit as stopped:
                     messages.append(str(stopped))
+                    self.assertRegex(messages[-1], r'^nvme-describe: [ -~]+$')
                     continue
-                texts.append((seed, text))
-                self.assertEqual(unnamed_differences(text, asked) + unnamed_values(text, asked), [], text)
-        for message in messages:
-            self.assertRegex(message, r'^nvme-describe: [ -~]+$')
-        for seed, text in texts:
-            with self.subTest(seed=seed):
-                self.accepted(text)
+                text = self.accepted(texts[-1])
+                self.assertEqual(unnamed_differences(text, drive) + unnamed_values(text, drive), [], text)
         self.assertGreater(len(texts), DRIVES / 3)
         self.assertGreater(len(messages), DRIVES / 10)

@@ -7,7 +7,7 @@ import re
 import shutil
 import tomllib
 
-from tests.described import MASKS, meaning, random_file
+from tests.described import MASKS, random_file
 from tests.modelled import PROGRAMS, ModelCase, installed
 from tests.support import DEMO, TOP, program, run
 from tests.test_subsystem_files import largest
@@ -20,73 +20,12 @@ def controllers_in(text):
     return text.count('\n[[controller]]\n')
 
 
-class RoundTrip(ModelCase):
-    def described(self, texts):
-        """Returns the files of the subsystems of these files, each described by its controllers."""
-        files = [self.file(f'{number}.toml', text.encode()) for number, text in enumerate(texts)]
-        first, script = 0, ''
-        for path, text in zip(files, texts):
-            count = controllers_in(text)
-            nodes = [f'/dev/nvme{number}' for number in range(first, first + count)]
-            names = '/dev/nvme*' if len(texts) == 1 else ' '.join(nodes)
-            script += f'"$1" {names} > {path}.out || exit\n'
-            first += count
-        options = [word for path in files for word in ('--subsystem', path)]
-        self.ends(run(installed(), *options, 'sh', '-c', script, 'sh', DESCRIBE), 0, b'', b'')
-        return [path.with_suffix('.toml.out').read_text() for path in files]
-
-    def comes_back(self, text, found):
-        self.assertEqual(meaning(text), meaning(found), found)
-        self.ends(run(program('nvme_script'), '--subsystem', self.file('found.toml', found.encode())), 0, b'', b'')
-        # (nothing differs, but for the log entry of a threshold and Error Recovery without a namespace)
-        comments = [line for line in found.splitlines() if line.startswith('#')]
-        known = r"^# (/dev/nvme\d+ is /dev/nvme\d+ in the model|The drive doesn't report feature 5)"
-        for line in comments[2:]:
-            self.assertRegex(line, known)
-
-    def test_random_files(self):
-        source = random.Random(SEED)
-        for _ in range(0, FILES, MOST_AT_ONCE):
-            texts = [random_file(source, source.choice([1, 2, 3, 16]), source.choice([1, 4, 8, 100]))
-                     for _ in range(MOST_AT_ONCE)]
-            for text, found in zip(texts, self.described(texts)):
-                self.comes_back(text, found)
-
-    def test_single_files(self):
-        """All nodes are named, and some are those of namespaces."""
-        source = random.Random(SEED)
-        for _ in range(4):
-            text = random_file(source, 4, 8)
-            self.comes_back(text, *self.described([text]))
-
-    def test_the_largest_file(self):
-        text = largest()
-        self.comes_back(text, *self.described([text]))
-
-    def test_one_of_two_controllers(self):
-        ended = self.model(DESCRIBE, '/dev/nvme1')
-        self.ends(ended, 0, err=b'')
-        self.assertIn(b'# On the drive (and in the model): CMIC 0x2 (0x0).\n', ended.out)
-        self.assertEqual(ended.out.count(b'[[controller]]'), 1)
-
-
-class Sends(ModelCase):
-    def test_trace(self):
-        """What is sent is only Identify, Get Features and Get Log Page, the latter with RAE."""
-        trace = self.folder / 'trace'
-        ended = self.model('sh', '-c', '"$1" /dev/nvme*', 'sh', DESCRIBE, options=[f'--trace={trace}'])
-        self.ends(ended, 0, err=b'')
-        taken = re.findall(r'(?m)^nvme\d taken .* \((0x\w+)\) .*?(?: cdw10=(\w+).*)?$', trace.read_text())
-        self.assertEqual({opcode for opcode, _ in taken}, {'0x02', '0x06', '0x0a'})
-        # (the launcher reads the health log too, for temperatures, and without RAE, as Linux does)
-        self.assertEqual({dword10 for opcode, dword10 in taken if opcode == '0x02'},
-                         {f'{2 | 1 << 15 | 127 << 16:#x}', f'{2 | 127 << 16:#x}'})
-
-    def test_log_entries(self):
-        """One command of each controller is refused, and enters the error log."""
-        ended = self.shell('"$1" /dev/nvme* > /dev/null; "$1" /dev/nvme*', DESCRIBE)
-        counts = re.findall(rb'num_err_log_entries .*', ended.out)
-        self.assertEqual(counts, [b'num_err_log_entries 0x1 (0x0). (Likewise /dev/nvme1.)'], ended)
+def gets(text, selects):
+    """Returns the commands of a script that show all features of a file's controllers."""
+    words = [*(f'-f {fid}' for fid in MASKS), *(f'-n {nsid} -f 5' for nsid in range(1, 9)),
+             *(f'-f 4 -c {selector << 16}' for selector in (*range(9), *range(16, 25)))]
+    return [f'get-feature /dev/nvme{place} -s {select} {more}'
+            for place in range(controllers_in(text)) for more in words for select in selects]
 
 
 def operations(source, text):
@@ -104,26 +43,82 @@ def operations(source, text):
         yield place, fid, nsid, value, source.randint(0, 1)
 
 
-class Left(ModelCase):
-    """What is set in the model is in the file that is described then, or in the commands at its end."""
-
-    def values(self, text, lines, selects):
-        """Returns all values of features in the subsystem of a file after these lines of a script."""
-        asked = []
-        for place in range(controllers_in(text)):
-            asked += [f'get-feature /dev/nvme{place} -f {fid} -s {select}' for fid in MASKS for select in selects]
-            asked += [f'get-feature /dev/nvme{place} -f 4 -s {select} -c {selector << 16}'
-                      for selector in (*range(9), *range(16, 25)) for select in selects]
-            asked += [f'get-feature /dev/nvme{place} -n {nsid} -f 5 -s {select}' for nsid in range(1, 9)
-                      for select in selects]
-        path = self.file('values.toml', text.encode())
-        ended = run(program('nvme_script'), '--subsystem', path, source='\n'.join([*lines, *asked]).encode())
+class Described(ModelCase):
+    def shown(self, text, asked, done=()):
+        """Returns what commands show over the subsystem of a file, after others, which must succeed."""
+        path = self.file('shown.toml', text.encode())
+        ended = run(program('nvme_script'), '--subsystem', path, source='\n'.join([*done, *asked]).encode())
         for message in ended.err.decode().splitlines():
             number = int(re.match(r'line (\d+): ', message)[1])
-            self.assertGreater(number, len(lines), f'{lines[number - 1:number]}: {message}')
-        return re.findall(r'get-feature:.*', ended.out.decode())
+            self.assertGreater(number, len(done), f'{done[number - 1:number]}: {message}')
+        return ended.out.decode(), ended.err.decode()
+
+    def all_of(self, text):
+        """Returns all that nvme-script shows of the subsystem of a file, which is whatever its keys say."""
+        asked = [f'{command} /dev/nvme{place}' for place in range(controllers_in(text))
+                 for command in ('id-ctrl', 'smart-log', 'list-ns', 'list-ns -a')]
+        asked += [f'id-ns /dev/nvme0 -f -n {nsid}' for nsid in range(1, tomllib.loads(text)['nn'] + 1)]
+        return self.shown(text, [*asked, 'id-ns /dev/nvme0 -n 4294967295', *gets(text, range(4))])
+
+    def come_back(self, *texts):
+        """Checks that the subsystems of these files, each described by its controllers, are those of the files. Of one
+        file, all nodes are named, of which some are those of namespaces."""
+        files = [self.file(f'{number}.toml', text.encode()) for number, text in enumerate(texts)]
+        first, script = 0, ''
+        for path, text in zip(files, texts):
+            nodes = [f'/dev/nvme{first + number}' for number in range(controllers_in(text))]
+            script += f'"$1" {" ".join(nodes) if texts[1:] else "/dev/nvme*"} > {path}.out || exit\n'
+            first += len(nodes)
+        options = [word for path in files for word in ('--subsystem', path)]
+        self.ends(run(installed(), *options, 'sh', '-c', script, 'sh', DESCRIBE), 0, b'', b'')
+        for path, text in zip(files, texts):
+            found = path.with_suffix('.toml.out').read_text()
+            self.assertEqual(self.all_of(text), self.all_of(found), found)
+            # (nothing differs, but for the log entry of a threshold and Error Recovery without a namespace)
+            for line in re.findall('(?m)^#.*', found)[2:]:
+                self.assertRegex(line, r"^# (/dev/nvme\d+ is /dev/nvme\d+ in the model|"
+                                       r"The drive doesn't report feature 5)")
+
+    def test_random_files(self):
+        source = random.Random(SEED)
+        for _ in range(0, FILES, MOST_AT_ONCE):
+            self.come_back(*[random_file(source, source.choice([1, 2, 3, 16]), source.choice([1, 4, 8, 100]))
+                             for _ in range(MOST_AT_ONCE)])
+
+    def test_single_files(self):
+        source = random.Random(SEED)
+        for text in *(random_file(source, 4, 8) for _ in range(4)), largest():
+            self.come_back(text)
+
+    def test_one_of_two_controllers(self):
+        ended = self.model(DESCRIBE, '/dev/nvme1')
+        self.ends(ended, 0, err=b'')
+        self.assertIn(b'# On the drive (and in the model): CMIC 0x2 (0x0).\n', ended.out)
+        self.assertEqual(ended.out.count(b'[[controller]]'), 1)
+
+    def test_trace(self):
+        """What is sent is only Identify, Get Features and Get Log Page, the latter with RAE."""
+        trace = self.folder / 'trace'
+        ended = self.model('sh', '-c', '"$1" /dev/nvme*', 'sh', DESCRIBE, options=[f'--trace={trace}'])
+        self.ends(ended, 0, err=b'')
+        taken = re.findall(r'(?m)^nvme\d taken .* \((0x\w+)\) .*?(?: cdw10=(\w+).*)?$', trace.read_text())
+        self.assertEqual({opcode for opcode, _ in taken}, {'0x02', '0x06', '0x0a'})
+        # (the launcher reads the health log too, for temperatures, and without RAE, as Linux does)
+        self.assertEqual({dword10 for opcode, dword10 in taken if opcode == '0x02'},
+                         {f'{2 | 1 << 15 | 127 << 16:#x}', f'{2 | 127 << 16:#x}'})
+
+    def test_log_entries(self):
+        """One command of each controller is refused, and enters the error log."""
+        ended = self.shell('"$1" /dev/nvme* > /dev/null; "$1" /dev/nvme*', DESCRIBE)
+        counts = re.findall(rb'num_err_log_entries .*', ended.out)
+        self.assertEqual(counts, [b'num_err_log_entries 0x1 (0x0). (Likewise /dev/nvme1.)'], ended)
+
+    def values(self, text, lines, select):
+        """Returns all values of features in the subsystem of a file after these lines of a script."""
+        return re.findall(r'get-feature:.*', self.shown(text, gets(text, [select]), lines)[0])
 
     def test_features(self):
+        """What is set in the model is in the file that is described then, or in the commands at its end."""
         source = random.Random(SEED)
         for _ in range(12):
             text = random_file(source, 3, 8)
@@ -136,24 +131,19 @@ class Left(ModelCase):
             done = [f'set-feature /dev/nvme{place} -f {fid} -n {nsid} -v {value}' + ' -s' * save
                     for place, fid, nsid, value, save in asked]
             # (some are refused, which the values don't show)
-            wanted = {select: self.wanted(text, done, select) for select in range(4)}
+            refused = {int(number) for number in re.findall(r'(?m)^line (\d+): ', self.shown(text, done)[1])}
+            done = [line for number, line in enumerate(done, 1) if number not in refused]
+            wanted = {select: self.values(text, done, select) for select in range(4)}
             for found, selects in zip(ended.out.decode().split('# END\n'), ((0, 1, 2, 3), (0, 2, 3))):
                 lines = re.findall(r'(?m)^# (nvme set-feature .*)$', found)
                 for select in selects:
-                    got = self.values(found, lines, [select])
+                    got = self.values(found, lines, select)
                     self.assertEqual(len(wanted[select]), len(got), found)
                     values = list(zip(wanted[3], wanted[select], got))
                     # (the saved value of a feature that can't be saved is its default, which is now another one)
                     if select == 2 and 1 not in selects:
                         values = [row for row in values if int(row[0].rpartition(':')[2], 0) & 1]
                     self.assertEqual([row[1] for row in values], [row[2] for row in values], (asked, found))
-
-    def wanted(self, text, done, select):
-        """Returns the values after commands of which some may be refused."""
-        path = self.file('wanted.toml', text.encode())
-        ended = run(program('nvme_script'), '--subsystem', path, source='\n'.join(done).encode())
-        refused = {int(number) for number in re.findall(r'(?m)^line (\d+): ', ended.err.decode())}
-        return self.values(text, [line for number, line in enumerate(done, 1) if number not in refused], [select])
 
     def test_first_commands_of_readme(self):
         """They describe a drive, here the model of one, and its script ends as the picture shows."""
@@ -181,7 +171,8 @@ class Left(ModelCase):
         self.file('layout.sh', b"echo said\nnvme set-feature /dev/nvme0 --feature-id 6 --value 0\n")
         (self.folder / 'nvme-describe').symlink_to(DESCRIBE)
         describing = re.search(r'(?m)^    (\./nvme-describe .*) > drive\.toml +# as root$', page)[1]
-        self.assertEqual(meaning(self.shell(describing, cwd=self.folder).out.decode()), meaning(DEMO.read_text()))
+        self.assertEqual(self.all_of(self.shell(describing, cwd=self.folder).out.decode()),
+                         self.all_of(DEMO.read_text()))
         kept = self.shell(keeping, cwd=self.folder)
         self.assertEqual(kept.status, 0, kept)
         self.assertTrue(kept.err.startswith(b'said\n'), kept)

@@ -11,7 +11,6 @@ from tests.support import TOP, program, run
 from tests.test_qemu import initial_files, kernel, why_not
 
 PYTHON = shutil.which('python3', path='/usr/bin')
-CONTROLLERS, NSIDS, FIDS = range(2), (1, 2, 3, 5), (1, 2, 4, 5, 6, 7, 8, 10, 11)
 # Two controllers of one subsystem: a namespace of both, one of each, and one of neither.
 MACHINE = ('-device nvme-subsys,id=subsystem,nqn=described -device nvme,id=a,serial=A,subsys=subsystem,mdts=0 '
            '-device nvme,id=b,serial=A,subsys=subsystem -device nvme-ns,bus=a,drive=d1,nsid=1,shared=on '
@@ -26,11 +25,11 @@ PLACES = {'acl': 258, 'aerl': 259, 'ocfs': 534, 'sgls': 536, 'dlfeat': 33, 'nows
 def shown():
     """Returns a shell script that shows what is compared, each after a line with its name."""
     commands = ['id-ctrl {} -o json', 'list-ns {}', 'list-ns {} --all']
-    commands += [f'id-ns {{}} -n {nsid} -o json' for nsid in NSIDS]
+    commands += [f'id-ns {{}} -n {nsid} -o json' for nsid in (1, 2, 3, 5)]
     commands += [f'get-feature {{}} -f {fid} -s {select} -n {1 if fid == 5 else 0}'
-                 for fid in FIDS for select in (0, 1, 3)]
-    return ''.join(f'echo "> {command}"; nvme {command} 2>&1\n' for one in CONTROLLERS
-                   for command in (text.format(f'/dev/nvme{one}') for text in commands))
+                 for fid in (1, 2, 4, 5, 6, 7, 8, 10, 11) for select in (0, 1, 3)]
+    return ''.join(f'echo "> {command}"; nvme {command} 2>&1\n'.replace('{}', node)
+                   for node in ('/dev/nvme0', '/dev/nvme1') for command in commands)
 
 
 def answers(text):
@@ -47,9 +46,8 @@ def python_files():
     ended = run(PYTHON, '-I', '-c', listing)
     assert ended.status == 0, ended
     files = [line for line in ended.out.decode().splitlines() if line.startswith('/')]
-    objects = [PYTHON, *(path for path in files if path.endswith('.so'))]
-    libraries = re.findall(r'(/\S+) \(0x', run('ldd', *objects).out.decode())
-    return sorted({PYTHON, *files, *libraries})
+    objects = run('ldd', PYTHON, *(path for path in files if path.endswith('.so'))).out.decode()
+    return sorted({PYTHON, *files, *re.findall(r'(/\S+) \(0x', objects)})
 
 
 def guest_files(folder):
@@ -63,12 +61,11 @@ def guest_files(folder):
     script = 'stty -F /dev/ttyS1 raw\nfor more in "" --current; do\n    /nvme-describe $more /dev/nvme*\n' \
              '    echo "STATUS $?"\ndone\n/nvme-describe /dev/nvme1 /dev/null; echo "STATUS $?"\n'
     (root / 'guest.sh').write_text(script + shown())
-    packed = folder / 'more.cpio'
     names = '\n'.join(str(path.relative_to(root)) for path in root.rglob('*'))
-    ended = run('busybox', 'cpio', '-o', '-H', 'newc', source=names.encode(), out=packed, cwd=root)
+    ended = run('busybox', 'cpio', '-o', '-H', 'newc', source=names.encode(), cwd=root)
     assert ended.status == 0, ended
     both = folder / 'guest.cpio'
-    both.write_bytes(initial_files().read_bytes() + packed.read_bytes())
+    both.write_bytes(initial_files().read_bytes() + ended.out)
     return both
 
 
@@ -80,11 +77,9 @@ class Described(ModelCase):
 
     def booted(self):
         """Runs the machine, and returns what the guest wrote."""
-        console, results = self.folder / 'console', self.folder / 'results'
-        words = []
-        for name in ('d1', 'd2', 'd3', 'd5'):
-            self.file(name, bytes(1 << 20))
-            words += ['-drive', f'if=none,format=raw,id={name},file={self.folder / name}']
+        console, results, words = self.folder / 'console', self.folder / 'results', []
+        for name in 'd1', 'd2', 'd3', 'd5':
+            words += ['-drive', f'if=none,format=raw,id={name},file={self.file(name, bytes(1 << 20))}']
         ended = run('qemu-system-x86_64', '-nodefaults', '-display', 'none', '-no-reboot', '-m', '512M', *words,
                     *MACHINE, '-serial', f'file:{console}', '-serial', f'file:{results}',
                     '-kernel', kernel()[0], '-initrd', guest_files(self.folder),
