@@ -216,15 +216,14 @@ class Guest(Driver, Client):
 
     def set(self, offset, value, size=4):
         """Writes a register, also that of the machine, which then takes its turn. All memory must then agree."""
-        if not self.machine:
-            self.set_register(offset, value, size)
-            self.register(CSTS)
-            return
-        for piece in self.pieces:
+        for piece in self.pieces if self.machine else ():
             self.flat[piece.address:piece.address + piece.length] = piece.bytes[:]
         for hole in self.holes:
             self.flat[hole:hole + PAGE] = b'\xff' * PAGE
         self.set_register(offset, value, size)
+        if not self.machine:
+            self.register(CSTS)
+            return
         for part in range(0, size, 4):
             write_register(self.machine, self.ctrl, offset + part, value >> 8 * part & 0xffff_ffff)
         if offset in (TAIL, HEAD):

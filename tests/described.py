@@ -246,15 +246,11 @@ class Wild:
 
 
 # The keys that are fields of a controller, the places of fields that tests/records.py doesn't name, and what the fields
-# without a key are in the model.
+# of a controller without a key are in the model.
 OF_CONTROLLER = 'cntlid', 'vid', 'ssvid', 'sn', 'mn', 'fr', 'rab', 'ieee', 'mdts', 'elpe', 'wctemp', 'cctemp', 'vwc'
-OTHERS = {'oaes': (92, 4), 'ctratt': (96, 4)}
+OTHERS = {'oaes': (92, 4), 'ctratt': (96, 4), 'eui64': (120, 8)}
 NAMED = {'ver': 0x10400, 'oacs': 10, 'frmw': 2, 'lpa': 4, 'npss': 0, 'sqes': 0x66, 'cqes': 0x44, 'oncs': 16, 'oaes': 0,
          'ctratt': 0}
-
-
-def number_at(data, at, size):
-    return int.from_bytes(data[at:at + size], 'little')
 
 
 def notes_in(text):
@@ -281,8 +277,7 @@ def fields_of(kind, record):
 
 
 def unnamed(keys, said, fields, notes):
-    """Returns those of these keys whose values differ from the fields of a record, and aren't named in a comment."""
-    found = []
+    """Yields those of these keys whose values differ from the fields of a record, and aren't named in a comment."""
     for key in keys:
         here, there, named = said.get(key, 0), fields[key], f'{key.upper()} is '
         if isinstance(here, str):
@@ -290,23 +285,22 @@ def unnamed(keys, said, fields, notes):
         else:
             there = int.from_bytes(there, 'little')
             named += f'{there} on the drive.'
-        found += [key] * (here != there and not any(note.startswith(named) for note in notes))
-    return found
+        if here != there and not any(note.startswith(named) for note in notes):
+            yield key
 
 
 def unnamed_differences(text, drive):
     """Returns what differs in a file from the records of a drive, and isn't named in a comment of its table."""
     file, notes = tomllib.loads(text), notes_in(text)
-    wrong = unnamed(('nn', 'tnvmcap'), file, fields_of('id_ctrl', drive.records[0, 6, 1, 0]), notes['top', 0])
+    wrong = [*unnamed(('nn', 'tnvmcap'), file, fields_of('id_ctrl', drive.records[0, 6, 1, 0]), notes['top', 0])]
     for place, keys in enumerate(file['controller']):
         fields, said = fields_of('id_ctrl', drive.records[place, 6, 1, 0]), notes['controller', place]
         health = fields_of('smart', drive.records.get((place, 2, 2, 0xffffffff), bytes(512)))
         others = ''.join(note for note in said if note.startswith('On the drive'))
-        found = unnamed(OF_CONTROLLER, keys, fields, said)
-        found += unnamed(SMART, keys.get('smart', {}), health, said)
-        found += [key for key, here in NAMED.items()
-                  if int.from_bytes(fields[key], 'little') != here and f' {key.upper()} 0x' not in others]
-        wrong += [(place, key) for key in found]
+        wrong += [(place, key) for key in [
+            *unnamed(OF_CONTROLLER, keys, fields, said), *unnamed(SMART, keys.get('smart', {}), health, said),
+            *(key for key, here in NAMED.items()
+              if int.from_bytes(fields[key], 'little') != here and f' {key.upper()} 0x' not in others)]]
     formats = [(keys['lbads'], keys.get('ms', 0), keys.get('rp', 0)) for keys in file['format']]
     for keys in file.get('namespace', []):
         said = ''.join(notes.get(('namespace', keys['nsid']), ()))
@@ -319,16 +313,15 @@ def unnamed_differences(text, drive):
 
 def differing_fields(keys, record, formats):
     """Returns the fields of Identify Namespace that differ from a table of the file."""
-    blocks, place = keys['bytes'] >> formats[keys['format']][0], keys['format'] | 16 * keys.get('extended', False)
-    nsze, ncap, nuse, nsfeat, nlbaf, flbas, _, dpc, dps, nmic = struct.unpack_from('<QQQ7B', record)
-    own = [(record[at + 2], number_at(record, at, 2), record[at + 3] & 3)
-           for at in range(128, 132 + 4 * min(nlbaf, 63), 4)]
-    wanted = {'NSZE': (nsze, blocks), 'NCAP': (ncap, blocks), 'NUSE': (nuse, 0), 'NSFEAT': (nsfeat, 0), 'DPC': (dpc, 0),
-              'FLBAS': (flbas, place), 'DPS': (dps, 0), 'NMIC': (nmic, int(keys.get('shared', False))),
-              'NVMCAP': (number_at(record, 48, 16), keys['bytes']), 'EUI64': (number_at(record, 120, 8), 0)}
-    found = [field for field, (there, here) in wanted.items() if there != here]
+    blocks, fields = keys['bytes'] >> formats[keys['format']][0], fields_of('id_ns', record)
+    wanted = {'nsze': blocks, 'ncap': blocks, 'flbas': keys['format'] | 16 * keys.get('extended', False),
+              'nmic': keys.get('shared', False), 'nvmcap': keys['bytes'],
+              **dict.fromkeys(('nuse', 'nsfeat', 'dpc', 'dps', 'eui64'), 0)}
+    own = [(power, ms, rp & 3) for ms, power, rp in
+           struct.iter_unpack('<HBB', record[128:132 + 4 * min(fields['nlbaf'][0], 63)])]
     usual = all(9 <= power <= 16 for power, _, _ in own)
-    return found + ['formats'] * (usual and own != formats)
+    return [key.upper() for key, here in wanted.items() if int.from_bytes(fields[key], 'little') != here] + [
+        'formats'] * (usual and own != formats)
 
 
 def states(text):
@@ -355,14 +348,14 @@ def states(text):
 
 
 def unnamed_values(text, drive):
-    """Returns the values of features that differ in the model of a file from those of a drive, and aren't named."""
-    notes, wrong = notes_in(text), []
-    values, capabilities = states(text)
+    """Yields the values of features that differ in the model of a file from those of a drive, and aren't named."""
+    notes, (values, capabilities) = notes_in(text), states(text)
     for (place, fid, key), told in drive.values.items():
         said = ''.join(note for note in notes['controller', place] if note.startswith(f'Feature {fid} on the drive'))
         is_missing = f"The drive doesn't report feature {fid}." in notes['controller', place]
         if told[0] is None or is_missing:
-            wrong += [] if is_missing or fid == 4 else [(place, fid, key)]
+            if not is_missing and fid != 4:
+                yield place, fid, key
             continue
         mask = 0xffff if fid == 4 else 0xffffffff
         default, saved, current = values.get((place, fid, key if fid in (4, 5) else None)) or values[place, fid, None]
@@ -370,5 +363,4 @@ def unnamed_values(text, drive):
                                    (3, 'capabilities', capabilities[place, fid])):
             there = told.get(select)
             if there is not None and there & mask != here and f'{name} {there & mask:#x}' not in said:
-                wrong.append((place, fid, key, name, there, here))
-    return wrong
+                yield place, fid, key, name, there, here

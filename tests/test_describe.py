@@ -244,6 +244,6 @@ class Describe(Case):
                     self.assertRegex(messages[-1], r'^nvme-describe: [ -~]+$')
                     continue
                 text = self.accepted(texts[-1])
-                self.assertEqual(unnamed_differences(text, drive) + unnamed_values(text, drive), [], text)
+                self.assertEqual(unnamed_differences(text, drive) + [*unnamed_values(text, drive)], [], text)
         self.assertGreater(len(texts), DRIVES / 3)
         self.assertGreater(len(messages), DRIVES / 10)

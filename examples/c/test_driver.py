@@ -1,4 +1,3 @@
-#!/usr/bin/env python3
 """A unit test of a driver, without a device: `python3 -m unittest test_driver`, with nvme_controller.py on PYTHONPATH.
 
 The driver that is tested is that of bench.py. Put your own in its place."""
@@ -51,7 +50,3 @@ class DriverTest(unittest.TestCase):
         self.assertEqual([(error.cid, status_text(error.status)) for error in self.machine.error_log(0)],
                          [(1, 'Invalid Field in Command'), (0, 'Invalid Command Opcode')])
         self.assertEqual(self.machine.counts(0), (2, 2))
-
-
-if __name__ == '__main__':
-    unittest.main()
