@@ -135,15 +135,6 @@ class _Range(ctypes.Structure):
     _fields_ = ('offset', ctypes.c_uint64), ('length', ctypes.c_uint64)
 
 
-def _by_pkg_config() -> Optional[str]:
-    command = 'pkg-config', '--variable=libdir', 'nvme_controller'
-    try:
-        ended = subprocess.run(command, stdout=subprocess.PIPE, stderr=subprocess.DEVNULL, check=True)
-    except (OSError, subprocess.CalledProcessError):
-        return None
-    return str(pathlib.Path(os.fsdecode(ended.stdout.rstrip(b'\n'))) / _NAME)
-
-
 def _load() -> ctypes.CDLL:
     """Loads the library."""
     folder = pathlib.Path(__file__).resolve().parent
@@ -154,10 +145,12 @@ def _load() -> ctypes.CDLL:
     except OSError as error:
         if found:
             raise
-        found = _by_pkg_config()
-        if found is None:
+        command = 'pkg-config', '--variable=libdir', 'nvme_controller'
+        try:
+            ended = subprocess.run(command, stdout=subprocess.PIPE, stderr=subprocess.DEVNULL, check=True)
+        except (OSError, subprocess.CalledProcessError):
             raise OSError(f'{error}; the variable NVME_CONTROLLER can name the file') from None
-        return ctypes.CDLL(found)
+    return ctypes.CDLL(str(pathlib.Path(os.fsdecode(ended.stdout.rstrip(b'\n'))) / _NAME))
 
 
 @functools.lru_cache(maxsize=None)

@@ -29,16 +29,12 @@ PLACES = {'acl': 258, 'aerl': 259, 'ocfs': 534, 'sgls': 536, 'dlfeat': 33, 'nows
           'mssrl': 74, 'mcl': 76, 'msrc': 80}
 
 
-def controllers_in(text):
-    return text.count('\n[[controller]]\n')
-
-
 def gets(text, selects):
     """Returns the commands of a script that show all features of a file's controllers."""
     words = [*(f'-f {fid}' for fid in MASKS), *(f'-n {nsid} -f 5' for nsid in range(1, 9)),
              *(f'-f 4 -c {selector << 16}' for selector in (*range(9), *range(16, 25)))]
     return [f'get-feature /dev/nvme{place} -s {select} {more}'
-            for place in range(controllers_in(text)) for more in words for select in selects]
+            for place in range(text.count('[[controller]]')) for more in words for select in selects]
 
 
 def operations(source, text):
@@ -141,7 +137,7 @@ class Described(ModelCase):
 
     def all_of(self, text):
         """Returns all that nvme-script shows of the subsystem of a file, which is whatever its keys say."""
-        asked = [f'{command} /dev/nvme{place}' for place in range(controllers_in(text))
+        asked = [f'{command} /dev/nvme{place}' for place in range(text.count('[[controller]]'))
                  for command in ('id-ctrl', 'smart-log', 'list-ns', 'list-ns -a')]
         asked += [f'id-ns /dev/nvme0 -f -n {nsid}' for nsid in range(1, tomllib.loads(text)['nn'] + 1)]
         return self.shown(text, [*asked, 'id-ns /dev/nvme0 -n 4294967295', *gets(text, range(4))])
@@ -152,7 +148,7 @@ class Described(ModelCase):
         files = [self.file(f'{number}.toml', text.encode()) for number, text in enumerate(texts)]
         first, script = 0, ''
         for path, text in zip(files, texts):
-            nodes = [f'/dev/nvme{first + number}' for number in range(controllers_in(text))]
+            nodes = [f'/dev/nvme{first + number}' for number in range(text.count('[[controller]]'))]
             script += f'"$1" {" ".join(nodes) if texts[1:] else "/dev/nvme*"} > {path}.out || exit\n'
             first += len(nodes)
         options = [word for path in files for word in ('--subsystem', path)]

@@ -3,8 +3,10 @@ servers."""
 
 import itertools
 import os
+import pathlib
 import random
 import struct
+import tempfile
 
 from tests import blocks as nvme
 from tests.as_client import RESET, Piece
@@ -139,14 +141,9 @@ class Data(nvme.Blocks):
         for word in '', '5X', '-1', '1KK':
             self.assertEqual(self.ended(self.path, '--data-limit', word).status, 72)
 
-    def data_folder(self):
-        place = self.folder / 'kept'
-        place.mkdir()
-        return place
-
     def test_folder(self):
         # data stays from one server to the next, even if that is killed, unless it doesn't fit
-        place = self.data_folder()
+        place = pathlib.Path(tempfile.mkdtemp(dir=self.folder))
         files = {nsid: place / f'subsystem0.namespace{nsid}' for nsid in (1, 2, 3)}
 
         def refused(path, text):
@@ -186,7 +183,7 @@ class Data(nvme.Blocks):
 
     def test_folder_of_a_start_that_fails(self):
         # nothing is made in the folder, whatever the start fails for
-        place = self.data_folder()
+        place = pathlib.Path(tempfile.mkdtemp(dir=self.folder))
         later, broken = place / 'subsystem0.namespace3', self.file('broken.toml', b'version = 1\n')
         for make, *words in ((lambda: later.write_bytes(b'x'),), (lambda: os.mkfifo(later),),
                              (lambda: None, '--subsystem', DEMO, '--subsystem', broken),
@@ -199,7 +196,7 @@ class Data(nvme.Blocks):
 
     def test_lost_data(self):
         # a file that another program cuts is fatal for a controller that uses what is lost, and for nobody else
-        place = self.data_folder()
+        place = pathlib.Path(tempfile.mkdtemp(dir=self.folder))
         self.restart('--data', place)
         drive, other = self.drive(), self.greeted(1)
         first = drive.load, 1, 0, 8, b'data' * 128 + bytes(7 * 512)

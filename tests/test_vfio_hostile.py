@@ -118,11 +118,11 @@ class Hostile(Served):
         self.restart('--subsystem', self.file('long.toml', file))
         guest, other = self.guest(layout=[(0, 512 * PAGE)], rings=(0, 64 * PAGE), slots=(4096, 4096)), self.greeted(1)
         guest.at(100 * PAGE, 8 * 255)[:] = struct.pack('<255Q', *((200 + at) * PAGE for at in range(255)))
-        for _ in range(100):
+        for _ in range(300):
             guest.put(GET_LOG, 199 * PAGE, 100 * PAGE, EVERY, 1 | 0xffff_0000, 3, rings=False)
         guest.set_register(TAIL, guest.submissions[0].next)
         waits = []
-        while not guest.at(64 * PAGE + 16 * 99, 16)[14] & 1:
+        while not guest.at(64 * PAGE + 16 * 299, 16)[14] & 1:
             begun_at = self.spent()
             self.assertEqual(other.config(0), 0x0010_1b36)
             waits.append(self.spent() - begun_at)
@@ -158,20 +158,18 @@ class Hostile(Served):
         self.assertEqual(third.status_of(IDENTIFY, 3 * PAGE, dword10=0x10), 0)
         self.assertEqual(bytes(third.at(3 * PAGE, PAGE)), listed)
 
-    def test_taken_socket(self):
+    def test_taken_paths(self):
         # a server that still runs keeps its sockets, and those of one that was killed are replaced
-        self.ends(self.ended(self.path), 72, b'', f'nvme-model: {self.path}0: Address already in use\n'.encode())
+        said = 'nvme-model: {}: Address already in use\n'
+        self.ends(self.ended(self.path), 72, b'', said.format(f'{self.path}0').encode())
         self.kill()
         self.server = self.start()
         self.assertEqual(self.greeted().config(0), 0x0010_1b36)
-
-    def test_other_files_at_the_path(self):
         # a file that isn't a socket is never removed, although a connection to it is refused as to a dead one
         kept, path = self.file('kept', b'precious'), self.folder / 'file0'
-        said = f'nvme-model: {path}: Address already in use\n'.encode()
         for make in (lambda path: path.write_text('precious'), lambda path: path.symlink_to('kept'), os.mkfifo):
             make(path)
-            self.ends(self.ended(self.folder / 'file'), 72, b'', said)
+            self.ends(self.ended(self.folder / 'file'), 72, b'', said.format(path).encode())
             self.assertTrue(os.path.lexists(path))
             path.unlink()
             self.assertEqual(kept.read_text(), 'precious')

@@ -19,10 +19,9 @@ from tests.support import until
 from tests.test_qemu import COUNTS
 
 
-class Order(Served):
-    """What QEMU 11.1 sends, in its order."""
-
+class Commands(Served):
     def test_answers(self):
+        # what QEMU 11.1 sends, in its order
         client, ram = self.client(), memory_file(64 * PAGE)
         self.gives((client.greet, b'\0\0\0\0{"capabilities":{"max_msg_fds":8,"max_data_xfer_size":16384,'
                                   b'"max_dma_maps":256}}\0'),
@@ -88,8 +87,6 @@ class Order(Served):
             self.assertEqual(client.read(BAR, 0, 0x40), registers(0x40), (hex(offset), data))
         self.assertEqual(client.read(BAR, 0, 0x4000), registers(0x1000).ljust(0x4000, b'\0'))
 
-
-class Commands(Served):
     def test_both_controllers(self):
         machine = self.machine()
         first, second = guests = [self.guest(ctrl, machine) for ctrl in range(2)]
