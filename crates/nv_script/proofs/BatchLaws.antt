@@ -1,11 +1,10 @@
 -- A batch of commands that ask a controller for namespaces, and one command at a time.
-use Rattle.nv_script.proofs.Words.{[], ℕ, ◌++◌, ◌+◌, ◌<◌, ◌∙◌, ◌∷◌, ◌≡◌, Answer, Command, Contains, DriverValue, Err}
-use Rattle.nv_script.proofs.Words.{IdentifyController, IsHandedOn, IsListed, List, ListLeaves, Listing, NoText, Ok}
-use Rattle.nv_script.proofs.Words.{QueuePair, Result, Standing, State, answer_received, answers_to, ap, arith, asked}
-use Rattle.nv_script.proofs.Words.{asked_all, common_steps, drop, get_or, get_or-map, get_or-take, length, length-map}
-use Rattle.nv_script.proofs.Words.{length-take-le, listing_of, map, map-append, namespace_orders, next_cids_of}
-use Rattle.nv_script.proofs.Words.{order_of, pair_at, refl, step, subst, suc, sym, take, take-append-drop}
-use Rattle.nv_script.proofs.Words.{take-append_seam}
+use Rattle.nv_script.proofs.Words.{[], ℕ, ◌++◌, ◌+◌, ◌<◌, ◌∙◌, ◌∷◌, ◌≡◌, Answer, Batch, Command, Contains, DriverValue}
+use Rattle.nv_script.proofs.Words.{Err, IdentifyController, IsHandedOn, IsListed, List, ListLeaves, Listing, NoText}
+use Rattle.nv_script.proofs.Words.{Ok, QueuePair, Result, Standing, State, answer_received, answers_to, ap, arith}
+use Rattle.nv_script.proofs.Words.{asked, asked_all, asking_for, common_steps, get_or, get_or-map, get_or-take, length}
+use Rattle.nv_script.proofs.Words.{length-map, length-take-le, listing_of, map, next_cids_of, order_of, pair_at, refl}
+use Rattle.nv_script.proofs.Words.{step, subst, suc, sym, take, take-append_seam}
 use Rattle.std.proofs.Common.{◌%◌, set}
 use Rattle.std.specs.Prelude.{IfErr, OnOk}
 use Rattle.std.proofs.Math.Nat.{mod-add-mod}
@@ -15,6 +14,7 @@ use Rattle.nv_driver.specs.Batch.{answers_of, state_after}
 use Rattle.nv_driver.specs.Driver.{after_commands, no_pair}
 use Rattle.nv_model.specs.Step.{cid_after}
 use Rattle.nv_model.specs.Ranges.{cid_count}
+use Rattle.nv_script.proofs.GroupLaws.{batch_orders, namespace_orders, orders_are}
 use Rattle.nv_script.proofs.ListLaws.{begun_all, listing_asked}
 use Rattle.nv_script.specs.declared.performing.NoText.TheVariants as stop
 
@@ -32,25 +32,6 @@ commands_are ks ns few h =
     let b : i < length ns = omega (arith, length-take-le (length ns) ks (omega arith)) in
     get_or-take (length ns) ks i IdentifyController b ∙ h i IdentifyController b
     ∙ sym (get_or-map IdentifyNamespace ns i 0 IdentifyController b))
-
--- the commands for NSIDs and more NSIDs are the commands for the first and then for the others
-pub namespaces_join : (c : ℕ) (ns more : List ℕ)
-    → namespace_orders c (ns ++ more) ≡ namespace_orders c ns ++ namespace_orders c more
-namespaces_join c ns more = map-append (λ n. order_of c (IdentifyNamespace n)) ns more
-
--- the commands for NSIDs are the commands for the first ones, for the next n of the rest, and for what remains
-pub namespaces_split : (c : ℕ) (ns done rest : List ℕ) (n : ℕ) → ns ≡ done ++ rest
-    → namespace_orders c ns
-    ≡ namespace_orders c done ++ (namespace_orders c (take n rest) ++ namespace_orders c (drop n rest))
-namespaces_split c ns done rest n e =
-    ap (namespace_orders c) (e ∙ ap (λ x. done ++ x) (sym (take-append-drop n rest)))
-    ∙ namespaces_join c done (take n rest ++ drop n rest)
-    ∙ ap (λ x. namespace_orders c done ++ x) (namespaces_join c (take n rest) (drop n rest))
-
--- the commands for NSIDs as orders are the orders for these NSIDs
-orders_are : (c : ℕ) (ns : List ℕ) → map (order_of c) (map IdentifyNamespace ns) ≡ namespace_orders c ns
-orders_are c [] = refl
-orders_are c (n ∷ ns) = ap (λ os. order_of c (IdentifyNamespace n) ∷ os) (orders_are c ns)
 
 -- ---- their answers, one at a time
 
@@ -157,23 +138,27 @@ module _ (w : Standing) (c : ℕ) (s : State) (d : DriverValue) (listing : Listi
 
   -- a batch leaves the standing after the commands for its namespaces, or a right stop
   pub batch_leaves : {A : Type 0} (r : Result A NoText) (now : State) (after : DriverValue) (told : Listing)
-      (given : List Answer)
+      (given : List Answer) (went : List Batch → Type 0)
       → 0 < length ns → now ≡ state_after c s now_due ks → after ≡ after_commands d c (length ks)
-      → given ≡ answers_to w (namespace_orders c ns)
+      → given ≡ answers_to w (namespace_orders c ns) → went (asking_for c ns ∷ [])
       → OnOk r (told ≡ listing_of listing (map (order_of c) ks) given) → IfErr r (λ stop. IsHandedOn stop given)
-      → ListLeaves r w (namespace_orders c ns) now (next_cids_of after) told
-  batch_leaves (Ok x) now after told given some state driver a e refused = record {
-    subsystem = batch_state now state;
-    next = batch_cids after some driver;
-    listed = e
-        ∙ ap (λ l. listing_of l (map (order_of c) ks) given) is.listed
-        ∙ ap (λ os. listing_of w.listing os given) (ap (map (order_of c)) are ∙ orders_are c ns)
-        ∙ ap (listing_of w.listing (namespace_orders c ns)) a
-        ∙ sym (listing_asked w (namespace_orders c ns));
-  }
-  batch_leaves (Err (stop.Refused status)) now after told given some state driver a e refused =
-      subst (λ xs. Contains xs (Err status)) a refused
-  batch_leaves (Err stop.Memory) now after told given some state driver a e refused =
-      begun_all w (namespace_orders c ns) now (next_cids_of after) (batch_state now state)
-      (batch_cids after some driver)
-  batch_leaves (Err stop.NoReady) now after told given some state driver a e refused = absurd refused
+      → ListLeaves r w (asking_for c ns ∷ []) now (next_cids_of after) told went
+  batch_leaves (Ok x) now after told given went some state driver a gone e refused = (
+    subst (λ os. IsListed (asked_all w os) now (next_cids_of after) told) (sym (batch_orders c ns)) (record {
+      subsystem = batch_state now state;
+      next = batch_cids after some driver;
+      listed = e
+          ∙ ap (λ l. listing_of l (map (order_of c) ks) given) is.listed
+          ∙ ap (λ os. listing_of w.listing os given) (ap (map (order_of c)) are ∙ orders_are c ns)
+          ∙ ap (listing_of w.listing (namespace_orders c ns)) a
+          ∙ sym (listing_asked w (namespace_orders c ns));
+    }),
+    gone,
+  )
+  batch_leaves (Err (stop.Refused status)) now after told given went some state driver a gone e refused =
+      subst (λ xs. Contains xs (Err status)) (a ∙ ap (answers_to w) (sym (batch_orders c ns))) refused
+  batch_leaves (Err stop.Memory) now after told given went some state driver a gone e refused =
+      begun_all w (asking_for c ns ∷ []) now (next_cids_of after) went
+      (batch_state now state ∙ ap (λ os. (asked_all w os).state) (sym (batch_orders c ns)))
+      (batch_cids after some driver ∙ ap (λ os. (asked_all w os).next_cids) (sym (batch_orders c ns))) gone
+  batch_leaves (Err stop.NoReady) now after told given went some state driver a gone e refused = absurd refused

@@ -1,11 +1,11 @@
 -- The first two commands of `list` to a controller: for its data, and for the NSIDs that are attached to it.
-use Rattle.nv_script.proofs.Words.{[], ℕ, ◌++◌, ◌<◌, ◌∙◌, ◌∷◌, ◌≡◌, ActiveList, Answer, BusValue, Command, Contains}
-use Rattle.nv_script.proofs.Words.{Contains-append_left, DriverValue, Err, Exchange, IdentifyController, IsHandedOn}
-use Rattle.nv_script.proofs.Words.{IsListed, List, ListLeaves, Listing, NoText, Ok, Order, Reply, Send, Standing, State}
-use Rattle.nv_script.proofs.Words.{above, active_nsids, after_command, answer_received, answers_to, ap, arith, asked}
-use Rattle.nv_script.proofs.Words.{common_steps, controller, exchange_of, exchange_with, length, listing_told}
-use Rattle.nv_script.proofs.Words.{namespace_orders, next_cids_of, order_of, orders_of_controller, pair_at, refl, step}
-use Rattle.nv_script.proofs.Words.{subst, sym}
+use Rattle.nv_script.proofs.Words.{[], ℕ, ◌++◌, ◌<◌, ◌∙◌, ◌∷◌, ◌≡◌, ActiveList, Answer, Batch, BusValue, Command}
+use Rattle.nv_script.proofs.Words.{Contains, Contains-append_left, DriverValue, Err, Exchange, IdentifyController}
+use Rattle.nv_script.proofs.Words.{IsHandedOn, IsListed, List, ListLeaves, Listing, NoText, Ok, Order, Reply, Send}
+use Rattle.nv_script.proofs.Words.{Standing, State, above, active_nsids, after_command, alone, answer_received}
+use Rattle.nv_script.proofs.Words.{answers_to, ap, arith, asked, batches_of_controller, common_steps, controller}
+use Rattle.nv_script.proofs.Words.{exchange_of, exchange_with, length, listing_told, namespace_batches, next_cids_of}
+use Rattle.nv_script.proofs.Words.{order_of, orders_in_all, pair_at, refl, step, subst, sym}
 use Rattle.nv_script.specs.inner.Listing.{nsids_told}
 use Rattle.nv_script.proofs.LinkLaws.{sent, still_known}
 use Rattle.nv_script.proofs.LookupLaws.{asked_alike, sends}
@@ -33,20 +33,23 @@ module _ (w : Standing) (b new : BusValue) (d after : DriverValue) (listing : Li
       → IsListed (asked w o) new.state (next_cids_of after) now
   told_there now t = grind (arith, common_steps, sent_there)
 
-  -- if the command was refused, or memory was, a stop is right for these orders
-  pub stopped_there : (A : Type 0) (e : NoText) (later : List Order) (now : Listing) → IsHandedOn e (answer ∷ [])
-      → ListLeaves {A = A} (Err e) w (o ∷ later) new.state (next_cids_of after) now
-  stopped_there A (stop.Refused status) later now h =
-      Contains-append_left ((exchange_of w.state w.next_cids o).answer ∷ []) (answers_to (asked w o) later) (Err status)
+  -- if the command was refused, or memory was, a stop is right for the command and later batches
+  pub stopped_there : (A : Type 0) (e : NoText) (later : List Batch) (now : Listing) (went : List Batch → Type 0)
+      → went (alone c k ∷ []) → IsHandedOn e (answer ∷ [])
+      → ListLeaves {A = A} (Err e) w (alone c k ∷ later) new.state (next_cids_of after) now went
+  stopped_there A (stop.Refused status) later now went gone h =
+      Contains-append_left ((exchange_of w.state w.next_cids o).answer ∷ [])
+      (answers_to (asked w o) (orders_in_all later)) (Err status)
       (subst (λ x. Contains (x ∷ []) (Err status)) (ap (λ (x : Exchange). x.answer) sent_there) h)
-  stopped_there A stop.Memory later now h = record {
-    done = o ∷ [];
+  stopped_there A stop.Memory later now went gone h = record {
+    done = alone c k ∷ [];
     later = later;
     split = refl;
     subsystem = ap (λ (x : Exchange). x.state) sent_there;
     next = ap (λ (x : Exchange). x.next_cids) sent_there;
+    gone = gone;
   }
-  stopped_there A stop.NoReady later now h = absurd h
+  stopped_there A stop.NoReady later now went gone h = absurd h
 
 -- both commands
 module _ (w : Standing) (c : ℕ) (b mid last : BusValue) (d second after : DriverValue) (listing told : Listing)
@@ -81,16 +84,16 @@ module _ (w : Standing) (c : ℕ) (b mid last : BusValue) (d second after : Driv
   pub greeted_listed : IsListed greeted last.state (next_cids_of after) told
   greeted_listed = told_there one mid last second after told c (ActiveList 0) then is_one known a2 s2 e2 told refl
 
-  -- the orders of a controller are these two commands and then the commands for the NSIDs in the second answer
-  pub greeted_orders : (r : Reply) (ns : List ℕ) → Ok r ≡ then → ns ≡ nsids_told r
-      → orders_of_controller w.state c
-      ≡ (order_of c IdentifyController ∷ order_of c (ActiveList 0) ∷ []) ++ namespace_orders c ns
-  greeted_orders r ns e n =
+  -- the batches of a controller are these two commands and then the commands for the NSIDs in the second answer
+  pub greeted_batches : (r : Reply) (ns : List ℕ) → Ok r ≡ then → ns ≡ nsids_told r
+      → batches_of_controller w.state c
+      ≡ (alone c IdentifyController ∷ alone c (ActiveList 0) ∷ []) ++ namespace_batches c ns
+  greeted_batches r ns e n =
       let said : ◌≡◌ {A = Answer} (Ok r) (Ok (reply.List (above 0 (active_nsids mid.state c)))) = e ∙ a2 in
       let same : r ≡ reply.List (above 0 (active_nsids mid.state c)) = cc in
       let active : active_nsids mid.state c ≡ active_nsids w.state c =
       ap (λ (x : State). active_nsids x c) is_one.subsystem
       ∙ (asked_alike w (order_of c IdentifyController) (sends controller)).active c
       in
-      ap (λ xs. order_of c IdentifyController ∷ order_of c (ActiveList 0) ∷ namespace_orders c xs)
+      ap (λ xs. alone c IdentifyController ∷ alone c (ActiveList 0) ∷ namespace_batches c xs)
       (sym (n ∙ ap nsids_told same ∙ ap (above 0) active))

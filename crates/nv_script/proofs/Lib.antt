@@ -1,4 +1,6 @@
 pub mod Words
+pub mod GoingLaws
+pub mod GroupLaws
 pub mod OutcomeLaws
 pub mod QueryLaws
 pub mod LookupLaws

@@ -1,12 +1,12 @@
 -- What one line leaves behind, by how its text was printed.
-use Rattle.nv_script.proofs.Words.{[], ℕ, ◌++◌, ◌+◌, ◌∙◌, ◌≡◌, Bool, Err, Left, LineResult, List, None, Ok, OutWrite}
-use Rattle.nv_script.proofs.Words.{Progress, Request, Result, RunEnd, Session, State, ap, append-nil, arith}
-use Rattle.nv_script.proofs.Words.{common_steps, inl, inr, left_at, length, next_cids_of, orders_of, outcome_of, refl}
-use Rattle.nv_script.proofs.Words.{subst, sym, take, take_all}
+use Rattle.nv_script.proofs.Words.{[], ℕ, ◌++◌, ◌+◌, ◌∙◌, ◌≡◌, Batch, Bool, Err, Left, LineResult, List, None, Ok}
+use Rattle.nv_script.proofs.Words.{OutWrite, Progress, Request, Result, RunEnd, Session, State, ap, append-nil, arith}
+use Rattle.nv_script.proofs.Words.{batches_of, common_steps, inl, inr, left_at, length, next_cids_of, orders_in_all}
+use Rattle.nv_script.proofs.Words.{orders_of, outcome_of, refl, subst, sym, take, take_all}
 use Rattle.std.proofs.Common.{◌≢◌, ◌⊎◌, Option, Some}
 use Rattle.std.specs.Prelude.{unwrap_or}
 use Rattle.std.specs.Io.KnownBytes.{Appends}
-use Rattle.nv_script.specs.Cuts.{Holds, state_amid}
+use Rattle.nv_script.specs.Cuts.{Holds, batches_amid, state_amid}
 use Rattle.nv_script.specs.inner.Feeding.{LineLeaves, PrintLeaves, ReportLeaves}
 use Rattle.nv_layout.specs.Steps.{◌>>=◌}
 use Rattle.nv_line.specs.Line.{NeedsNoMemory, begun, reading, reading_from}
@@ -29,16 +29,18 @@ took_same : (a b c : Option (List ℕ)) (x : List ℕ) → c ≡ b → Appends a
 took_same a b c x e h = subst (λ t. Appends a t x) (sym e) h
 
 module _ {A : Type 0} (p : Progress) (text : List ℕ) (lr : LineResult) (k : ℕ) (old : Left) (new : State)
-    (session : Session)
-    (same : result_at p text ≡ lr) (held : Holds old p.output p.messages p.state) (reached : new ≡ lr.state)
+    (session : Session) (went : List Batch → Type 0)
+    (same : result_at p text ≡ lr) (held : Holds old p.output p.messages p.state p.batches) (reached : new ≡ lr.state)
+    (gone : went (p.batches ++ lr.batches))
     (next : next_cids_of session.driver ≡ lr.next_cids)
     (number : session.number ≡ p.number + 1) (status : session.status ≡ unwrap_or lr.status p.status)
     (all : lr.state ≡ state_amid p.state p.next_cids (said_at p text) k)
+    (each : lr.batches ≡ batches_amid p.state (said_at p text) k)
     (asks : said_at p text ≢ Ok line.Skipped) where
   -- a line whose message was reported leaves what the result of the report says
   pub message_leaves : (r : Result A RunEnd) (messages : Option (List ℕ)) (failed : Bool) → lr.output ≡ []
       → ReportLeaves r lr.message old.messages messages failed
-      → LineLeaves r p text (left_at old.out_before old.out old.messages_before messages new) session
+      → LineLeaves r p text (left_at old.out_before old.out old.messages_before messages new went) session
   message_leaves (Ok done) messages failed none (inl h) =
       grind (arith, common_steps, took_none, Appends-join, Appends-at)
   message_leaves (Err end) messages failed none (inl h) = grind (arith, common_steps, Appends-join)
@@ -47,7 +49,7 @@ module _ {A : Type 0} (p : Progress) (text : List ℕ) (lr : LineResult) (k : �
   -- a line whose output was printed leaves what the result of the print says
   pub output_leaves : (r : Result A RunEnd) (t : List ℕ) (out : Option (List ℕ)) (failed : Bool)
       → lr.message ≡ [] → t ≡ lr.output → PrintLeaves r OutWrite t old.out out failed
-      → LineLeaves r p text (left_at old.out_before out old.messages_before old.messages new) session
+      → LineLeaves r p text (left_at old.out_before out old.messages_before old.messages new went) session
   output_leaves (Ok done) t out failed none is h = grind (arith, common_steps, Appends-join, Appends-at, took_none)
   output_leaves (Err end) t out failed none is h = grind (arith, common_steps, Appends-join)
 
@@ -110,21 +112,34 @@ pub result_fault : (p : Progress) (text : List ℕ) (f : LineFault) (s : State) 
     → result_at p text ≡ line_result s next_cids (n + 1) (Err f)
 result_fault p text f s next_cids n e es er en = grind (arith, common_steps)
 
--- after none of a line's orders, the state is the one before the line
-pub amid-zero : (s : State) (next_cids : List ℕ) (said : Said) → state_amid s next_cids said 0 ≡ s
-amid-zero s next_cids (Ok line.Skipped) = refl
-amid-zero s next_cids (Ok (line.Request r)) = refl
-amid-zero s next_cids (Err f) = refl
+-- none of a line's batches are no batches
+pub amid-zero : (s : State) (said : Said) → batches_amid s said 0 ≡ []
+amid-zero s (Ok line.Skipped) = refl
+amid-zero s (Ok (line.Request r)) = refl
+amid-zero s (Err f) = refl
 
--- the state after the first k orders of a line's request is the one amid the line
-pub amid-some : (p : Progress) (text : List ℕ) (r : Request) (s : State) (next_cids : List ℕ) (k : ℕ)
-    → said_at p text ≡ Ok (line.Request r) → s ≡ p.state → next_cids ≡ p.next_cids
-    → (outcome_of s next_cids (take k (orders_of s r.query))).state ≡ state_amid p.state p.next_cids (said_at p text) k
-amid-some p text r s next_cids k e es er = grind (arith, common_steps)
+-- before any of a line's batches, the state is the one before the line
+pub state-zero : (s : State) (next_cids : List ℕ) (said : Said) → state_amid s next_cids said 0 ≡ s
+state-zero s next_cids said = ap (λ bs. (outcome_of s next_cids (orders_in_all bs)).state) (amid-zero s said)
 
--- the state after all orders of a line's request is the one amid the line after all of them
-pub amid-all : (p : Progress) (text : List ℕ) (r : Request) (s : State) (next_cids : List ℕ)
-    → said_at p text ≡ Ok (line.Request r) → s ≡ p.state → next_cids ≡ p.next_cids
-    → (outcome_of s next_cids (orders_of s r.query)).state
-    ≡ state_amid p.state p.next_cids (said_at p text) (length (orders_of s r.query))
-amid-all p text r s next_cids e es er = grind (arith, common_steps, take_all, amid-some)
+-- the first k batches of a line's request are the first ones of the line
+pub amid-some : (p : Progress) (text : List ℕ) (r : Request) (s : State) (k : ℕ)
+    → said_at p text ≡ Ok (line.Request r) → s ≡ p.state
+    → take k (batches_of s r.query) ≡ batches_amid p.state (said_at p text) k
+amid-some p text r s k e es =
+    ap (λ (x : State). take k (batches_of x r.query)) es ∙ ap (λ x. batches_amid p.state x k) (sym e)
+
+-- all batches of a line's request are those of the line
+pub amid-all : (p : Progress) (text : List ℕ) (r : Request) (s : State)
+    → said_at p text ≡ Ok (line.Request r) → s ≡ p.state
+    → batches_of s r.query ≡ batches_amid p.state (said_at p text) (length (batches_of s r.query))
+amid-all p text r s e es =
+    let batches = batches_of s r.query in
+    sym (take_all (length batches) batches (omega arith)) ∙ amid-some p text r s (length batches) e es
+
+-- the state after a line's first batches, if they are these
+pub state-amid : (p : Progress) (said : Said) (s : State) (next_cids : List ℕ) (batches : List Batch) (k : ℕ)
+    → batches ≡ batches_amid p.state said k → s ≡ p.state → next_cids ≡ p.next_cids
+    → (outcome_of s next_cids (orders_in_all batches)).state ≡ state_amid p.state p.next_cids said k
+state-amid p said s next_cids batches k e es er =
+    λ i. (outcome_of (es i) (er i) (orders_in_all (e i))).state

@@ -1,10 +1,12 @@
 -- How the parts of `list` form the whole.
-use Rattle.nv_script.proofs.Words.{[], ℕ, ◌++◌, ◌+◌, ◌<◌, ◌∙◌, ◌∷◌, ◌≡◌, Answer, AreBegun, Command, Contains}
+use Rattle.nv_script.proofs.Words.{[], ℕ, ◌++◌, ◌+◌, ◌<◌, ◌∙◌, ◌∷◌, ◌≡◌, Answer, AreBegun, Batch, Command, Contains}
 use Rattle.nv_script.proofs.Words.{Contains-append_left, Err, IsListed, List, ListLeaves, Listing, NoText, Ok, Order}
 use Rattle.nv_script.proofs.Words.{Result, Send, Standing, State, answers_to, ap, append-nil, append_assoc, arith}
 use Rattle.nv_script.proofs.Words.{asked, asked_all, common_steps, drop, exchange_of, fold-append, get_or, length}
-use Rattle.nv_script.proofs.Words.{listing_of, listing_told, map, no_listing, order_of, refl, subst, sym}
+use Rattle.nv_script.proofs.Words.{listing_of, listing_told, map, no_listing, order_of, orders_in, orders_in_all, refl}
+use Rattle.nv_script.proofs.Words.{subst, sym}
 use Rattle.std.proofs.lemmas.List.{at_drop_more}
+use Rattle.std.proofs.lemmas.List.Concat.{flat_map-append}
 use Rattle.std.proofs.lemmas.List.Elements.{Contains-append_right}
 use Rattle.nv_script.specs.declared.performing.NoText.TheVariants as stop
 
@@ -12,12 +14,18 @@ use Rattle.nv_script.specs.declared.performing.NoText.TheVariants as stop
 abbrev pub first_standing : State → List ℕ → Standing
 first_standing s next_cids = record { state = s; next_cids = next_cids; listing = no_listing }
 
--- if all orders were executed, they were begun
-pub begun_all : (w : Standing) (orders : List Order) (s : State) (next_cids : List ℕ) → s ≡ (asked_all w orders).state
-    → next_cids ≡ (asked_all w orders).next_cids
-    → AreBegun w orders s next_cids
-begun_all w orders s next_cids state next =
-    record { done = orders; later = []; split = sym (append-nil orders); subsystem = state; next = next }
+-- if all batches were carried out, they were begun
+pub begun_all : (w : Standing) (batches : List Batch) (s : State) (next_cids : List ℕ) (went : List Batch → Type 0)
+    → s ≡ (asked_all w (orders_in_all batches)).state → next_cids ≡ (asked_all w (orders_in_all batches)).next_cids
+    → went batches → AreBegun w batches s next_cids went
+begun_all w batches s next_cids went state next gone = record {
+  done = batches;
+  later = [];
+  split = sym (append-nil batches);
+  subsystem = state;
+  next = next;
+  gone = gone;
+}
 
 -- the answers to some orders and to more are the answers to the first and then to the others after them
 answers-append : (w : Standing) (orders more : List Order)
@@ -40,51 +48,76 @@ pub told_more : (c : ℕ) (l : Listing) (ks : List Command) (xs : List Answer) (
     (drop (i + 1) xs)
 told_more c l ks xs i dk da some answered = grind (arith, common_steps, at_drop_more)
 
-module _ (w : Standing) (done all : List Order) where
-  -- a state after some of the next orders is a state after some of all orders
-  begun_within : (orders rest : List Order) (s : State) (next_cids : List ℕ) → all ≡ done ++ (orders ++ rest)
-      → AreBegun (asked_all w done) orders s next_cids → AreBegun w all s next_cids
-  begun_within orders rest s next_cids is h = record {
-    done = done ++ h.done;
-    later = h.later ++ rest;
-    split = is ∙ ap (λ x. done ++ (x ++ rest)) h.split ∙ ap (λ x. done ++ x) (append_assoc h.done h.later rest)
-        ∙ sym (append_assoc done h.done (h.later ++ rest));
-    subsystem = h.subsystem ∙ ap (λ (x : Standing). x.state) (sym (fold-append asked w done h.done));
-    next = h.next ∙ ap (λ (x : Standing). x.next_cids) (sym (fold-append asked w done h.done));
-  }
+module _ (w : Standing) (done all : List Batch) where
+  -- the standing after the first batches
+  abbrev there : Standing
+  there = asked_all w (orders_in_all done)
 
-  -- an answer among those to some of the orders is among the answers to all
-  answered_within : (orders rest : List Order) (a : Answer) → all ≡ done ++ (orders ++ rest)
-      → Contains (answers_to (asked_all w done) orders) a → Contains (answers_to w all) a
-  answered_within orders rest a is h =
-      let then = asked_all w done in
-      let these = answers-append then orders rest in
+  -- the standing after these and further batches
+  asked-append : (batches : List Batch)
+      → asked_all w (orders_in_all (done ++ batches)) ≡ asked_all there (orders_in_all batches)
+  asked-append batches =
+      ap (asked_all w) (flat_map-append orders_in done batches)
+      ∙ fold-append asked w (orders_in_all done) (orders_in_all batches)
+
+  -- an answer among those to some of the batches is among the answers to all
+  answered_within : (batches rest : List Batch) (a : Answer) → all ≡ done ++ (batches ++ rest)
+      → Contains (answers_to there (orders_in_all batches)) a → Contains (answers_to w (orders_in_all all)) a
+  answered_within batches rest a is h =
+      let first = orders_in_all done in
+      let these = orders_in_all batches in
+      let later = orders_in_all rest in
+      let split : orders_in_all all ≡ first ++ (these ++ later) =
+      ap orders_in_all is ∙ flat_map-append orders_in done (batches ++ rest)
+      ∙ ap (λ os. first ++ os) (flat_map-append orders_in batches rest) in
       subst (λ xs. Contains xs a)
-      (sym (ap (answers_to w) is ∙ answers-append w done (orders ++ rest) ∙ ap (λ xs. answers_to w done ++ xs) these))
-      (Contains-append_right (answers_to w done) (answers_to then orders ++ answers_to (asked_all then orders) rest) a
-      (Contains-append_left (answers_to then orders) (answers_to (asked_all then orders) rest) a h))
+      (sym (ap (answers_to w) split ∙ answers-append w first (these ++ later)
+      ∙ ap (λ xs. answers_to w first ++ xs) (answers-append there these later)))
+      (Contains-append_right (answers_to w first) (answers_to there these ++ answers_to (asked_all there these) later) a
+      (Contains-append_left (answers_to there these) (answers_to (asked_all there these) later) a h))
 
-  -- if a stop is right for some orders after those that were executed, it is right for all orders
-  pub stopped_within : (A B : Type 0) (e : NoText) (orders rest : List Order) (s : State) (next_cids : List ℕ)
-      (listing now : Listing) → all ≡ done ++ (orders ++ rest)
-      → ListLeaves {A = A} (Err e) (asked_all w done) orders s next_cids listing
-      → ListLeaves {A = B} (Err e) w all s next_cids now
-  stopped_within A B (stop.Refused status) orders rest s next_cids listing now is h =
-      answered_within orders rest (Err status) is h
-  stopped_within A B stop.Memory orders rest s next_cids listing now is h = begun_within orders rest s next_cids is h
-  stopped_within A B stop.NoReady orders rest s next_cids listing now is h = absurd h
+  -- if the standing after further batches is reached, so is the standing after all batches
+  pub listed_after : (batches : List Batch) (s : State) (next_cids : List ℕ) (listing : Listing)
+      → all ≡ done ++ batches
+      → IsListed (asked_all there (orders_in_all batches)) s next_cids listing
+      → IsListed (asked_all w (orders_in_all all)) s next_cids listing
+  listed_after batches s next_cids listing is h =
+      subst (λ x. IsListed x s next_cids listing)
+      (sym (ap (λ bs. asked_all w (orders_in_all bs)) is ∙ asked-append batches)) h
 
-  -- if the standing after further orders is reached, so is the standing after all orders
-  pub listed_after : (orders : List Order) (s : State) (next_cids : List ℕ) (listing : Listing) → all ≡ done ++ orders
-      → IsListed (asked_all (asked_all w done) orders) s next_cids listing
-      → IsListed (asked_all w all) s next_cids listing
-  listed_after orders s next_cids listing is h =
-      subst (λ x. IsListed x s next_cids listing) (sym (ap (asked_all w) is ∙ fold-append asked w done orders)) h
+  -- what is said of the further batches, and of all of them
+  module _ (then went : List Batch → Type 0)
+      (more : (batches : List Batch) → then batches → went (done ++ batches)) where
+    -- a state after some of the next batches is a state after some of all batches
+    begun_within : (batches rest : List Batch) (s : State) (next_cids : List ℕ) → all ≡ done ++ (batches ++ rest)
+        → AreBegun there batches s next_cids then → AreBegun w all s next_cids went
+    begun_within batches rest s next_cids is h = record {
+      done = done ++ h.done;
+      later = h.later ++ rest;
+      split = is ∙ ap (λ x. done ++ (x ++ rest)) h.split ∙ ap (λ x. done ++ x) (append_assoc h.done h.later rest)
+          ∙ sym (append_assoc done h.done (h.later ++ rest));
+      subsystem = h.subsystem ∙ ap (λ (x : Standing). x.state) (sym (asked-append h.done));
+      next = h.next ∙ ap (λ (x : Standing). x.next_cids) (sym (asked-append h.done));
+      gone = more h.done h.gone;
+    }
 
-  -- if a result is right for the further orders, it is right for all orders
-  pub leaves_after : {A : Type 0} (r : Result A NoText) (orders : List Order) (s : State) (next_cids : List ℕ)
-      (listing : Listing) → all ≡ done ++ orders
-      → ListLeaves r (asked_all w done) orders s next_cids listing → ListLeaves r w all s next_cids listing
-  leaves_after (Ok x) orders s next_cids listing is h = listed_after orders s next_cids listing is h
-  leaves_after {A = A} (Err e) orders s next_cids listing is h =
-      stopped_within A A e orders [] s next_cids listing listing (is ∙ ap (λ x. done ++ x) (sym (append-nil orders))) h
+    -- if a stop is right for some batches after those that were carried out, it is right for all batches
+    pub stopped_within : (A B : Type 0) (e : NoText) (batches rest : List Batch) (s : State) (next_cids : List ℕ)
+        (listing now : Listing) → all ≡ done ++ (batches ++ rest)
+        → ListLeaves {A = A} (Err e) there batches s next_cids listing then
+        → ListLeaves {A = B} (Err e) w all s next_cids now went
+    stopped_within A B (stop.Refused status) batches rest s next_cids listing now is h =
+        answered_within batches rest (Err status) is h
+    stopped_within A B stop.Memory batches rest s next_cids listing now is h =
+        begun_within batches rest s next_cids is h
+    stopped_within A B stop.NoReady batches rest s next_cids listing now is h = absurd h
+
+    -- if a result is right for the further batches, it is right for all batches
+    pub leaves_after : {A : Type 0} (r : Result A NoText) (batches : List Batch) (s : State) (next_cids : List ℕ)
+        (listing : Listing) → all ≡ done ++ batches
+        → ListLeaves r there batches s next_cids listing then → ListLeaves r w all s next_cids listing went
+    leaves_after (Ok x) batches s next_cids listing is h =
+        (listed_after batches s next_cids listing is h.0, subst went (sym is) (more batches h.1))
+    leaves_after {A = A} (Err e) batches s next_cids listing is h =
+        stopped_within A A e batches [] s next_cids listing listing
+        (is ∙ ap (λ x. done ++ x) (sym (append-nil batches))) h

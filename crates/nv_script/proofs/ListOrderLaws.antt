@@ -1,13 +1,15 @@
 -- The commands of `list` in a well-formed subsystem, controller by controller.
-use Rattle.nv_script.proofs.Words.{[], ℕ, ◌++◌, ◌+◌, ◌-◌, ◌<◌, ◌∙◌, ◌∷◌, ◌≡◌, ◌≤◌, ActiveList, Bool, IdentifyController}
-use Rattle.nv_script.proofs.Words.{IsAlike, IsWellFormed, List, Order, State, above, active_nsids, ap, append-nil}
-use Rattle.nv_script.proofs.Words.{arith, common_steps, controller, false, flat_map, if◌then◌else◌, length}
-use Rattle.nv_script.proofs.Words.{namespace_orders, nat_lt, order_of, orders_of_controller, orders_of_list}
-use Rattle.nv_script.proofs.Words.{range_with_len, suc, true}
+use Rattle.nv_script.proofs.Words.{[], ℕ, ◌++◌, ◌+◌, ◌-◌, ◌<◌, ◌∙◌, ◌∷◌, ◌≡◌, ◌≤◌, ActiveList, Batch, Bool}
+use Rattle.nv_script.proofs.Words.{IdentifyController, IsAlike, IsWellFormed, List, Order, State, above, active_nsids}
+use Rattle.nv_script.proofs.Words.{alone, ap, append-nil, arith, batches_of_controller, common_steps, controller}
+use Rattle.nv_script.proofs.Words.{false, flat_map, if◌then◌else◌, length, namespace_batches, nat_lt, orders_in_all}
+use Rattle.nv_script.proofs.Words.{orders_of, range_with_len, subst, suc, sym, true}
 use Rattle.std.specs.Prelude.{All, filter}
 use Rattle.std.proofs.lemmas.List.Elements.{All-tail}
 use Rattle.nv_model.proofs.LookupLaws.{IsInside, active_inside, attached, namespace}
+use Rattle.nv_script.proofs.GroupLaws.{controller_orders, list_orders, namespace_orders, orders_of_controller}
 use Rattle.nv_script.proofs.LookupLaws.{AreLookups, sends}
+use Rattle.nv_line.specs.declared.request.Query.TheVariants as query
 
 -- ---- they are lookups
 
@@ -42,36 +44,42 @@ module _ (nn : ℕ) where
   flat_lookups f h (c ∷ cs) = lookups-append (f c) (flat_map f cs) (h c) (flat_lookups f h cs)
 
 -- the orders of a controller in a well-formed subsystem are lookups
-pub controller_lookups : (s : State) (c : ℕ) → IsWellFormed s → AreLookups s.nn (orders_of_controller s c)
-controller_lookups s c w = (
+one_controller : (s : State) (c : ℕ) → IsWellFormed s → AreLookups s.nn (orders_of_controller s c)
+one_controller s c w = (
   sends controller,
   (sends attached, namespace_lookups s.nn c (λ n. nat_lt 0 n) (active_nsids s c) (active_inside s c w)),
 )
 
+-- so are those of its batches
+pub controller_lookups : (s : State) (c : ℕ) → IsWellFormed s
+    → AreLookups s.nn (orders_in_all (batches_of_controller s c))
+controller_lookups s c w = subst (AreLookups s.nn) (sym (controller_orders s c)) (one_controller s c w)
+
 -- the orders of `list` in a well-formed subsystem are lookups
-pub list_lookups : (s : State) → IsWellFormed s → AreLookups s.nn (orders_of_list s)
+pub list_lookups : (s : State) → IsWellFormed s → AreLookups s.nn (orders_of s query.List)
 list_lookups s w =
-    flat_lookups s.nn (orders_of_controller s) (λ c. controller_lookups s c w) (range_with_len 0 (length s.controllers))
+    subst (AreLookups s.nn) (sym (list_orders s))
+    (flat_lookups s.nn (orders_of_controller s) (λ c. one_controller s c w) (range_with_len 0 (length s.controllers)))
 
 -- ---- controller by controller
 
--- in alike states, a controller gets the same orders
-pub same_orders : (s now : State) (c : ℕ) → IsAlike s now → orders_of_controller now c ≡ orders_of_controller s c
-same_orders s now c h =
-    ap (λ ns. order_of c IdentifyController ∷ order_of c (ActiveList 0) ∷ namespace_orders c (above 0 ns)) (h.active c)
+-- in alike states, a controller gets the same batches
+pub same_batches : (s now : State) (c : ℕ) → IsAlike s now → batches_of_controller now c ≡ batches_of_controller s c
+same_batches s now c h =
+    ap (λ ns. alone c IdentifyController ∷ alone c (ActiveList 0) ∷ namespace_batches c (above 0 ns)) (h.active c)
 
--- the orders of a controller and of the later ones
-abbrev pub orders_from : State → ℕ → ℕ → List Order
-orders_from s i n = flat_map (orders_of_controller s) (range_with_len i (n - i))
+-- the batches of a controller and of the later ones
+abbrev pub batches_from : State → ℕ → ℕ → List Batch
+batches_from s i n = flat_map (batches_of_controller s) (range_with_len i (n - i))
 
--- the orders that are left are the next controller's, and then the later ones'
-pub next_controller : (s : State) (i n : ℕ) (all done : List Order) → i < n → all ≡ done ++ orders_from s i n
-    → all ≡ done ++ (orders_of_controller s i ++ orders_from s (i + 1) n)
+-- the batches that are left are the next controller's, and then the later ones'
+pub next_controller : (s : State) (i n : ℕ) (all done : List Batch) → i < n → all ≡ done ++ batches_from s i n
+    → all ≡ done ++ (batches_of_controller s i ++ batches_from s (i + 1) n)
 next_controller s i n all done below e =
     let more : n - i ≡ suc (n - (i + 1)) = omega arith in
-    e ∙ ap (λ m. done ++ flat_map (orders_of_controller s) (range_with_len i m)) more
+    e ∙ ap (λ m. done ++ flat_map (batches_of_controller s) (range_with_len i m)) more
 
--- if no controller is left, all orders are done
-pub no_controller_left : (s : State) (i n : ℕ) (all done : List Order) → n ≤ i → all ≡ done ++ orders_from s i n
+-- if no controller is left, all batches are done
+pub no_controller_left : (s : State) (i n : ℕ) (all done : List Batch) → n ≤ i → all ≡ done ++ batches_from s i n
     → all ≡ done
 no_controller_left s i n all done over e = grind (arith, common_steps, append-nil)

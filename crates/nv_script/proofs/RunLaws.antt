@@ -1,6 +1,7 @@
 -- How the pieces of a run form the whole run.
-use Rattle.nv_script.proofs.Words.{[], ℕ, ◌++◌, ◌+◌, ◌<◌, ◌∙◌, ◌∷◌, ◌≡◌, ◌≤◌, Bool, Err, Left, List, None, OutWrite}
-use Rattle.nv_script.proofs.Words.{Progress, RunEnd, RunState, Session, Stands, State, WasRead, ap, append-nil, arith}
+use Rattle.nv_script.proofs.Words.{[], ℕ, ◌++◌, ◌+◌, ◌<◌, ◌∙◌, ◌∷◌, ◌≡◌, ◌≤◌, Bool, DriverValue, Err, GoesAll, Going}
+use Rattle.nv_script.proofs.Words.{Left, List, None, OutWrite, Progress, RunEnd, RunState, Session, Stands, State}
+use Rattle.nv_script.proofs.Words.{WasRead, ap, append-nil, arith}
 use Rattle.nv_script.proofs.Words.{as_line, common_steps, false, fault_of, inl, inr, joined_lines, length}
 use Rattle.nv_script.proofs.Words.{length-append, length-take-le, nat_tests, next_cids_of, pieces, read_size, replicate}
 use Rattle.nv_script.proofs.Words.{subst, sym, take, whole}
@@ -8,12 +9,13 @@ use Rattle.std.proofs.Common.{◌==◌, ◌||◌, ◌↔◌, Option, Some}
 use Rattle.std.specs.Prelude.{IfSome}
 use Rattle.std.specs.Io.KnownBytes.{Consumes, IsAtEnd, Keeps}
 use Rattle.nv_script.specs.Cuts.{AreFailed, IsCutShort}
+use Rattle.nv_driver.specs.Driver.{new_driver}
 use Rattle.nv_driver.specs.inner.Driver.{error_without}
 use Rattle.nv_driver.specs.declared.error.DriverError.{DriverError}
 use Rattle.nv_driver.specs.declared.geometry.Geometry.{Geometry as DriverGeometry}
 use Rattle.nv_driver.specs.declared.geometry_field.GeometryField.{GeometryField}
-use Rattle.nv_script.specs.Ends.{AllEnabled, AreFaults, BringingUp, Headline, IsEndOf, IsRun, IsUp, Leaves, LeavesAll}
-use Rattle.nv_script.specs.Ends.{Runs, RunsFrom, begun, end_without, left_by}
+use Rattle.nv_script.specs.Ends.{AllEnabled, AreFaults, BringingUp, Headline, IsEndOf, IsRun, Leaves, LeavesAll}
+use Rattle.nv_script.specs.Ends.{Runs, RunsFrom, WithDriver, begun, end_without, left_by}
 use Rattle.nv_script.specs.inner.Feeding.{LastLeaves, PieceLeaves}
 use Rattle.nv_script.specs.ScriptLines.{IsReadToEnd, has_stopped, script_lines}
 use Rattle.nv_stream.specs.Streams.{IsFresh, SourceState}
@@ -50,10 +52,10 @@ read_first script e = record { first = Consumes-same script.to_come; count = sym
 
 -- before the first line, the state, the texts and the session are what a script without lines leaves
 pub stands_first : (s : State) (left : Left) (session : Session) → left.out ≡ left.out_before
-    → left.messages ≡ left.messages_before → left.state ≡ s
+    → left.messages ≡ left.messages_before → left.state ≡ s → left.went []
     → next_cids_of session.driver ≡ replicate (length s.controllers) 0 → session.number ≡ 0 → session.status ≡ 0
     → Stands (whole s (pieces []).ended) left session
-stands_first s left session eo em es er en et = grind (arith, common_steps, Appends-same)
+stands_first s left session eo em es gone er en et = grind (arith, common_steps, Appends-same)
 
 -- if the bytes are known and were read to their end, what holds for the bytes that were read holds for them
 read_whole : (old new : Option (List ℕ)) (bytes : List ℕ) (P : List ℕ → Type 0) → Consumes old new bytes → IsAtEnd new
@@ -62,10 +64,21 @@ read_whole None new bytes P h k p = tt
 read_whole (Some xs) None bytes P h k p = absurd h
 read_whole (Some xs) (Some ys) bytes P h k p = subst P (sym (h ∙ ap (λ z. bytes ++ z) k ∙ append-nil bytes)) p
 
--- a run from the subsystem as the first line finds it leaves what the headline says
-headline_with : (reads : ℕ) (end : RunEnd) (old new : RunState) → RunsFrom (begun old) reads end old new
-    → Headline end old new
-headline_with reads end old new h status is = grind (arith, common_steps, read_whole)
+-- a run with a driver leaves what the headline says
+headline_with : {B : Type 0} (brings_up : BringingUp B) (goes : Going B) (g : DriverGeometry) (reads : ℕ)
+    (end : RunEnd) (before after : B) (old new : RunState)
+    → WithDriver brings_up goes g before after old (λ went. RunsFrom (begun old) reads end went old new)
+    → Headline brings_up goes g end before after old new
+headline_with brings_up goes g reads end before after old new h status is =
+    let runs = h.3 in
+    let s = begun old in
+    let left = left_by (GoesAll goes (new_driver g (length old.subsystem.controllers)) h.0 h.1 after) old new in
+    let ended = subst (λ e. IsEndOf e reads new) is runs.end_of in
+    read_whole old.script.to_come new.script.to_come runs.bytes
+    (λ script. WithDriver brings_up goes g before after old
+    (λ went. LeavesAll status s script (left_by went old new)))
+    runs.was_read.first ended.0.at_end
+    (h.0, h.1, h.2, subst (λ e. Leaves e reads new.script s runs.bytes left) is runs.left)
 
 -- a run that was cut short in the last piece of a script was cut short
 pub last_cut : (end : RunEnd) (reads : ℕ) (script : SourceState) (s : State) (bytes : List ℕ) (left : Left)
@@ -154,38 +167,50 @@ pub without : (fault : Option GeometryField) (e : DriverError) (end : RunEnd) �
 without (Some field) e end same gives = gives.0 field same
 without None e end same gives = gives.1 same
 
--- a run from the subsystem that bringing up a driver leaves is a run
-pub with_driver : {B : Type 0} (brings_up : BringingUp B) (g : DriverGeometry) (reads : ℕ) (end : RunEnd)
-    (before after : B) (old new : RunState) (s : State) (enabled : List Bool) → fault_of g ≡ None → s ≡ begun old
-    → IsUp brings_up g before old → RunsFrom s reads end (record old { subsystem = s; enabled = enabled }) new
-    → AllEnabled new → Runs brings_up g reads end before after old new
-with_driver brings_up g reads end before after old new s enabled is same up runs all =
+-- a run from the bus and the driver that bringing it up leaves is a run
+pub with_driver : {B : Type 0} (brings_up : BringingUp B) (goes : Going B) (g : DriverGeometry) (reads : ℕ)
+    (end : RunEnd) (before up after : B) (first last : DriverValue) (old new : RunState) (s : State)
+    (enabled : List Bool) → fault_of g ≡ None → s ≡ begun old
+    → brings_up g (length old.subsystem.controllers) before up
+    → first ≡ new_driver g (length old.subsystem.controllers)
+    → RunsFrom s reads end (GoesAll goes first up last after) (record old { subsystem = s; enabled = enabled }) new
+    → AllEnabled new → Runs brings_up goes g reads end before after old new
+with_driver brings_up goes g reads end before up after first last old new s enabled is same brought driver runs all =
     inr (
       is,
-      up,
       all,
-      record {
-        bytes = runs.bytes;
-        was_read = runs.was_read;
-        left = subst (λ from. Leaves end reads new.script from runs.bytes (left_by old new)) same runs.left;
-        end_of = runs.end_of;
-        calls = runs.calls;
-      },
+      (
+        up,
+        last,
+        brought,
+        record {
+          bytes = runs.bytes;
+          was_read = runs.was_read;
+          left = subst (λ from. Leaves end reads new.script from runs.bytes
+              (left_by (GoesAll goes (new_driver g (length old.subsystem.controllers)) up last after) old new)) same
+              (subst (λ (d : DriverValue). Leaves end reads new.script s runs.bytes
+              (left_by (GoesAll goes d up last after) old new)) driver runs.left);
+          end_of = runs.end_of;
+          calls = runs.calls;
+        },
+      ),
     )
 
 -- ---- the main promise
 
--- an end without a driver isn't a status, so that the headline holds
-headline_without : (o : Option GeometryField) (old new : RunState) → Headline (end_without o) old new
-headline_without None old new status e = absurd (cc)
-headline_without (Some field) old new status e = absurd (cc)
+-- an end without a driver isn't a status
+no_status : (o : Option GeometryField) (status : ℕ) → end_without o ≡ Status status → ⊥
+no_status None status e = absurd (cc)
+no_status (Some field) status e = absurd (cc)
 
 -- each run leaves what the headline says
-runs_headline : {B : Type 0} (brings_up : BringingUp B) (g : DriverGeometry) (reads : ℕ) (end : RunEnd)
-    (before after : B) (old new : RunState) → Runs brings_up g reads end before after old new → Headline end old new
-runs_headline brings_up g reads end before after old new (inl h) =
-    subst (λ x. Headline x old new) (sym h.0) (headline_without (fault_of g) old new)
-runs_headline brings_up g reads end before after old new (inr h) = headline_with reads end old new h.3
+runs_headline : {B : Type 0} (brings_up : BringingUp B) (goes : Going B) (g : DriverGeometry) (reads : ℕ)
+    (end : RunEnd) (before after : B) (old new : RunState)
+    → Runs brings_up goes g reads end before after old new → Headline brings_up goes g end before after old new
+runs_headline brings_up goes g reads end before after old new (inl h) status e =
+    absurd (no_status (fault_of g) status (sym h.0 ∙ e))
+runs_headline brings_up goes g reads end before after old new (inr h) status e =
+    headline_with brings_up goes g reads end before after old new h.2 status e
 
 -- ---- the geometry
 
@@ -197,14 +222,14 @@ geometry_without (Some f) field =
     (λ e. let same : f ≡ field = cc in ap Some same, λ e. let same : f ≡ field = cc in ap Geometry same)
 
 -- a run ends with a field of the geometry if and only if that is the first one outside its limits
-runs_geometry : {B : Type 0} (brings_up : BringingUp B) (g : DriverGeometry) (reads : ℕ) (end : RunEnd)
-    (before after : B) (old new : RunState) (field : GeometryField) → Runs brings_up g reads end before after old new
-    → (end ≡ Geometry field) ↔ (fault_of g ≡ Some field)
-runs_geometry brings_up g reads end before after old new field (inl h) =
+runs_geometry : {B : Type 0} (brings_up : BringingUp B) (goes : Going B) (g : DriverGeometry) (reads : ℕ)
+    (end : RunEnd) (before after : B) (old new : RunState) (field : GeometryField)
+    → Runs brings_up goes g reads end before after old new → (end ≡ Geometry field) ↔ (fault_of g ≡ Some field)
+runs_geometry brings_up goes g reads end before after old new field (inl h) =
     subst (λ x. (x ≡ Geometry field) ↔ (fault_of g ≡ Some field)) (sym h.0) (geometry_without (fault_of g) field)
-runs_geometry brings_up g reads end before after old new field (inr h) =
+runs_geometry brings_up goes g reads end before after old new field (inr h) =
     let is = h.0 in
-    let ended = h.3.end_of in grind (arith, common_steps, is, ended)
+    let ended = h.2.3.end_of in grind (arith, common_steps, is, ended)
 
 -- ---- the faults
 
@@ -244,18 +269,20 @@ faults_without (Some field) reads now well = grind (arith, common_steps)
 faults_without None reads now well = faults_with reads Memory now (well.out, well.messages)
 
 -- each run has the faults of AreFaults, if the streams were well before it
-faults : {B : Type 0} (brings_up : BringingUp B) (g : DriverGeometry) (reads : ℕ) (end : RunEnd) (before after : B)
-    (old new : RunState) → IsWell reads old → Runs brings_up g reads end before after old new → AreFaults reads end new
-faults brings_up g reads end before after old new well (inl h) = grind (arith, common_steps, faults_without)
-faults brings_up g reads end before after old new well (inr h) = faults_with reads end new h.3.end_of
+faults : {B : Type 0} (brings_up : BringingUp B) (goes : Going B) (g : DriverGeometry) (reads : ℕ) (end : RunEnd)
+    (before after : B) (old new : RunState) → IsWell reads old → Runs brings_up goes g reads end before after old new
+    → AreFaults reads end new
+faults brings_up goes g reads end before after old new well (inl h) = grind (arith, common_steps, faults_without)
+faults brings_up goes g reads end before after old new well (inr h) = faults_with reads end new h.2.3.end_of
 
 -- all that a run promises follows from how it ends
-pub is_run : {B : Type 0} (brings_up : BringingUp B) (g : DriverGeometry) (reads : ℕ) (end : RunEnd) (before after : B)
-    (old new : RunState) → IsWell reads old → Runs brings_up g reads end before after old new
-    → IsRun brings_up g reads end before after old new
-is_run brings_up g reads end before after old new well h = record {
-  headline = runs_headline brings_up g reads end before after old new h;
+pub is_run : {B : Type 0} (brings_up : BringingUp B) (goes : Going B) (g : DriverGeometry) (reads : ℕ) (end : RunEnd)
+    (before after : B) (old new : RunState) → IsWell reads old
+    → Runs brings_up goes g reads end before after old new
+    → IsRun brings_up goes g reads end before after old new
+is_run brings_up goes g reads end before after old new well h = record {
+  headline = runs_headline brings_up goes g reads end before after old new h;
   ends = h;
-  geometry = λ field. runs_geometry brings_up g reads end before after old new field h;
-  faults = faults brings_up g reads end before after old new well h;
+  geometry = λ field. runs_geometry brings_up goes g reads end before after old new field h;
+  faults = faults brings_up goes g reads end before after old new well h;
 }

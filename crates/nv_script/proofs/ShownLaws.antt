@@ -3,9 +3,9 @@ use Rattle.nv_script.proofs.Words.{[], ℕ, ◌++◌, ◌∙◌, ◌∷◌, ◌�
 use Rattle.nv_script.proofs.Words.{List, Listing, None, Ok, Order, Outcome, Query, Refusal, Reply, Result, Send, Shown}
 use Rattle.nv_script.proofs.Words.{State, Status, above, active_nsids, answer_received, ap, append-nil, append_assoc}
 use Rattle.nv_script.proofs.Words.{arith, common_steps, exchange_by, exchange_of, false, flat_map, get_or}
-use Rattle.nv_script.proofs.Words.{if◌then◌else◌, listing_of, listing_told, map, map-append, namespace_orders, nat_lt}
-use Rattle.nv_script.proofs.Words.{nat_tests, option_map_or, order_of, orders_of_controller, outcome_after, outcome_of}
-use Rattle.nv_script.proofs.Words.{refl, refusal_of, reply_of, step_by, suc, sym, true}
+use Rattle.nv_script.proofs.Words.{if◌then◌else◌, length, listing_of, listing_told, map, map-append, nat_lt, no_listing}
+use Rattle.nv_script.proofs.Words.{nat_tests, option_map_or, order_of, orders_of, outcome_after, outcome_of}
+use Rattle.nv_script.proofs.Words.{range_with_len, refl, refusal_of, reply_of, step_by, suc, sym, true}
 use Rattle.std.proofs.Common.{◌/◌, Option, Some, zero}
 use Rattle.std.specs.Prelude.{IsSome}
 use Rattle.std.proofs.lemmas.List.Concat.{flat_map-append}
@@ -24,6 +24,7 @@ use Rattle.nv_model.specs.State.{controller_at}
 use Rattle.nv_model.specs.WellFormed.{is_supported, supported}
 use Rattle.nv_print.specs.Message.{select_of}
 use Rattle.nv_print.specs.declared.select.Select.{Select}
+use Rattle.nv_script.proofs.GroupLaws.{list_orders, namespace_orders, orders_of_controller}
 use Rattle.nv_script.specs.EachShown.{EachIsShown, IsListed, IsShown, attached_numbers, device_numbers}
 use Rattle.nv_script.specs.Shown.{feature_set, feature_value, shown_by, shown_of_one}
 use Rattle.nv_command.specs.declared.command.Command.TheVariants as command
@@ -230,7 +231,9 @@ asked_of_controllers s (c ∷ cs) =
 
 -- `list` shows each attached namespace once if none of its orders is refused
 list_is_shown : (s : State) (next_cids : List ℕ) → IsListed s next_cids
-list_is_shown s next_cids e = grind (arith, common_steps, all_listed, asked_of_controllers)
+list_is_shown s next_cids e =
+    all_listed (orders_of s query.List) s next_cids no_listing e ∙ ap (flat_map order_place) (list_orders s)
+    ∙ asked_of_controllers s (range_with_len 0 (length s.controllers))
 
 -- each query shows something if none of its orders is refused
 is_shown : (s : State) (next_cids : List ℕ) (q : Query) → IsShown s next_cids q

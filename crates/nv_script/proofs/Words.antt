@@ -28,7 +28,10 @@ pub use Rattle.nv_model.specs.WellFormed.{IsWellFormed}
 pub use Rattle.nv_print.specs.declared.shown.Shown.{Shown}
 pub use Rattle.nv_script.specs.Cuts.{Left, joined_lines, left_at}
 pub use Rattle.nv_script.specs.Ends.{RunState, WasRead, run_state}
-pub use Rattle.nv_script.specs.Orders.{namespace_orders, orders_of, orders_of_controller, orders_of_list, orders_of_one}
+pub use Rattle.nv_script.specs.Going.{GoesAll, Going}
+pub use Rattle.nv_script.specs.Orders.{Batch, Commands, alone, asking_for, batches_of, batches_of_controller}
+pub use Rattle.nv_script.specs.Orders.{batches_of_list, batches_of_one, namespace_batches, orders_in, orders_in_all}
+pub use Rattle.nv_script.specs.Orders.{orders_of}
 pub use Rattle.nv_script.specs.Outcomes.{Act, Exchange, Order, Outcome, Reset, Send, exchange_by, exchange_of}
 pub use Rattle.nv_script.specs.Outcomes.{exchange_with, order_of, outcome_after, outcome_of}
 pub use Rattle.nv_script.specs.Results.{LineResult, Progress, after, whole}

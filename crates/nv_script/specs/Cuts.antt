@@ -3,9 +3,9 @@ use Rattle.std.specs.Prelude.{◌≡◌, ◌≢◌, ℕ, ◌+◌, ◌<◌, Bool,
 use Rattle.std.specs.Prelude.{take, flat_map, Option, Result, Ok, Err}
 use Rattle.std.specs.Io.KnownBytes.{Appends}
 use Rattle.nv_model.specs.State.{State}
-use Rattle.nv_script.specs.Orders.{orders_of}
+use Rattle.nv_script.specs.Orders.{Batch, batches_of, orders_in_all}
 use Rattle.nv_script.specs.Outcomes.{outcome_of}
-use Rattle.nv_script.specs.Results.{Progress, result_at, said_at, whole}
+use Rattle.nv_script.specs.Results.{Progress, after, result_at, said_at, whole}
 use Rattle.nv_script.specs.ScriptLines.{AreRead}
 use Rattle.nv_stream.specs.Streams.{IsBeginning, SourceState}
 use Rattle.nv_script.specs.declared.ends.RunEnd.{RunEnd}
@@ -15,61 +15,68 @@ use Rattle.nv_line.specs.declared.line.Line.{Line}
 use Rattle.nv_line.specs.declared.line.Line.TheVariants as line
 use Rattle.nv_stream.specs.Streams.{read_size}
 
--- the streams and the subsystem: what each sink had taken before a run and has taken since, if that
--- is known
-pub record Left : Type 0 where
+-- the streams, the subsystem and the bus: what each sink had taken before a run and has taken since, if that
+-- is known, and what is said of the batches that went
+pub record Left : Type 1 where
   pub out_before : Option (List ℕ)
   pub out : Option (List ℕ)
   pub messages_before : Option (List ℕ)
   pub messages : Option (List ℕ)
   pub state : State
+  pub went : List Batch → Type 0
 
--- the streams and the subsystem with these values
+-- the streams, the subsystem and the bus with these values
 abbrev pub left_at : Option (List ℕ) → Option (List ℕ) → Option (List ℕ) → Option (List ℕ) → State
-    → Left
-left_at out_before out messages_before messages state = record {
+    → (List Batch → Type 0) → Left
+left_at out_before out messages_before messages state went = record {
   out_before = out_before;
   out = out;
   messages_before = messages_before;
   messages = messages;
   state = state;
+  went = went;
 }
 
--- the streams have taken these texts, and this is the state of the subsystem
-pub record Holds (left : Left) (output messages : List ℕ) (state : State) : Type 0 where
+-- the streams have taken these texts, this is the state of the subsystem, and these batches went
+pub record Holds (left : Left) (output messages : List ℕ) (state : State) (batches : List Batch) : Type 0 where
   pub took_output : Appends left.out_before left.out output
   pub took_messages : Appends left.messages_before left.messages messages
   pub reached : left.state ≡ state
+  pub went : left.went batches
 
--- the texts and the state after all these lines
+-- the texts, the state and the batches after all these lines
 abbrev pub HoldsWhole : State → List (List ℕ) → Left → Type 0
 HoldsWhole s lines left =
-    Holds left (whole s lines).output (whole s lines).messages (whole s lines).state
+    let p = whole s lines in Holds left p.output p.messages p.state p.batches
 
--- the state after the first k orders of a line
+-- the first k batches of a line
+abbrev pub batches_amid : State → Result Line LineFault → ℕ → List Batch
+batches_amid s (Ok line.Skipped) k = []
+batches_amid s (Ok (line.Request r)) k = take k (batches_of s r.query)
+batches_amid s (Err fault) k = []
+
+-- the state after them
 abbrev pub state_amid : State → List ℕ → Result Line LineFault → ℕ → State
-state_amid s next_cids (Ok line.Skipped) k = s
-state_amid s next_cids (Ok (line.Request r)) k =
-    (outcome_of s next_cids (take k (orders_of s r.query))).state
-state_amid s next_cids (Err fault) k = s
+state_amid s next_cids said k = (outcome_of s next_cids (orders_in_all (batches_amid s said k))).state
 
 -- How a line after p is cut short. The output failed: the texts before the line are complete,
--- followed by a beginning of its output; the subsystem is in the state after the line.
+-- followed by a beginning of its output; the subsystem and the bus are as after the line.
 abbrev pub IsOutputBeginning : Progress → List ℕ → Left → Type 0
 IsOutputBeginning p line left = (part : List ℕ) × IsBeginning part (result_at p line).output
-    × Holds left (p.output ++ part) p.messages (result_at p line).state
+    × Holds left (p.output ++ part) p.messages (after p line).state (after p line).batches
 
 -- the messages failed: the texts before the line are complete, followed by a beginning of its message
 abbrev pub IsMessageBeginning : Progress → List ℕ → Left → Type 0
 IsMessageBeginning p line left = (part : List ℕ) × IsBeginning part (result_at p line).message
-    × Holds left p.output (p.messages ++ part) (result_at p line).state
+    × Holds left p.output (p.messages ++ part) (after p line).state (after p line).batches
 
--- memory was refused, at a line that isn't skipped: nothing of it is written, and some of its orders
--- were executed
+-- memory was refused, at a line that isn't skipped: nothing of it is written, and some of its batches
+-- went and were executed
 abbrev pub IsMemoryBeginning : Progress → List ℕ → Left → Type 0
-IsMemoryBeginning p text left = (k : ℕ)
-    × Holds left p.output p.messages (state_amid p.state p.next_cids (said_at p text) k)
-    × (said_at p text ≢ Ok line.Skipped)
+IsMemoryBeginning p text left =
+    let said = said_at p text in
+    (k : ℕ) × Holds left p.output p.messages (state_amid p.state p.next_cids said k)
+    (p.batches ++ batches_amid p.state said k) × (said ≢ Ok line.Skipped)
 
 -- what an end in a line after p leaves; no other end than these three cuts a line short
 abbrev pub IsCutIn : RunEnd → Progress → List ℕ → Left → Type 0

@@ -5,10 +5,14 @@ use Rattle.std.specs.Io.KnownBytes.{Consumes}
 use Rattle.nv_model.specs.Step.{reset_where}
 use Rattle.nv_model.specs.State.{State}
 use Rattle.nv_bus.specs.Bus.{BusValue, enabled_in}
+use Rattle.nv_driver.specs.Driver.{new_driver}
 use Rattle.nv_driver.specs.Geometry.{fault_of}
+use Rattle.nv_driver.specs.Settled.{DriverValue}
 use Rattle.nv_driver.specs.declared.geometry.Geometry.{Geometry as DriverGeometry}
 use Rattle.nv_driver.specs.declared.geometry_field.GeometryField.{GeometryField}
 use Rattle.nv_script.specs.Cuts.{AreFailed, IsCutShort, HoldsWhole, Left, left_at}
+use Rattle.nv_script.specs.Going.{Going, GoesAll}
+use Rattle.nv_script.specs.Orders.{Batch}
 use Rattle.nv_script.specs.Results.{whole}
 use Rattle.nv_script.specs.ScriptLines.{IsReadToEnd, has_stopped, pieces, script_lines}
 use Rattle.nv_stream.specs.Streams.{SinkState, SourceState}
@@ -42,10 +46,10 @@ begun old = reset_where old.enabled old.subsystem
 abbrev pub AllEnabled : RunState → Type 0
 AllEnabled now = now.enabled ≡ replicate (length now.subsystem.controllers) true
 
--- what a run left, with what there was before it
-abbrev pub left_by : RunState → RunState → Left
-left_by old new =
-    left_at old.out.taken new.out.taken old.messages.taken new.messages.taken new.subsystem
+-- what a run left, with what there was before it, and what is said of the batches that went
+abbrev pub left_by : (List Batch → Type 0) → RunState → RunState → Left
+left_by went old new =
+    left_at old.out.taken new.out.taken old.messages.taken new.messages.taken new.subsystem went
 
 -- the bytes that a run read: the first of the bytes to come, if those are known, and as many as were
 -- given
@@ -76,11 +80,12 @@ IsEndOf Read reads now = (has_stopped reads now.script ≡ true)
     × (now.out.has_failed ≡ false) × (now.messages.has_failed ≡ false)
 IsEndOf end reads now = AreFailed end now.out.has_failed now.messages.has_failed
 
--- a run of at most so many reads, which began at s
-pub record RunsFrom (s : State) (reads : ℕ) (end : RunEnd) (old new : RunState) : Type 0 where
+-- a run of at most so many reads, which began at s, with what is said of the batches that went
+pub record RunsFrom (s : State) (reads : ℕ) (end : RunEnd) (went : List Batch → Type 0) (old new : RunState)
+    : Type 0 where
   pub bytes : List ℕ
   pub was_read : WasRead old.script new.script bytes
-  pub left : Leaves end reads new.script s bytes (left_by old new)
+  pub left : Leaves end reads new.script s bytes (left_by went old new)
   pub end_of : IsEndOf end reads new
   pub calls : new.script.calls ≤ reads
 
@@ -95,26 +100,32 @@ end_without None = Memory
 abbrev pub BringingUp : Type 0 → Type 1
 BringingUp B = DriverGeometry → ℕ → B → B → Type 0
 
--- a driver of this geometry was brought up for all controllers
-abbrev pub IsUp : {B : Type 0} → BringingUp B → DriverGeometry → B → RunState → Type 0
-IsUp {B} brings_up g before old = (up : B) × brings_up g (length old.subsystem.controllers) before up
+-- a driver of this geometry was brought up for all controllers, then batches went by it, of which this
+-- holds, and nothing else was done
+abbrev pub WithDriver : {B : Type 0} → BringingUp B → Going B → DriverGeometry → B → B → RunState
+    → ((List Batch → Type 0) → Type 0) → Type 0
+WithDriver {B} brings_up goes g before after old holds =
+    let n = length old.subsystem.controllers in
+    (up : B) × (last : DriverValue) × brings_up g n before up
+    × holds (GoesAll goes (new_driver g n) up last after)
 
 -- A run without a driver changes nothing, and the bus is the one from before. A run with a driver
--- has a geometry within its limits, by which the driver is brought up, and which has no other effect
--- on what is left, and leaves each controller enabled.
-abbrev pub Runs : {B : Type 0} → BringingUp B → DriverGeometry → ℕ → RunEnd → B → B → RunState → RunState
-    → Type 0
-Runs brings_up g reads end before after old new =
+-- has a geometry within its limits, by which the driver is brought up and sends its commands, and which
+-- has no other effect on what is left, and leaves each controller enabled.
+abbrev pub Runs : {B : Type 0} → BringingUp B → Going B → DriverGeometry → ℕ → RunEnd → B → B
+    → RunState → RunState → Type 0
+Runs brings_up goes g reads end before after old new =
     ((end ≡ end_without (fault_of g)) × (after ≡ before) × (new ≡ old))
-    ⊎ ((fault_of g ≡ None) × IsUp brings_up g before old × AllEnabled new
-    × RunsFrom (begun old) reads end old new)
+    ⊎ ((fault_of g ≡ None) × AllEnabled new
+    × WithDriver brings_up goes g before after old (λ went. RunsFrom (begun old) reads end went old new))
 
 -- the headline: a script whose bytes are known and that was read to its end leaves what the fold
 -- over its lines says
-abbrev pub Headline : RunEnd → RunState → RunState → Type 0
-Headline end old new = (status : ℕ) → end ≡ Status status
-    → IfSome old.script.to_come
-    (λ script. LeavesAll status (begun old) script (left_by old new))
+abbrev pub Headline : {B : Type 0} → BringingUp B → Going B → DriverGeometry → RunEnd → B → B
+    → RunState → RunState → Type 0
+Headline brings_up goes g end before after old new = (status : ℕ) → end ≡ Status status
+    → IfSome old.script.to_come (λ script. WithDriver brings_up goes g before after old
+    (λ went. LeavesAll status (begun old) script (left_by went old new)))
 
 -- When each fault occurs: a failed write if and only if that sink has failed; a failed read if and
 -- only if the source has stopped, no write failed and no memory was refused; and a controller that
@@ -128,12 +139,12 @@ pub record AreFaults (reads : ℕ) (end : RunEnd) (now : RunState) : Type 0 wher
       × (now.messages.has_failed ≡ false) × (end ≢ Memory))
 
 -- What a run of at most so many reads promises, with the bus before and after it.
-pub record IsRun {B : Type 0} (brings_up : BringingUp B) (g : DriverGeometry) (reads : ℕ) (end : RunEnd)
-    (before after : B) (old new : RunState) : Type 0 where
+pub record IsRun {B : Type 0} (brings_up : BringingUp B) (goes : Going B) (g : DriverGeometry) (reads : ℕ)
+    (end : RunEnd) (before after : B) (old new : RunState) : Type 0 where
   -- what a script whose bytes are known leaves if it was read to its end
-  pub headline : Headline end old new
+  pub headline : Headline brings_up goes g end before after old new
   -- what each end leaves, and how many reads there were
-  pub ends : Runs brings_up g reads end before after old new
+  pub ends : Runs brings_up goes g reads end before after old new
   -- when each fault occurs
   pub geometry : (field : GeometryField) → (end ≡ Geometry field) ↔ (fault_of g ≡ Some field)
   pub faults : AreFaults reads end new

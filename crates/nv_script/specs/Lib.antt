@@ -1,6 +1,7 @@
 pub use Rattle.nv_line.specs.LineFault
 pub use Rattle.nv_line.specs.Line
 pub mod Orders
+pub mod Going
 pub mod Outcomes
 pub mod Shown
 pub mod EachShown

@@ -4,7 +4,7 @@ use Rattle.std.specs.Prelude.{Ok, Err, unwrap_or, fold}
 use Rattle.nv_layout.specs.declared.cqe.Status.{Status}
 use Rattle.nv_model.specs.State.{State}
 use Rattle.nv_command.specs.declared.reply.Reply.{Reply}
-use Rattle.nv_script.specs.Orders.{orders_of}
+use Rattle.nv_script.specs.Orders.{Batch, batches_of, batches_with, orders_of}
 use Rattle.nv_script.specs.Outcomes.{Outcome, outcome_of}
 use Rattle.nv_script.specs.Shown.{output_of, shown_of}
 use Rattle.nv_line.specs.Line.{reading}
@@ -16,14 +16,15 @@ use Rattle.nv_line.specs.declared.line.Line.{Line}
 use Rattle.nv_line.specs.declared.line.Line.TheVariants as line
 use Rattle.nv_line.specs.declared.request.Request.{Request}
 
--- what a line prints, on at most one of the two streams; its status, if it has one; and the state
--- after it
+-- what a line prints, on at most one of the two streams; its status, if it has one; the state after it;
+-- and what went to controllers for it
 pub record LineResult : Type 0 where
   pub output : List ℕ
   pub message : List ℕ
   pub status : Option ℕ
   pub state : State
   pub next_cids : List ℕ
+  pub batches : List Batch
 
 -- the message about what is wrong with the line of this number
 abbrev pub message_at : ℕ → FaultCause → List ℕ
@@ -33,7 +34,8 @@ message_at number cause = message_of (record { line = number; cause = cause })
 abbrev pub output_for : State → Request → List Reply → List ℕ
 output_for s r replies = output_of r.format (shown_of (orders_of s r.query) r.query replies)
 
--- a request in state s prints what it shows, or the message of its refusal
+-- a request in state s prints what it shows, or the message of its refusal; after the batch with a
+-- refused order no further one goes
 abbrev pub answer_result : Option Status → ℕ → State → Request → Outcome → LineResult
 answer_result None number s r o = record {
   output = output_for s r o.replies;
@@ -41,6 +43,7 @@ answer_result None number s r o = record {
   status = Some 0;
   state = o.state;
   next_cids = o.next_cids;
+  batches = batches_of s r.query;
 }
 answer_result (Some status) number s r o = record {
   output = [];
@@ -48,6 +51,7 @@ answer_result (Some status) number s r o = record {
   status = Some 2;
   state = o.state;
   next_cids = o.next_cids;
+  batches = batches_with (length o.replies + 1) (batches_of s r.query);
 }
 
 -- a request prints by whether its outcome is a refusal
@@ -62,6 +66,7 @@ quiet_result s next_cids message status = record {
   status = status;
   state = s;
   next_cids = next_cids;
+  batches = [];
 }
 
 -- the result of the line with this number
@@ -72,8 +77,9 @@ line_result s next_cids number (Ok (line.Request r)) =
 line_result s next_cids number (Err fault) =
     quiet_result s next_cids (message_at number (cause.Line fault)) (Some 1)
 
--- the progress of a script between two lines: what was printed, the status of the last line that
--- has one, the subsystem, the next command identifier of each controller, and how many lines there were
+-- the progress of a script between two lines: what was printed, the status of the last line that has one,
+-- the subsystem, the next command identifier of each controller, how many lines there were, and what went
+-- to controllers
 pub record Progress : Type 0 where
   pub output : List ℕ
   pub messages : List ℕ
@@ -81,6 +87,7 @@ pub record Progress : Type 0 where
   pub state : State
   pub next_cids : List ℕ
   pub number : ℕ
+  pub batches : List Batch
 
 -- the meaning of the next line
 abbrev pub said_at : Progress → List ℕ → Result Line LineFault
@@ -99,6 +106,7 @@ progress_with p r = record {
   state = r.state;
   next_cids = r.next_cids;
   number = p.number + 1;
+  batches = p.batches ++ r.batches;
 }
 
 -- the progress after one more line
@@ -114,6 +122,7 @@ start s = record {
   state = s;
   next_cids = replicate (length s.controllers) 0;
   number = 0;
+  batches = [];
 }
 
 -- a whole script, from this state on

@@ -11,12 +11,16 @@ ghost use Rattle.nv_line.specs.Line.{IsKnown, NeedsNoMemory, begun, reading};
 ghost use Rattle.nv_line.specs.Word.{line_limit};
 ghost use Rattle.nv_script.specs.Results.{Progress, message_at};
 ghost use Rattle.nv_script.specs.inner.ScriptLines.{buffer_after, buffer_of};
+ghost use Rattle.nv_driver.specs.BringingUp.{Still};
 ghost use Rattle.nv_driver.specs.Linked.{IsLinked};
+ghost use Rattle.nv_driver.specs.Settled.{DriverValue};
+ghost use Rattle.nv_script.specs.Going.{Goes, GoesAll};
 
 use crate::ends::RunEnd;
 use crate::performing::{NoText, perform};
 use crate::session::Session;
 use nv_bus::Bus;
+use nv_driver::{Ringing, Zeroing};
 use nv_line::{CtrlList, LINE_LIMIT, Line, LineFault, LineReader};
 use nv_print::{Fault, FaultCause, message};
 use nv_stream::{Sink, write_all};
@@ -123,7 +127,7 @@ fn report<M: Sink>(session: &Session, messages: &mut M, cause: FaultCause) -> Re
 }
 
 /// Executes the line in the buffer, and empties it.
-pub(crate) fn execute_line<B: Bus, O: Sink, M: Sink>(
+pub(crate) fn execute_line<B: Bus + Ringing + Zeroing, O: Sink, M: Sink>(
     bus: &mut B,
     session: &mut Session,
     out: &mut O,
@@ -136,13 +140,16 @@ pub(crate) fn execute_line<B: Bus, O: Sink, M: Sink>(
     requires linked { IsLinked (B.meaning bus.old) session.old.driver }
     requires number { session.old.number + 1 < 2 ^ 64 }
     // If the run was at p, it is then after p and this line, or was cut short in this line.
-    ensures left { (text : List ℕ) (p : Progress) (o m : Option (List ℕ))
-        → line.old ≡ buffer_of text
+    ensures left { (text : List ℕ) (p : Progress) (o m : Option (List ℕ)) (d : DriverValue) (up : B)
+        → let goes = Goes B.meaning B.was_written (Still B.was_read) B.was_zeroed B.was_rung B.was_turned in
+        line.old ≡ buffer_of text
         → Stands p
-        (left_at o (O.state out.old).taken m (M.state messages.old).taken (B.meaning bus.old).state)
+        (left_at o (O.state out.old).taken m (M.state messages.old).taken (B.meaning bus.old).state
+        (GoesAll goes d up session.old.driver bus.old))
         session.old
         → LineLeaves result p text
-        (left_at o (O.state out.new).taken m (M.state messages.new).taken (B.meaning bus.new).state)
+        (left_at o (O.state out.new).taken m (M.state messages.new).taken (B.meaning bus.new).state
+        (GoesAll goes d up session.new.driver bus.new))
         session.new }
     ensures failure { IsFailureOf result
         (O.state out.new).has_failed (M.state messages.new).has_failed }

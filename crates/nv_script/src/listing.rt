@@ -6,11 +6,13 @@ ghost use Rattle.nv_command.specs.declared.command.Command.{Command};
 ghost use Rattle.nv_command.specs.declared.command.Command.TheVariants.{IdentifyNamespace};
 ghost use Rattle.nv_model.specs.IdentifyController.{no_controller};
 ghost use Rattle.nv_script.specs.Outcomes.{Send, order_of};
+ghost use Rattle.nv_driver.specs.BringingUp.{Still};
 ghost use Rattle.nv_driver.specs.Linked.{IsLinked};
 ghost use Rattle.nv_driver.specs.inner.Linked.{next_cids_of};
 ghost use Rattle.nv_script.specs.inner.Listing.{IsHandedOn, IsListed, ListLeaves, Standing};
 ghost use Rattle.nv_script.specs.inner.Listing.{nsids_told};
-ghost use Rattle.nv_script.specs.Orders.{namespace_orders, orders_of_controller};
+ghost use Rattle.nv_script.specs.Going.{Goes, GoesAll};
+ghost use Rattle.nv_script.specs.Orders.{asking_for, batches_of_controller, namespace_batches};
 ghost use Rattle.nv_script.specs.inner.Performing.{ListedAll};
 ghost use Rattle.nv_script.specs.Shown.{listing_of, listing_told, no_listing};
 
@@ -18,7 +20,7 @@ use crate::performing::NoText;
 use crate::session::{Answers, BATCH};
 use nv_bus::Bus;
 use nv_command::{Command, Reply};
-use nv_driver::{Answer, AnswerSlot, Driver};
+use nv_driver::{Answer, AnswerSlot, Driver, Ringing, Zeroing};
 use nv_layout::IdCtrl;
 use nv_print::{DeviceList, ListedDevice};
 use std::alloc::Global;
@@ -112,7 +114,7 @@ fn commands_for(nsids: &[u32]) -> [Command<'static>; BATCH]
 }
 
 /// Asks a controller for at most sixteen of its namespaces at once.
-fn list_batch<B: Bus>(
+fn list_batch<B: Bus + Ringing + Zeroing>(
     bus: &mut B,
     driver: &mut Driver,
     batch: &mut [AnswerSlot; BATCH],
@@ -126,8 +128,10 @@ fn list_batch<B: Bus>(
     requires most { length nsids.now ≤ BATCH }
     ensures left { (w : Standing)
         → IsListed w (B.meaning bus.old).state (next_cids_of driver.old) listing.old
-        → ListLeaves result w (namespace_orders ctrl nsids.now)
-        (B.meaning bus.new).state (next_cids_of driver.new) listing.new }
+        → ListLeaves result w (asking_for ctrl nsids.now ∷ [])
+        (B.meaning bus.new).state (next_cids_of driver.new) listing.new
+        (GoesAll (Goes B.meaning B.was_written (Still B.was_read) B.was_zeroed B.was_rung B.was_turned)
+        driver.old bus.old driver.new bus.new) }
     ensures linked { IsLinked (B.meaning bus.new) driver.new }
     ensures pairs { length driver.new.pairs ≡ length driver.old.pairs }
 {
@@ -138,7 +142,7 @@ fn list_batch<B: Bus>(
 }
 
 /// Asks a controller for its namespaces, at most sixteen at a time.
-fn list_namespaces<B: Bus>(
+fn list_namespaces<B: Bus + Ringing + Zeroing>(
     bus: &mut B,
     driver: &mut Driver,
     batch: &mut [AnswerSlot; BATCH],
@@ -150,8 +154,10 @@ fn list_namespaces<B: Bus>(
     requires controller { ctrl < length driver.old.pairs }
     ensures left { (w : Standing)
         → IsListed w (B.meaning bus.old).state (next_cids_of driver.old) listing.old
-        → ListLeaves result w (namespace_orders ctrl nsids.now)
-        (B.meaning bus.new).state (next_cids_of driver.new) listing.new }
+        → ListLeaves result w (namespace_batches ctrl nsids.now)
+        (B.meaning bus.new).state (next_cids_of driver.new) listing.new
+        (GoesAll (Goes B.meaning B.was_written (Still B.was_read) B.was_zeroed B.was_rung B.was_turned)
+        driver.old bus.old driver.new bus.new) }
     ensures linked { IsLinked (B.meaning bus.new) driver.new }
     ensures pairs { length driver.new.pairs ≡ length driver.old.pairs }
 {
@@ -166,7 +172,7 @@ fn list_namespaces<B: Bus>(
 
 /// Asks a controller for its data, for the NSIDs that are attached to it, and for each of these
 /// namespaces.
-fn list_controller<B: Bus>(
+fn list_controller<B: Bus + Ringing + Zeroing>(
     bus: &mut B,
     driver: &mut Driver,
     answers: &mut Answers,
@@ -177,8 +183,10 @@ fn list_controller<B: Bus>(
     requires controller { ctrl < length driver.old.pairs }
     ensures left { (w : Standing)
         → IsListed w (B.meaning bus.old).state (next_cids_of driver.old) listing.old
-        → ListLeaves result w (orders_of_controller w.state ctrl)
-        (B.meaning bus.new).state (next_cids_of driver.new) listing.new }
+        → ListLeaves result w (batches_of_controller w.state ctrl)
+        (B.meaning bus.new).state (next_cids_of driver.new) listing.new
+        (GoesAll (Goes B.meaning B.was_written (Still B.was_read) B.was_zeroed B.was_rung B.was_turned)
+        driver.old bus.old driver.new bus.new) }
     ensures linked { IsLinked (B.meaning bus.new) driver.new }
     ensures pairs { length driver.new.pairs ≡ length driver.old.pairs }
 {
@@ -194,7 +202,7 @@ fn list_controller<B: Bus>(
 }
 
 /// Returns the namespaces that are attached to each controller.
-pub(crate) fn list<B: Bus>(
+pub(crate) fn list<B: Bus + Ringing + Zeroing>(
     alloc: Global,
     bus: &mut B,
     driver: &mut Driver,
@@ -203,7 +211,9 @@ pub(crate) fn list<B: Bus>(
     requires linked { IsLinked (B.meaning bus.old) driver.old }
     ensures left { ListedAll result
         (B.meaning bus.old).state (next_cids_of driver.old)
-        (B.meaning bus.new).state (next_cids_of driver.new) }
+        (B.meaning bus.new).state (next_cids_of driver.new)
+        (GoesAll (Goes B.meaning B.was_written (Still B.was_read) B.was_zeroed B.was_rung B.was_turned)
+        driver.old bus.old driver.new bus.new) }
     ensures linked { IsLinked (B.meaning bus.new) driver.new }
     ensures pairs { length driver.new.pairs ≡ length driver.old.pairs }
 {

@@ -5,9 +5,11 @@ ghost use Rattle.nv_command.specs.Logs.{IsSendable};
 ghost use Rattle.nv_layout.specs.Feature.{feature_of};
 ghost use Rattle.nv_line.specs.Request.{IsAskKnown, IsQueryKnown};
 ghost use Rattle.nv_print.specs.Message.{select_of};
+ghost use Rattle.nv_driver.specs.BringingUp.{Still};
 ghost use Rattle.nv_driver.specs.Linked.{IsLinked};
 ghost use Rattle.nv_driver.specs.inner.Linked.{next_cids_of};
 ghost use Rattle.nv_script.specs.EachShown.{EachIsShown};
+ghost use Rattle.nv_script.specs.Going.{Goes, GoesAll};
 ghost use Rattle.nv_script.specs.Shown.{feature_set, feature_value, output_of, shown_by, shown_done};
 ghost use Rattle.nv_script.specs.inner.Orders.{log_command};
 ghost use Rattle.nv_script.specs.inner.Performing.{AskLeaves, RequestLeaves};
@@ -17,7 +19,7 @@ use crate::listing::list;
 use crate::session::Answers;
 use nv_bus::Bus;
 use nv_command::{Command, DwordCount, ERROR_INFORMATION, LogQuery, Reply};
-use nv_driver::Driver;
+use nv_driver::{Driver, Ringing, Zeroing};
 use nv_layout::{Feature, Status, ThreeBits};
 use nv_line::{Ask, OutputFormat, Query, Request};
 use nv_print::{Memory, Select, Shown, json, text};
@@ -80,7 +82,7 @@ fn log_command<'a>(entries: u32, reply: &Reply) -> Command<'a>
 
 /// Carries out the orders of what a controller is asked, up to the first refusal, and returns the
 /// last reply. `NoReady` comes from no bus that keeps its contract.
-fn last_reply<'a, B: Bus>(
+fn last_reply<'a, B: Bus + Ringing + Zeroing>(
     bus: &mut B,
     driver: &mut Driver,
     answers: &'a mut Answers,
@@ -91,7 +93,9 @@ fn last_reply<'a, B: Bus>(
     requires known { IsAskKnown (length driver.old.pairs) ctrl ask.now }
     ensures left { AskLeaves result ctrl ask.now
         (B.meaning bus.old).state (next_cids_of driver.old)
-        (B.meaning bus.new).state (next_cids_of driver.new) }
+        (B.meaning bus.new).state (next_cids_of driver.new)
+        (GoesAll (Goes B.meaning B.was_written (Still B.was_read) B.was_zeroed B.was_rung B.was_turned)
+        driver.old bus.old driver.new bus.new) }
     ensures linked { IsLinked (B.meaning bus.new) driver.new }
 {
     let Answers { first, second, .. } = answers;
@@ -194,7 +198,7 @@ fn write(alloc: Global, format: OutputFormat, shown: &Option<Shown>) -> Result<V
 
 /// Carries out the orders of a request, up to the first refusal, and makes the text of what their
 /// replies show, in the format that is asked for.
-pub(crate) fn perform<B: Bus>(
+pub(crate) fn perform<B: Bus + Ringing + Zeroing>(
     alloc: Global,
     bus: &mut B,
     driver: &mut Driver,
@@ -205,7 +209,9 @@ pub(crate) fn perform<B: Bus>(
     requires known { IsQueryKnown (length driver.old.pairs) request.now.query }
     ensures left { RequestLeaves result request.now
         (B.meaning bus.old).state (next_cids_of driver.old)
-        (B.meaning bus.new).state (next_cids_of driver.new) }
+        (B.meaning bus.new).state (next_cids_of driver.new)
+        (GoesAll (Goes B.meaning B.was_written (Still B.was_read) B.was_zeroed B.was_rung B.was_turned)
+        driver.old bus.old driver.new bus.new) }
     ensures linked { IsLinked (B.meaning bus.new) driver.new }
 {
     match &request.query {

@@ -11,6 +11,8 @@ ghost use Rattle.nv_script.specs.ScriptLines.{read_limit, pieces};
 ghost use Rattle.nv_script.specs.inner.ScriptLines.{buffer_of};
 ghost use Rattle.nv_driver.specs.BringingUp.{BringsUp, Still};
 ghost use Rattle.nv_driver.specs.Linked.{IsLinked};
+ghost use Rattle.nv_driver.specs.Settled.{DriverValue};
+ghost use Rattle.nv_script.specs.Going.{Goes, GoesAll};
 ghost use Rattle.nv_script.specs.inner.Link.{IsFirst};
 ghost use Rattle.nv_script.specs.Results.{whole};
 ghost use Rattle.nv_stream.specs.Streams.{IsFresh};
@@ -21,7 +23,7 @@ use crate::session::Session;
 use bumpalo::Bump;
 use memchr::memchr;
 use nv_bus::Bus;
-use nv_driver::{Geometry, Zeroing};
+use nv_driver::{Geometry, Ringing, Zeroing};
 use nv_line::LineReader;
 use nv_stream::{READ_SIZE, Sink, Source};
 use std::alloc::Global;
@@ -39,7 +41,7 @@ fn line_room(alloc: Global) -> Bump {
 }
 
 /// Executes the lines that end in a piece of a script, and keeps what follows its last newline.
-fn feed<B: Bus, O: Sink, M: Sink>(
+fn feed<B: Bus + Ringing + Zeroing, O: Sink, M: Sink>(
     bus: &mut B,
     session: &mut Session,
     out: &mut O,
@@ -51,13 +53,16 @@ fn feed<B: Bus, O: Sink, M: Sink>(
     requires messages_ready { (M.state messages.old).has_failed ≡ false }
     requires linked { IsLinked (B.meaning bus.old) session.old.driver }
     requires number { session.old.number + length piece.now < 2 ^ 64 }
-    ensures left { (s : State) (bytes : List ℕ) (o m : Option (List ℕ))
-        → line.old ≡ buffer_of (pieces bytes).last
+    ensures left { (s : State) (bytes : List ℕ) (o m : Option (List ℕ)) (d : DriverValue) (up : B)
+        → let goes = Goes B.meaning B.was_written (Still B.was_read) B.was_zeroed B.was_rung B.was_turned in
+        line.old ≡ buffer_of (pieces bytes).last
         → Stands (whole s (pieces bytes).ended)
-        (left_at o (O.state out.old).taken m (M.state messages.old).taken (B.meaning bus.old).state)
+        (left_at o (O.state out.old).taken m (M.state messages.old).taken (B.meaning bus.old).state
+        (GoesAll goes d up session.old.driver bus.old))
         session.old
         → PieceLeaves result s bytes piece.now line.new
-        (left_at o (O.state out.new).taken m (M.state messages.new).taken (B.meaning bus.new).state)
+        (left_at o (O.state out.new).taken m (M.state messages.new).taken (B.meaning bus.new).state
+        (GoesAll goes d up session.new.driver bus.new))
         session.new }
     ensures failure { IsFailureOf result
         (O.state out.new).has_failed (M.state messages.new).has_failed }
@@ -77,7 +82,7 @@ fn feed<B: Bus, O: Sink, M: Sink>(
 }
 
 /// Executes the last piece of a script, if it isn't empty.
-fn finish<B: Bus, O: Sink, M: Sink>(
+fn finish<B: Bus + Ringing + Zeroing, O: Sink, M: Sink>(
     bus: &mut B,
     session: &mut Session,
     out: &mut O,
@@ -88,14 +93,16 @@ fn finish<B: Bus, O: Sink, M: Sink>(
     requires messages_ready { (M.state messages.old).has_failed ≡ false }
     requires linked { IsLinked (B.meaning bus.old) session.old.driver }
     requires number { session.old.number + 1 < 2 ^ 64 }
-    ensures left { (s : State) (bytes : List ℕ) (o m : Option (List ℕ))
-        → line.old ≡ buffer_of (pieces bytes).last
+    ensures left { (s : State) (bytes : List ℕ) (o m : Option (List ℕ)) (d : DriverValue) (up : B)
+        → let goes = Goes B.meaning B.was_written (Still B.was_read) B.was_zeroed B.was_rung B.was_turned in
+        line.old ≡ buffer_of (pieces bytes).last
         → Stands (whole s (pieces bytes).ended)
-        (left_at o (O.state out.old).taken m (M.state messages.old).taken (B.meaning bus.old).state)
+        (left_at o (O.state out.old).taken m (M.state messages.old).taken (B.meaning bus.old).state
+        (GoesAll goes d up session.old.driver bus.old))
         session.old
         → LastLeaves result s bytes
-        (left_at o (O.state out.new).taken m (M.state messages.new).taken
-        (B.meaning bus.new).state) }
+        (left_at o (O.state out.new).taken m (M.state messages.new).taken (B.meaning bus.new).state
+        (GoesAll goes d up session.new.driver bus.new)) }
     ensures failure { IsFailureOf result
         (O.state out.new).has_failed (M.state messages.new).has_failed }
     ensures linked { IsLinked (B.meaning bus.new) session.new.driver }
@@ -109,7 +116,7 @@ fn finish<B: Bus, O: Sink, M: Sink>(
 }
 
 /// Runs a script with at most this many reads. Each line is executed when its newline is read.
-fn run_session<B: Bus, R: Source, O: Sink, M: Sink>(
+fn run_session<B: Bus + Ringing + Zeroing, R: Source, O: Sink, M: Sink>(
     bus: &mut B,
     session: &mut Session,
     script: &mut R,
@@ -124,6 +131,8 @@ fn run_session<B: Bus, R: Source, O: Sink, M: Sink>(
     requires fresh_messages { (M.state messages.old).has_failed ≡ false }
     requires some_read { 0 < reads }
     ensures runs { RunsFrom (B.meaning bus.old).state reads result
+        (GoesAll (Goes B.meaning B.was_written (Still B.was_read) B.was_zeroed B.was_rung B.was_turned)
+        session.old.driver bus.old session.new.driver bus.new)
         (run_state (B.meaning bus.old) (R.state script.old) (O.state out.old)
         (M.state messages.old))
         (run_state (B.meaning bus.new) (R.state script.new) (O.state out.new)
@@ -158,7 +167,7 @@ pub const READ_LIMIT: u32 = u32::MAX;
 
 /// Runs a script as `run` does, with at most `reads` reads. The bytes of the last read count, and
 /// after it the run ends as after a failed read, whatever it returned.
-pub fn run_within<B: Bus + Zeroing, R: Source, O: Sink, M: Sink>(
+pub fn run_within<B: Bus + Ringing + Zeroing, R: Source, O: Sink, M: Sink>(
     alloc: Global,
     bus: &mut B,
     geometry: Geometry,
@@ -174,6 +183,7 @@ pub fn run_within<B: Bus + Zeroing, R: Source, O: Sink, M: Sink>(
     requires some_read { 0 < reads }
     // The main promise: how the run ends, what each end leaves behind, and when each fault comes.
     ensures run { IsRun (BringsUp B.was_written (Still B.was_read) B.was_zeroed)
+        (Goes B.meaning B.was_written (Still B.was_read) B.was_zeroed B.was_rung B.was_turned)
         geometry reads result bus.old bus.new
         (run_state (B.meaning bus.old) (R.state script.old) (O.state out.old)
         (M.state messages.old))
@@ -194,7 +204,7 @@ pub fn run_within<B: Bus + Zeroing, R: Source, O: Sink, M: Sink>(
 /// `messages`. At most 4,294,967,295 reads are made, and none after one that returned no byte or
 /// failed. If the geometry is outside its limits, nothing is read or written, and the subsystem
 /// doesn't change.
-pub fn run<B: Bus + Zeroing, R: Source, O: Sink, M: Sink>(
+pub fn run<B: Bus + Ringing + Zeroing, R: Source, O: Sink, M: Sink>(
     alloc: Global,
     bus: &mut B,
     geometry: Geometry,
@@ -208,6 +218,7 @@ pub fn run<B: Bus + Zeroing, R: Source, O: Sink, M: Sink>(
     requires fresh_messages { (M.state messages.old).has_failed ≡ false }
     // The main promise: how the run ends, what each end leaves behind, and when each fault comes.
     ensures run { IsRun (BringsUp B.was_written (Still B.was_read) B.was_zeroed)
+        (Goes B.meaning B.was_written (Still B.was_read) B.was_zeroed B.was_rung B.was_turned)
         geometry read_limit result bus.old bus.new
         (run_state (B.meaning bus.old) (R.state script.old) (O.state out.old)
         (M.state messages.old))

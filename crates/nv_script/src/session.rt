@@ -35,6 +35,7 @@ impl Session {
     ghost use Rattle.std.specs.Prelude.{◌≡◌, IfOk, MatchResult, None, OnErr, length};
     ghost use Rattle.nv_bus.specs.Bus.{IsBus, enabled_in};
     ghost use Rattle.nv_driver.specs.BringingUp.{BringsUp, Still};
+    ghost use Rattle.nv_driver.specs.Driver.{new_driver};
     ghost use Rattle.nv_driver.specs.Geometry.{fault_of};
     ghost use Rattle.nv_model.specs.Step.{reset_where};
     ghost use Rattle.nv_script.specs.Ends.{end_without};
@@ -59,7 +60,7 @@ impl Session {
         ensures fault { MatchResult result (λ _. fault_of geometry ≡ None)
             (λ end. end ≡ end_without (fault_of geometry)) }
         ensures first { IfOk result (λ s. IsFirst (B.meaning bus.new).state s) }
-        ensures geometry { IfOk result (λ s. s.driver.geometry ≡ geometry) }
+        ensures driver { IfOk result (λ s. s.driver ≡ new_driver geometry (length (B.meaning bus.old).banks)) }
         ensures linked { IfOk result (λ s. IsLinked (B.meaning bus.new) s.driver) }
     {
         if let Err(field) = geometry.check() {

@@ -16,7 +16,7 @@ use Rattle.nv_script.specs.declared.session.Session.{Session}
 
 -- a run is at p
 pub record Stands (p : Progress) (left : Left) (session : Session) : Type 0 where
-  pub holds : Holds left p.output p.messages p.state
+  pub holds : Holds left p.output p.messages p.state p.batches
   pub next : next_cids_of session.driver ≡ p.next_cids
   pub number : session.number ≡ p.number
   pub status : session.status ≡ p.status

@@ -4,6 +4,7 @@ use Rattle.nv_model.specs.State.{State}
 use Rattle.nv_command.specs.declared.reply.Reply.{Reply}
 use Rattle.nv_command.specs.declared.reply.Reply.TheVariants as reply
 use Rattle.nv_driver.specs.Answer.{Answer}
+use Rattle.nv_script.specs.Orders.{Batch, orders_in_all}
 use Rattle.nv_script.specs.Outcomes.{Order, exchange_of}
 use Rattle.nv_script.specs.Shown.{listing_told}
 use Rattle.nv_script.specs.declared.listing.Listing.{Listing}
@@ -47,14 +48,15 @@ pub record IsListed (w : Standing) (state : State) (next_cids : List ℕ)
   pub next : next_cids ≡ w.next_cids
   pub listed : listing ≡ w.listing
 
--- some of the first orders were carried out
-pub record AreBegun (w : Standing) (orders : List Order) (state : State)
-    (next_cids : List ℕ) : Type 0 where
-  pub done : List Order
-  pub later : List Order
-  pub split : orders ≡ done ++ later
-  pub subsystem : state ≡ (asked_all w done).state
-  pub next : next_cids ≡ (asked_all w done).next_cids
+-- some of the first batches went and were carried out
+pub record AreBegun (w : Standing) (batches : List Batch) (state : State) (next_cids : List ℕ)
+    (went : List Batch → Type 0) : Type 0 where
+  pub done : List Batch
+  pub later : List Batch
+  pub split : batches ≡ done ++ later
+  pub subsystem : state ≡ (asked_all w (orders_in_all done)).state
+  pub next : next_cids ≡ (asked_all w (orders_in_all done)).next_cids
+  pub gone : went done
 
 -- a refusal that is returned is one of the answers
 abbrev pub IsHandedOn : NoText → List Answer → Type 0
@@ -62,13 +64,13 @@ IsHandedOn (stop.Refused status) answers = Contains answers (Err status)
 IsHandedOn stop.Memory answers = Unit {0}
 IsHandedOn stop.NoReady answers = ⊥
 
--- all of some orders were carried out and their answers are listed, or one of them was refused so,
--- or memory was refused among them
-abbrev pub ListLeaves : {A : Type 0} → Result A NoText → Standing → List Order → State → List ℕ
-    → Listing → Type 0
-ListLeaves (Ok done) w orders state next_cids listing =
-    IsListed (asked_all w orders) state next_cids listing
-ListLeaves (Err (stop.Refused status)) w orders state next_cids listing =
-    IsHandedOn (stop.Refused status) (answers_to w orders)
-ListLeaves (Err stop.Memory) w orders state next_cids listing = AreBegun w orders state next_cids
-ListLeaves (Err stop.NoReady) w orders state next_cids listing = ⊥
+-- all of some batches went, were carried out and their answers are listed, or one of their orders was
+-- refused so, or memory was refused among them
+abbrev pub ListLeaves : {A : Type 0} → Result A NoText → Standing → List Batch → State → List ℕ
+    → Listing → (List Batch → Type 0) → Type 0
+ListLeaves (Ok done) w batches state next_cids listing went =
+    IsListed (asked_all w (orders_in_all batches)) state next_cids listing × went batches
+ListLeaves (Err (stop.Refused status)) w batches state next_cids listing went =
+    IsHandedOn (stop.Refused status) (answers_to w (orders_in_all batches))
+ListLeaves (Err stop.Memory) w batches state next_cids listing went = AreBegun w batches state next_cids went
+ListLeaves (Err stop.NoReady) w batches state next_cids listing went = ⊥

@@ -1,6 +1,9 @@
-use Rattle.nv_script.proofs.Words.{ℕ, ◌++◌, ◌+◌, ◌≡◌, ◌≤◌, IsLinked, List, State, false, left_at, length}
+use Rattle.nv_script.proofs.Words.{ℕ, ◌++◌, ◌+◌, ◌≡◌, ◌≤◌, DriverValue, GoesAll, IsLinked, List, State, false}
+use Rattle.nv_script.proofs.Words.{left_at, length}
 use Rattle.std.proofs.Common.{Option}
+use Rattle.nv_driver.specs.BringingUp.{Still}
 use Rattle.nv_script.proofs.FeedLaws.{Fed}
+use Rattle.nv_script.specs.Going.{Goes}
 use Rattle.nv_script.proofs.running.feed.Given as goal
 
 abbrev pub invariant-loop-end : goal.invariant-loop-end
@@ -10,13 +13,16 @@ invariant-loop-end g l = record {
   messages_ready : (g.M.Sink.state l.messages).has_failed ≡ false;
   linked : IsLinked (g.B.Bus.meaning l.bus) l.session.driver;
   fed : (done : List ℕ) × (l.piece ≡ done ++ l.rest)
-      × ((s : State) (bytes : List ℕ) (o m : Option (List ℕ))
-      → Fed s bytes l.initial.line
+      × ((s : State) (bytes : List ℕ) (o m : Option (List ℕ)) (d : DriverValue) (up : _)
+      → let goes = Goes g.B.Bus.meaning g.B.Bus.was_written (Still g.B.Bus.was_read) g.B.Zeroing.was_zeroed
+      g.B.Ringing.was_rung g.B.Bus.was_turned in
+      Fed s bytes l.initial.line
       (left_at o (g.O.Sink.state l.initial.out).taken m (g.M.Sink.state l.initial.messages).taken
-      (g.B.Bus.meaning l.initial.bus).state) l.initial.session
+      (g.B.Bus.meaning l.initial.bus).state (GoesAll goes d up l.initial.session.driver l.initial.bus))
+      l.initial.session
       → Fed s (bytes ++ done) l.line
-      (left_at o (g.O.Sink.state l.out).taken m (g.M.Sink.state l.messages).taken (g.B.Bus.meaning l.bus).state)
-      l.session);
+      (left_at o (g.O.Sink.state l.out).taken m (g.M.Sink.state l.messages).taken (g.B.Bus.meaning l.bus).state
+      (GoesAll goes d up l.session.driver l.bus)) l.session);
 }
 
 abbrev pub decreases-loop-end : goal.decreases-loop-end

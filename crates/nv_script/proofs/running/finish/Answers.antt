@@ -6,18 +6,18 @@ use Rattle.nv_script.proofs.running.finish.Goals.{else-not-is_empty, then-not-is
 use Rattle.nv_script.proofs.running.finish.Goals as goal
 
 pub returns-in_err-execute_line-clause-left : goal.returns-in_err-execute_line-clause-left
-returns-in_err-execute_line-clause-left g c s bytes o m is stands =
+returns-in_err-execute_line-clause-left g c s bytes o m d up is stands =
     let e = err_from_is_err_and c.from_residual.result c.from_residual.ensures.1 in
     let last = (pieces bytes).last in
     let some : 0 < length last =
     buffer_of-some last
     (λ h. let k : c.args.line.now ≡ Some [] = is ∙ h in
     first_of (search rules, grind (arith, c.is_empty.ensures, c.if-not-is_empty.true))) in
-    let cut = c.in_err-execute_line.ensures.left last (whole s (pieces bytes).ended) o m is stands in
+    let cut = c.in_err-execute_line.ensures.left last (whole s (pieces bytes).ended) o m d up is stands in
     rw (e.1, e.2) (last_line bytes some, cut)
 
 pub returns-clause-left : goal.returns-clause-left
-returns-clause-left g c s bytes o m is stands =
+returns-clause-left g c s bytes o m d up is stands =
     let ended = (pieces bytes).ended in
     let last = (pieces bytes).last in
     elim c.if-not-is_empty.branch [
@@ -26,7 +26,7 @@ returns-clause-left g c s bytes o m is stands =
           buffer_of-some last
           (λ h. let k : c.args.line.now ≡ Some [] = is ∙ h in
           first_of (search rules, grind (arith, c.is_empty.ensures, w.if-not-is_empty.true))) in
-          let done = w.in_ok-execute_line.ensures.left last (whole s ended) o m is stands in
+          let done = w.in_ok-execute_line.ensures.left last (whole s ended) o m d up is stands in
           rw (w.session-is, w.out-is, w.messages-is, w.bus-is)
           (ends_whole s bytes _ _ _ (ap (whole s) (last_line bytes some) ∙ whole-more s ended last) done)
       | else-not-is_empty w ↦

@@ -17,7 +17,7 @@ returns-in-Ok-clause-runs g c =
     record {
       bytes = run.0;
       was_read = read;
-      left = c.in-Ok.ensures.left (g.B.Bus.meaning c.args.bus.now).state run.0 _ _ run.2 run.3;
+      left = c.in-Ok.ensures.left (g.B.Bus.meaning c.args.bus.now).state run.0 _ _ _ _ run.2 run.3;
       end_of = (end, c.in-Ok.ensures.failure.0, c.in-Ok.ensures.failure.1);
       calls = omega (arith, c.in-Some.ensures.call, c.loop-call.invariant.calls, c.loop-call-test.true);
     }
@@ -37,7 +37,7 @@ returns-in-Err-clause-runs g c =
       bytes = run.0;
       was_read = read;
       left = cut_leaves c.in-Err.cut c.args.reads _ s run.0 _
-          (last_cut c.in-Err.cut c.args.reads _ s run.0 _ end (c.in-Err.ensures.left s run.0 _ _ run.2 run.3));
+          (last_cut c.in-Err.cut c.args.reads _ s run.0 _ end (c.in-Err.ensures.left s run.0 _ _ _ _ run.2 run.3));
       end_of = cut_ends c.in-Err.cut c.args.reads
           (run_state (g.B.Bus.meaning c.finish.new.bus) (g.R.Source.state c.read.new.self)
           (g.O.Sink.state c.finish.new.out) (g.M.Sink.state c.finish.new.messages)) c.in-Err.ensures.failure;
@@ -62,7 +62,7 @@ returns-in-Err-feed-clause-runs g c =
     some.last ∙ sym (length-take-le c.in-Some.count c.read.new.buf some.bound) in
     let cut =
     piece_cut c.in-Err-feed.cut c.args.reads _ s run.0 piece c.feed.new.line _ c.feed.new.session small last
-    (c.in-Err-feed.ensures.left s run.0 _ _ run.2 run.3) in
+    (c.in-Err-feed.ensures.left s run.0 _ _ _ _ run.2 run.3) in
     record {
       bytes = run.0 ++ piece;
       was_read =
@@ -80,7 +80,7 @@ loop-call-preserved g c =
     let inv = c.loop-call.invariant in
     let run = inv.run in
     let piece = take c.in-Some.count c.read.new.buf in
-    let fed = c.in_default-feed.ensures.left (g.B.Bus.meaning c.args.bus.now).state run.0 _ _ run.2 run.3 in
+    let fed = c.in_default-feed.ensures.left (g.B.Bus.meaning c.args.bus.now).state run.0 _ _ _ _ run.2 run.3 in
     record {
       not_failed = c.in-Some.ensures.failure;
       not_ended = grind (arith, nat_tests, c.in-Some.ensures.end, c.if-count-eq0.false);
@@ -123,6 +123,7 @@ loop-call-init g c =
         [],
         read_first (g.R.Source.state c.args.script.now) c.requires.fresh_script.no_byte,
         c.new-line.ensures,
-        stands_first s _ _ refl refl refl c.requires.first.next c.requires.first.number c.requires.first.status,
+        stands_first s _ _ refl refl refl (refl, refl) c.requires.first.next c.requires.first.number
+            c.requires.first.status,
       );
     }

@@ -1,6 +1,8 @@
-use Rattle.nv_script.proofs.Words.{ℕ, ◌≡◌, ◌≤◌, IsLinked, List, Stands, WasRead, buffer_of, false, left_at, length}
-use Rattle.nv_script.proofs.Words.{pieces, read_size, whole}
+use Rattle.nv_script.proofs.Words.{ℕ, ◌≡◌, ◌≤◌, GoesAll, IsLinked, List, Stands, WasRead, buffer_of, false, left_at}
+use Rattle.nv_script.proofs.Words.{length, pieces, read_size, whole}
 use Rattle.std.proofs.Common.{◌*◌}
+use Rattle.nv_driver.specs.BringingUp.{Still}
+use Rattle.nv_script.specs.Going.{Goes}
 use Rattle.nv_script.proofs.running.run_session.Given as goal
 
 abbrev pub invariant-loop-call : goal.invariant-loop-call
@@ -20,5 +22,8 @@ invariant-loop-call g l = record {
       × Stands (whole (g.B.Bus.meaning l.initial.bus).state (pieces bytes).ended)
       (left_at (g.O.Sink.state l.initial.out).taken (g.O.Sink.state l.out).taken
       (g.M.Sink.state l.initial.messages).taken (g.M.Sink.state l.messages).taken
-      (g.B.Bus.meaning l.bus).state) l.session;
+      (g.B.Bus.meaning l.bus).state
+      (GoesAll (Goes g.B.Bus.meaning g.B.Bus.was_written (Still g.B.Bus.was_read) g.B.Zeroing.was_zeroed
+      g.B.Ringing.was_rung g.B.Bus.was_turned) l.initial.session.driver l.initial.bus l.session.driver l.bus))
+      l.session;
 }
