@@ -69,9 +69,10 @@ begins_all wrote rang turned start {c = c} {bus} {l} {now} {bytes} {requests} {p
 
 -- what holds if all commands were sent, and their answers collected and reported
 pub record HasEnded {B : Type 0} (wrote : Write B) (rang : TailWrite B) (turned : BusTurn B) (start : B) (r : Run)
-    (before : ℕ) (bus : BusValue) (on : B) (l' : QueuePairFields) (now : ℕ) (mem : List ℕ) : Type 0 where
+    (before : ℕ) (bus : BusValue) (on : B) (l' : QueuePairFields) (now : ℕ) (mem : List ℕ)
+    (places : List CommandPages) : Type 0 where
   pub state : bus.state ≡ state_after_all r.controller r.bus.state (numbered_of r)
-  pub paced : IsPaced wrote rang turned r start on bus mem
+  pub paced : IsPaced wrote rang turned r start on bus mem places
   pub others : KeepsOutside r.geometry.page_size (pair_value r.pair) r.bytes mem
   pub left : IsLeft r.geometry r.controller (length r.bytes) (after_some (length r.requests) (pair_value r.pair))
       (side r.bus r.pair before r.bytes) (side bus l' now mem)
@@ -82,7 +83,7 @@ pub at_end : {B : Type 0} {wrote : Write B} {rang : TailWrite B} {turned : BusTu
     {places : List CommandPages}
     → (u : IsUnderWay wrote rang turned start r n n b bus on l now mem places) → n ≡ length r.requests
     → b.sent ≡ n → b.collected ≡ n → b.told ≡ n
-    → before ≡ r.geometry.page_size → HasEnded wrote rang turned start r before bus on l now mem
+    → before ≡ r.geometry.page_size → HasEnded wrote rang turned start r before bus on l now mem places
 at_end {r = r} {n} {b = b} {mem = mem} u all sent collected told page =
     let none : drop b.collected u.course.sent ≡ [] =
     ap (λ i. drop i u.course.sent) (collected ∙ sym (u.sent ∙ sent)) ∙ drop-length u.course.sent in
@@ -94,12 +95,16 @@ at_end {r = r} {n} {b = b} {mem = mem} u all sent collected told page =
       paced = record {
         last = world u;
         steps = record {
+          ready = u.begun;
           events = u.course.events;
           ran = u.ran;
           collected = u.collected ∙ collected ∙ all;
           told = told ∙ all;
         };
         seen = record { mem = refl; state = refl; bank = refl };
+        sent = u.sent ∙ sent ∙ all;
+        kept = λ i d h. u.kept i d (omega (arith, h, sent, all));
+        held = λ i p d from h. u.slots i p d (omega (arith, from, sent, all)) (omega (arith, h, sent, all));
       };
       others = others;
       left = rw all at (left_after n u.on_way (u.sent ∙ sent) (u.collected ∙ collected) refl refl told pages page
@@ -147,13 +152,13 @@ module _ {B : Type 0} {wrote : Write B} {rang : TailWrite B} {turned : BusTurn B
       → (l.completion.untold ≡ true
       → wrote on b.ctrl 0x1004 (slot_of l.completion.depth l.completion.collected) on')
       → (l.completion.untold ≡ false → on' ≡ on) → before ≡ r'.geometry.page_size
-      → HasEnded wrote rang turned start r' before (meaning on') on' l' now mem
+      → HasEnded wrote rang turned start r' before (meaning on') on' l' now mem places
   ends_all meaning {on'} {l'} {r'} {before} is u enough t its_write silent page =
       let all = all_collected is u enough in
       let many = all.1 ∙ ap (λ (x : Run). length x.requests) (sym is) in
       let sent = subst (λ n. IsUnderWay wrote rang turned start r n b.collected b (meaning on) on l now mem places)
       all.0 u in
-      subst (λ x. HasEnded wrote rang turned start x before (meaning on') on' l' now mem) is
+      subst (λ x. HasEnded wrote rang turned start x before (meaning on') on' l' now mem places) is
       (at_end (all_told meaning sent many t its_write silent) many all.0 refl refl
       (page ∙ ap (λ (x : Run). x.geometry.page_size) (sym is)))
 

@@ -1,22 +1,24 @@
 -- A single entry: a run of one request, with its data in the pages behind those of all controllers.
-use Rattle.nv_driver.proofs.Words.{[], ℕ, ◌%◌, ◌*◌, ◌+◌, ◌∙◌, ◌∷◌, ◌≡◌, ◌≤◌, Answer, AreSendable, Asked, BusValue}
-use Rattle.nv_driver.proofs.Words.{CommandPages, Delivers, Err, Geometry, HasRoom, IsBuffer, IsHeard, IsLeft, IsReady}
-use Rattle.nv_driver.proofs.Words.{IsReceived, IsRequest, IsRunOf, KeepsOutside, List, NumberSet, Ok, Pages, QueuePair}
-use Rattle.nv_driver.proofs.Words.{QueuePairFields, Request, RequestPlace, Requests, Run, Sent, Sqe, SqeFits, Status}
-use Rattle.nv_driver.proofs.Words.{Told, Transfer, after_some, all_of, all_pages, ap, arith, asked_in, bytes_read}
-use Rattle.nv_driver.proofs.Words.{entry_step, get_or, greatest_limit, length, length-take, length_of, limit_bounds}
-use Rattle.nv_driver.proofs.Words.{limit_of, min, mul-le-mul_right, numbered, numbered_request, padded, pages_of_entry}
-use Rattle.nv_driver.proofs.Words.{pair_value, place_in, received_from, refl, request_for, requests_in, run_of, side}
-use Rattle.nv_driver.proofs.Words.{step_of, subst, sym, told_by, transfer_for}
+use Rattle.nv_driver.proofs.Words.{[], ℕ, ◌%◌, ◌*◌, ◌+◌, ◌∙◌, ◌∷◌, ◌≡◌, ◌≤◌, Answer, AreSendable, Asked, BusTurn}
+use Rattle.nv_driver.proofs.Words.{BusValue, CommandPages, Delivers, Err, Geometry, HasRoom, IsBuffer, IsHeard, IsHeld}
+use Rattle.nv_driver.proofs.Words.{IsLeft, IsReady, IsReceived, IsRequest, IsRunOf, KeepsOutside, LiesInPages, List}
+use Rattle.nv_driver.proofs.Words.{NumberSet, Ok, Pages, QueuePair, QueuePairFields, Request, RequestPlace, Requests}
+use Rattle.nv_driver.proofs.Words.{Run, Sent, Sqe, SqeFits, Status, TailWrite, Told, Transfer, Write, after_some}
+use Rattle.nv_driver.proofs.Words.{all_of, all_pages, ap, arith, asked_in, bytes_read, entry_step, get_or}
+use Rattle.nv_driver.proofs.Words.{greatest_limit, length, length-take, length_of, limit_bounds, limit_of, min}
+use Rattle.nv_driver.proofs.Words.{mul-le-mul_right, numbered, numbered_request, padded, pages_of_entry, pair_value}
+use Rattle.nv_driver.proofs.Words.{place_in, received_from, refl, request_for, requests_in, run_of, side, step_of}
+use Rattle.nv_driver.proofs.Words.{subst, sym, told_by, transfer_for}
 use Rattle.nv_prp.specs.Buffer.{buffer_places}
 use Rattle.nv_bus.specs.Entry.{status_in}
-use Rattle.nv_driver.specs.Alone.{Comes}
-use Rattle.nv_driver.specs.inner.Alone.{came_with}
+use Rattle.nv_driver.specs.Alone.{Comes, IsReadIn, came_with}
+use Rattle.nv_driver.specs.inner.Pace.{IsPaced}
 use Rattle.nv_driver.proofs.AnswerLaws.{IsAnswerTo, answer_sound}
 use Rattle.nv_driver.proofs.CommandPageLaws.{own_is}
 use Rattle.nv_driver.proofs.PaddingLaws.{length-padded}
 use Rattle.nv_driver.proofs.RequestLaws.{every_entry}
 use Rattle.nv_driver.proofs.ShareLaws.{few_of_entry}
+use Rattle.nv_driver.proofs.TurnLaws.{no_command}
 use Rattle.nv_driver.proofs.UnderWayLaws.{request_is, room_few}
 
 -- the data that comes back by a status belongs to the answer with this status
@@ -26,6 +28,17 @@ comes_by (Ok k) (Ok reply) status bytes is sound delivered = rw is delivered
 comes_by (Ok k) (Err refused) status bytes is sound delivered = rw (is, sound.1) refl
 comes_by (Err code) (Ok reply) status bytes is sound delivered = absurd sound
 comes_by (Err code) (Err refused) status bytes is sound delivered = rw (is, sound.1) refl
+
+-- bytes that are cut or filled up to some length have this length
+padded_same : (n : ℕ) (came : List ℕ) {out : List ℕ} → out ≡ padded n came → out ≡ padded (length out) came
+padded_same n came is =
+    is ∙ ap (λ k. padded k came) (sym (ap (λ (xs : List ℕ). length xs) is ∙ length-padded n came))
+
+-- a list of one request
+only_one : (xs : List Sent) → length xs ≡ 1 → xs ≡ get_or xs 0 no_command ∷ []
+only_one [] one = absurd (omega arith)
+only_one (x ∷ []) one = refl
+only_one (x ∷ y ∷ ys) one = absurd (omega arith)
 
 -- a queue pair is as ready with other pages behind its rings, of which all are free
 pub ready_with : {g : Geometry} {bus : BusValue} {c : ℕ} {l : QueuePairFields} {now : ℕ} {bytes : List ℕ} (s : Pages)
@@ -144,13 +157,20 @@ module _ {g : Geometry} {bus : BusValue} {c : ℕ} {l : QueuePairFields} {now : 
     module _ {at : RequestPlace} {size : ℕ} {m : Transfer} (other : CommandPages)
         (its : at ≡ place_in g (all_pages (get_or places 0 other))) (page : size ≡ g.page_size)
         (moves : m ≡ transfer_for e) where
-      at_is : at ≡ place_in g h.kept.pages
-      at_is = its ∙ ap (place_in g) ((h.held other).pages ∙ own_is h.kept)
+      -- a request with its data in these pages
+      module _ {x : Sent} (kept : LiesInPages r 0 x) (held : IsHeld (get_or places 0 other) x) where
+        at_is : at ≡ place_in g kept.pages
+        at_is = its ∙ ap (place_in g) (held.pages ∙ own_is kept)
+
+        -- what is read there are its bytes
+        read_is : received_from m mem (buffer_places size at.pages at.offset (length_of m))
+            ≡ bytes_read g.page_size x mem
+        read_is = rw (page, at_is, moves) (sym (ap (λ (y : Sent). bytes_read g.page_size y mem) kept.sent))
 
       -- its data lies there
       pub its_buffer : IsBuffer mem size at.pages at.offset (length_of m)
-      its_buffer = rw (page, at_is, moves) (subst (λ (y : Sent). IsBuffer mem g.page_size y.pages y.offset
-          (length_of y.request.transfer)) h.kept.sent h.buffer)
+      its_buffer = rw (page, at_is h.kept (h.held other), moves) (subst (λ (y : Sent). IsBuffer mem g.page_size y.pages
+          y.offset (length_of y.request.transfer)) h.kept.sent h.buffer)
 
       -- the bytes that are read by the status, with zeros after them, are what the host receives
       pub received_by : (n : ℕ) {out : List ℕ} → out ≡ padded n (came_with last.status (received_from m mem
@@ -160,9 +180,8 @@ module _ {g : Geometry} {bus : BusValue} {c : ℕ} {l : QueuePairFields} {now : 
           let x = h.one in
           let bytes = bytes_read g.page_size x mem in
           let came = came_with last.status bytes in
-          let read : received_from m mem (buffer_places size at.pages at.offset (length_of m)) ≡ bytes =
-          rw (page, at_is, moves) (sym (ap (λ (y : Sent). bytes_read g.page_size y mem) h.kept.sent)) in
-          let is : out ≡ padded n came = filled ∙ ap (λ bs. padded n (came_with last.status bs)) read in
+          let is : out ≡ padded n came = filled
+          ∙ ap (λ bs. padded n (came_with last.status bs)) (read_is h.kept (h.held other)) in
           let answer = (entry_step bus.state c e given l.next_cid).answer in
           record {
             came = came;
@@ -170,6 +189,19 @@ module _ {g : Geometry} {bus : BusValue} {c : ℕ} {l : QueuePairFields} {now : 
                 (answer_sound q.asked bus.state c e.nsid l.next_cid a.ready.bus.state)
                 (subst (λ (p : Request). Delivers p.asked answer bytes) (request_is h.kept)
                 (subst (λ answer. Delivers x.request.asked answer bytes) step_is h.came));
-            filled = is ∙ ap (λ k. padded k came)
-                (sym (ap (λ (xs : List ℕ). length xs) is ∙ length-padded n came));
+            filled = padded_same n came is;
           }
+
+      -- they are those that the memory has in the end at the places of the request that was sent
+      pub read_by : {B : Type 0} {wrote : Write B} {rang : TailWrite B} {turned : BusTurn B} {old new : B}
+          {bus' : BusValue} (p : IsPaced wrote rang turned r old new bus' mem places) (n : ℕ) {out : List ℕ}
+          → out ≡ padded n (came_with last.status (received_from m mem
+          (buffer_places size at.pages at.offset (length_of m)))) → IsReadIn g.page_size p.last last.status out
+      read_by p n {out} filled =
+          let x = get_or p.last.sent 0 no_command in
+          let came = came_with last.status (bytes_read g.page_size x p.last.mem) in
+          let held = p.held 0 other no_command (omega arith) (omega arith) in
+          let read = read_is (p.kept 0 no_command (omega arith)) held in
+          let is : out ≡ padded n came = filled ∙ ap (λ bs. padded n (came_with last.status bs)) read
+          ∙ ap (λ bytes. padded n (came_with last.status (bytes_read g.page_size x bytes))) (sym p.seen.mem) in
+          record { one = x; sent = only_one p.last.sent p.sent; filled = padded_same n came is }

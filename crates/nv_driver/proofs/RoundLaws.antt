@@ -196,7 +196,8 @@ module _ {B : Type 0} {wrote : Write B} {rang : TailWrite B} {turned : BusTurn B
 
     -- its pages are in its slot
     pub held_at : (p : CommandPages) → IsHeld (get_or places (b.collected % 16) p) next_one
-    held_at p = u.slots b.collected p no_command (omega arith) (omega (arith, no_more, more))
+    held_at p = u.slots b.collected p no_command (omega (arith, u.window, u.begun.geometry.window.1))
+        (omega (arith, no_more, more))
 
     -- the pages of the outstanding requests are its own and then those of the others
     held_is : held u ≡ own_pages next_one ++ held_pages (b.collected + 1) u.course.sent
@@ -293,7 +294,7 @@ module _ {B : Type 0} {wrote : Write B} {rang : TailWrite B} {turned : BusTurn B
                 ∙ ap (λ n. n + 1) u.collected;
             left = ap (λ (x : QueuePairFields). x.pages) all ∙ pages_back here;
             room = u.room;
-            slots = λ n p d from h. u.slots n p d (omega arith) h;
+            slots = u.slots;
           }
 
       -- ---- the answer

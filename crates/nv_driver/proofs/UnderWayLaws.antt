@@ -226,20 +226,20 @@ module _ {B : Type 0} {wrote : Write B} {rang : TailWrite B} {turned : BusTurn B
       ∙ ap (without r.pair.pages) (sym all_held)
 
   -- the window keeps the slots of the others, and has one more
-  slots_more : (n : ℕ) (p : CommandPages) (d : Sent) → b.collected ≤ n → n < b.sent + 1
+  slots_more : (n : ℕ) (p : CommandPages) (d : Sent) → b.sent + 1 ≤ n + 16 → n < b.sent + 1
       → IsHeld (get_or (set places (b.sent % 16) o) (n % 16) p) (get_or (u.course.sent ++ new_one ∷ []) n d)
   slots_more n p d from below =
       let qs = set places (b.sent % 16) o in
-      each_more (λ i y. IsHeld (get_or qs (i % 16) p) y) b.collected u.course.sent new_one
+      each_more (λ i y. IsHeld (get_or qs (i % 16) p) y) n u.course.sent new_one
       (λ i e above low. subst (λ p. IsHeld p (get_or u.course.sent i e))
       (sym (get_or-set_other places (b.sent % 16) (i % 16) o p
-      (two_places i b.sent (omega (arith, u.sent)) (omega (arith, above, more, u.begun.geometry.window.1)))))
-      (u.slots i p e above (omega (arith, u.sent))))
+      (two_places i b.sent (omega (arith, u.sent)) (omega (arith, above, from)))))
+      (u.slots i p e (omega (arith, above, from)) (omega (arith, u.sent))))
       (subst (λ p. IsHeld p new_one)
       (sym (ap (λ i. get_or qs (i % 16) p) u.sent
       ∙ get_or-set_same places (b.sent % 16) o p (omega (arith, u.room, mod_below b.sent 16 (omega arith)))))
       (record { few = sub.long; pages = sym own_new }))
-      n d from (omega (arith, below, u.sent, length-append u.course.sent (new_one ∷ [])))
+      n d (omega arith) (omega (arith, below, u.sent, length-append u.course.sent (new_one ∷ [])))
 
   -- it is the next of the run's requests
   next_numbered : numbered new_one ≡ get_or (numbered_of r) b.sent (numbered new_one)

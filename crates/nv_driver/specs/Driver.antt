@@ -34,7 +34,7 @@ abbrev pub new_driver : Geometry → ℕ → DriverValue
 new_driver g controllers =
     record { geometry = g; pages = pages_of g controllers; pairs = pairs_of g controllers }
 
--- after the pages of its controllers, there are those of an entry that is sent unchanged
+-- after the pages of its controllers, there are those of an entry that is passed through
 abbrev pub HasEntryPages : DriverValue → Type 0
 HasEntryPages d =
     pages_of d.geometry (length d.pairs) + pages_of_entry d.geometry.page_size ≤ d.pages

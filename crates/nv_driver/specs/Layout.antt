@@ -33,7 +33,7 @@ pages_for most page_size = div_ceil most page_size + 3
 abbrev pub pages_of_command : ℕ → ℕ
 pages_of_command = pages_for most_bytes
 
--- the pages of an entry that is sent unchanged: for the greatest length that a controller transfers for one
+-- the pages of an entry that is passed through: for the greatest length that a controller transfers for one
 abbrev pub pages_of_entry : ℕ → ℕ
 pages_of_entry = pages_for greatest_limit
 

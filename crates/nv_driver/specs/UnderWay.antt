@@ -261,7 +261,8 @@ pub record IsHeld (p : CommandPages) (x : Sent) : Type 0 where
   pub few : p.count ≤ length p.numbers
   pub pages : all_pages p ≡ own_pages x
 
--- a list of requests of which some were sent, and some answers were collected
+-- a list of requests of which some were sent, the last sixteen in the pages of the window, and some answers were
+-- collected
 pub record IsUnderWay {B : Type 0} (wrote : Write B) (rang : TailWrite B) (turned : BusTurn B) (start : B) (r : Run)
     (bells turns : ℕ) (b : Batch) (bus : BusValue) (on : B) (l : QueuePairFields) (now : ℕ)
     (bytes : List ℕ) (places : List CommandPages) : Type 0 where
@@ -277,7 +278,7 @@ pub record IsUnderWay {B : Type 0} (wrote : Write B) (rang : TailWrite B) (turne
   pub collected : length course.answers ≡ b.collected
   pub left : l.pages ≡ free_pages r b.collected course.sent
   pub room : length places ≡ 16
-  pub slots : (n : ℕ) (p : CommandPages) (d : Sent) → b.collected ≤ n → n < b.sent
+  pub slots : (n : ℕ) (p : CommandPages) (d : Sent) → b.sent ≤ n + 16 → n < b.sent
       → IsHeld (slice_index_or places (n % 16) p) (slice_index_or course.sent n d)
 
 -- ---- the requests of a run

@@ -1,5 +1,4 @@
 -- What no public contract reaches. Contracts of private functions use it, in other crates too.
-pub mod Alone
 pub mod Driver
 pub mod Exchange
 pub mod Linked

@@ -167,7 +167,7 @@ pub(crate) fn exchange_all<B: Bus + Ringing, M: HostMemory>(
     ensures state { (B.meaning bus.new).state
         ≡ state_after_all ctrl (B.meaning bus.old).state (numbered_of begun.run) }
     ensures paced { IsPaced B.was_written B.was_rung B.was_turned begun.run begun.start bus.new
-        (B.meaning bus.new) (M.bytes host.new.mem) }
+        (B.meaning bus.new) (M.bytes host.new.mem) host.new.taken }
     ensures others { KeepsOutside pair.old.geometry.page_size (pair_value pair.old)
         (M.bytes host.old.mem) (M.bytes host.new.mem) }
     ensures left { IsLeft pair.old.geometry ctrl (length (M.bytes host.old.mem))

@@ -265,7 +265,7 @@ impl Driver {
         ensures entries { HasEntryPages self.new }
         ensures linked { IsLinked (B.meaning bus.new) self.new }
         ensures steps { Passes B.was_written B.was_rung B.was_turned self.old ctrl entry.now bytes.now
-            (B.meaning bus.old) bus.old bus.new }
+            result.status out.new (B.meaning bus.old) bus.old bus.new }
     {
         let pair = &mut self.pairs[ctrl as usize];
         swap(&mut pair.pages, &mut self.more_pages);

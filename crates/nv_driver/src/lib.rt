@@ -34,9 +34,9 @@
 //! driver.reset(&mut machine, 0)?;
 //! ```
 //!
-//! [`Driver::passthrough`] sends any entry unchanged, even with a reserved opcode, and returns what
-//! its completion says. The driver sets only the command identifier and the data pointer. A driver
-//! from [`Driver::bring_up_for_entries`] has room for the data.
+//! [`Driver::passthrough`] sends any entry, even with a reserved opcode, and returns what its
+//! completion says. The driver sets the command identifier and the data pointer, and nothing else. A
+//! driver from [`Driver::bring_up_for_entries`] has room for the data.
 //!
 //! ```
 //! let mut driver = Driver::bring_up_for_entries(alloc, &mut machine, Geometry::default())?;

@@ -1,11 +1,11 @@
-//! Reads the data that came for an entry that was sent unchanged.
+//! Reads the data that came for an entry that was passed through.
 
 ghost use Rattle.std.specs.Prelude.{◌≡◌, ◌≤◌, if◌then◌else◌, length};
 ghost use Rattle.nv_prp.specs.Buffer.{IsBuffer, buffer_places};
 ghost use Rattle.nv_command.specs.Command.{bytes_to_host};
 ghost use Rattle.nv_model.specs.Conditions.{greatest_limit};
 ghost use Rattle.nv_bus.specs.Call.{length_of};
-ghost use Rattle.nv_driver.specs.inner.Alone.{came_with};
+ghost use Rattle.nv_driver.specs.Alone.{came_with};
 ghost use Rattle.nv_driver.specs.Request.{padded};
 ghost use Rattle.nv_driver.specs.Schedule.{is_success, received_from};
 

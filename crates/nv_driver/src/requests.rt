@@ -9,7 +9,8 @@ use crate::submitting::{HostData, Outgoing};
 use nv_command::Command;
 use nv_layout::Sqe;
 
-/// Commands, or an entry that is sent unchanged, with the host's bytes for it.
+/// Commands, or an entry, which is sent with another command identifier and data pointer, and the
+/// host's bytes for it.
 #[derive(Clone, Copy)]
 pub enum Requests<'a, 'b> {
     Commands(&'a [Command<'b>]),

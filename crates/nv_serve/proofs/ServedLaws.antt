@@ -134,18 +134,21 @@ request_few {r} whole =
 
 -- a driver that did what several requests say does what one more says
 pub does_more : {B : Type 0} (k : Calls B) (d now next : DriverValue) (old mid new : B) (requests : List Request)
-    (r : Request) → DoesAll k d requests old now mid → Does k now (header_of r.header) r.payload mid next new
-    → DoesAll k d (requests ++ r ∷ []) old next new
-does_more k d now next old mid new [] r done does =
+    (answers : List Answer) (r : Request) (a : Answer) → DoesAll k d requests answers old now mid
+    → Does k now (header_of r.header) r.payload a mid next new
+    → DoesAll k d (requests ++ r ∷ []) (answers ++ a ∷ []) old next new
+does_more k d now next old mid new [] [] r a done does =
     let h = header_of r.header in (
       next,
       new,
-      subst (λ x. Does k x h r.payload old next new) done.0
-          (subst (λ y. Does k now h r.payload y next new) done.1 does),
+      subst (λ x. Does k x h r.payload a old next new) done.0
+          (subst (λ y. Does k now h r.payload a y next new) done.1 does),
       (refl, refl),
     )
-does_more k d now next old mid new (q ∷ qs) r done does =
-    (done.0, done.1, done.2, does_more k done.0 now next done.1 mid new qs r done.3 does)
+does_more k d now next old mid new [] (b ∷ bs) r a done does = absurd done
+does_more k d now next old mid new (q ∷ qs) [] r a done does = absurd done
+does_more k d now next old mid new (q ∷ qs) (b ∷ bs) r a done does =
+    (done.0, done.1, done.2, does_more k done.0 now next done.1 mid new qs bs r a done.3 does)
 
 -- ---- the ends
 
@@ -162,8 +165,8 @@ none_more : {old new : SinkState} {answers : List Answer} → HasTaken old new a
 none_more {old} {new} {answers} taken = subst (HasTaken old new) (sym (append-nil answers)) taken
 
 module _ {p now : Point} {mid : SourceState} {requests : List Request} {answers : List Answer}
-    {did : List Request → Type 0} {before after : Streams}
-    (stands : Stands p now before.source mid requests answers) (done : did requests) where
+    {did : List Request → List Answer → Type 0} {before after : Streams}
+    (stands : Stands p now before.source mid requests answers) (done : did requests answers) where
   -- what was served and a rest with its answer are right for the end that was reached
   pub ends_at : {end : RequestsEnd} (rest : Request) (last : List Answer) → Reads rest mid after.source
       → IsRest rest last → IsEnd end rest requests (answers ++ last) before after
@@ -219,15 +222,16 @@ module _ {p now : Point} {mid : SourceState} {requests : List Request} {answers 
       (inr refl, ready, subst (HasTakenPart before.out after.out) (sym (append-nil answers)) part)
 
 -- what was served stays served if its calls are described otherwise
-pub served_by : {p : Point} {did : List Request → Type 0} {end : RequestsEnd} {s : State} {old new : Streams}
-    (other : List Request → Type 0) → ((requests : List Request) → did requests → other requests)
+pub served_by : {p : Point} {did : List Request → List Answer → Type 0} {end : RequestsEnd} {s : State}
+    {old new : Streams} (other : List Request → List Answer → Type 0)
+    → ((requests : List Request) (answers : List Answer) → did requests answers → other requests answers)
     → IsServed p did end s old new → IsServed p other end s old new
 served_by other follows h = record {
   requests = h.requests;
   answers = h.answers;
   rest = h.rest;
   last = h.last;
-  done = follows h.requests h.done;
+  done = follows h.requests h.answers h.done;
   answered = h.answered;
   reached = h.reached;
   was_read = h.was_read;

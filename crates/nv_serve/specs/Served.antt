@@ -88,13 +88,13 @@ IsEnd NoReady rest requests said old new = ⊥
 -- Requests were served from p on: those that were read completely were done, as `did` says, and are
 -- answered in order, and the subsystem is in the state after them. Nothing of what was read further
 -- was executed.
-pub record IsServed (p : Point) (did : List Request → Type 0) (end : RequestsEnd) (s : State)
+pub record IsServed (p : Point) (did : List Request → List Answer → Type 0) (end : RequestsEnd) (s : State)
     (old new : Streams) : Type 0 where
   pub requests : List Request
   pub answers : List Answer
   pub rest : Request
   pub last : List Answer
-  pub done : did requests
+  pub done : did requests answers
   pub answered : AreAnswered p requests answers
   pub reached : s ≡ (after_all p requests).subsystem
   pub was_read : Consumes old.source.to_come new.source.to_come

@@ -3,11 +3,14 @@
 ghost use Rattle.std.specs.Prelude.{◌≡◌, ◌<◌, ◌≤◌, IfOk, IsOk, length, take};
 ghost use Rattle.nv_layout.specs.Sqe.{SqeFits};
 ghost use Rattle.nv_driver.specs.BringingUp.{Still};
-ghost use Rattle.nv_driver.specs.Driver.{HasEntryPages};
+ghost use Rattle.nv_driver.specs.Driver.{HasEntryPages, after_command};
 ghost use Rattle.nv_driver.specs.Linked.{IsLinked};
-ghost use Rattle.nv_serve.specs.Handling.{Does, calls};
-ghost use Rattle.nv_serve.specs.Header.{most_data};
-ghost use Rattle.nv_serve.specs.Serving.{IsAnswerToHeader, after_header, list_entry};
+ghost use Rattle.nv_driver.specs.Sending.{Passes};
+ghost use Rattle.nv_bus.specs.declared.told.Told.{Told};
+ghost use Rattle.nv_serve.specs.Handling.{Does, DoesKind, calls};
+ghost use Rattle.nv_serve.specs.Header.{most_data, wanted_length};
+ghost use Rattle.nv_serve.specs.Serving.{IsAnswerByKind, IsAnswerToHeader, IsReturned, after_entry, after_header};
+ghost use Rattle.nv_serve.specs.Serving.{after_kind, list_entry, returned};
 ghost use Rattle.nv_serve.specs.inner.Serving.{point_of};
 
 use crate::answer::{AnswerHeader, Outcome};
@@ -23,6 +26,91 @@ fn list_entry() -> Sqe
     ensures fits { SqeFits result }
 {
     Command::ActiveList { after: 0 }.entry(0)
+}
+
+/// Passes an entry through to the controller of a request, and returns the header of its answer. The
+/// data for the host is at the front of a buffer.
+fn pass<B: Bus + Ringing>(
+    bus: &mut B,
+    driver: &mut Driver,
+    header: &Header,
+    entry: &Sqe,
+    sent: &[u8],
+    received: &mut [u8],
+) -> AnswerHeader
+    requires linked { IsLinked (B.meaning bus.old) driver.old }
+    requires room { HasEntryPages driver.old }
+    requires ctrl { header.now.controller < length driver.old.pairs }
+    requires fits { SqeFits entry.now }
+    requires few { header.now.length ≤ most_data }
+    requires long { length received.old ≡ most_data }
+    ensures answer { (told : Told) × IsReturned (point_of (B.meaning bus.old) driver.old)
+        header.now.controller entry.now sent.now (wanted_length header.now) told
+        (take result.length received.new)
+        × (result ≡ returned told.dword0 told.status (wanted_length header.now)) }
+    ensures reached { point_of (B.meaning bus.new) driver.new ≡ after_entry
+        (point_of (B.meaning bus.old) driver.old) header.now.controller entry.now sent.now }
+    ensures linked { IsLinked (B.meaning bus.new) driver.new }
+    ensures driver { driver.new ≡ after_command driver.old header.now.controller }
+    ensures steps { Passes B.was_written B.was_rung B.was_turned
+        driver.old header.now.controller entry.now sent.now result.status
+        (take result.length received.new) (B.meaning bus.old) bus.old bus.new }
+    ensures room { HasEntryPages driver.new }
+    ensures few { result.length ≤ most_data }
+    ensures long { length received.new ≡ most_data }
+{
+    let wanted = header.wanted_length();
+    let out = &mut received[..wanted as usize];
+    let told = driver.passthrough(bus, header.controller, entry, sent, out);
+    AnswerHeader::returned(told.dword0, told.status, wanted)
+}
+
+/// Does what a request's header says, whose controller exists, with the data that the host sent. The
+/// data for the host is at the front of a buffer. The only error is `NoReady`, which no bus that keeps
+/// its contract returns.
+fn perform<B: Bus + Zeroing + Ringing>(
+    bus: &mut B,
+    driver: &mut Driver,
+    header: &Header,
+    sent: &[u8],
+    received: &mut [u8],
+) -> Result<AnswerHeader, DriverError>
+    requires linked { IsLinked (B.meaning bus.old) driver.old }
+    requires room { HasEntryPages driver.old }
+    requires ctrl { header.now.controller < length driver.old.pairs }
+    requires fits { SqeFits header.now.entry }
+    requires few { header.now.length ≤ most_data }
+    requires long { length received.old ≡ most_data }
+    ensures answer { IfOk result (λ answer. IsAnswerByKind header.now.kind
+        (point_of (B.meaning bus.old) driver.old) header.now sent.now
+        (record { header = answer; payload = take answer.length received.new })) }
+    ensures ready { IsOk result }
+    ensures reached { point_of (B.meaning bus.new) driver.new ≡ after_kind header.now.kind
+        (point_of (B.meaning bus.old) driver.old) header.now sent.now }
+    ensures linked { IsLinked (B.meaning bus.new) driver.new }
+    ensures steps { IfOk result (λ answer. DoesKind
+        (calls B.meaning B.was_written (Still B.was_read) B.was_zeroed B.was_rung B.was_turned)
+        header.now.kind driver.old header.now sent.now
+        (record { header = answer; payload = take answer.length received.new })
+        bus.old driver.new bus.new) }
+    ensures room { HasEntryPages driver.new }
+    ensures few { IfOk result (λ answer. answer.length ≤ most_data) }
+    ensures long { length received.new ≡ most_data }
+{
+    match header.kind {
+        Kind::Entry => Ok(pass(bus, driver, header, &header.entry, sent, received)),
+        Kind::Reset => {
+            driver.reset(bus, header.controller)?;
+            Ok(AnswerHeader::bare(Outcome::Answered))
+        }
+        Kind::List => {
+            let controllers = driver.controllers();
+            let mut answer = pass(bus, driver, header, &list_entry(), &[], received);
+            answer.dword0 = controllers as u32;
+            Ok(answer)
+        }
+        Kind::Unknown => Ok(AnswerHeader::bare(Outcome::NoKind)),
+    }
 }
 
 /// Does what a request's header says, with the data that the host sent. The data for the host is at
@@ -45,34 +133,17 @@ pub(crate) fn handle<B: Bus + Zeroing + Ringing>(
     ensures reached { point_of (B.meaning bus.new) driver.new ≡ after_header
         (point_of (B.meaning bus.old) driver.old) header.now sent.now }
     ensures linked { IsLinked (B.meaning bus.new) driver.new }
-    ensures steps { Does
+    ensures steps { IfOk result (λ answer. Does
         (calls B.meaning B.was_written (Still B.was_read) B.was_zeroed B.was_rung B.was_turned)
-        driver.old header.now sent.now bus.old driver.new bus.new }
+        driver.old header.now sent.now
+        (record { header = answer; payload = take answer.length received.new })
+        bus.old driver.new bus.new) }
     ensures room { HasEntryPages driver.new }
     ensures few { IfOk result (λ answer. answer.length ≤ most_data) }
     ensures long { length received.new ≡ most_data }
 {
-    let ctrl = header.controller;
-    let controllers = driver.controllers();
-    if usize::from(ctrl) >= controllers {
+    if usize::from(header.controller) >= driver.controllers() {
         return Ok(AnswerHeader::bare(Outcome::NoController));
     }
-    let wanted = header.wanted_length();
-    match header.kind {
-        Kind::Entry => {
-            let out = &mut received[..wanted as usize];
-            let told = driver.passthrough(bus, ctrl, &header.entry, sent, out);
-            Ok(AnswerHeader::returned(told.dword0, told.status, wanted))
-        }
-        Kind::Reset => {
-            driver.reset(bus, ctrl)?;
-            Ok(AnswerHeader::bare(Outcome::Answered))
-        }
-        Kind::List => {
-            let out = &mut received[..wanted as usize];
-            let told = driver.passthrough(bus, ctrl, &list_entry(), &[], out);
-            Ok(AnswerHeader::returned(controllers as u32, told.status, wanted))
-        }
-        Kind::Unknown => Ok(AnswerHeader::bare(Outcome::NoKind)),
-    }
+    perform(bus, driver, header, sent, received)
 }

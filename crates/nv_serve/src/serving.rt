@@ -53,9 +53,9 @@ fn serve_all<B: Bus + Zeroing + Ringing, R: Source, O: Sink>(
     requires sent_long { length sent.old ≡ most_data }
     requires received_long { length received.old ≡ most_data }
     ensures served { IsServed (point_of (B.meaning bus.old) driver.old)
-        (λ requests. DoesAll
+        (λ requests answers. DoesAll
         (calls B.meaning B.was_written (Still B.was_read) B.was_zeroed B.was_rung B.was_turned)
-        driver.old requests bus.old driver.new bus.new) result
+        driver.old requests answers bus.old driver.new bus.new) result
         (B.meaning bus.new).state
         (streams (R.state source.old) (O.state out.old))
         (streams (R.state source.new) (O.state out.new)) }

@@ -84,7 +84,7 @@ enough g c = omega (
 ended : (g : Over) (c : goal.After-tell g) → HasEnded g.B.Bus.was_written g.B.Ringing.was_rung g.B.Bus.was_turned
     g.begun.start g.begun.run (g.M.PagedMemory.page_len c.args.host.now.mem) (g.B.Bus.meaning c.tell.new.bus)
     c.tell.new.bus c.tell.new.self (g.M.PagedMemory.page_len c.loop-batch.host.mem)
-    (g.M.PagedMemory.bytes c.loop-batch.host.mem)
+    (g.M.PagedMemory.bytes c.loop-batch.host.mem) c.loop-batch.host.taken
 ended g c = ends_all g.B.Bus.meaning refl c.loop-batch.invariant.under_way (enough g c) c.tell.ensures.told
     c.tell.ensures.written c.tell.ensures.silent (c.requires.1.1.1.0.page_size
     ∙ ap (λ (r : Run). r.geometry.page_size) (sym (run_is c.requires.1.1.0)))

@@ -27,13 +27,13 @@ returns-in-Ok-clause-serves g c =
         subst (λ p. IsServed p did c.serve_all.result (g.B.Bus.meaning c.serve_all.new.bus).state
             (streams (g.R.Source.state c.args.source.now) (g.O.Sink.state c.args.out.now))
             (streams (g.R.Source.state c.serve_all.new.source) (g.O.Sink.state c.serve_all.new.out))) begins
-            (served_by did (λ requests done. (
+            (served_by did (λ requests answers done. (
               c.bring_up_for_entries.new.bus,
               c.serve_all.new.driver,
               up.0,
               up.1,
               up.2,
-              subst (λ d. DoesAll all d requests c.bring_up_for_entries.new.bus c.serve_all.new.driver
+              subst (λ d. DoesAll all d requests answers c.bring_up_for_entries.new.bus c.serve_all.new.driver
                   c.serve_all.new.bus) e.driver done,
             )) c.serve_all.ensures.served),
       ),

@@ -85,7 +85,7 @@ returns-then-not-respond-clause-served g c =
     ends_unwritten {now = point_of (g.B.Bus.meaning h.new.bus) h.new.driver}
     (stands_more r a s.2 t.2 t.3 (rw (← t.0) (rw len at done.ensures.answer))
     (rw (← t.0) (rw len at done.ensures.reached)))
-    (does_more all _ c.loop.driver h.new.driver _ c.loop.bus h.new.bus s.0 r s.5
+    (does_more all _ c.loop.driver h.new.driver _ c.loop.bus h.new.bus s.0 s.1 r a s.5
     (rw (← t.0) (rw len at done.ensures.steps)))
     refl (still_open t.4) (taken_part a s.3 c.if-not-respond.ensures.text c.if-not-respond.ensures.failure)
 
@@ -116,7 +116,7 @@ loop-preserved g c =
             (rw (← t.0) (rw len at done.ensures.reached)),
         taken_more a s.3 c.if-not-respond.ensures.text c.if-not-respond.ensures.failure,
         length-append s.0 (r ∷ []) ∙ omega (arith, s.4),
-        does_more all _ c.loop.driver h.new.driver _ c.loop.bus h.new.bus s.0 r s.5
+        does_more all _ c.loop.driver h.new.driver _ c.loop.bus h.new.bus s.0 s.1 r a s.5
             (rw (← t.0) (rw len at done.ensures.steps)),
       );
     }

@@ -27,5 +27,5 @@ invariant-loop g l = record {
       × HasTaken (g.O.Sink.state l.initial.out) (g.O.Sink.state l.out) answers
       × (length requests ≡ l.counter)
       × DoesAll (calls g.B.Bus.meaning g.B.Bus.was_written (Still g.B.Bus.was_read) g.B.Zeroing.was_zeroed
-      g.B.Ringing.was_rung g.B.Bus.was_turned) l.initial.driver requests l.initial.bus l.driver l.bus;
+      g.B.Ringing.was_rung g.B.Bus.was_turned) l.initial.driver requests answers l.initial.bus l.driver l.bus;
 }

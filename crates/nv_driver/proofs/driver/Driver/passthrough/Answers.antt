@@ -1,11 +1,12 @@
 use Rattle.nv_driver.proofs.Words.{[], ℕ, ◌∙◌, ◌∷◌, CommandPages, Geometry, GoesOver, HasEntryPages, IsReceived, List}
 use Rattle.nv_driver.proofs.Words.{Pages, QueuePairFields, SendsAll, after_some, all_pages, ap, arith, asked_in}
 use Rattle.nv_driver.proofs.Words.{entry_step, get_or, length, limit_of, place_in, refl, request_for, rules, run_of}
-use Rattle.nv_driver.proofs.Words.{subst, sym, told_by}
+use Rattle.nv_driver.proofs.Words.{World, subst, sym, told_by}
+use Rattle.nv_driver.specs.Alone.{IsReadIn}
 use Rattle.nv_driver.proofs.AdminLaws.{HasPair, after_first, cid_is, driver_after, goes_over, left_at, linked_after}
 use Rattle.nv_driver.proofs.AdminLaws.{ready_by, shape_at, value_after}
 use Rattle.nv_driver.proofs.ExchangeLaws.{CanPass, few_pages, its_buffer, left_with, of_entry, own_ready, pages_back}
-use Rattle.nv_driver.proofs.ExchangeLaws.{received_by, told_is}
+use Rattle.nv_driver.proofs.ExchangeLaws.{read_by, received_by, told_is}
 use Rattle.nv_driver.proofs.PassthroughLaws.{can_pass, ends_before, more_is, room_stays}
 use Rattle.nv_driver.proofs.driver.Driver.passthrough.Given.{Over}
 use Rattle.nv_driver.proofs.driver.Driver.passthrough.Goals.{After-deref_mut-host}
@@ -127,15 +128,23 @@ returns-clause-linked g c =
 
 pub returns-clause-steps : goal.returns-clause-steps
 returns-clause-steps g c =
-    let pair = its_pair g (goal.at.returns-clause-steps g c).After-deref_mut-host in
+    let past = (goal.at.returns-clause-steps g c).After-deref_mut-host in
+    let pair = its_pair g past in
+    let can = passes g past in
     let b = g.B.Bus.meaning c.args.bus.now in
-    let goes = λ (s : Pages) (q : Geometry) (l : QueuePairFields) (bytes : List ℕ). SendsAll g.B.Bus.was_written
-    g.B.Ringing.was_rung g.B.Bus.was_turned (run_of q c.args.ctrl b (record l { pages = s }) bytes
-    (request_for (limit_of b.state c.args.ctrl) c.args.entry.now c.args.bytes.now ∷ []))
-    c.args.bus.now c.exchange_all.new.bus in
+    let pages = all_pages (get_or c.exchange_all.new.host.taken 0 no_pages) in
+    let its = c.place-place.ensures.place ∙ ap (λ (p : Geometry). place_in p pages) (sym (shape_at pair)) in
+    let e = c.exchange_all.ensures in
+    let goes = λ (s : Pages) (q : Geometry) (l : QueuePairFields) (bytes : List ℕ) (last : World).
+    SendsAll g.B.Bus.was_written g.B.Ringing.was_rung g.B.Bus.was_turned (run_of q c.args.ctrl b
+    (record l { pages = s }) bytes (request_for (limit_of b.state c.args.ctrl) c.args.entry.now c.args.bytes.now ∷ []))
+    c.args.bus.now c.exchange_all.new.bus last
+    × IsReadIn q.page_size last c.exchange_all.new.host.last.status c.receive.new.out in
+    let read = read_by c.args.bytes.now can (e.received (omega arith)) no_pages its e.left.ready.page_size
+    c.transfer_for-transfer.ensures.value e.paced (length c.args.out.now) c.receive.ensures in
     subst (λ s. GoesOver c.args.self.now c.args.ctrl (goes s c.args.self.now.geometry))
     (c.swap.ensures.x_after ∙ more_is pair)
-    (goes_over pair (goes c.swap.new.x) (ready_by pair c.requires.linked).quiet c.exchange_all.ensures.paced.steps)
+    (goes_over pair (goes c.swap.new.x) (ready_by pair c.requires.linked).quiet (e.paced.steps, read))
 
 pub returns-clause-entries : goal.returns-clause-entries
 returns-clause-entries g c =
