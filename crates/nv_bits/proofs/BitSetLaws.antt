@@ -1,9 +1,8 @@
 -- Sets of numbers as bits.
-use Rattle.std.proofs.Common.{◌≡◌, ◌≢◌, ◌∙◌, ℕ, ◌+◌, ◌-◌, ◌*◌, ◌/◌, ◌%◌, ◌^◌, ◌<◌, ◌≤◌, Bool, true}
+use Rattle.std.proofs.Common.{◌≡◌, ◌≢◌, ◌∙◌, ℕ, ◌+◌, ◌-◌, ◌*◌, ◌/◌, ◌^◌, ◌<◌, ◌≤◌, Bool, true, rules}
 use Rattle.std.proofs.Common.{false, not, cond, List, length, get_or, set, length-set, is_some}
 use Rattle.std.proofs.Common.{refl, sym, ap, arith, inl, inr, min, get_or-set_other, replicate}
 use Rattle.std.proofs.lemmas.Grind.{common_steps}
-use Rattle.std.proofs.lemmas.List.{get_or-replicate, length-replicate}
 use Rattle.std.proofs.lemmas.Bool.{cases_eq, cases_lt, false_from_ne_true, ne_eqb, true≢false}
 use mir.Val.{bool_byte}
 use Rattle.std.specs.FinMap as map
@@ -20,8 +19,7 @@ use Rattle.nv_bits.proofs.WordLaws.{bit_of-ones, bit_of-past_ones, bit_of-zeros,
 
 -- the value that b gives as a member is there if and only if b is true
 is_member : (b : Bool) → is_some (as_member b) ≡ b
-is_member true = refl
-is_member false = refl
+is_member b = search rules
 
 -- a number of the range is a member if its bit is set
 pub contains_at : (first count : ℕ) (words : List ℕ) (k : ℕ) → k < count
@@ -41,8 +39,7 @@ not_member first count words q clear =
 
 -- as_member of a choice between two truth values is the choice between their values
 as_member-change : (b c d : Bool) → as_member (cond b c d) ≡ cond b (as_member c) (as_member d)
-as_member-change true c d = refl
-as_member-change false c d = refl
+as_member-change b c d = search rules
 
 module _ (first count : ℕ) (old new : List ℕ) (k : ℕ) (here : k < count) where
   -- if new differs from old only in that bit k is set, its set is the set of old with the number of bit k
@@ -73,8 +70,7 @@ members-all first count words all =
 
 -- len plus the byte of "b is false" is n if b is true, and n + 1 otherwise, where len is n
 are_more : (b : Bool) (len n : ℕ) → len ≡ n → len + bool_byte (not b) ≡ cond b n (n + 1)
-are_more true len n e = omega arith
-are_more false len n e = omega arith
+are_more b len n h = search rules
 
 module _ (first count len lowest_word : ℕ) (words : List ℕ) (are : AreBits first count len lowest_word words) where
   -- the set that the words represent
@@ -167,26 +163,9 @@ module _ (first count len lowest_word : ℕ) (words : List ℕ) (are : AreBits f
 -- words of zeros represent an empty set, with a lowest word past the last word
 pub are-empty : (first count : ℕ) → first + count ≤ 2 ^ 32
     → AreBits first count 0 (length {A = ℕ} (replicate (count / 64 + 1) 0)) (replicate (count / 64 + 1) 0)
-are-empty first count range = record {
-  in_range = range;
-  room = length-replicate {A = ℕ} (count / 64 + 1) 0;
-  none_past = λ k _. bit_of-zeros (count / 64 + 1) k;
-  len_is =
-      sym (ap map.len (members-empty first count _ (λ k _. bit_of-zeros (count / 64 + 1) k))
-      ∙ len-empty nat_cmp (Unit {0}));
-  within = omega arith;
-  none_below =
-      λ i h. get_or-replicate (count / 64 + 1) i 0 0 (omega (arith, length-replicate {A = ℕ} (count / 64 + 1) 0));
-}
+are-empty first count range = grind (arith, common_steps, bit_of-zeros, members-empty, len-empty)
 
 -- first_ones represent a set of all numbers of the range, with word 0 as the lowest
 pub are-full : (first count : ℕ) → first + count ≤ 2 ^ 32 → AreBits first count count 0 (first_ones count)
-are-full first count range = record {
-  in_range = range;
-  room = length-set (replicate (count / 64 + 1) (2 ^ 64 - 1)) (count / 64) (2 ^ (count % 64) - 1)
-      ∙ length-replicate (count / 64 + 1) (2 ^ 64 - 1);
-  none_past = bit_of-past_ones count;
-  len_is = sym (ap map.len (members-all first count (first_ones count) (bit_of-ones count)) ∙ len-all_of first count);
-  within = omega arith;
-  none_below = λ i h. absurd (omega arith);
-}
+are-full first count range =
+    grind (arith, common_steps, bit_of-past_ones, members-all, first_ones, bit_of-ones, len-all_of)

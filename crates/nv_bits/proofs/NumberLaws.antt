@@ -1,5 +1,6 @@
 -- Laws of maps and sets of numbers.
-use Rattle.std.proofs.Common.{◌≡◌, ◌≢◌, ◌∙◌, ℕ, zero, suc, ◌+◌, ◌-◌, ◌<◌, ◌≤◌, ◌==◌, ◌&&◌}
+use Rattle.std.proofs.lemmas.Bool.Decides.{nat_tests}
+use Rattle.std.proofs.Common.{◌≡◌, ◌≢◌, ◌∙◌, ℕ, zero, suc, ◌+◌, ◌-◌, ◌<◌, ◌≤◌, ◌==◌, ◌&&◌, rules}
 use Rattle.std.proofs.Common.{Bool, true, false, cond, List, [], ◌∷◌, Option, Some, None, is_some}
 use Rattle.std.proofs.Common.{refl, sym, ap, subst, arith, inl, inr, map as map_list}
 use Rattle.std.proofs.lemmas.Grind.{common_steps}
@@ -8,7 +9,6 @@ use Rattle.std.proofs.lemmas.Bool.{cases_eq, cases_lt, cases_order, cond_both, e
 use Rattle.std.proofs.lemmas.Bool.{lt-ltb, ne_eqb, or_parts, true≢false}
 use Rattle.std.specs.List.{list_any}
 use Rattle.std.specs.Ordering.{nat_cmp, eq_by_cmp, is_lt}
-use Rattle.std.specs.declared.cmp.Ordering.TheVariants.{Equal, Greater}
 use Rattle.std.specs.Cmp.{nat_cmp_total, unsigned_tied}
 use Rattle.std.specs.FinMap as map
 use Rattle.std.specs.FinMap.{get, get-empty, get-insert, get-remove, is_sorted, len-empty}
@@ -21,8 +21,7 @@ module _ {A : Type 0} where
   -- after x is inserted under k, k has x, and every other number has the value that it had
   pub get_of_insert : (m : NumberMap A) (k : ℕ) (x : A) (q : ℕ) → get (map.insert m k x) q
       ≡ cond (q == k) (Some x) (get m q)
-  get_of_insert m k x q =
-      get-insert nat_cmp_total m k x q ∙ ap (λ b. cond b (Some x) (get m q)) (unsigned_tied q k)
+  get_of_insert m k x q = cc (get-insert nat_cmp_total m k x q, unsigned_tied q k)
 
   -- after k is removed, k has no value, and every other number has the value that it had
   pub get_of_remove : (m : NumberMap A) (k q : ℕ) → get (map.remove m k) q
@@ -37,8 +36,7 @@ module _ {A : Type 0} where
   -- if k has no value, with_value gives k the optional value o and changes no other number
   get_of_with_value : (m : NumberMap A) (k q : ℕ) (o : Option A) → get m k ≡ None
       → get (with_value m k o) q ≡ cond (q == k) o (get m q)
-  get_of_with_value m k q None none = grind (arith, common_steps, cases_eq, eq-eqb, ne_eqb)
-  get_of_with_value m k q (Some x) none = get_of_insert m k x q
+  get_of_with_value m k q o h = search (rules, get_of_insert)
 
   -- a map by places has no value for a number outside the range
   pub get_outside : (at : ℕ → Option A) (first count q : ℕ) → (IsOf first count q → ⊥)
@@ -158,15 +156,7 @@ module _ {A : Type 0} where
 
   -- removing a number without a value changes nothing
   pub remove_absent : (m : NumberMap A) (k : ℕ) → map.contains_key m k ≡ false → map.remove m k ≡ m
-  remove_absent m k absent =
-      same_numbers _ m (λ q. get_of_remove m k q ∙ elim (cases_eq q k) [
-        | inl e ↦ rw (e, eq-eqb k k refl) (sym (none_of (get m k) absent))
-        | inr ne ↦ rw (ne_eqb q k ne) refl
-      ])
-    where
-      none_of : (o : Option A) → is_some o ≡ false → o ≡ None
-      none_of None e = refl
-      none_of (Some x) e = absurd (true≢false e)
+  remove_absent m k absent = search (rules, same_numbers, get_of_remove)
 
 -- a range of `count` numbers has `count` members
 pub len-all_of : (first count : ℕ) → map.len (all_of first count) ≡ count
@@ -184,25 +174,15 @@ len-all_of first (suc count) =
 
 -- if the order of numbers says that x is less than y, then x < y
 pub less : (x y : ℕ) → T (is_lt (nat_cmp x y)) → x < y
-less x y h =
-    elim (cases_lt x y) [
-      | inl l ↦ l
-      | inr g ↦ absurd (not_less (x == y) (rw (le-ltb x y g) at h))
-    ]
-  where
-    not_less : (b : Bool) → T (is_lt (cond b Equal Greater)) → ⊥
-    not_less true h = h
-    not_less false h = h
+less x y h = search rules
 
 -- if a conjunction holds, its first part holds
 pub left : (a b : Bool) → T (a && b) → T a
-left true b h = tt
-left false b h = absurd h
+left a b h = search rules
 
 -- if a conjunction holds, its second part holds
 pub right : (a b : Bool) → T (a && b) → T b
-right true b h = h
-right false b h = absurd h
+right a b h = search rules
 
 module _ {A : Type 0} where
   -- whether one of the entries is for the number q
@@ -248,9 +228,7 @@ module _ {A : Type 0} where
       → above n (numbers es) ≡ numbers es
   all_listed n x [] h below = refl
   all_listed n x (e ∷ es) h below =
-      let l : x < e.0 = less x e.0 (left _ _ below) in
-      rw (lt-ltb n e.0 (omega arith))
-      (ap (λ t. e.0 ∷ t) (all_listed n x es h (right (is_lt (nat_cmp x e.0)) _ below)))
+      grind (arith, nat_tests, all_listed n x es h (right (is_lt (nat_cmp x e.0)) _ below))
 
   -- if k is the least number above n in sorted entries, the numbers above n are k and then those above k
   next_listed : (n k : ℕ) (es : List (ℕ × A)) → T (is_sorted nat_cmp es) → n < k → has es k ≡ true
@@ -287,8 +265,7 @@ module _ {A : Type 0} where
   -- if no number above n has a value, the map has no numbers above n
   pub above_none : (m : NumberMap A) (n : ℕ) → ((q : ℕ) → n < q → map.contains_key m q ≡ false)
       → above n (map.keys m) ≡ []
-  above_none m n none =
-      none_listed n (map.entries m) (λ q h. sym (map.contains_key-keys m q) ∙ none q h)
+  above_none m n none = cc (none_listed n (map.entries m) (λ q h. sym (map.contains_key-keys m q) ∙ none q h))
 
   -- if k is the next number after n, the numbers of the map above n are k and then those above k
   pub above_next : (m : NumberMap A) (n k : ℕ) → IsNext m n k → above n (map.keys m) ≡ k

@@ -1,5 +1,5 @@
 -- Laws of slots that are written.
-use Rattle.std.proofs.Common.{◌≡◌, ◌∙◌, ℕ, ◌+◌, ◌-◌, ◌<◌, ◌==◌, Bool, true, false, not, cond, List, [], ◌∷◌}
+use Rattle.std.proofs.Common.{◌≡◌, ◌∙◌, ℕ, ◌+◌, ◌-◌, ◌<◌, ◌==◌, Bool, true, false, not, cond, List, [], ◌∷◌, rules}
 use Rattle.std.proofs.Common.{length, get_or, set, Option, Some, None, is_some, IfSome, MatchOption, refl, sym, ap}
 use Rattle.std.proofs.Common.{arith, get_or-set_same, get_or-set_other}
 use Rattle.std.proofs.lemmas.Grind.{common_steps}
@@ -17,13 +17,11 @@ use Rattle.nv_bits.specs.Slots.{AreSlots, IsLowestFree, RangeMap, values_of}
 
 -- "not y, but false if b" is the negation of "y, or true if b"
 not_after : (b y : Bool) → cond b false (not y) ≡ not (cond b true y)
-not_after true y = refl
-not_after false y = refl
+not_after b y = search rules
 
 -- "not y, but true if b" is the negation of "y, but false if b"
 not_before : (b y : Bool) → cond b true (not y) ≡ not (cond b false y)
-not_before true y = refl
-not_before false y = refl
+not_before b y = search rules
 
 module _ {A : Type 0} where
   -- after slot k is written, it has the new value, and every other slot has its own
@@ -126,5 +124,4 @@ module _ {A : Type 0} where
         → MatchOption r ((q : ℕ) → n < q → map.contains_key occupied.members q ≡ false) (IsNext occupied.members n)
         → MatchOption r (above n (map.keys values) ≡ [])
         (λ k. above n (map.keys values) ≡ k ∷ above k (map.keys values))
-    next_listed None none = above_none values n (λ q h. sym (are.occupied_is q) ∙ none q h)
-    next_listed (Some k) next = grind (arith, common_steps, above_next)
+    next_listed r h = search (rules, above_none, above_next)

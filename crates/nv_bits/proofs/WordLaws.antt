@@ -1,9 +1,9 @@
 -- Laws of bits in words that are written.
 use Rattle.std.proofs.Common.{◌≡◌, ◌≢◌, ◌∙◌, ℕ, ◌+◌, ◌-◌, ◌*◌, ◌/◌, ◌%◌, ◌^◌, ◌<◌, ◌≤◌, ◌==◌, true}
 use Rattle.std.proofs.Common.{false, not, List, length, get_or, set, w64, refl, arith, inl, inr}
-use Rattle.std.proofs.Common.{get_or-set_same, get_or-set_other, bit_and, bit_or, length-set, replicate}
+use Rattle.std.proofs.Common.{get_or-set_same, get_or-set_other, bit_and, bit_or, replicate}
 use Rattle.std.proofs.lemmas.Grind.{common_steps}
-use Rattle.std.proofs.lemmas.Bool.{cases_eq, cases_lt, eq-eqb, ne_eqb}
+use Rattle.std.proofs.lemmas.Bool.{cases_eq, cases_lt}
 use Rattle.std.proofs.Math.Nat.{div-div-eq-div-mul, div-le_self, div-one, pow-zero}
 use Rattle.std.proofs.lemmas.Bool.Decides.{nat_tests}
 use Rattle.std.proofs.lemmas.Grind.{get_or_default_zero}
@@ -20,8 +20,7 @@ changed : (words : List ℕ) (k w b : ℕ) → k / 64 < length words → bit_at 
     → ((i : ℕ) → i < 64 → i ≢ k % 64 → bit_at w i ≡ bit_at (get_or words (k / 64) 0) i)
     → ChangesBit words (set words (k / 64) w) k (b == 1)
 unfolding bit_of
-changed words k w b h here others j =
-    grind (arith, common_steps, cases_eq, eq-eqb, get_or-set_same, ne_eqb, get_or-set_other)
+changed words k w b h here others j = grind (arith, common_steps)
 
 -- the word of bit k, with a 1 at its place by "or", sets bit k and changes no other bit
 pub bit_of-or : (words : List ℕ) (k : ℕ) → k / 64 < length words
@@ -180,5 +179,4 @@ module _ (count : ℕ) where
   -- in first_ones, no bit from `count` on is set
   pub bit_of-past_ones : (k : ℕ) → count ≤ k → bit_of (first_ones count) k ≡ false
   unfolding bit_of
-  bit_of-past_ones k h =
-      grind (arith, common_steps, cases_eq, last_word, bit_at_ones_above, none_past, length-set, length-replicate)
+  bit_of-past_ones k h = grind (arith, common_steps, bit_at_ones_above)

@@ -1,15 +1,16 @@
 -- Get Log Page is read back from its entry, and so are logs from their bytes.
-use Rattle.std.proofs.Common.{rules, ◌≡◌, ◌∙◌, ℕ, zero, suc, ◌+◌, ◌-◌, ◌*◌, ◌/◌, ◌%◌, ◌<◌, ◌≤◌, ◌^◌}
-use Rattle.std.proofs.Common.{List, [], ◌∷◌, ◌++◌, ap, arith, drop, get_or, length}
-use Rattle.std.proofs.Common.{map, refl, replicate, sym, take}
+use Rattle.std.proofs.lemmas.Bool.Decides.{nat_tests}
+use Rattle.std.proofs.lemmas.Grind.{common_steps}
+use Rattle.std.proofs.Common.{rules, ◌≡◌, ◌∙◌, ℕ, zero, suc, ◌+◌, ◌-◌, ◌*◌, ◌/◌, ◌<◌, ◌≤◌, ◌^◌}
+use Rattle.std.proofs.Common.{List, [], ◌∷◌, ap, arith, drop, get_or, length}
+use Rattle.std.proofs.Common.{map, refl, sym, take}
 use Rattle.std.specs.List.{AllByRecursion}
 use Rattle.std.specs.Simd.{first_chunks}
-use Rattle.std.proofs.lemmas.List.{drop-drop, get_or-take, length-append, length-map}
-use Rattle.std.proofs.lemmas.List.{length-replicate, length-take-le}
+use Rattle.std.proofs.lemmas.List.{length-map}
 use Rattle.nv_layout.specs.ErrorEntry.{ErrorEntryFits, no_entry}
 use Rattle.nv_layout.specs.ErrorEntryBytes.{bytes_of_entries, bytes_of_error_entry, without_phase}
 use Rattle.nv_layout.proofs.LogLaws.{error_entry_back, fits_with_phase, length-bytes_of_error_entry}
-use Rattle.nv_layout.proofs.LogLaws.{length-bytes_of_smart, no_entry_fits, part_of_entry, smart_back}
+use Rattle.nv_layout.proofs.LogLaws.{length-bytes_of_smart, part_of_entry, smart_back}
 use Rattle.nv_layout.proofs.PartLaws.{get_or-past, length-part, map_read, part-part, part_whole}
 use Rattle.nv_layout.specs.Bits.{at_bits, bits}
 use Rattle.nv_layout.specs.Parts.{part}
@@ -23,7 +24,6 @@ use Rattle.nv_command.specs.Form.{get_log_fields}
 use Rattle.nv_command.specs.LogPage.{log_kind}
 use Rattle.nv_command.specs.declared.log_page.LogPage.{LogPage}
 use Rattle.nv_command.specs.declared.log_page.LogPage.TheVariants.{ErrorInformation, Health}
-use Rattle.nv_command.proofs.ReplySizes.{IsSizeOf}
 use Rattle.nv_command.specs.Reply.{FitsRecord, IsReplyTo, dword0_of, kind_of, log_of, reply_by}
 use Rattle.nv_command.specs.declared.command.Command.{Command}
 use Rattle.nv_command.specs.declared.command.Command.TheVariants.{GetLog}
@@ -35,10 +35,6 @@ use Rattle.nv_command.specs.declared.reply.Reply.TheVariants as reply
 pub get_log_fits : (q : LogQuery) → GetLogFits q → FieldsFit (get_log_fields q)
 get_log_fits q fits = search (rules, arith, fits)
 
--- the low byte of CDW10 of a Get Log Page is the log's identifier
-lid_back : (lid numd : ℕ) → lid < 2 ^ 8 → bits 0 8 (at_bits 0 8 lid + at_bits 16 16 numd) ≡ lid
-lid_back lid numd h = omega arith
-
 -- NUMDL, with NUMDU in the upper half, plus 1 is the number of dwords that are asked for
 pub dwords_back : (lid dwords : ℕ) → 0 < dwords → dwords ≤ 2 ^ 32
     → bits 16 16 (at_bits 0 8 lid + at_bits 16 16 (dwords - 1))
@@ -47,13 +43,7 @@ dwords_back lid dwords some h = omega arith
 
 -- the entry of a Get Log Page that fits is decoded to that command
 pub get_log_back : (q : LogQuery) → GetLogFits q → IsDecoded get_log_command (GetLog q)
-get_log_back q fits cid prp1 prp2 =
-    let whole : q.offset % 2 ^ 32 + q.offset / 2 ^ 32 * 2 ^ 32 ≡ q.offset = omega arith in
-    λ k. GetLog (record q {
-      lid = lid_back q.lid (q.dwords - 1) fits.lid k;
-      offset = whole k;
-      dwords = dwords_back q.lid q.dwords fits.some fits.dwords k;
-    })
+get_log_back q fits cid prp1 prp2 = search rules
 
 -- ---- entries in bytes
 
@@ -66,33 +56,18 @@ length-first_chunks w (suc n) xs = ap suc (length-first_chunks w n (drop w xs))
 get_or-first_chunks : (w n : ℕ) (xs : List ℕ) (k : ℕ) → k < n
     → get_or (first_chunks w n xs) k [] ≡ take w (drop (w * k) xs)
 get_or-first_chunks w zero xs k h = absurd (omega arith)
-get_or-first_chunks w (suc n) xs zero h = let none : 0 ≡ w * 0 =
-    omega arith in ap (λ m. take w (drop m xs)) none
+get_or-first_chunks w (suc n) xs zero h = grind (arith, nat_tests)
 get_or-first_chunks w (suc n) xs (suc k) h =
-    let next : w + w * k ≡ w * suc k = omega arith in
-    get_or-first_chunks w n (drop w xs) k (omega arith)
-    ∙ ap (take w) (drop-drop (w * k) w xs)
-    ∙ ap (λ m. take w (drop m xs)) next
+    grind (arith, common_steps, get_or-first_chunks w n (drop w xs) k (omega arith))
 
 -- entry k of entries that all fit fits, and so does no_entry past their end
 each_fits : (es : List ErrorEntry) (k : ℕ) → AllByRecursion ErrorEntryFits es
     → ErrorEntryFits (get_or es k no_entry)
-each_fits [] k fits = no_entry_fits
-each_fits (e ∷ es) zero fits = fits.0
-each_fits (e ∷ es) (suc k) fits = each_fits es k fits.1
-
--- entry k without its phase tag is entry k of the entries without their phase tags
-get_or-without_phase : (es : List ErrorEntry) (k : ℕ)
-    → get_or (map without_phase es) k no_entry ≡ without_phase (get_or es k no_entry)
-get_or-without_phase [] k = refl
-get_or-without_phase (e ∷ es) zero = refl
-get_or-without_phase (e ∷ es) (suc k) = get_or-without_phase es k
+each_fits es k h = grind (arith, common_steps)
 
 -- first_entries gives as many entries as were asked for
 length-first_entries : (count : ℕ) (es : List ErrorEntry) → length (first_entries count es) ≡ count
-length-first_entries count es =
-    length-take-le count (es ++ replicate count no_entry)
-    (simp (length-append, length-replicate) (omega arith))
+length-first_entries count es = grind (arith, common_steps)
 
 -- the requested part of a log, as whole entries
 abbrev asked_of : List ErrorEntry → ℕ → List ℕ
@@ -113,12 +88,7 @@ entry_back : (es : List ErrorEntry) (count k : ℕ) → AllByRecursion ErrorEntr
     → get_or (first_entries count (map without_phase es)) k no_entry
     ≡ entry_received (get_or (first_chunks 64 count (asked_of es count)) k [])
 entry_back es count k fits h =
-    get_or-take count (map without_phase es ++ replicate count no_entry) k no_entry h
-    ∙ get_or-past (map without_phase es) no_entry count k
-    ∙ get_or-without_phase es k
-    ∙ ap without_phase (sym (error_entry_back (get_or es k no_entry) (each_fits es k fits)))
-    ∙ ap entry_received (sym (chunk_of_entry es count k h))
-    ∙ ap entry_received (sym (get_or-first_chunks 64 count (asked_of es count) k h))
+    grind (arith, common_steps, get_or-past, error_entry_back, each_fits, chunk_of_entry, get_or-first_chunks)
 
 -- the entries in the requested part are the first `count` entries without their phase tags
 entries_back : (es : List ErrorEntry) (count : ℕ) → AllByRecursion ErrorEntryFits es
@@ -151,18 +121,11 @@ log_arrives Health (reply.Smart r) offset dwords is fits whole =
     ∙ ap reply.Smart (smart_back r fits)
 log_arrives page r offset dwords is fits whole = absurd (cc)
 
--- a whole number of entries, or the entire health log, is a length that the kind of the reply can have
-pub log_size : (page : LogPage) (offset dwords : ℕ) → IsWhole page offset dwords
-    → IsSizeOf (log_kind page) (4 * dwords)
-log_size ErrorInformation offset dwords whole = omega (arith, whole.1.few)
-log_size Health offset dwords whole = whole.1
-
 -- ---- facts about a reply without its phase tags
 
 -- the kind of a reply doesn't depend on phase tags
 kind-without_phases : (r : Reply) → kind_of (without_phases r) ≡ kind_of r
-kind-without_phases (reply.Errors es) = refl
-kind-without_phases r = refl
+kind-without_phases r = search rules
 
 -- if a reply without its phase tags is one to a command, so is the reply
 pub is_reply-without_phases : (k : Command) (r : Reply) → IsReplyTo k (without_phases r)
@@ -177,11 +140,4 @@ entries_fit (e ∷ es) fits = (fits_with_phase (without_phase e) e.phase fits.0,
 
 -- if a reply fits its record without its phase tags, it also fits with them
 pub fits-without_phases : (r : Reply) → FitsRecord (without_phases r) → FitsRecord r
-fits-without_phases (reply.Errors es) fits =
-    let size = length-map es without_phase in
-    record {
-      some = omega (arith, size, fits.some);
-      count = omega (arith, size, fits.count);
-      entries = entries_fit es fits.entries;
-    }
-fits-without_phases r fits = fits
+fits-without_phases r h = search (rules, length-map, entries_fit)

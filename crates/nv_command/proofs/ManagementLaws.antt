@@ -1,5 +1,5 @@
 -- Namespace Management and Namespace Attachment are read back from their entries and data.
-use Rattle.std.proofs.Common.{rules, ◌≡◌, ℕ, ◌<◌, ◌^◌, Bool, List, Ok, ap}
+use Rattle.std.proofs.Common.{rules, ◌≡◌, ℕ, ◌<◌, ◌^◌, Bool, List, Ok}
 use Rattle.std.proofs.Common.{arith}
 use Rattle.nv_layout.specs.CtrlList.{bytes_of_ctrl_list}
 use Rattle.nv_layout.specs.NewNamespace.{NewNamespaceFits, bytes_of_new_namespace}
@@ -24,14 +24,9 @@ attachment_fits detach = search (rules, arith)
 -- the creation of a namespace whose parameters fit is read back from its page
 pub create_back : (w : NewNamespace) → NewNamespaceFits w
     → create_in (bytes_of_new_namespace w) ≡ Ok (Create w)
-create_back w fits =
-    let size = length-bytes_of_new_namespace w in
-    rw size (ap (λ x. Ok (Create x)) (new_namespace_back w fits))
+create_back w fits = simp (length-bytes_of_new_namespace, new_namespace_back)
 
 -- an attachment or a detachment that fits is read back from its page
 pub attachment_back : (detach : Bool) (n : ℕ) (ids : List ℕ) → AttachmentFits n ids
     → attachment_in detach n (bytes_of_ctrl_list ids) ≡ Ok (Attachment n detach ids)
-attachment_back detach n ids fits =
-    let size = length-bytes_of_ctrl_list ids fits.list.count in
-    let back = ctrl_list_back ids fits.list in
-    rw (size, back)
+attachment_back detach n ids fits = search (rules, length-bytes_of_ctrl_list, ctrl_list_back)

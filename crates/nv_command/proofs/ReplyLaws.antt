@@ -1,5 +1,5 @@
 -- Pages of replies, by their kinds.
-use Rattle.std.proofs.Common.{◌≡◌, ◌∙◌, ap, length, refl, subst, sym}
+use Rattle.std.proofs.Common.{◌≡◌, length, rules}
 use Rattle.nv_layout.proofs.IdentifyLaws.{id_ctrl_back, id_ns_back, length-bytes_of_id_ctrl}
 use Rattle.nv_layout.proofs.IdentifyLaws.{length-bytes_of_id_ns}
 use Rattle.nv_layout.proofs.RecordLaws.{length-bytes_of_ns_list, ns_list_back}
@@ -9,15 +9,10 @@ use Rattle.nv_command.proofs.ReplySizes.{page_bytes}
 use Rattle.nv_command.specs.declared.transfer.ReplyKind.{ReplyKind}
 use Rattle.nv_command.specs.declared.transfer.ReplyKind.TheVariants as kind
 use Rattle.nv_command.specs.declared.reply.Reply.{Reply}
-use Rattle.nv_command.specs.declared.reply.Reply.TheVariants as reply
 
 -- the page of a reply that fits its record is as long as the page of its kind
 pub length_of_page : (r : Reply) → FitsRecord r → length (page_of r) ≡ page_bytes (kind_of r)
-length_of_page (reply.Controller r) fits =
-    length-bytes_of_id_ctrl r fits.sn fits.mn fits.fr fits.subnqn
-length_of_page (reply.Namespace r) fits = length-bytes_of_id_ns r fits.formats
-length_of_page (reply.List ids) fits = length-bytes_of_ns_list ids fits.count
-length_of_page r fits = refl
+length_of_page r h = search (rules, length-bytes_of_id_ctrl, length-bytes_of_id_ns, length-bytes_of_ns_list)
 
 -- a reply of this kind is completely in dword 0 and a page
 abbrev pub IsNoLog : ReplyKind → Type 0
@@ -28,17 +23,9 @@ IsNoLog k = Unit {0}
 -- a reply that isn't a log is read back from dword 0 and its page
 page_back : (r : Reply) → IsNoLog (kind_of r) → FitsRecord r
     → reply_by (kind_of r) (dword0_of r) (page_of r) ≡ without_phases r
-page_back (reply.Controller r) no_log fits = ap reply.Controller (id_ctrl_back r fits)
-page_back (reply.Namespace r) no_log fits = ap reply.Namespace (id_ns_back r fits)
-page_back (reply.List ids) no_log fits =
-    ap reply.List (ns_list_back ids fits.count fits.numbers)
-page_back (reply.Errors es) no_log fits = absurd no_log
-page_back (reply.Smart r) no_log fits = absurd no_log
-page_back r no_log fits = refl
+page_back r h e = search (rules, id_ctrl_back, id_ns_back, ns_list_back)
 
 -- a reply of a kind that isn't a log is read back by that kind
 pub page_arrives : (k : ReplyKind) (r : Reply) → kind_of r ≡ k → IsNoLog k → FitsRecord r
     → reply_by k (dword0_of r) (page_of r) ≡ without_phases r
-page_arrives k r is no_log fits =
-    ap (λ x. reply_by x (dword0_of r) (page_of r)) (sym is)
-    ∙ page_back r (subst IsNoLog (sym is) no_log) fits
+page_arrives k r is no_log fits = search (rules, page_back)

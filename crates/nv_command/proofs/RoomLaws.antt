@@ -1,8 +1,9 @@
 -- The entries of an error log in a `ReplyRoom`: those after the last one that isn't all zeros hold
 -- no error.
-use Rattle.std.proofs.Common.{◌≡◌, ◌∙◌, ℕ, suc, ◌+◌, ◌-◌, ◌<◌, ◌≤◌, List, [], ◌∷◌, ◌++◌, ap, arith, drop}
-use Rattle.std.proofs.Common.{get_or, length, map, refl, replicate, sym, take}
-use Rattle.std.proofs.lemmas.List.{drop_more, map-append, take-append-drop}
+use Rattle.std.proofs.lemmas.Grind.{common_steps}
+use Rattle.std.proofs.Common.{◌≡◌, ℕ, ◌-◌, ◌<◌, ◌≤◌, List, [], arith, drop, rules}
+use Rattle.std.proofs.Common.{get_or, length, map, refl, replicate, take}
+use Rattle.std.proofs.lemmas.List.{drop_more, take-append-drop}
 use Rattle.nv_layout.specs.ErrorEntryBytes.{error_entry_of_bytes}
 use Rattle.nv_layout.specs.ErrorEntry.{no_entry}
 use Rattle.nv_layout.specs.Parts.{number_at}
@@ -21,20 +22,11 @@ pub blank_before : (chunks : List (List ℕ)) (n : ℕ) → 0 < n → n ≤ leng
     → get_or chunks (n - 1) [] ≡ replicate 64 0
     → map entry_received (drop n chunks) ≡ replicate (length chunks - n) no_entry
     → map entry_received (drop (n - 1) chunks) ≡ replicate (length chunks - (n - 1)) no_entry
-blank_before chunks n some within zeros others =
-    let next : n - 1 + 1 ≡ n = omega arith in
-    let more : suc (length chunks - n) ≡ length chunks - (n - 1) = omega arith in
-    ap (map entry_received) (drop_more chunks (n - 1) [] (omega arith))
-    ∙ (λ i. entry_received (zeros i) ∷ map entry_received (drop (next i) chunks))
-    ∙ (λ i. zeros_received i ∷ others i)
-    ∙ ap (λ m. replicate m no_entry) more
+blank_before chunks n some within zeros others = search (rules, drop_more, zeros_received)
 
 -- if the first n entries are kept and the entries after them hold no error, these are all entries
 pub entries_read : (chunks : List (List ℕ)) (n : ℕ) (kept : List ErrorEntry)
     → take n kept ≡ map entry_received (take n chunks)
     → map entry_received (drop n chunks) ≡ replicate (length chunks - n) no_entry
     → entries_held (length chunks) n kept ≡ map entry_received chunks
-entries_read chunks n kept read others =
-    (λ i. read i ++ sym others i)
-    ∙ sym (map-append entry_received (take n chunks) (drop n chunks))
-    ∙ ap (map entry_received) (take-append-drop n chunks)
+entries_read chunks n kept read others = grind (arith, common_steps, take-append-drop n chunks)

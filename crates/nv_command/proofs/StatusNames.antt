@@ -1,10 +1,8 @@
 -- The names of statuses that have a code.
-use Rattle.std.proofs.Common.{◌≡◌, refl}
+use Rattle.std.proofs.Common.{◌≡◌, rules}
 use Rattle.nv_command.specs.StatusCode.{name_of_code, name_of_status, status_of_code}
 use Rattle.nv_command.specs.declared.status_code.StatusCode.{StatusCode}
-use Rattle.nv_command.specs.declared.status_code.StatusCode.TheVariants as code
 
 -- the name of the status of a code is the name of the code
 pub named_by_status : (c : StatusCode) → name_of_status (status_of_code c) ≡ name_of_code c
-named_by_status code.InvalidCommandOpcode = refl
-named_by_status c = refl
+named_by_status c = search rules

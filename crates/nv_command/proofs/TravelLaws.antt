@@ -1,24 +1,21 @@
 -- The law that commands and replies are read back, in the form that other proofs cite.
-use Rattle.std.proofs.Common.{◌≡◌, ◌∙◌, ◌*◌, ap, false, lit<, Ok, refl, true}
+use Rattle.std.proofs.Common.{◌≡◌, ap, false, lit<, Ok, refl, true, rules}
 use Rattle.nv_layout.proofs.IdentifyLaws.{length-bytes_of_new_namespace}
 use Rattle.nv_layout.proofs.PartLaws.{length-part}
 use Rattle.nv_layout.proofs.RecordLaws.{length-bytes_of_ctrl_list}
 use Rattle.nv_command.proofs.EntryLaws.{entry_with_fits}
 use Rattle.nv_command.proofs.FeatureLaws.{get_feature_back, get_feature_fits, set_feature_back}
 use Rattle.nv_command.proofs.FeatureLaws.{set_feature_fits}
-use Rattle.nv_command.specs.Form.{form_of}
 use Rattle.nv_command.proofs.FormatLaws.{format_back, format_fits}
 use Rattle.nv_command.proofs.IdentifyLaws.{identify_fits}
 use Rattle.nv_command.proofs.LogLaws.{dwords_back, get_log_back, get_log_fits, log_arrives}
 use Rattle.nv_command.specs.Logs.{IsSendable, without_phases}
 use Rattle.nv_command.specs.Form.{log_data}
-use Rattle.nv_command.specs.LogPage.{log_asked}
 use Rattle.nv_command.specs.Received.{received}
 use Rattle.nv_command.proofs.ManagementLaws.{attachment_back, attachment_fits, create_back}
 use Rattle.nv_command.proofs.ManagementLaws.{management_fits}
-use Rattle.nv_command.specs.Reply.{FitsRecord, IsReplyTo, data_of, dword0_of, log_of, reply_in}
+use Rattle.nv_command.specs.Reply.{FitsRecord, IsReplyTo, data_of, dword0_of, reply_in}
 use Rattle.nv_command.proofs.ReplyLaws.{length_of_page, page_arrives}
-use Rattle.nv_command.proofs.ReplySizes.{page_bytes}
 use Rattle.nv_command.specs.Travel.{CommandsTravel, RepliesFit, RepliesTravel}
 use Rattle.nv_command.specs.declared.command.Command.{Command}
 use Rattle.nv_command.specs.declared.command.Command.TheVariants.{IdentifyController}
@@ -90,17 +87,13 @@ commands_travel (GetLog x) cid fits low = record {
 
 -- for a command that reads no log, the form says how long the page of its reply is
 pub replies_fit : RepliesFit
-replies_fit (GetLog q) r is fits = length-part (log_of r) q.offset (4 * q.dwords)
-replies_fit k r is fits = length_of_page r fits ∙ ap page_bytes is
+replies_fit h e f g = search (rules, length-part, length_of_page)
 
 -- the reply to a command whose reply can be read is read back from dword 0 and its data
 replies_arrive : (k : Command) (r : Reply) → IsReplyTo k r → FitsRecord r → IsSendable k
     → reply_in k (dword0_of r) (data_of k r) ≡ received k (without_phases r)
-replies_arrive (GetLog q) r is fits sends =
-    log_arrives (log_asked q.lid) r q.offset q.dwords is fits sends
-replies_arrive k r is fits sends = page_arrives (form_of k).reply r is tt fits
+replies_arrive k r h e f = search (rules, log_arrives, page_arrives)
 
 -- each reply that fits its record, to a command whose reply can be read, arrives
 pub replies_travel : RepliesTravel
-replies_travel k r is fits sends =
-    record { bytes = replies_fit k r is fits; reply = replies_arrive k r is fits sends }
+replies_travel k r is fits sends = search (rules, replies_fit, replies_arrive)

@@ -1,7 +1,8 @@
 -- The Identify data of namespaces and controllers is read back from its 4,096 bytes if its fields
 -- fit.
-use Rattle.std.proofs.Common.{◌≡◌, ◌∙◌, ℕ, ◌+◌, ◌^◌, ◌<◌}
-use Rattle.std.proofs.Common.{ap, refl, arith, List, [], ◌∷◌, length, map}
+use Rattle.std.proofs.lemmas.Grind.{common_steps}
+use Rattle.std.proofs.Common.{◌≡◌, ◌∙◌, ℕ, ◌+◌, ◌^◌, ◌<◌, rules}
+use Rattle.std.proofs.Common.{refl, arith, List, [], ◌∷◌, length, map}
 use Rattle.std.specs.List.{AllByRecursion}
 use Rattle.std.proofs.lemmas.List.{length-map}
 use Rattle.nv_layout.specs.IdCtrl.{IdCtrlReadsBack, bytes_of_id_ctrl, id_ctrl_of_bytes}
@@ -43,16 +44,13 @@ lbafs_fit (l ∷ ls) fits = (lbaf_fits l fits.0, lbafs_fit ls fits.1)
 
 -- an LBA format whose fields fit is read back from its number
 lbaf_back : (l : Lbaf) → LbafFits l → lbaf_of_number (number_of_lbaf l) ≡ l
-lbaf_back l fits =
-    let (small, ms, lbads, rp) = lbaf_bits l.ms l.lbads l.rp fits.ms fits.lbads fits.rp in
-    λ i. record { ms = ms i; lbads = lbads i; rp = rp i }
+lbaf_back l fits = search rules
 
 -- an LBA format whose fields fit is read back from its four bytes
 pub lbaf_read_back : LbafReadsBack
 unfolding bytes_of_lbaf lbaf_of_bytes
 lbaf_read_back l fits =
-    let (whole, end) = table_back 4 (number 0 4 (number_of_lbaf l) ∷ []) refl (lbaf_fits l fits, tt) in
-    ap lbaf_of_number whole ∙ lbaf_back l fits
+    grind (arith, common_steps, table_back 4 (number 0 4 (number_of_lbaf l) ∷ []) refl (lbaf_fits l fits, tt))
 
 -- LBA formats whose fields fit are read back from their numbers
 lbafs_back : (ls : List Lbaf) → AllByRecursion LbafFits ls
@@ -85,8 +83,7 @@ length-bytes_of_new_namespace w = length-laid_out 4096 (new_namespace_parts w) r
 -- the parameters of a namespace to create whose fields fit are read back from their bytes
 pub new_namespace_back : NewNamespaceReadsBack
 unfolding bytes_of_new_namespace new_namespace_of_bytes
-new_namespace_back w fits =
-    let fields = table_back 4096 (new_namespace_parts w) refl assumption in grind (arith, fields)
+new_namespace_back w fits = grind (arith, common_steps, table_back 4096 (new_namespace_parts w) refl assumption)
 
 -- ---- controllers
 

@@ -1,9 +1,8 @@
 -- The records of logs are read back, and how many bytes they have.
+use Rattle.std.proofs.lemmas.Grind.{common_steps}
 use Rattle.std.proofs.Common.{◌≡◌, ◌∙◌, ℕ, ◌+◌, ◌-◌, ◌*◌, ◌/◌, ◌%◌, ◌≤◌, ◌^◌, ◌<◌, ap, refl, sym, zero, suc}
 use Rattle.std.proofs.Common.{rules, Bool, arith, List, [], ◌∷◌, ◌++◌, length, get_or, replicate, take}
-use Rattle.std.proofs.lemmas.List.{get_or-append_right, get_or-replicate, get_or_append_left}
-use Rattle.std.proofs.lemmas.List.{length-append, length-replicate}
-use Rattle.std.proofs.Math.Seq.{take-append_seam}
+use Rattle.std.proofs.lemmas.List.{get_or-replicate}
 use Rattle.nv_layout.specs.ErrorEntryBytes.{ErrorEntryReadsBack, bytes_of_entries}
 use Rattle.nv_layout.specs.ErrorEntryBytes.{bytes_of_error_entry, error_entry_of_bytes}
 use Rattle.nv_layout.specs.ErrorEntryBytes.{error_entry_parts}
@@ -28,8 +27,7 @@ length-bytes_of_smart r sensors = length-laid_out 512 (smart_parts r) refl assum
 -- a health log whose fields fit is read back from its bytes
 pub smart_back : SmartReadsBack
 unfolding bytes_of_smart smart_of_bytes
-smart_back r fits =
-    let fields = table_back 512 (smart_parts r) refl assumption in grind (arith, fields)
+smart_back r fits = grind (arith, common_steps, table_back 512 (smart_parts r) refl assumption)
 
 -- ---- entries of the error log
 
@@ -64,10 +62,7 @@ error_entry_back r fits =
 -- the bytes of several entries are 64 for each entry
 pub length-entries : (es : List ErrorEntry) → length (bytes_of_entries es) ≡ 64 * length es
 length-entries [] = refl
-length-entries (e ∷ es) =
-    let this = length-bytes_of_error_entry e in
-    let rest = length-entries es in
-    length-append (bytes_of_error_entry e) (bytes_of_entries es) ∙ omega (arith, this, rest)
+length-entries (e ∷ es) = grind (arith, common_steps, length-bytes_of_error_entry, length-entries es)
 
 -- the bytes of the entry that holds no error are 64 zeros
 bytes_of_no_entry : bytes_of_error_entry no_entry ≡ zeros 64
@@ -84,57 +79,31 @@ byte_of_entry : (es : List ErrorEntry) (index k : ℕ) → k < 64
     → get_or (bytes_of_entries es) (64 * index + k) 0
     ≡ get_or (bytes_of_error_entry (get_or es index no_entry)) k 0
 byte_of_entry [] index k h = sym (ap (λ b. get_or b k 0) bytes_of_no_entry ∙ no_byte k h)
-byte_of_entry (e ∷ es) zero k h =
-    let size = length-bytes_of_error_entry e in
-    ap (λ i. get_or (bytes_of_entries (e ∷ es)) i 0) (omega arith)
-    ∙ get_or_append_left (bytes_of_error_entry e) (bytes_of_entries es) 0 k (omega (arith, size))
+byte_of_entry (e ∷ es) zero k h = grind (arith, common_steps, length-bytes_of_error_entry)
 byte_of_entry (e ∷ es) (suc index) k h =
-    let size = length-bytes_of_error_entry e in
-    get_or-append_right (bytes_of_error_entry e) (bytes_of_entries es) 64 (64 * suc index
-    + k) 0 size (omega arith)
-    ∙ ap (λ i. get_or (bytes_of_entries es) i 0) (omega arith)
-    ∙ byte_of_entry es index k h
+    grind (arith, common_steps, length-bytes_of_error_entry, byte_of_entry es index k h)
 
 -- a part of the entries that lies in one entry is that part of the entry
 pub part_of_entry : (es : List ErrorEntry) (index skip n : ℕ) → skip + n ≤ 64
     → part (bytes_of_entries es) (64 * index + skip) n
     ≡ part (bytes_of_error_entry (get_or es index no_entry)) skip n
-part_of_entry es index skip n h =
-    let bytes = bytes_of_error_entry (get_or es index no_entry) in
-    same_parts (bytes_of_entries es) bytes (64 * index + skip) skip n
-    (λ k below. ap (λ i. get_or (bytes_of_entries es) i 0) (omega arith)
-    ∙ byte_of_entry es index (skip + k) (omega arith))
+part_of_entry es index skip n h = search (rules, same_parts, byte_of_entry)
 
 -- ---- entries without an error after those that a log has
 
 -- byte i of all entries is byte i % 64 of entry number i / 64, or of no_entry past the last entry
 byte_at : (es : List ErrorEntry) (i : ℕ) → get_or (bytes_of_entries es) i 0
     ≡ get_or (bytes_of_error_entry (get_or es (i / 64) no_entry)) (i % 64) 0
-byte_at es i =
-    ap (λ j. get_or (bytes_of_entries es) j 0) (omega arith) ∙ byte_of_entry es (i / 64) (i % 64) (omega arith)
+byte_at es i = search (rules, byte_of_entry)
 
 -- entries without an error after the others change no part of the bytes
 pub part_past_blanks : (es : List ErrorEntry) (m from n : ℕ)
     → part (bytes_of_entries (es ++ replicate m no_entry)) from n ≡ part (bytes_of_entries es) from n
-part_past_blanks es m from n =
-    same_parts (bytes_of_entries (es ++ replicate m no_entry)) (bytes_of_entries es) from from n
-    (λ k below. byte_at (es ++ replicate m no_entry) (from + k)
-    ∙ ap (λ e. get_or (bytes_of_error_entry e) ((from + k) % 64) 0) (get_or-past es no_entry m ((from + k) / 64))
-    ∙ sym (byte_at es (from + k)))
+part_past_blanks es m from n = search (rules, same_parts, byte_at, get_or-past)
 
 -- the newest and the older entries come first, and each entry after them is one without an error
 pub present_first : (newest older : List ErrorEntry) (m : ℕ)
     → let n = length newest + length older in
     let es = newest ++ older ++ replicate m no_entry in
     ◌≡◌ {A = List ErrorEntry} es (take n es ++ replicate (length es - n) no_entry)
-present_first newest older m =
-    let n = length newest + length older in
-    let had = newest ++ older in
-    let blanks = replicate m no_entry in
-    let size : length had ≡ n = length-append newest older in
-    let front : take n (had ++ blanks) ≡ had =
-    ap (λ k. take k (had ++ blanks)) (sym size) ∙ take-append_seam had blanks in
-    let all = length-append had blanks in
-    let more = length-replicate m no_entry in
-    let rest : m ≡ length (had ++ blanks) - n = omega (arith, size, all, more) in
-    λ i. sym front i ++ replicate (rest i) no_entry
+present_first newest older m = grind (arith, common_steps)

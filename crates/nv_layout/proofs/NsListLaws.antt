@@ -1,11 +1,12 @@
 -- Lists of identifiers that end at the first zero.
-use Rattle.std.proofs.Common.{◌≡◌, ◌≢◌, ◌∙◌, ℕ, zero, suc, ◌+◌, ◌-◌, ◌*◌, ◌^◌, ◌<◌, ◌≤◌, ap, refl}
-use Rattle.std.proofs.Common.{sym, not, arith, append-nil, false, List, [], ◌∷◌, ◌++◌, drop}
+use Rattle.std.proofs.lemmas.Bool.Decides.{nat_tests}
+use Rattle.std.proofs.Common.{◌≡◌, ◌≢◌, ◌∙◌, ℕ, zero, suc, ◌+◌, ◌-◌, ◌*◌, ◌^◌, ◌<◌, ◌≤◌, ap, refl, rules}
+use Rattle.std.proofs.Common.{sym, not, arith, false, List, [], ◌∷◌, ◌++◌, drop}
 use Rattle.std.proofs.Common.{take, length, get_or}
 use Rattle.std.specs.List.{AllByRecursion, before_first, flat_map, prefix_len}
 use Rattle.std.proofs.lemmas.Bool.{eqb-true, false_from_ne_true}
-use Rattle.std.proofs.lemmas.Grind.{flat_map-append}
-use Rattle.std.proofs.lemmas.List.{drop-replicate, drop_all, length-append}
+use Rattle.std.proofs.lemmas.Grind.{common_steps}
+use Rattle.std.proofs.lemmas.List.{drop-replicate, drop_all}
 use Rattle.byteorder.specs.Endian.{little_bytes}
 use Rattle.nv_layout.specs.NsList.{is_zero, padded}
 use Rattle.nv_layout.specs.Parts.{number_at, numbers, numbers_at, placed, zeros}
@@ -68,22 +69,17 @@ AreIdentifiers = AllByRecursion (λ x. (x ≢ 0) × (x < 2 ^ 32))
 before_first-append : (xs ys : List ℕ) → AreIdentifiers xs → before_first is_zero ys ≡ []
     → xs ≡ before_first is_zero (xs ++ ys)
 before_first-append [] ys f e = sym e
-before_first-append (x ∷ xs) ys f e =
-    let test : is_zero x ≡ false =
-    false_from_ne_true (is_zero x) (λ t. f.0.0 (eqb-true x 0 t)) in
-    ap (λ t. x ∷ t) (before_first-append xs ys f.1 e) ∙ before_first-cons x (xs ++ ys) test
+before_first-append (x ∷ xs) ys f e = grind (arith, nat_tests, before_first-cons, before_first-append xs ys f.1 e)
 
 -- before the first of n zeros there is no number
 before_first-zeros : (n : ℕ) → before_first is_zero (zeros n) ≡ []
 unfolding zeros
-before_first-zeros zero = refl
-before_first-zeros (suc n) = refl
+before_first-zeros n = search rules
 
 -- the numbers before the first zero of padded identifiers are the identifiers
 pub before_first-padded : (n : ℕ) (xs : List ℕ) → AreIdentifiers xs
     → before_first is_zero (padded n xs) ≡ xs
-before_first-padded n xs f =
-    sym (before_first-append xs (zeros (n - length xs)) f (before_first-zeros (n - length xs)))
+before_first-padded n xs f = search (rules, before_first-append, before_first-zeros)
 
 -- n zeros are numbers of 32 bits
 zeros_fit : (n : ℕ) → AllByRecursion (λ x. x < 2 ^ 32) (zeros n)
@@ -104,9 +100,7 @@ padded_fits n xs f = append_fits xs (n - length xs) f
 
 -- a list of at most n numbers has n numbers when it is padded
 pub length-padded : (n : ℕ) (xs : List ℕ) → length xs ≤ n → length (padded n xs) ≡ n
-length-padded n xs h =
-    length-append xs (zeros (n - length xs))
-    ∙ ap (λ m. length xs + m) (length_zeros (n - length xs)) ∙ omega arith
+length-padded n xs h = grind (arith, common_steps, length_zeros)
 
 -- ---- the bytes of the list
 
@@ -122,9 +116,7 @@ each_zero (suc n) =
 zeros_left : (n count : ℕ) → n ≤ count → drop (4 * n) (zeros (4 * count))
     ≡ flat_map (little_bytes 4) (zeros (count - n))
 unfolding zeros
-zeros_left n count h =
-    let left : 4 * count - 4 * n ≡ 4 * (count - n) = omega arith in
-    drop-replicate (4 * n) (4 * count) 0 ∙ ap (λ m. zeros m) left ∙ sym (each_zero (count - n))
+zeros_left n count h = search (rules, drop-replicate, each_zero)
 
 -- without its first n elements, a list of n zeros is empty
 none_left : (n : ℕ) → drop n (zeros n) ≡ []
@@ -135,8 +127,4 @@ pub placed-padded : (count : ℕ) (ids : List ℕ) → length ids ≤ count
     → placed (zeros (4 * count)) (numbers 0 4 (length ids) ids)
     ≡ placed (zeros (4 * count)) (numbers 0 4 count (padded count ids))
 unfolding placed
-placed-padded count ids h =
-    ap (λ t. flat_map (little_bytes 4) ids ++ t) (zeros_left (length ids) count h)
-    ∙ sym (flat_map-append (little_bytes 4) ids (zeros (count - length ids)))
-    ∙ sym (append-nil (flat_map (little_bytes 4) (padded count ids)))
-    ∙ ap (λ t. flat_map (little_bytes 4) (padded count ids) ++ t) (sym (none_left (4 * count)))
+placed-padded count ids h = grind (arith, common_steps, zeros_left, none_left)

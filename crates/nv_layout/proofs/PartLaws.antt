@@ -1,16 +1,16 @@
 -- One field that is written over some bytes, and reading numbers.
-use Rattle.std.proofs.Common.{◌≡◌, ◌∙◌, ℕ, zero, suc, ◌+◌, ◌-◌, ◌*◌, ◌/◌, ◌%◌, ◌^◌, ◌<◌, ◌≤◌, ap, inl}
-use Rattle.std.proofs.Common.{inr, refl, sym, arith, mul-zero, List, [], ◌∷◌, ◌++◌, take, drop, set}
-use Rattle.std.proofs.Common.{append-nil, length, get_or, map, min, replicate}
+use Rattle.std.proofs.lemmas.Bool.Decides.{nat_tests}
+use Rattle.std.proofs.Common.{◌≡◌, ◌∙◌, ℕ, zero, suc, ◌+◌, ◌-◌, ◌*◌, ◌/◌, ◌%◌, ◌^◌, ◌<◌, ◌≤◌, ap, rules}
+use Rattle.std.proofs.Common.{refl, sym, arith, mul-zero, List, [], ◌∷◌, ◌++◌, take, drop, set}
+use Rattle.std.proofs.Common.{length, get_or, map, min, replicate}
 use Rattle.std.specs.List.{AllByRecursion, flat_map}
-use Rattle.std.proofs.lemmas.Bool.{cases_lt}
 use Rattle.std.proofs.lemmas.Grind.{common_steps, same_number_lists}
 use Rattle.std.proofs.lemmas.List.{drop-append-le, drop-drop, drop-take, drop_min}
-use Rattle.std.proofs.lemmas.List.{get_or-append_right, get_or-drop, get_or-take}
-use Rattle.std.proofs.lemmas.List.{get_or_append_left, length-append, length-drop, length-replicate}
+use Rattle.std.proofs.lemmas.List.{get_or-drop, get_or-take}
+use Rattle.std.proofs.lemmas.List.{length-append, length-drop, length-replicate}
 use Rattle.std.proofs.lemmas.List.{length-take-le, set_split, take-append-le, take-replicate, take_all}
 use Rattle.std.proofs.lemmas.Nat.{mod_below, one_shl, pow_pos, shl_whole}
-use Rattle.std.proofs.Math.Seq.{drop-append_seam, take-append-add, take-append_seam}
+use Rattle.std.proofs.Math.Seq.{take-append-add}
 use Rattle.byteorder.specs.Endian.{little_bytes, little_from, little_number}
 use Rattle.byteorder.specs.Numbers.{length-bytes_low_first, little_from-take}
 use Rattle.nv_layout.specs.Parts.{Part, bytes_of, number, number_at, numbers, numbers_at, part}
@@ -66,12 +66,7 @@ length-placed b p s h = length_over b (bytes_of p) (start_of p) (width_of p) (le
 -- the `width` bytes at `at` are the bytes that were put there
 read_over : (b c d : List ℕ) (at width : ℕ) → length c ≡ width → at ≤ length b
     → take width (drop at (take at b ++ (c ++ d))) ≡ c
-read_over b c d at width e h =
-    let front : length (take at b) ≡ at = length-take-le at b h in
-    ap (λ n. take width (drop n (take at b ++ (c ++ d)))) (sym front)
-    ∙ ap (take width) (drop-append_seam (take at b) (c ++ d))
-    ∙ ap (λ n. take n (c ++ d)) (sym e)
-    ∙ take-append_seam c d
+read_over b c d at width e h = grind (arith, common_steps)
 
 -- a field that was written has its bytes at its place
 pub text_at-placed : (b : List ℕ) (p : Part) → IsSized p → start_of p ≤ length b
@@ -112,12 +107,7 @@ text_at-placed_before b p at n h k =
 pub byte_placed : (b : List ℕ) (at x : ℕ) → at < length b → x < 256 → set b at x
     ≡ placed b (number at 1 x)
 unfolding placed
-byte_placed b at x h small =
-    let whole : x ≡ x % 256 = omega arith in
-    let next : suc at ≡ at + 1 = omega arith in
-    let rest : drop (suc at) b ≡ drop 1 (drop at b) =
-    ap (λ m. drop m b) next ∙ sym (drop-drop 1 at b) in
-    set_split b at x h ∙ (λ i. take at b ++ (whole i ∷ rest i))
+byte_placed b at x h small = grind (arith, common_steps, set_split, drop-drop 1 at b)
 
 -- the bytes of a number's lower half, and then those of its upper half, are its bytes
 pub halves : (v : ℕ) → little_bytes 8 (v % 2 ^ 64) ++ little_bytes 8 (v / 2 ^ 64) ≡ little_bytes 16 v
@@ -138,18 +128,13 @@ unfolding numbers_at
 get_or-numbers_at at width zero bytes k h = absurd (omega arith)
 get_or-numbers_at at width (suc n) bytes zero h = ap (λ m. number_at m width bytes) (omega arith)
 get_or-numbers_at at width (suc n) bytes (suc k) h =
-    get_or-numbers_at (at + width) width n bytes k (omega arith) ∙ ap (λ m. number_at m width bytes)
-    (omega (arith, times_suc width k))
+    grind (arith, nat_tests, get_or-numbers_at (at + width) width n bytes k (omega arith))
 
 -- values that were read one by one are the numbers that numbers_at reads
 pub numbers_read : (at width n : ℕ) (bytes xs : List ℕ) → length xs ≡ n
     → ((k : ℕ) → k < n → get_or xs k 0 ≡ number_at (at + width * k) width bytes)
     → xs ≡ numbers_at at width n bytes
-numbers_read at width n bytes xs e h =
-    let size : length (numbers_at at width n bytes) ≡ n = length-numbers_at at width n bytes in
-    same_number_lists xs (numbers_at at width n bytes) (e ∙ sym size)
-    (λ k below. h k (omega (arith, e))
-    ∙ sym (get_or-numbers_at at width n bytes k (omega (arith, e))))
+numbers_read at width n bytes xs e h = search (rules, length-numbers_at, same_number_lists, get_or-numbers_at)
 
 -- numbers that are below a limit by their indices are all below it
 pub all_below : (limit : ℕ) (xs : List ℕ) → ((k : ℕ) → k < length xs → get_or xs k 0 < limit)
@@ -204,18 +189,12 @@ map_read f (x ∷ xs) (y ∷ ys) d e l h =
 -- a part of n bytes has n bytes
 pub length-part : (bytes : List ℕ) (from n : ℕ) → length (part bytes from n) ≡ n
 unfolding part
-length-part bytes from n =
-    length-take-le n (drop from bytes ++ replicate n 0)
-    (simp (length-append, length-replicate) (omega arith))
+length-part bytes from n = grind (arith, common_steps)
 
 -- reading past the end of a list gives the default, whether or not copies of it are there
 pub get_or-past : {X : Type 0} (xs : List X) (d : X) (n k : ℕ) → get_or (xs ++ replicate n d) k d
     ≡ get_or xs k d
-get_or-past [] d zero k = refl
-get_or-past [] d (suc n) zero = refl
-get_or-past [] d (suc n) (suc k) = get_or-past [] d n k
-get_or-past (x ∷ xs) d n zero = refl
-get_or-past (x ∷ xs) d n (suc k) = get_or-past xs d n k
+get_or-past xs d n k = grind (arith, common_steps)
 
 -- byte k of a part from `from` on is byte from + k of the bytes, and 0 past their end
 pub get_or-part : (bytes : List ℕ) (from n k : ℕ) → k < n → get_or (part bytes from n) k 0
@@ -230,32 +209,17 @@ get_or-part bytes from n k h =
 pub is_part : (bytes : List ℕ) (from : ℕ) (xs : List ℕ)
     → ((k : ℕ) → k < length xs → get_or xs k 0 ≡ get_or bytes (from + k) 0) → xs
     ≡ part bytes from (length xs)
-is_part bytes from xs h =
-    same_number_lists xs (part bytes from (length xs)) (sym (length-part bytes from (length xs)))
-    (λ k below. h k below ∙ sym (get_or-part bytes from (length xs) k below))
+is_part bytes from xs h = search (rules, same_number_lists, length-part, get_or-part)
 
 -- byte k of two parts, one directly after the other, is byte from + k of the bytes
 byte_of_parts : (bytes : List ℕ) (from m n k : ℕ) → k < m + n
     → get_or (part bytes from m ++ part bytes (from + m) n) k 0 ≡ get_or bytes (from + k) 0
-byte_of_parts bytes from m n k h =
-    let size = length-part bytes from m in
-    elim (cases_lt k m) [
-      | inl low ↦ get_or_append_left (part bytes from m) (part bytes (from + m) n) 0 k
-          (omega (arith, size, low))
-          ∙ get_or-part bytes from m k low
-      | inr high ↦ get_or-append_right (part bytes from m) (part bytes (from + m) n) m k 0 size high
-          ∙ get_or-part bytes (from + m) n (k - m) (omega arith)
-          ∙ ap (λ i. get_or bytes i 0) (omega arith)
-    ]
+byte_of_parts bytes from m n k h = grind (arith, common_steps, length-part, get_or-part)
 
 -- parts whose bytes agree are equal
 pub same_parts : (xs ys : List ℕ) (i j n : ℕ)
     → ((k : ℕ) → k < n → get_or xs (i + k) 0 ≡ get_or ys (j + k) 0) → part xs i n ≡ part ys j n
-same_parts xs ys i j n h =
-    let size = length-part xs i n in
-    same_number_lists (part xs i n) (part ys j n) (size ∙ sym (length-part ys j n))
-    (λ k below. let small : k < n = omega (arith, size) in
-    get_or-part xs i n k small ∙ h k small ∙ sym (get_or-part ys j n k small))
+same_parts xs ys i j n h = search (rules, length-part, same_number_lists, get_or-part)
 
 -- a part and the part directly after it are one longer part
 pub part-append : (bytes : List ℕ) (from m n : ℕ)
@@ -293,45 +257,26 @@ part-part bytes from n i m h =
 pub part_within : (bytes : List ℕ) (from n : ℕ) → from + n ≤ length bytes → part bytes from n
     ≡ take n (drop from bytes)
 unfolding part
-part_within bytes from n h =
-    take-append-le n (drop from bytes) (replicate n 0) (simp length-drop (omega arith))
+part_within bytes from n h = grind (arith, common_steps)
 
 -- the part from 0 on that is as long as the bytes is all of them
 pub part_whole : (bytes : List ℕ) (n : ℕ) → length bytes ≡ n → part bytes 0 n ≡ bytes
-part_whole bytes n e =
-    part_within bytes 0 n (omega (arith, e)) ∙ take_all n bytes (omega (arith, e))
+part_whole bytes n e = search (rules, part_within, take_all)
 
 -- ---- a part as what the bytes have of it and the zeros after that
 
 -- a list and `rest` zeros after it are the first n elements of the list and n zeros
 past_end : (xs : List ℕ) (rest n : ℕ) → n ≡ length xs + rest → xs ++ replicate rest 0 ≡ take n (xs ++ replicate n 0)
-past_end xs rest n e =
-    ap (λ t. xs ++ t) (sym (take-replicate {X = ℕ} rest n 0 (omega (arith, e))))
-    ∙ sym (take-append-add xs (replicate n 0) rest)
-    ∙ ap (λ m. take m (xs ++ replicate n 0)) (sym e)
+past_end xs rest n e = search (rules, take-replicate, take-append-add)
 
 -- as many elements as a list has, up to n, with zeros up to n, are the first n of the list and n zeros
 take_over : (xs : List ℕ) (n count : ℕ) → count ≡ min n (length xs)
     → take count xs ++ replicate (n - count) 0 ≡ take n (xs ++ replicate n 0)
-take_over xs n count e =
-    elim (cases_lt n (length xs)) [
-      | inl below ↦
-          let all : count ≡ n = omega arith in
-          let none : n - count ≡ 0 = omega arith in
-          (λ i. take (all i) xs ++ replicate (none i) 0)
-          ∙ append-nil (take n xs)
-          ∙ sym (take-append-le n xs (replicate n 0) (omega arith))
-      | inr over ↦
-          ap (λ t. t ++ replicate (n - count) 0) (take_all count xs (omega arith))
-          ∙ past_end xs (n - count) n (omega arith)
-    ]
+take_over xs n count e = search (rules, take-append-le, take_all, past_end)
 
 -- what the bytes have from `from` on, up to n, with zeros up to n, is the part of n bytes from `from` on
 pub part_in_two : (bytes : List ℕ) (from n at count : ℕ)
     → at ≡ min from (length bytes) → count ≡ min n (length bytes - at)
     → take count (drop at bytes) ++ replicate (n - count) 0 ≡ part bytes from n
 unfolding part
-part_in_two bytes from n at count e f =
-    take_over (drop at bytes) n count (f ∙ ap (min n) (sym (length-drop at bytes)))
-    ∙ ap (λ m. part bytes m n) e
-    ∙ part_past bytes from n
+part_in_two bytes from n at count e f = grind (arith, common_steps, take_over)

@@ -1,5 +1,5 @@
 -- Entries of the queues and lists are read back if their fields fit, and how many bytes each has.
-use Rattle.std.proofs.Common.{◌≡◌, ◌≢◌, ◌∙◌, ℕ, Bool, true, false, ◌==◌, ◌+◌, ◌^◌, ◌<◌, ◌≤◌, nat_le}
+use Rattle.std.proofs.Common.{◌≡◌, ◌≢◌, ◌∙◌, ℕ, Bool, true, ◌==◌, ◌+◌, ◌^◌, ◌<◌, ◌≤◌, nat_le, rules}
 use Rattle.std.proofs.Common.{ap, refl, arith, List, length}
 use Rattle.std.specs.List.{AllByRecursion, before_first}
 use Rattle.nv_layout.specs.Cqe.{CqeReadsBack, bytes_of_cqe, cqe_of_bytes, cqe_parts}
@@ -22,13 +22,11 @@ use Rattle.nv_layout.proofs.TableLaws.{length-laid_out, table_back}
 
 -- the bit of a flag is 1 if and only if the flag is set
 pub flag_back : (flag : Bool) → (bit flag == 1) ≡ flag
-flag_back true = refl
-flag_back false = refl
+flag_back flag = search rules
 
 -- the bit of a flag is below 2
 pub bit_below : (flag : Bool) → bit flag < 2
-bit_below true = omega arith
-bit_below false = omega arith
+bit_below flag = search rules
 
 -- ---- the status field
 
@@ -37,21 +35,10 @@ pub number_of_status_below : (s : Status) → number_of_status s < 2 ^ 15
 unfolding number_of_status
 number_of_status_below s = omega arith
 
--- the bits of a number made of a status's five fields, each of which fits, are the fields
-status_bits : (a b c d e : ℕ) → a < 2 ^ 8 → b < 2 ^ 3 → c < 2 ^ 2 → d < 2 → e < 2
-    → let n = at_bits 0 8 a + at_bits 8 3 b + at_bits 11 2 c + at_bits 13 1 d + at_bits 14 1 e in
-    (bits 0 8 n ≡ a) × (bits 8 3 n ≡ b) × (bits 11 2 n ≡ c) × (bits 13 1 n ≡ d) × (bits 14 1 n ≡ e)
-status_bits a b c d e ha hb hc hd he =
-    (omega arith, omega arith, omega arith, omega arith, omega arith)
-
 -- a status whose fields fit is read back from its number
 pub status_back : StatusReadsBack
 unfolding number_of_status status_of_number
-status_back s fits =
-    let (sc, sct, crd, more, dnr) =
-    status_bits s.sc s.sct s.crd (bit s.more) (bit s.dnr)
-    fits.sc fits.sct fits.crd (bit_below s.more) (bit_below s.dnr) in
-    grind (arith, sc, sct, crd, more, flag_back s.more, dnr, flag_back s.dnr)
+status_back s fits = search rules
 
 -- ---- submission queue entries
 
@@ -104,8 +91,7 @@ cqe_back r fits =
 pub length-bytes_of_ns_list : (ids : List ℕ) → length ids ≤ most_nsids → length (bytes_of_ns_list ids)
     ≡ 4096
 unfolding bytes_of_ns_list
-length-bytes_of_ns_list ids h =
-    length-laid_out 4096 (ns_list_parts ids) refl (length-padded most_nsids ids h, tt)
+length-bytes_of_ns_list ids h = search (rules, length-laid_out, length-padded)
 
 -- a list of at most most_nsids identifiers, none of them 0, is read back from its bytes
 pub ns_list_back : (ids : List ℕ) → length ids ≤ most_nsids → AllByRecursion (λ x. (x ≢ 0)
@@ -132,8 +118,7 @@ is_table_of_ids ids h = grind arith
 pub length-bytes_of_ctrl_list : (ids : List ℕ) → length ids ≤ most_cntlids → length (bytes_of_ctrl_list ids)
     ≡ 4096
 unfolding bytes_of_ctrl_list
-length-bytes_of_ctrl_list ids h =
-    length-laid_out 4096 (ctrl_list_parts ids) (is_table_of_ids ids h) (tt, (refl, tt))
+length-bytes_of_ctrl_list ids h = omega (arith, length-laid_out, is_table_of_ids)
 
 -- a controller list that fits its record is read back from its bytes
 pub ctrl_list_back : CtrlListReadsBack

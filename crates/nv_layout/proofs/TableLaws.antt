@@ -1,5 +1,5 @@
 -- A table of fields: its bytes hold each field's value.
-use Rattle.std.proofs.Common.{◌≡◌, ◌∙◌, ℕ, Bool, true, zero, suc, ◌&&◌, nat_le, ◌+◌, ◌*◌, ◌^◌, ◌<◌}
+use Rattle.std.proofs.Common.{◌≡◌, ◌∙◌, ℕ, Bool, true, zero, suc, ◌&&◌, nat_le, ◌+◌, ◌*◌, ◌^◌, ◌<◌, rules}
 use Rattle.std.proofs.Common.{◌≤◌, ap, refl, sym, arith, append-nil, List, [], ◌∷◌, ◌++◌, take}
 use Rattle.std.proofs.Common.{drop, fold, length}
 use Rattle.std.specs.List.{AllByRecursion, flat_map}
@@ -9,8 +9,8 @@ use Rattle.byteorder.specs.Endian.{little_bytes, little_from}
 use Rattle.byteorder.specs.Numbers.{length-bytes_low_first, little_from-take}
 use Rattle.byteorder.specs.Numbers.{little_number-reads_back}
 use Rattle.nv_layout.specs.inner.Parts.{Fits, Holds, is_table}
-use Rattle.nv_layout.specs.Parts.{Part, bytes_of, laid_out, number, number_at, numbers, numbers_at}
-use Rattle.nv_layout.specs.Parts.{start_of, placed, text, text_at, width_of, zeros}
+use Rattle.nv_layout.specs.Parts.{Part, bytes_of, laid_out, number_at, numbers_at}
+use Rattle.nv_layout.specs.Parts.{start_of, placed, text_at, width_of, zeros}
 use Rattle.nv_layout.proofs.PartLaws.{IsSized, length-placed, length_zeros, text_at-placed}
 use Rattle.nv_layout.proofs.PartLaws.{text_at-placed_before, times_suc}
 
@@ -122,9 +122,7 @@ numbers_back at width (suc n) (x ∷ xs) bytes l f e =
 
 -- a field that fits is read from the bytes that have it at its place
 value_back : (bytes : List ℕ) (p : Part) → Fits p → Stands bytes p → Holds bytes p
-value_back bytes (number at width x) f e = number_back at width x bytes f e
-value_back bytes (numbers at width count xs) f e = numbers_back at width count xs bytes f.0 f.1 e
-value_back bytes (text at width t) f e = e
+value_back bytes p h e = search (rules, number_back, numbers_back)
 
 -- fields that fit are each read from the bytes that have all of them at their places
 values_back : (bytes : List ℕ) (ps : List Part) → AllByRecursion Fits ps
@@ -134,9 +132,7 @@ values_back bytes (p ∷ ps) f e = (value_back bytes p f.0 e.0, values_back byte
 
 -- the array or text of a field that fits has the right length
 sized : (p : Part) → Fits p → IsSized p
-sized (number at width x) f = tt
-sized (numbers at width count xs) f = f.0
-sized (text at width bytes) f = f
+sized p h = search rules
 
 -- the arrays and texts of fields that all fit have the right lengths
 all_sized : (ps : List Part) → AllByRecursion Fits ps → AllByRecursion IsSized ps
@@ -146,5 +142,4 @@ all_sized (p ∷ ps) f = (sized p f.0, all_sized ps f.1)
 -- every field of a table is read back
 pub table_back : (size : ℕ) (ps : List Part) → is_table 0 size ps ≡ true → AllByRecursion Fits ps
     → AllByRecursion (Holds (laid_out size ps)) ps
-table_back size ps t f =
-    values_back _ ps f (all_stand (zeros size) 0 size ps t (all_sized ps f) (length_zeros size))
+table_back size ps t f = search (rules, values_back, all_stand, all_sized, length_zeros)

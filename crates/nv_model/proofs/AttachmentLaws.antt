@@ -6,7 +6,7 @@ use Rattle.nv_model.specs.Attachment.{attach_rows, attached, attachment_rows, de
 use Rattle.nv_model.specs.Attachment.{is_private, more, unchanged, with_attachments, with_one}
 use Rattle.nv_model.specs.Management.{with_attached, with_nsids, without}
 use Rattle.nv_model.proofs.Words.{AllByRecursion, AreValues, contains-insert, Controller, count_by, first_refusal}
-use Rattle.nv_model.proofs.Words.{if◌then◌else◌, is_allocated, is_refusal-refusal_by, IsController, IsWellFormed}
+use Rattle.nv_model.proofs.Words.{if◌then◌else◌, is_allocated, IsController, IsWellFormed}
 use Rattle.nv_model.proofs.Words.{length-map, Namespace, nat_tests, not-false, option_map_or, State}
 use Rattle.nv_model.proofs.FeatureLaws.{values-with, values-without}
 use Rattle.nv_model.proofs.ManagementLaws.{AllRefuse, attached_keep, left, none_holds}
@@ -18,13 +18,7 @@ use Rattle.nv_model.proofs.MappedLaws.{count_by-map, count_by-map_le}
 has_more : (n : ℕ) (ids : List ℕ) (x : Controller) (q : ℕ)
     → map_of.contains_key (more n ids x).nsids q
     ≡ (cond (q == n) (is_listed ids x) false || map_of.contains_key x.attached q)
-has_more n ids x q = at_test (is_listed ids x)
-  where
-    at_test : (b : Bool) → map_of.contains_key
-        (if b then with_one n x else unchanged x).nsids q
-        ≡ (cond (q == n) b false || map_of.contains_key x.attached q)
-    at_test true = grind (arith, contains-insert x.attached n tt q)
-    at_test false = grind arith
+has_more n ids x q = search (rules, contains-insert)
 
 -- a disjunction doesn't depend on the order of its parts
 or_comm : (a b : Bool) → (a || b) ≡ (b || a)
@@ -86,13 +80,7 @@ attach_keeps s n ids w accepted = attached_keep s (more n ids) s.namespaces w (r
 -- an NSID that a controller has after a detach was attached to it before
 kept : (n : ℕ) (ids : List ℕ) (x : Controller) (q : ℕ) → map_of.contains_key (fewer n ids x).nsids q
     ≡ true → map_of.contains_key x.attached q ≡ true
-kept n ids x q = at_test (is_listed ids x)
-  where
-    at_test : (b : Bool) → map_of.contains_key
-        (if b then without n x else unchanged x).nsids q ≡ true
-        → map_of.contains_key x.attached q ≡ true
-    at_test true t = (left x.attached n q t).1
-    at_test false t = t
+kept n ids x q = search (rules, left)
 
 -- a detach leaves a well-formed subsystem well formed
 detach_keeps : (s : State) (n : ℕ) (ids : List ℕ) → IsWellFormed s → IsWellFormed (detached s n ids)
@@ -126,8 +114,7 @@ detach_keeps s n ids w = attached_keep s (fewer n ids) s.namespaces w (record {
 -- each row of an attach or a detach has a refusal
 pub attachment_rows_fit : (s : State) (n : ℕ) (detach : Bool) (ids : List ℕ)
     → AllRefuse (attachment_rows s n detach ids)
-attachment_rows_fit s n true ids = search (rules, is_refusal-refusal_by)
-attachment_rows_fit s n false ids = search (rules, is_refusal-refusal_by)
+attachment_rows_fit s n detach ids = search rules
 
 -- an attach or a detach that isn't refused leaves a well-formed subsystem well formed
 pub attachment_keeps : (s : State) (n : ℕ) (detach : Bool) (ids : List ℕ) → IsWellFormed s
@@ -139,5 +126,4 @@ attachment_keeps s n false ids w accepted = attach_keeps s n ids w accepted
 -- an attach or a detach adds or removes no controller
 pub attachment_controllers : (s : State) (n : ℕ) (detach : Bool) (ids : List ℕ)
     → length (with_attachments s n detach ids).controllers ≡ length s.controllers
-attachment_controllers s n true ids = length-map s.controllers (with_nsids (fewer n ids))
-attachment_controllers s n false ids = length-map s.controllers (with_nsids (more n ids))
+attachment_controllers s n detach ids = search (rules, length-map)

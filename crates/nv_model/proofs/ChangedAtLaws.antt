@@ -1,6 +1,6 @@
 -- A list that is changed at one index.
-use Rattle.std.proofs.Common.{◌≡◌, ℕ, zero, suc, ◌+◌, ◌<◌, ap, refl, arith, Bool, cond, List, [], ◌∷◌, fold, length}
-use Rattle.std.proofs.Common.{map, set, get_or}
+use Rattle.std.proofs.Common.{◌≡◌, ℕ, zero, suc, ◌+◌, ◌<◌, ap, refl, arith, Bool, List, [], ◌∷◌, fold, length}
+use Rattle.std.proofs.Common.{map, set, get_or, rules}
 use Rattle.nv_model.proofs.Words.{All, changed_at, count_by, option_map_or, slice_get}
 
 -- writing an element whose view is f of the old one's changes the list of views by f at that index
@@ -9,8 +9,7 @@ pub views_changed : {X Y : Type 0} (view : X → Y) (f : Y → Y) (xs : List X) 
     ≡ changed_at (map view xs) i f
 views_changed view f [] i y d h e = absurd (omega arith)
 views_changed view f (x ∷ xs) zero y d h e = ap (λ v. v ∷ map view xs) e
-views_changed view f (x ∷ xs) (suc i) y d h e =
-    ap (λ t. view x ∷ t) (views_changed view f xs i y d (omega arith) e)
+views_changed view f (x ∷ xs) (suc i) y d h e = search (rules, views_changed view f xs i y d (omega arith) e)
 
 -- a list with an element changed is as long as before
 pub length-changed_at : {Y : Type 0} (f : Y → Y) (ys : List Y) (i : ℕ) → length (changed_at ys i f)
@@ -58,5 +57,4 @@ fold-changed_at h f same (y ∷ ys) (suc i) a = fold-changed_at h f same ys i (a
 -- a count doesn't depend on a change that keeps whether an element is counted
 pub count_by-changed_at : {Y : Type 0} (p : Y → Bool) (f : Y → Y) → ((y : Y) → p (f y) ≡ p y)
     → (ys : List Y) (i : ℕ) → count_by p (changed_at ys i f) ≡ count_by p ys
-count_by-changed_at p f same ys i =
-    fold-changed_at (λ y. cond (p y) 1 0) f (λ y. ap (λ b. cond b 1 0) (same y)) ys i 0
+count_by-changed_at p f same ys i = search (rules, fold-changed_at)

@@ -1,6 +1,7 @@
 -- What is found in a map after the values of some keys are changed.
+use Rattle.std.proofs.lemmas.Grind.{common_steps}
 use Rattle.std.proofs.Common.{◌≡◌, ◌∙◌, ◌||◌, Bool, true, cond, List, [], ◌∷◌, map, Option, Some, None, arith, refl}
-use Rattle.std.proofs.Common.{sym, ap}
+use Rattle.std.proofs.Common.{sym, ap, rules}
 use Rattle.std.specs.FinMap as map_of
 use Rattle.std.specs.declared.cmp.Ordering.{Ordering}
 use Rattle.nv_model.proofs.Words.{changed_at_keys, eq_by_cmp, Equal-is, find, FinMap, fold, get-entries}
@@ -32,8 +33,7 @@ module _ {K X : Type 0} {R : K → K → Ordering} (total : IsTotalOrder R) (sam
   pub get-changed_at_keys : (keys : List K) (m : FinMap R X) (q : K)
       → map_of.get (changed_at_keys keys change m) q ≡ changed_if (is_in keys q) change
       (map_of.get m q)
-  get-changed_at_keys keys m q = get-from_entries total _ q ∙ found keys (map_of.entries m) q
-      ∙ ap (changed_if (is_in keys q) change) (sym (get-entries m q))
+  get-changed_at_keys keys m q = search (rules, get-from_entries, found, get-entries)
 
   -- a map changed at no keys is the same
   pub changed_at_none : (m : FinMap R X) → changed_at_keys [] change m ≡ m
@@ -46,13 +46,7 @@ module _ {K X : Type 0} {R : K → K → Ordering} (total : IsTotalOrder R) (sam
   -- in a map changed at one key, this key has its value changed, and any other has its own
   get-changed_at_one : (m : FinMap R X) (k q : K)
       → map_of.get (changed_at_one m k) q ≡ changed_if (eq_by_cmp R q k) change (map_of.get m q)
-  get-changed_at_one m k q = by (map_of.get m k) refl
-    where
-      by : (o : Option X) → map_of.get m k ≡ o
-          → map_of.get (option_map_or (λ x. map_of.insert m k (change x)) o m) q
-          ≡ changed_if (eq_by_cmp R q k) change (map_of.get m q)
-      by None e = grind (arith, tied q k, e)
-      by (Some x) e = grind (arith, tied q k, get-insert total m k (change x) q, e)
+  get-changed_at_one m k q = grind (arith, common_steps, eq_by_cmp, tied, get-insert)
 
   -- a change that has no effect the second time can be made key by key
   pub changed_at_more : ((x : X) → change (change x) ≡ change x)

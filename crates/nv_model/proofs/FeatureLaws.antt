@@ -1,17 +1,18 @@
 -- The values of features stay well formed when NSIDs are attached and detached, and when values are written.
-use Rattle.std.proofs.Common.{◌≡◌, ◌∙◌, ℕ, ◌==◌, ◌&&◌, Bool, true, false, cond, Option, Some, None, is_some, refl, sym}
-use Rattle.std.proofs.Common.{ap, subst, arith}
+use Rattle.std.proofs.lemmas.Grind.{common_steps}
+use Rattle.std.proofs.Common.{◌≡◌, ◌∙◌, ℕ, ◌==◌, ◌&&◌, Bool, true, false, cond, Option, Some, None, refl, sym}
+use Rattle.std.proofs.Common.{ap, subst, arith, rules}
 use Rattle.std.specs.FinMap as map_of
 use Rattle.nv_layout.specs.declared.feature.Feature.TheVariants as feature
 use Rattle.nv_model.specs.Values.{default_at, FeatureRules, first_value, rule_of, default_of, default_rule}
 use Rattle.nv_model.specs.Values.{FeatureValues, ValueKey, is_alone, key_of, recovery_key}
 use Rattle.nv_model.specs.declared.defaults.Defaults.{Defaults}
 use Rattle.nv_model.proofs.Words.{and_from, AreRules, AreValues, contains-insert, contains-remove, default_is_value}
-use Rattle.nv_model.proofs.Words.{eqb-true, false_from_ne_true, Feature, feature_at, feature_of, feature_with}
+use Rattle.nv_model.proofs.Words.{Feature, feature_at, feature_of}
 use Rattle.nv_model.proofs.Words.{FeatureRule, FeatureValue, get-empty, has_value, if◌then◌else◌, is_selector}
-use Rattle.nv_model.proofs.Words.{is_supported, is_value, is_value_at, IsSomeAnd, may_have, nat_cmp, nat_tests, Nsids}
+use Rattle.nv_model.proofs.Words.{is_supported, is_value, is_value_at, IsSomeAnd, may_have, Nsids}
 use Rattle.nv_model.proofs.Words.{option_map_or, row_of, unwrap_or}
-use Rattle.nv_model.proofs.ValueLaws.{by_numbers, is_key, same_key, value_of_insert, value_of_remove, value_of_retain}
+use Rattle.nv_model.proofs.ValueLaws.{is_key, same_key, value_of_insert, value_of_remove, value_of_retain}
 
 -- ---- which keys have a value after a change
 
@@ -79,8 +80,7 @@ sound_at f n s x e = ap (λ o. option_map_or (λ f. may_have f x) o false) (feat
 -- the first value under a key of a feature is one that the feature may have
 pub first_is_sound : (rules : FeatureRules) → AreRules rules → (f : Feature) (n s : ℕ)
     → is_value_at (key_of f n s) (first_value rules (key_of f n s)) ≡ true
-first_is_sound rules are f n s = sound_at f n s (first_value rules (key_of f n s))
-    (and_from _ true (default_is_sound rules are f s) refl)
+first_is_sound rules are f n s = search (rules, sound_at, and_from, default_is_sound)
 
 -- ---- NSIDs are attached and detached
 
@@ -101,66 +101,13 @@ module _ (rules : FeatureRules) (vwc : ℕ) where
       ≡ cond (q == n) now (map_of.contains_key attached q))
       → (q : ValueKey) → cond (is_key q (recovery_key n)) now (has_value rules vwc attached q)
       ≡ has_value rules vwc moved q
-  recovery_moved attached moved n now is q =
-      ap (λ b. cond b now (has_value rules vwc attached q)) (by_numbers q (recovery_key n))
-      ∙ by (feature_of q.fid) refl
-    where
-      other : (o : Option Feature) → (q.fid == 5) ≡ false → of q attached o ≡ of q moved o
-          → cond ((q.fid == 5) && ((q.nsid == n) && (q.selector == 0))) now (of q attached o)
-          ≡ of q moved o
-      other o e same =
-          ap (λ b. cond (b && ((q.nsid == n) && (q.selector == 0))) now (of q attached o)) e
-          ∙ same
-
-      none : feature_of q.fid ≡ None → (q.fid == 5) ≡ false
-      none e = false_from_ne_true (q.fid == 5) (λ h.
-          let some : None ≡ Some feature.ErrorRecovery = sym e ∙ ap feature_of (eqb-true q.fid 5 h) in
-          cc some)
-
-      by : (o : Option Feature) → feature_of q.fid ≡ o
-          → cond ((q.fid == 5) && ((q.nsid == n) && (q.selector == 0))) now (of q attached o)
-          ≡ of q moved o
-      by None e = other None (none e) refl
-      by (Some feature.ErrorRecovery) e =
-          grind (arith, nat_tests, feature_with q.fid feature.ErrorRecovery e, is q.nsid)
-      by (Some f) e = other (Some f) (ap (λ fid. fid == 5) (feature_with q.fid f e)) refl
+  recovery_moved attached moved n now is q = grind (arith, common_steps)
 
   -- without any NSID, only keys without one have a value
   none_attached : (attached : Nsids) → map_of.contains_key attached 0 ≡ false → (q : ValueKey)
       → cond (is_alone q) (has_value rules vwc attached q) false
       ≡ has_value rules vwc map_of.empty q
-  none_attached attached first q = by (feature_of q.fid)
-    where
-      no_key : map_of.contains_key no_nsids q.nsid ≡ false
-      no_key = ap is_some (get-empty nat_cmp q.nsid)
-
-      with_value : (a b : Bool) → cond (q.nsid == 0) (a && (b && map_of.contains_key attached q.nsid)) false
-          ≡ (a && (b && map_of.contains_key no_nsids q.nsid))
-      with_value a b = grind (arith, nat_tests, first, no_key)
-
-      at_alone : (a b t : Bool) → cond t (a && (b && t)) false ≡ (a && (b && t))
-      at_alone a b t = grind arith
-
-      at_feature : (f : Feature) (p : Bool)
-          → cond (q.nsid == 0) (is_supported rules vwc f && (is_selector f q.selector
-          && (if p then map_of.contains_key attached q.nsid else q.nsid == 0))) false
-          ≡ (is_supported rules vwc f && (is_selector f q.selector
-          && (if p then map_of.contains_key no_nsids q.nsid
-          else q.nsid == 0)))
-      at_feature f true = with_value (is_supported rules vwc f) (is_selector f q.selector)
-      at_feature f false =
-          at_alone (is_supported rules vwc f) (is_selector f q.selector) (q.nsid == 0)
-
-      by : (o : Option Feature)
-          → cond (q.nsid == 0) (option_map_or (λ f. is_supported rules vwc f
-          && (is_selector f q.selector && (if (row_of f).per_namespace
-          then map_of.contains_key attached q.nsid else q.nsid == 0))) o false) false
-          ≡ option_map_or (λ f. is_supported rules vwc f && (is_selector f q.selector
-          && (if (row_of f).per_namespace
-          then map_of.contains_key no_nsids q.nsid
-          else q.nsid == 0))) o false
-      by None = grind arith
-      by (Some f) = at_feature f (row_of f).per_namespace
+  none_attached attached first q = grind (arith, common_steps, get-empty)
 
 module _ (rules : FeatureRules) (vwc : ℕ) (attached : Nsids) (values : FeatureValues)
     (are : AreValues rules vwc attached values) where
@@ -190,11 +137,7 @@ module _ (rules : FeatureRules) (vwc : ℕ) (attached : Nsids) (values : Feature
   -- when all NSIDs are detached and what namespaces have is removed, exactly the keys that are due have values
   pub values-without_any : map_of.contains_key attached 0 ≡ false
       → AreValues rules vwc map_of.empty (map_of.retain_keys values is_alone)
-  values-without_any first = record {
-    keys = λ q. has_retained values q ∙ ap (λ b. cond (is_alone q) b false) (are.keys q)
-        ∙ none_attached rules vwc attached first q;
-    sound = λ q x e. are.sound q x (grind (arith, value_of_retain values is_alone q, e));
-  }
+  values-without_any first = grind (arith, common_steps, has_retained, none_attached, value_of_retain)
 
   -- when an existing value is overwritten by a sound one, exactly the keys that are due have values
   pub values-written : (k : ValueKey) (x : FeatureValue) → map_of.contains_key values k ≡ true

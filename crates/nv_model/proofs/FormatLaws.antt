@@ -1,6 +1,6 @@
 -- A format leaves a well-formed subsystem well formed.
 use Rattle.std.proofs.Common.{rules, ◌≡◌, ◌∙◌, ℕ, ◌-◌, ◌==◌, ◌≤◌, ◌^◌, Bool, true, false, cond, List, [], ◌∷◌, Option}
-use Rattle.std.proofs.Common.{Some, None, nat_lt, refl, sym, ap, subst, arith}
+use Rattle.std.proofs.Common.{Some, None, nat_lt, refl, sym, subst, arith}
 use Rattle.std.specs.FinMap as map_of
 use Rattle.nv_command.specs.declared.format.NewFormat.{NewFormat}
 use Rattle.nv_model.specs.Format.{format_rows, formatted, in_format, is_below}
@@ -40,16 +40,12 @@ module _ (format : Format) (lbaf : ℕ) (mset : Bool) where
   -- a namespace whose capacity isn't below the size of a logical block has room for one
   size_of : (s : State) (n : ℕ) (x : Namespace) → map_of.get s.namespaces n ≡ Some x
       → is_below s (2 ^ format.lbads) n ≡ false → 2 ^ format.lbads ≤ x.capacity
-  size_of s n x found room =
-      let big : nat_lt x.capacity (2 ^ format.lbads) ≡ false
-      = sym (ap (below (2 ^ format.lbads)) found) ∙ room in
-      grind (arith, nat_tests)
+  size_of s n x found room = search rules
 
   -- a namespace in a format has a capacity of at most 2 ^ 63 - 1 bytes
   few : (mc : ℕ) (x : Namespace) (o : Option Format) → IsSomeAnd o (λ f. IsInFormat mc f x)
       → x.capacity ≤ 2 ^ 63 - 1
-  few mc x None is = absurd is
-  few mc x (Some f) is = is.capacity.1
+  few mc x o h = search rules
 
   -- bringing a namespace with room for a logical block into the format leaves the subsystem well formed
   one_keeps : (s : State) (n : ℕ) (o : Option Namespace) → map_of.get s.namespaces n ≡ o
@@ -106,15 +102,7 @@ module _ (format : Format) (lbaf : ℕ) (mset : Bool) where
   -- a namespace with room for a size still has it when another one or itself gets a format
   room_stays : (s : State) (n q size : ℕ) → is_below s size q ≡ false
       → is_below (with_one s n) size q ≡ false
-  room_stays s n q size room = by (map_of.get s.namespaces n) refl
-    where
-      by : (o : Option Namespace) → map_of.get s.namespaces n ≡ o → below size
-          (map_of.get
-          (option_map_or (λ x. map_of.insert s.namespaces n (as_format x)) o s.namespaces) q)
-          ≡ false
-      by None found = room
-      by (Some x) found =
-          grind (arith, nat_tests, get_of_insert s.namespaces n (as_format x) q, found, room)
+  room_stays s n q size room = search (rules, get_of_insert)
 
   -- bringing several namespaces with such room into the format leaves the subsystem well formed
   all_keep : (ns : List ℕ) (s : State) → CanHave s
@@ -141,8 +129,7 @@ none_passes p (n ∷ ns) h = let parts = or_parts (p n) _ h in (parts.0, none_pa
 -- bringing one namespace after another into a format changes the values of their NSIDs
 pub formatted_each : (lbaf : ℕ) (mset : Bool) (ns : List ℕ) (m : Namespaces)
     → fold (with_format lbaf mset) m ns ≡ changed_at_keys ns (in_format lbaf mset) m
-formatted_each lbaf mset ns m =
-    folded nat_cmp_total nat_cmp-IsAntisymmetric (in_format lbaf mset) (λ x. refl) ns m
+formatted_each lbaf mset ns m = search (rules, folded, nat_cmp_total, nat_cmp-IsAntisymmetric)
 
 -- a format that the subsystem can have, and for which no namespace is too small, leaves it well formed
 format_by : (s : State) (ns : List ℕ) (f : NewFormat) (o : Option Format)

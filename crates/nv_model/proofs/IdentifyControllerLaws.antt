@@ -1,17 +1,16 @@
 -- The Identify data of a controller fits its record.
-use Rattle.std.proofs.Common.{rules, ◌≡◌, ◌∙◌, ℕ, ◌<◌, ◌^◌, refl, arith, lit<, List, ◌++◌, length, Option, Some, None}
+use Rattle.std.proofs.lemmas.Grind.{common_steps}
+use Rattle.std.proofs.Common.{rules, ◌≡◌, ℕ, ◌<◌, ◌^◌, refl, arith, lit<, List, length, Option, Some, None}
 use Rattle.nv_layout.specs.IdCtrl.{IdCtrlFits, id_ctrl_of_bytes}
 use Rattle.nv_layout.specs.Parts.{number_at, text_at}
 use Rattle.nv_model.specs.IdentifyController.{cmic_of, fna_of, id_ctrl_of, no_controller, padded}
-use Rattle.nv_model.proofs.Words.{Controller, IsController, IsWellFormed, length-append, length-replicate, length-take}
-use Rattle.nv_model.proofs.Words.{nat_le, option_map_or, replicate, State}
+use Rattle.nv_model.proofs.Words.{Controller, IsController, IsWellFormed}
+use Rattle.nv_model.proofs.Words.{nat_le, option_map_or, State}
 use Rattle.nv_model.proofs.ChoiceLaws.{chosen_fits}
 
 -- a padded text has the size that was asked for
 length-padded : (size padding : ℕ) (text : List ℕ) → length (padded size padding text) ≡ size
-length-padded size padding text =
-    length-take size (text ++ replicate size padding)
-    ∙ omega (arith, length-append text (replicate size padding), length-replicate size padding)
+length-padded size padding text = grind (arith, common_steps)
 
 -- the Identify data of a controller that doesn't exist fits its record
 no_controller_fits : IdCtrlFits no_controller

@@ -1,4 +1,5 @@
 -- A change of one controller leaves a well-formed subsystem well formed.
+use Rattle.std.proofs.lemmas.Grind.{common_steps}
 use Rattle.std.proofs.Common.{◌≡◌, ◌∙◌, ℕ, ◌≤◌, Some, ap, sym, refl, subst, arith}
 use Rattle.std.specs.FinMap as map_of
 use Rattle.nv_model.proofs.Words.{Controller, controller_at, get_or_from_slice_get, Identity, IsController}
@@ -9,8 +10,7 @@ use Rattle.nv_model.proofs.ChangedAtLaws.{All-changed_at, count_by-changed_at, e
 pub is_controller : (s : State) (c : ℕ) → IsWellFormed s → (x : Controller) → controller_at s c ≡ Some x
     → IsController s.namespaces x
 is_controller s c w x e =
-    subst (IsController s.namespaces) (get_or_from_slice_get s.controllers c x x e)
-    (w.controllers c x (slice_get_within s.controllers c x e))
+    grind (arith, common_steps, get_or_from_slice_get s.controllers c x x e, slice_get_within s.controllers c x e)
 
 -- what a command preserves of each controller
 pub record KeepsController (f : Controller → Controller) : Type 0 where

@@ -1,22 +1,22 @@
 -- The bounds of the greatest length of a command's data.
-use Rattle.std.proofs.Common.{◌≡◌, ◌∙◌, ℕ, zero, suc, ◌*◌, ◌==◌, ◌^◌, ◌<◌, ◌≤◌, true, false, List, [], ◌∷◌, Option}
-use Rattle.std.proofs.Common.{Some, None, ap, arith, inl, inr, length, refl, subst, sym}
+use Rattle.std.proofs.lemmas.Grind.{common_steps}
+use Rattle.std.proofs.Common.{◌≡◌, ℕ, zero, suc, ◌*◌, ◌==◌, ◌^◌, ◌<◌, ◌≤◌, true, false, List, [], ◌∷◌, Option}
+use Rattle.std.proofs.Common.{Some, None, ap, arith, length, refl, rules}
 use Rattle.std.specs.FinMap as map_of
 use Rattle.std.proofs.Math.Nat.{pow-le-pow_right}
 use Rattle.nv_command.specs.declared.command.Command.TheVariants.{Attachment, Create, Delete, SetFeature}
 use Rattle.nv_model.specs.Attachment.{fewer, more}
 use Rattle.nv_model.specs.Management.{new_namespace, with_nsids, without, without_all, without_any, without_one}
-use Rattle.nv_model.specs.Step.{refused, step, step_by, with_command, with_refusal}
+use Rattle.nv_model.specs.Step.{refused, step, step_by, with_command}
 use Rattle.nv_model.proofs.Words.{broadcast_nsid, changed_at, changed_nsids, Command, Controller, effect_of, feature_of}
-use Rattle.nv_model.proofs.Words.{free_nsid, greatest_limit, Identity, if◌then◌else◌, IsController, IsWellFormed}
+use Rattle.nv_model.proofs.Words.{free_nsid, greatest_limit, Identity, if◌then◌else◌, IsWellFormed}
 use Rattle.nv_model.proofs.Words.{limit_of, map, mdts_of, option_map_or, Refusal, refusal_of, slice_get}
 use Rattle.nv_model.proofs.Words.{slice_get_cases, State, with_controller, with_values}
 use Rattle.nv_model.proofs.ChangedAtLaws.{slice_get-changed_at}
 
 -- an MDTS up to 8 gives at most the greatest limit
 pub limit_within : (m : ℕ) → m ≤ 8 → 4096 * 2 ^ m ≤ greatest_limit
-limit_within m high =
-    let most : 2 ^ m ≤ 2 ^ 8 = pow-le-pow_right (omega arith) high in omega (arith, most)
+limit_within m high = search rules
 
 -- an MDTS from 2 to 8 gives from 16,384 bytes to the greatest limit
 powers : (m : ℕ) → 2 ≤ m → m ≤ 8 → (16384 ≤ 4096 * 2 ^ m) × (4096 * 2 ^ m ≤ greatest_limit)
@@ -27,17 +27,7 @@ powers m low high =
 -- the limit is at least four pages of 4,096 bytes, and at most the greatest limit
 pub limit_bounds : (s : State) (c : ℕ) → IsWellFormed s → c < length s.controllers
     → (16384 ≤ limit_of s c) × (limit_of s c ≤ greatest_limit)
-limit_bounds s c w below = elim ((slice_get_cases s.controllers c).1) [
-  | inl found ↦
-      let x = found.0 in
-      let is = subst (IsController s.namespaces) found.3 (w.controllers c x found.1) in
-      let mdts = is.identity.numbers.mdts in
-      let bounds = powers x.identity.numbers.mdts mdts.0 mdts.1 in
-      subst (λ (o : Option Controller). let limit =
-      4096 * 2 ^ option_map_or (λ y. y.identity.numbers.mdts) o 0 in
-      (16384 ≤ limit) × (limit ≤ greatest_limit)) (sym found.2) bounds
-  | inr past ↦ absurd (omega (arith, past.0))
-]
+limit_bounds s c w below = grind (arith, common_steps, slice_get_cases, powers, option_map_or)
 
 -- ---- no command changes it
 
@@ -59,8 +49,7 @@ of_each f same (x ∷ xs) (suc d) = of_each f same xs d
 -- changing one controller without its identity doesn't change MDTS
 of_one : (f : Controller → Controller) → KeepsIdentity f → (xs : List Controller) (c d : ℕ)
     → mdts_in (changed_at xs c f) d ≡ mdts_in xs d
-of_one f same xs c d =
-    slice_get-changed_at (λ x. x.identity.numbers.mdts) 0 f (λ x. ap (λ i. i.numbers.mdts) (same x)) xs c d
+of_one f same xs c d = search (rules, slice_get-changed_at)
 
 -- the effect of a command doesn't change MDTS
 effect_mdts : (s : State) (c : ℕ) (k : Command) (d : ℕ) → mdts_of (effect_of s c k) d ≡ mdts_of s d
@@ -86,9 +75,7 @@ effect_mdts s c k d = refl
 -- a step, refused or not, doesn't change MDTS
 step_mdts : (o : Option Refusal) (s : State) (c : ℕ) (k : Command) (cid d : ℕ)
     → mdts_of (step_by o s c k cid).state d ≡ mdts_of s d
-step_mdts None s c k cid d = of_one _ (λ x. refl) (effect_of s c k).controllers c d ∙ effect_mdts s c k d
-step_mdts (Some r) s c k cid d =
-    of_one _ (λ x. refl) _ c d ∙ of_one _ (λ x. refl) s.controllers c d
+step_mdts o s c k cid d = search (rules, of_one, effect_of, effect_mdts)
 
 -- a step doesn't change the greatest length of a command's data
 pub step_limit : (s : State) (c : ℕ) (k : Command) (cid d : ℕ) → limit_of (step s c k cid).state d ≡ limit_of s d
@@ -97,5 +84,4 @@ step_limit s c k cid d = ap (λ m. 4096 * 2 ^ m) (step_mdts (refusal_of s c k) s
 -- a refusal doesn't change the greatest length of a command's data
 pub refused_limit : (s : State) (c nsid cid d : ℕ) (r : Refusal)
     → limit_of (with_command (refused s c nsid cid r) c) d ≡ limit_of s d
-refused_limit s c nsid cid d r = ap (λ m. 4096 * 2 ^ m)
-    (of_one _ (λ x. refl) _ c d ∙ of_one (with_refusal nsid cid r) (λ x. refl) s.controllers c d)
+refused_limit s c nsid cid d r = search (rules, of_one)

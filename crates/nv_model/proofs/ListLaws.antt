@@ -1,28 +1,20 @@
 -- A list of NSIDs that is returned fits a namespace list.
-use Rattle.std.proofs.Common.{◌≡◌, ◌≢◌, ◌∙◌, ℕ, ◌+◌, ◌-◌, ◌<◌, ◌≤◌, ◌^◌, ◌&&◌, arith, Bool, true, false, cond, nat_lt}
-use Rattle.std.proofs.Common.{List, [], ◌∷◌, length, map}
+use Rattle.std.proofs.lemmas.Grind.{common_steps}
+use Rattle.std.proofs.Common.{◌≡◌, ◌≢◌, ◌∙◌, ℕ, ◌+◌, ◌-◌, ◌<◌, ◌≤◌, ◌^◌, ◌&&◌, arith, Bool, true}
+use Rattle.std.proofs.Common.{List, [], ◌∷◌, length, map, rules}
 use Rattle.std.specs.FinMap as map_of
 use Rattle.std.proofs.Math.Dec.{T}
-use Rattle.nv_model.proofs.Words.{above, AllByRecursion, contains_key-keys, count_by-le-length, entries_sorted}
+use Rattle.nv_model.proofs.Words.{above, AllByRecursion, contains_key-keys, entries_sorted}
 use Rattle.nv_model.proofs.Words.{eq_by_cmp, is_lt, is_sorted, IsNsidList, left, length-filter, length-map, less}
-use Rattle.nv_model.proofs.Words.{list_any, most_nsids, nat_cmp, nat_tests, or_left, or_right, right, unsigned_tied}
+use Rattle.nv_model.proofs.Words.{list_any, most_nsids, nat_cmp, or_right, right}
 
 -- if two truth values hold, so does their conjunction
 both : (a b : Bool) → T a → T b → T (a && b)
-both true b p q = q
-both false b p q = p
-
--- each number is equal to itself in the order of numbers
-ties : (n : ℕ) → eq_by_cmp nat_cmp n n ≡ true
-ties n = unsigned_tied n n ∙ grind (arith, nat_tests)
+both a b h e = search rules
 
 -- there are no more numbers above another one than numbers in all
 above_few : (after : ℕ) (ns : List ℕ) → length (above after ns) ≤ length ns
-above_few after ns = omega (
-  arith,
-  length-filter (λ n. nat_lt after n) ns,
-  count_by-le-length (λ n. nat_lt after n) ns,
-)
+above_few after ns = grind (arith, common_steps, length-filter)
 
 module _ {X : Type 0} where
   -- the test of an order: each later key is greater than a given one
@@ -71,23 +63,15 @@ module _ {X : Type 0} where
       → ((n : ℕ) → list_any (eq_by_cmp nat_cmp n) (map (λ e. e.0) es) ≡ true → B n)
       → AllByRecursion (λ e. B e.0) es
   each_key B [] h = tt
-  each_key B (e ∷ es) h = (
-    h e.0 (or_left _ (list_any (eq_by_cmp nat_cmp e.0) (map (λ e. e.0) es)) (ties e.0)),
-    each_key B es (λ n t. h n (or_right (eq_by_cmp nat_cmp n e.0) _ t)),
-  )
+  each_key B (e ∷ es) h =
+      grind (arith, common_steps, each_key B es (λ n t. h n (or_right (eq_by_cmp nat_cmp n e.0) _ t)))
 
   -- keys from 1 to nn that are above a number are identifiers of 32 bits other than 0
   above_in : (after nn : ℕ) (es : List (ℕ × X)) → nn ≤ most_nsids → AllByRecursion (λ e. (1 ≤ e.0)
       × (e.0 ≤ nn)) es → AllByRecursion (λ n. (n ≢ 0) × (n < 2 ^ 32))
       (above after (map (λ e. e.0) es))
   above_in after nn [] h a = tt
-  above_in after nn (e ∷ es) h a =
-      let rest = above_in after nn es h a.1 in
-      elim (nat_lt after e.0) as (λ b. AllByRecursion (λ n. (n ≢ 0) × (n < 2 ^ 32))
-      (cond b (e.0 ∷ above after (map (λ e. e.0) es)) (above after (map (λ e. e.0) es)))) [
-        | true ↦ (((λ z. omega (arith, a.0.0, z)), omega (arith, a.0.1)), rest)
-        | false ↦ rest
-      ]
+  above_in after nn (e ∷ es) h a = search (rules, above_in after nn es h a.1)
 
   -- the keys of a map above a number fit a namespace list if all keys are from 1 to nn
   pub keys_fit : (after nn : ℕ) (m : map_of.FinMap nat_cmp X) → nn ≤ most_nsids

@@ -1,6 +1,7 @@
 -- Each refusal of a Get Log Page has a status, and the logs fit their records.
-use Rattle.std.proofs.Common.{rules, ◌≡◌, ℕ, zero, suc, ◌+◌, ◌-◌, ◌^◌, ◌<◌, refl, arith, lit<, List, [], ◌∷◌, ◌++◌}
-use Rattle.std.proofs.Common.{length, get_or, Option, Some, None}
+use Rattle.std.proofs.lemmas.Bool.Decides.{nat_tests}
+use Rattle.std.proofs.Common.{rules, ◌≡◌, ℕ, zero, suc, ◌^◌, ◌<◌, refl, arith, lit<, List, [], ◌∷◌, ◌++◌}
+use Rattle.std.proofs.Common.{get_or, Option, Some, None}
 use Rattle.nv_layout.proofs.LogLaws.{no_entry_fits}
 use Rattle.nv_layout.proofs.PartLaws.{all_below}
 use Rattle.nv_layout.specs.Smart.{SmartFits}
@@ -30,9 +31,7 @@ entries_fit (e ∷ es) n all = (
 -- each number of a health log fits its bits
 health_fits : (base : SmartBase) (refusals : ℕ) → IsSmart base → refusals < 2 ^ 64
     → SmartFits (health_of base refusals)
-health_fits base refusals s few =
-    let sensors = all_below (2 ^ 16) base.sensors (λ k h. let low = s.sensors.1 k 0 h in omega (arith, low)) in
-    search (rules, arith, s, s.counters, few, sensors)
+health_fits base refusals s few = search (rules, all_below)
 
 -- a health log about which the file says nothing is in range
 zero_is_smart : IsSmart zero_smart
@@ -42,17 +41,7 @@ module _ (ns : Namespaces) where
   -- the error log of a controller, or of none, fits its record
   pub errors_fit : (o : Option Controller) → ((x : Controller) → o ≡ Some x → IsController ns x)
       → IsEntryList (option_map_or errors_of o (no_entry ∷ []))
-  errors_fit None is = record { some = lit< tt; count = omega arith; entries = (no_entry_fits, tt) }
-  errors_fit (Some x) is =
-      let c = is x refl in
-      let more = x.identity.numbers.elpe + 1 - length x.log in
-      let whole = length-append x.log (replicate more no_entry) in
-      let rest = length-replicate more no_entry in
-      record {
-        some = omega (arith, c.log);
-        count = omega (arith, c.log, c.identity.numbers.elpe);
-        entries = entries_fit x.log more c.entries;
-      }
+  errors_fit o h = grind (arith, nat_tests, length-append, replicate, no_entry, length-replicate, entries_fit)
 
   -- the health log of a controller, or of none, fits its record
   pub smart_fits : (o : Option Controller) → ((x : Controller) → o ≡ Some x → IsController ns x)

@@ -1,14 +1,15 @@
 -- The commands of `list` are accepted, and change only how many commands a controller took.
-use Rattle.std.proofs.Common.{◌≡◌, ◌∙◌, ℕ, ◌≤◌, arith, ap, refl, true, [], ◌∷◌, Option, Some, None, Ok, is_some}
+use Rattle.std.proofs.lemmas.Grind.{common_steps}
+use Rattle.std.proofs.Common.{◌≡◌, ◌∙◌, ℕ, ◌≤◌, arith, ap, refl, true, [], Option, Some, None, Ok, is_some, rules}
 use Rattle.std.specs.FinMap as map_of
 use Rattle.std.proofs.lemmas.Cmp.{eq_by_cmp_equiv, nat_cmp_total}
 use Rattle.std.proofs.lemmas.Map.Views.{All-from_any}
 use Rattle.nv_command.specs.Received.{answer_received}
 use Rattle.nv_command.specs.declared.command.Command.TheVariants.{IdentifyController, IdentifyNamespace, ActiveList}
-use Rattle.nv_model.specs.Step.{Step, next_count, step, step_by, with_command}
-use Rattle.nv_model.proofs.Words.{active_nsids, All, ascending, broadcast_nsid, Command, contains_key-keys, Controller}
-use Rattle.nv_model.proofs.Words.{controller_at, first_refusal, InvalidNamespaceOrFormat, IsController, IsWellFormed}
-use Rattle.nv_model.proofs.Words.{nat_le, nat_tests, not, option_map_or, reply_of, row, State, ◌&&◌, ◌==◌, ◌||◌}
+use Rattle.nv_model.specs.Step.{Step, step, with_command}
+use Rattle.nv_model.proofs.Words.{active_nsids, All, ascending, Command, contains_key-keys, Controller}
+use Rattle.nv_model.proofs.Words.{controller_at, IsController, IsWellFormed}
+use Rattle.nv_model.proofs.Words.{nat_le, nat_tests, option_map_or, reply_of, State, ◌&&◌}
 use Rattle.nv_model.proofs.ChangedAtLaws.{slice_get-changed_at}
 use Rattle.nv_model.proofs.KeepingLaws.{is_controller}
 
@@ -32,17 +33,12 @@ valid n nn h = grind (arith, nat_tests, h.0, h.1)
 -- a command of `list` is accepted and counted, and changes nothing else
 pub looked : (s : State) {k : Command} (c cid : ℕ) → IsLookup s.nn k
     → step s c k cid ≡ record { answer = Ok (reply_of s c k); state = with_command s c }
-looked s c cid controller = refl
-looked s c cid attached = refl
-looked s c cid (namespace {n} h) =
-    ap (λ b. step_by (first_refusal (row (not (b || n == broadcast_nsid)) InvalidNamespaceOrFormat ∷ []))
-    s c (IdentifyNamespace n) cid) (valid n s.nn h)
+looked s c cid h = grind (arith, common_steps)
 
 -- the reply to a command of `list` is received unchanged
 as_it_is : (nn : ℕ) {k : Command} (s : State) (c : ℕ) → IsLookup nn k
     → answer_received k (Ok (reply_of s c k)) ≡ Ok (reply_of s c k)
-as_it_is nn s c controller = refl
-as_it_is nn s c h = refl
+as_it_is nn s c h = search rules
 
 -- the reply to a command of `list`, as the step returns it, is received unchanged
 pub looked_received : (s : State) {k : Command} (c cid : ℕ) → IsLookup s.nn k
@@ -59,12 +55,7 @@ pub record IsAlike (s now : State) : Type 0 where
 
 -- a state in which a command was counted is alike
 counted : (s now : State) (c : ℕ) → now ≡ with_command s c → IsAlike s now
-counted s now c e = record {
-  nn = ap (λ (x : State). x.nn) e;
-  active = λ d. ap (λ (x : State). active_nsids x d) e
-      ∙ slice_get-changed_at (λ x. ascending x.attached) [] (λ x. record x { commands = next_count x.commands })
-      (λ x. refl) s.controllers c d;
-}
+counted s now c e = search (rules, slice_get-changed_at)
 
 -- a command of `list` leaves a state that is alike
 pub looked_alike : (s : State) {k : Command} (c cid : ℕ) → IsLookup s.nn k
@@ -84,8 +75,7 @@ alike-join a b c h k = record { nn = k.nn ∙ h.nn; active = λ d. k.active d �
 
 -- what follows from each value of an optional one that is a value holds
 of_some : {A : Type 0} (P : Type 0) (o : Option A) → ((x : A) → o ≡ Some x → P) → is_some o ≡ true → P
-of_some P None h t = absurd (cc)
-of_some P (Some x) h t = h x refl
+of_some P o h e = search rules
 
 -- the NSIDs that are attached to a controller, or to none, are from 1 to NN
 attached_inside : (s : State) → IsWellFormed s → (o : Option Controller)
@@ -99,6 +89,4 @@ attached_inside s w (Some x) is =
 
 -- the NSIDs that are active on a controller of a well-formed subsystem are from 1 to NN
 pub active_inside : (s : State) (c : ℕ) → IsWellFormed s → All (IsInside s.nn) (active_nsids s c)
-active_inside s c w =
-    attached_inside s w (controller_at s c)
-    (is_controller s c w)
+active_inside s c w = search (rules, attached_inside, controller_at, is_controller)

@@ -1,4 +1,5 @@
 -- A create and a delete leave a well-formed subsystem well formed.
+use Rattle.std.proofs.lemmas.Grind.{common_steps}
 use Rattle.std.proofs.Common.{rules, ◌≡◌, ◌≢◌, ◌∙◌, ℕ, zero, suc, ◌+◌, ◌*◌, ◌-◌, ◌==◌, ◌<◌, ◌≤◌, ◌^◌, ◌||◌, ◌&&◌, Bool}
 use Rattle.std.proofs.Common.{true, false, not, cond, List, [], ◌∷◌, length, Option, Some, None, is_some, bit_and}
 use Rattle.std.proofs.Common.{nat_lt, refl, sym, ap, subst, arith, lit<}
@@ -9,16 +10,16 @@ use Rattle.nv_layout.specs.declared.new_namespace.NewNamespace.{NewNamespace}
 use Rattle.nv_model.specs.Management.{Attached, bytes_needed, capacity_refusal, create_rows, created, created_nsid}
 use Rattle.nv_model.specs.Management.{delete_rows, deleted, format_index, is_extended, new_namespace, with_attached}
 use Rattle.nv_model.specs.Management.{with_nsids, without, without_all, without_any, without_one}
-use Rattle.nv_model.proofs.Words.{All, All-map, All-weaker, AllByRecursion, AreValues, broadcast_nsid, contains-insert}
+use Rattle.nv_model.proofs.Words.{All, All-map, All-weaker, AllByRecursion, AreValues, contains-insert}
 use Rattle.nv_model.proofs.Words.{contains-remove, Controller, count_by, first_refusal, Format, format_at, free_nsid}
-use Rattle.nv_model.proofs.Words.{get-empty, get_of_insert, get_of_remove, if◌then◌else◌, is_allocated}
+use Rattle.nv_model.proofs.Words.{get-empty, get_of_insert, get_of_remove, is_allocated}
 use Rattle.nv_model.proofs.Words.{is_refusal-refusal_by, IsController, IsInFormat, IsNamespace, IsRefusal, IsSomeAnd}
 use Rattle.nv_model.proofs.Words.{IsWellFormed, length-map, may_extend, most_nsids, Namespace}
-use Rattle.nv_model.proofs.Words.{NamespaceInsufficientCapacity, Namespaces, nat_cmp, nat_tests, not-false, not-true}
+use Rattle.nv_model.proofs.Words.{Namespaces, nat_cmp, nat_tests}
 use Rattle.nv_model.proofs.Words.{option_map_or, range_with_len, remove_absent, Row, State, unallocated, unwrap_or}
 use Rattle.nv_model.proofs.Words.{used}
 use Rattle.nv_model.proofs.FeatureLaws.{values-without, values-without_any}
-use Rattle.nv_model.proofs.MappedLaws.{count_by-map_le, none_pass, pairs_map, untrue}
+use Rattle.nv_model.proofs.MappedLaws.{count_by-map_le, none_pass, pairs_map}
 use Rattle.nv_model.proofs.UsedLaws.{used-empty, used-insert, used-remove}
 
 -- ---- rows
@@ -31,9 +32,7 @@ none_holds (r ∷ rows) e = let no : r.when ≡ false = grind (arith, e) in (no,
 
 -- the refusal for too little capacity is a refusal, whatever number of bytes it tells
 capacity_refused : (bytes : ℕ) → IsRefusal (capacity_refusal bytes)
-capacity_refused bytes =
-    let is = is_refusal-refusal_by NamespaceInsufficientCapacity in
-    record { status = is.status; fails = is.fails; specific = omega arith }
+capacity_refused bytes = search rules
 
 -- the condition on rows under which a refusal by one of them is a refusal
 abbrev pub AllRefuse : List Row → Type 0
@@ -58,9 +57,7 @@ first_of p first (suc count) n e = grind (arith, first_of p (first + 1) count n)
 -- the free NSID is from 1 to NN, and no namespace has it
 pub free_is : (s : State) (n : ℕ) → free_nsid s ≡ Some n
     → ((1 ≤ n) × (n ≤ s.nn)) × (is_allocated s n ≡ false)
-free_is s n e =
-    let is = first_of (λ q. not (is_allocated s q)) 1 s.nn n e in
-    ((is.0.0, omega (arith, is.0.1)), not-true (is_allocated s n) is.1)
+free_is s n e = search (rules, first_of)
 
 -- the NSID that a create returns is a number of 32 bits
 pub created_nsid_fits : (s : State) → s.nn ≤ most_nsids → created_nsid s < 2 ^ 32
@@ -74,8 +71,7 @@ created_nsid_fits s h = by (free_nsid s) refl
 
 -- an optional namespace that isn't there is None
 none_of : (o : Option Namespace) → is_some o ≡ false → o ≡ None
-none_of None e = refl
-none_of (Some x) e = absurd (cc e)
+none_of o h = search rules
 
 -- if metadata can be placed as asked and is to be at the end of logical blocks, there is some, and mc allows that
 pub extends_by : (ms mc : ℕ) (e : Bool) → (not e || (nat_lt 0 ms && (bit_and mc 1 == 1))) ≡ true
@@ -83,33 +79,18 @@ pub extends_by : (ms mc : ℕ) (e : Bool) → (not e || (nat_lt 0 ms && (bit_and
     → (0 < ms) × (bit_and mc 1 ≡ 1)
 extends_by ms mc e h t = grind (arith, nat_tests)
 
--- n blocks of b bytes each, of which there is at least one, have at least b bytes
-some_blocks : (n b : ℕ) → 0 < n → b ≤ n * b
-some_blocks n b h = grind arith
-
 -- a new namespace with at least one block, in a format that allows its metadata, is in that format
 in_format : (mc bytes nsze format : ℕ) (extended shared : Bool) (o : Option Format)
     → not (option_map_or (λ f. may_extend mc f extended) o false) ≡ false → 0 < nsze
     → option_map_or (λ f. nsze * 2 ^ f.lbads) o 0 ≡ bytes → bytes ≤ 2 ^ 63 - 1
     → IsSomeAnd o (λ f. IsInFormat mc f
     (record { capacity = bytes; format = format; extended = extended; shared = shared }))
-in_format mc bytes nsze format extended shared None h some is few = absurd (cc h)
-in_format mc bytes nsze format extended shared (Some f) h some is few =
-    let can : may_extend mc f extended ≡ true = not-false (may_extend mc f extended) h in
-    record {
-      capacity = (omega (arith, some_blocks nsze (2 ^ f.lbads) some), omega arith);
-      extended = extends_by f.ms mc extended can;
-    }
+in_format mc bytes nsze format extended shared o h e f g = search rules
 
 -- no controller has an NSID attached that has no namespace
 none_attached : (s : State) (n : ℕ) → IsWellFormed s → is_allocated s n ≡ false
     → count_by (λ c. map_of.contains_key c.attached n) s.controllers ≡ 0
-none_attached s n w free =
-    none_pass (λ c. map_of.contains_key c.attached n) s.controllers
-    (All-weaker (IsController s.namespaces) (λ c. map_of.contains_key c.attached n ≡ false)
-    (λ c is. untrue (map_of.contains_key c.attached n)
-    (λ t. let both : true ≡ false = sym (is.attached n t) ∙ free in absurd (cc both))) s.controllers
-    w.controllers)
+none_attached s n w free = search (rules, none_pass)
 
 -- controllers of a subsystem are also ones of it with a namespace more, or with another one in its place
 pub controllers_with : (ns : Namespaces) (n : ℕ) (x : Namespace) (cs : List Controller)
@@ -222,8 +203,7 @@ left m n q t = let is = contains-remove m n q in (grind (arith, is, t), grind (a
 -- removing a namespace uses no more capacity than before
 used-remove_le : (m : Namespaces) (n : ℕ) (o : Option Namespace) → map_of.get m n ≡ o
     → used (map_of.remove m n) ≤ used m
-used-remove_le m n None e = let same = ap used (remove_absent m n (ap is_some e)) in omega arith
-used-remove_le m n (Some x) e = omega (arith, used-remove m n x e)
+used-remove_le m n o h = search (rules, used, remove_absent, used-remove)
 
 -- removing one namespace leaves the subsystem well formed
 one_keeps : (s : State) (n : ℕ) → IsWellFormed s → IsWellFormed (without_one s n)
@@ -280,28 +260,14 @@ all_keep s w = attached_keep s without_any map_of.empty w (record {
 
 -- a delete leaves a well-formed subsystem well formed
 pub delete_keeps : (s : State) (n : ℕ) → IsWellFormed s → IsWellFormed (deleted s n)
-delete_keeps s n w = elim (n == broadcast_nsid) as (λ b. IsWellFormed
-    (if b then without_all s else without_one s n))
-    [ true ↦ all_keep s w | false ↦ one_keeps s n w ]
+delete_keeps s n w = grind (arith, common_steps, all_keep s w, one_keeps s n w)
 
 -- a create adds or removes no controller
 pub created_controllers : (s : State) (w : NewNamespace) → length (created s w).controllers
     ≡ length s.controllers
-created_controllers s w = by (free_nsid s)
-  where
-    by : (o : Option ℕ) → length
-        (option_map_or (λ n. record s
-        { namespaces = map_of.insert s.namespaces n (new_namespace s w) }) o s).controllers
-        ≡ length s.controllers
-    by None = refl
-    by (Some n) = refl
+created_controllers s w = search rules
 
 -- a delete adds or removes no controller
 pub deleted_controllers : (s : State) (n : ℕ) → length (deleted s n).controllers
     ≡ length s.controllers
-deleted_controllers s n = elim (n == broadcast_nsid) as
-    (λ b. length (if b then without_all s else without_one s n).controllers
-    ≡ length s.controllers) [
-      | true ↦ length-map s.controllers (with_nsids without_any)
-      | false ↦ length-map s.controllers (with_nsids (without n))
-    ]
+deleted_controllers s n = search (rules, length-map)

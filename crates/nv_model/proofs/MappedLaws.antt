@@ -1,6 +1,7 @@
 -- Lists that are mapped, and counts of what passes a test.
+use Rattle.std.proofs.lemmas.Grind.{common_steps}
 use Rattle.std.proofs.Common.{◌≡◌, ℕ, zero, suc, ◌≤◌, Bool, true, false, cond, List, [], ◌∷◌, map, length, get_or, refl}
-use Rattle.std.proofs.Common.{sym, ap, subst, arith, ◌<◌, ◌||◌, ◌++◌, take, drop, set}
+use Rattle.std.proofs.Common.{sym, ap, subst, arith, ◌<◌, ◌||◌, ◌++◌, take, drop, set, rules}
 use Rattle.nv_model.proofs.Words.{All, AllPairs, count_by, get_or-map, length-map, list_any, sum_by-cons}
 
 -- if every element fails a test, the count of elements that pass it is 0
@@ -19,8 +20,7 @@ none_pass p (x ∷ xs) h =
 
 -- what isn't true is false
 pub untrue : (b : Bool) → (b ≡ true → ⊥) → b ≡ false
-untrue true h = absurd (h refl)
-untrue false h = refl
+untrue b h = search rules
 
 -- if pairs of elements are related by what f makes of them, pairs of the mapped list are related
 pub pairs_map : {X Y : Type 0} (R : Y → Y → Type 0) (f : X → Y) (xs : List X)
@@ -36,34 +36,14 @@ pairs_map R f (x ∷ xs) h i j d a b =
 -- a count over a mapped list is the count of the elements whose image passes
 pub count_by-map : {X Y : Type 0} (p : Y → Bool) (f : X → Y) (q : X → Bool)
     → ((x : X) → p (f x) ≡ q x) → (xs : List X) → count_by p (map f xs) ≡ count_by q xs
-count_by-map p f q same [] = refl
-count_by-map p f q same (x ∷ xs) =
-    let one : ◌≡◌ {A = ℕ} (cond (p (f x)) 1 0) (cond (q x) 1 0) = ap (λ b. cond b 1 0) (same x) in
-    omega (
-      arith,
-      one,
-      count_by-map p f q same xs,
-      sum_by-cons (λ y. cond (p y) 1 0) (f x) (map f xs),
-      sum_by-cons (λ x. cond (q x) 1 0) x xs,
-    )
-
--- if a implies b, then a counts for no more than b
-no_more : (a b : Bool) → (a ≡ true → b ≡ true) → cond a 1 0 ≤ cond b 1 0
-no_more a b h = grind arith
+count_by-map p f q h e = grind (arith, common_steps)
 
 -- if each element whose image passes p passes q, no more images pass p than elements pass q
 pub count_by-map_le : {X Y : Type 0} (p : Y → Bool) (f : X → Y) (q : X → Bool)
     → ((x : X) → p (f x) ≡ true → q x ≡ true) → (xs : List X)
     → count_by p (map f xs) ≤ count_by q xs
 count_by-map_le p f q fewer [] = omega arith
-count_by-map_le p f q fewer (x ∷ xs) =
-    omega (
-      arith,
-      no_more (p (f x)) (q x) (fewer x),
-      count_by-map_le p f q fewer xs,
-      sum_by-cons (λ y. cond (p y) 1 0) (f x) (map f xs),
-      sum_by-cons (λ x. cond (q x) 1 0) x xs,
-    )
+count_by-map_le p f q fewer (x ∷ xs) = grind (arith, common_steps, count_by-map_le p f q fewer xs)
 
 -- a mapped list has an element that passes if and only if the image of an element passes
 pub list_any-map : {X Y : Type 0} (p : Y → Bool) (f : X → Y) (xs : List X) → list_any p (map f xs)
@@ -78,5 +58,4 @@ pub next_mapped : {X Y : Type 0} (view : X → Y) (f : Y → Y) (xs : List X) (i
     ≡ take i (map view xs) ++ map f (drop i (map view xs))
 next_mapped view f [] i y d h e = absurd (omega arith)
 next_mapped view f (x ∷ xs) zero y d h e = ap (λ v. v ∷ map f (map view xs)) e
-next_mapped view f (x ∷ xs) (suc i) y d h e = ap (λ t. view x ∷ t)
-    (next_mapped view f xs i y d (omega arith) e)
+next_mapped view f (x ∷ xs) (suc i) y d h e = search (rules, next_mapped view f xs i y d (omega arith) e)

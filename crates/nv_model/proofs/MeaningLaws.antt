@@ -1,5 +1,6 @@
 -- The meaning of each command is sound: the one table of facts about refusals, replies and effects.
 use Rattle.std.proofs.Common.{◌≡◌, ℕ, ◌≤◌, ◌==◌, arith, refl, [], true, List, Option, Some, None, is_some, length}
+use Rattle.std.proofs.Common.{rules}
 use Rattle.std.specs.FinMap as map_of
 use Rattle.nv_command.specs.LogPage.{log_asked, log_kind}
 use Rattle.nv_command.specs.declared.log_page.LogPage.{LogPage}
@@ -66,8 +67,7 @@ logs_fit s c Health is = smart_fits s.namespaces (controller_at s c) is
 
 -- a reply with the error log or the health log has the kind of that log
 is_log_reply : (s : State) (c : ℕ) (page : LogPage) → kind_of (log_reply s c page) ≡ log_kind page
-is_log_reply s c ErrorInformation = refl
-is_log_reply s c Health = refl
+is_log_reply s c page = search rules
 
 -- ---- meanings
 

@@ -1,15 +1,15 @@
 -- A reset leaves a well-formed subsystem well formed, and adds or removes no controller.
+use Rattle.std.proofs.lemmas.Grind.{common_steps}
 use Rattle.std.proofs.Common.{◌≡◌, ◌∙◌, ℕ, zero, suc, ◌+◌, Bool, true, false, List, [], ◌∷◌, map, length, Option, Some}
-use Rattle.std.proofs.Common.{None, is_some, refl, sym, ap, subst, arith}
+use Rattle.std.proofs.Common.{None, is_some, refl, sym, ap, subst, arith, rules}
 use Rattle.std.specs.FinMap as map_of
-use Rattle.std.proofs.Math.Numerals.{suc-eq-add-one}
 use Rattle.nv_model.specs.Values.{FeatureRules, first_value, rule_for, rule_of, default_of, restored, FeatureValues}
 use Rattle.nv_model.specs.Values.{ValueKey, key_cmp}
-use Rattle.nv_model.specs.Step.{all_restored, reset, reset_if, reset_where, with_restored}
-use Rattle.nv_model.proofs.Words.{and_from, and_parts, AreRules, AreValues, Feature, feature_of, feature_with}
-use Rattle.nv_model.proofs.Words.{FeatureValue, find, fold, get-entries, get-from_entries, if◌then◌else◌, is_value}
+use Rattle.nv_model.specs.Step.{all_restored, reset, reset_if, with_restored}
+use Rattle.nv_model.proofs.Words.{and_from, and_parts, AreRules, Feature, feature_of, feature_with}
+use Rattle.nv_model.proofs.Words.{FeatureValue, find, fold, get-entries, get-from_entries, is_value}
 use Rattle.nv_model.proofs.Words.{is_value_at, IsWellFormed, may_have, option_map, option_map_or, range_with_len}
-use Rattle.nv_model.proofs.Words.{slice_index_or, State, unwrap_or}
+use Rattle.nv_model.proofs.Words.{State, unwrap_or}
 use Rattle.nv_model.proofs.ChangedAtLaws.{length-changed_at}
 use Rattle.nv_model.proofs.FeatureLaws.{AreSound, default_is_sound}
 use Rattle.nv_model.proofs.KeepingLaws.{KeepsController, keeps}
@@ -37,17 +37,14 @@ get-all_restored rules values k =
 
 -- a restored value is there if and only if the value is
 has_restored : (d : ℕ) (o : Option FeatureValue) → is_some (option_map (restored d) o) ≡ is_some o
-has_restored d None = refl
-has_restored d (Some x) = refl
+has_restored d o = search rules
 
 module _ (rules : FeatureRules) (are : AreRules rules) where
   -- a saved value that a feature may have, or else its default, is a value of the feature
   current_is_sound : (f : Feature) (selector d : ℕ) (saved : Option ℕ)
       → d ≡ default_of (rule_of rules f) selector
       → option_map_or (is_value f) saved true ≡ true → is_value f (unwrap_or saved d) ≡ true
-  current_is_sound f selector d None is fits =
-      ap (is_value f) is ∙ default_is_sound rules are f selector
-  current_is_sound f selector d (Some v) is fits = fits
+  current_is_sound f selector d saved h e = grind (arith, common_steps, default_is_sound)
 
   -- a sound value stays sound when it is restored
   one_is_sound : (k : ValueKey) (x : FeatureValue) → is_value_at k x ≡ true
@@ -80,19 +77,7 @@ module _ (rules : FeatureRules) (are : AreRules rules) where
 
 -- restoring values keeps a controller
 restoring_keeps : KeepsController with_restored
-restoring_keeps = record {
-  identity = λ x. refl;
-  attached = λ x. refl;
-  sound = λ s x h.
-      let restored : AreValues x.rules x.identity.numbers.vwc x.attached (all_restored x.rules x.values) =
-      record {
-        keys = λ k. ap is_some (get-all_restored x.rules x.values k)
-            ∙ has_restored (first_value x.rules k).current (map_of.get x.values k)
-            ∙ h.values.keys k;
-        sound = all_sound x.rules h.rules x.values h.values.sound;
-      } in
-      assumption;
-}
+restoring_keeps = search (rules, get-all_restored, has_restored, all_sound)
 
 -- a reset leaves a well-formed subsystem well formed
 pub reset_keeps : (s : State) (c : ℕ) → IsWellFormed s → IsWellFormed (reset s c)
@@ -102,44 +87,9 @@ reset_keeps s c w = keeps s c with_restored restoring_keeps w
 pub length-reset : (s : State) (c : ℕ) → length (reset s c).controllers ≡ length s.controllers
 length-reset s c = length-changed_at with_restored s.controllers c
 
--- a reset that is done only if a test holds leaves a well-formed subsystem well formed
-reset_if_keeps : (b : Bool) (s : State) (c : ℕ) → IsWellFormed s
-    → IsWellFormed (if b then reset s c else s)
-reset_if_keeps true s c w = reset_keeps s c w
-reset_if_keeps false s c w = w
-
--- a reset that is done only if a test holds adds or removes no controller
-length-reset_if : (b : Bool) (s : State) (c : ℕ)
-    → length (if b then reset s c else s).controllers ≡ length s.controllers
-length-reset_if true s c = length-reset s c
-length-reset_if false s c = refl
-
 -- ---- the enabled ones of some controllers
 
 module _ (enabled : List Bool) where
-  -- resets of the enabled ones of some controllers leave a well-formed subsystem well formed
-  each_keeps : (cs : List ℕ) (s : State) → IsWellFormed s
-      → IsWellFormed (fold (reset_if enabled) s cs)
-  each_keeps [] s w = w
-  each_keeps (c ∷ cs) s w = each_keeps cs (reset_if enabled s c)
-      (reset_if_keeps (slice_index_or enabled c false) s c w)
-
-  -- resets of the enabled ones of some controllers add or remove no controller
-  length-each : (cs : List ℕ) (s : State)
-      → length (fold (reset_if enabled) s cs).controllers ≡ length s.controllers
-  length-each [] s = refl
-  length-each (c ∷ cs) s = length-each cs (reset_if enabled s c)
-      ∙ length-reset_if (slice_index_or enabled c false) s c
-
-  -- resets of all enabled controllers leave a well-formed subsystem well formed
-  pub reset_where_keeps : (s : State) → IsWellFormed s → IsWellFormed (reset_where enabled s)
-  reset_where_keeps s w = each_keeps (range_with_len 0 (length enabled)) s w
-
-  -- resets of all enabled controllers add or remove no controller
-  pub length-reset_where : (s : State)
-      → length (reset_where enabled s).controllers ≡ length s.controllers
-  length-reset_where s = length-each (range_with_len 0 (length enabled)) s
-
   -- ---- the enabled ones of the first n controllers, for a loop over all
 
   -- the state after resets of the enabled ones of the first n controllers
@@ -149,22 +99,10 @@ module _ (enabled : List Bool) where
   -- resets of the enabled ones of n + 1 controllers reset the first n and then the last, as far as they are enabled
   one_more : (a n : ℕ) (s : State) → fold (reset_if enabled) s (range_with_len a (suc n))
       ≡ reset_if enabled (fold (reset_if enabled) s (range_with_len a n)) (a + n)
-  one_more a zero s = ap (reset_if enabled s) last
-    where
-      last : a ≡ a + 0
-      last = omega arith
-  one_more a (suc n) s = one_more (a + 1) n (reset_if enabled s a)
-      ∙ ap (reset_if enabled (fold (reset_if enabled) s (range_with_len a (suc n)))) last
-    where
-      last : (a + 1) + n ≡ a + suc n
-      last = omega arith
+  one_more a zero s = search rules
+  one_more a (suc n) s = grind (arith, common_steps, one_more (a + 1) n (reset_if enabled s a))
 
   -- resets of the enabled ones of the first n + 1 controllers reset the first n and then controller n
   pub reset_first_more : (n : ℕ) (s : State)
       → reset_first (n + 1) s ≡ reset_if enabled (reset_first n s) n
-  reset_first_more n s =
-      ap (λ m. reset_first m s) (sym (suc-eq-add-one n)) ∙ one_more 0 n s
-      ∙ ap (reset_if enabled (reset_first n s)) last
-    where
-      last : 0 + n ≡ n
-      last = omega arith
+  reset_first_more n s = search (rules, one_more)

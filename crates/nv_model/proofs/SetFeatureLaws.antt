@@ -1,72 +1,57 @@
 -- Get Features and Set Features leave a well-formed subsystem well formed, and their replies fit.
-use Rattle.std.proofs.Common.{rules, ◌≡◌, ◌∙◌, ℕ, ◌+◌, ◌==◌, ◌<◌, ◌^◌, Bool, true, false, List, [], ◌∷◌, length, Option}
+use Rattle.std.proofs.lemmas.Grind.{common_steps}
+use Rattle.std.proofs.Common.{rules, ◌≡◌, ℕ, ◌<◌, ◌^◌, Bool, true, false, List, [], ◌∷◌, length, Option}
 use Rattle.std.proofs.Common.{Some, None, is_some, refl, sym, ap, arith, subst, lit<, map}
 use Rattle.std.specs.FinMap as map_of
 use Rattle.nv_command.specs.declared.features.FeatureQuery.{FeatureQuery}
 use Rattle.nv_command.specs.declared.features.FeatureSetting.{FeatureSetting}
 use Rattle.nv_model.specs.Change.{changed_at}
 use Rattle.nv_model.specs.Values.{FeatureRules, rule_of, default_of, written, FeatureValues, key_of}
-use Rattle.nv_model.specs.Features.{feature_number, get_feature_rows, get_rows, is_set, selected, set_feature_rows}
-use Rattle.nv_model.specs.Features.{set_rows, supported_at, told, with_feature, with_value, write}
+use Rattle.nv_model.specs.Features.{feature_number, get_feature_rows, is_set, selected, set_feature_rows}
+use Rattle.nv_model.specs.Features.{set_rows, told, with_feature, with_value, write}
 use Rattle.nv_model.proofs.Words.{and_parts, AreValues, changed, changed_nsids, Controller, controller_at, Feature}
-use Rattle.nv_model.proofs.Words.{feature_at, feature_of, FeatureRule, FeatureValue, first_refusal, fold, if◌then◌else◌}
-use Rattle.nv_model.proofs.Words.{InvalidFieldInCommand, is_accepted, is_get_selector, is_refusal-refusal_by}
-use Rattle.nv_model.proofs.Words.{is_supported, is_value, is_value_at, IsController, IsWellFormed, may_have, not-false}
+use Rattle.nv_model.proofs.Words.{feature_of, FeatureRule, FeatureValue, first_refusal, fold, if◌then◌else◌}
+use Rattle.nv_model.proofs.Words.{InvalidFieldInCommand, is_accepted, is_get_selector}
+use Rattle.nv_model.proofs.Words.{is_supported, is_value, is_value_at, IsController, IsWellFormed, may_have}
 use Rattle.nv_model.proofs.Words.{Nsids, option_map, option_map_or, Row, row, row_of, selector_in, State, stored}
 use Rattle.nv_model.proofs.Words.{stored_is_value, supported, unwrap_or, value_fits, with_controller, with_values}
 use Rattle.nv_model.proofs.ChangedAtLaws.{length-changed_at}
 use Rattle.nv_model.proofs.ChoiceLaws.{chosen_fits}
 use Rattle.nv_model.proofs.FeatureLaws.{default_is_sound, sound_at, values-written}
 use Rattle.nv_model.proofs.KeepingLaws.{KeepsController, is_controller, keeps}
-use Rattle.nv_model.proofs.ManagementLaws.{AllRefuse, none_holds}
+use Rattle.nv_model.proofs.ManagementLaws.{AllRefuse}
 use Rattle.nv_model.proofs.ValueLaws.{put_back, removed_absent}
 
 -- ---- rows
-
--- each row of a Get for a feature has a refusal
-get_rows_fit : (s : State) (c : ℕ) (q : FeatureQuery) (f : Feature) → AllRefuse (get_rows s c q f)
-get_rows_fit s c q f = search (rules, is_refusal-refusal_by)
-
--- each row of a Set for a feature has a refusal
-set_rows_fit : (s : State) (c : ℕ) (x : FeatureSetting) (f : Feature)
-    → AllRefuse (set_rows s c x f)
-set_rows_fit s c x f = search (rules, is_refusal-refusal_by)
 
 -- if the rows of each feature and the other rows have refusals, so have the rows of a supported feature, or of none
 supported_rows_fit : (o : Option Feature) (rows : Feature → List Row) (others : List Row)
     → ((f : Feature) → AllRefuse (rows f)) → AllRefuse others
     → AllRefuse (option_map_or rows o others)
-supported_rows_fit None rows others fit other = other
-supported_rows_fit (Some f) rows others fit other = fit f
+supported_rows_fit o rows others h e = search rules
 
 -- each row of a Get Features has a refusal
 pub get_feature_rows_fit : (s : State) (c : ℕ) (q : FeatureQuery)
     → AllRefuse (get_feature_rows s c q)
-get_feature_rows_fit s c q =
-    supported_rows_fit (supported_at s c q.fid) (get_rows s c q) _ (get_rows_fit s c q)
-    (search (rules, is_refusal-refusal_by))
+get_feature_rows_fit s c q = search (rules, supported_rows_fit)
 
 -- each row of a Set Features has a refusal
 pub set_feature_rows_fit : (s : State) (c : ℕ) (x : FeatureSetting)
     → AllRefuse (set_feature_rows s c x)
-set_feature_rows_fit s c x =
-    supported_rows_fit (supported_at s c x.fid) (set_rows s c x) _ (set_rows_fit s c x)
-    (search (rules, is_refusal-refusal_by))
+set_feature_rows_fit s c x = search (rules, supported_rows_fit)
 
 -- ---- a set
 
 -- a value that is sound under a key of a feature is one that the feature may have
 sound_value : (f : Feature) (n s : ℕ) (x : FeatureValue) → is_value_at (key_of f n s) x ≡ true
     → may_have f x ≡ true
-sound_value f n s x e =
-    sym (ap (λ o. option_map_or (λ g. may_have g x) o false) (feature_at f)) ∙ e
+sound_value f n s x e = search rules
 
 -- a value that a feature may have stays one when another value of the feature is written
 may_have_written : (f : Feature) (value : ℕ) (save : Bool) (x : FeatureValue)
     → is_value f value ≡ true
     → may_have f x ≡ true → may_have f (written value save x) ≡ true
-may_have_written f value true x fits e = rw fits refl
-may_have_written f value false x fits e = rw fits (and_parts (is_value f x.current) _ e).1
+may_have_written f value save x h e = search rules
 
 module _ (f : Feature) (value : ℕ) (save : Bool) (fits : is_accepted f value ≡ true)
     (rules : FeatureRules) (vwc : ℕ) (attached : Nsids) where
@@ -111,12 +96,7 @@ module _ (f : Feature) (value : ℕ) (save : Bool) (fits : is_accepted f value �
 -- a Set with an accepted dword keeps a controller
 set_keeps : (f : Feature) (value : ℕ) (save : Bool) (ns : List ℕ) → is_accepted f value ≡ true
     → KeepsController (with_values f value save ns)
-set_keeps f value save ns fits = record {
-  identity = λ x. refl;
-  attached = λ x. refl;
-  sound = λ s x h.
-      assumption (all_values f value save fits x.rules x.identity.numbers.vwc x.attached ns x.values h.values);
-}
+set_keeps f value save ns fits = search (rules, all_values)
 
 -- an accepted set has a dword that the feature accepts
 module _ (s : State) (c : ℕ) (x : FeatureSetting) where
@@ -132,20 +112,14 @@ module _ (s : State) (c : ℕ) (x : FeatureSetting) where
     -- a Set that is accepted if its feature is supported has a dword that the feature accepts
     by_support : (b : Bool) (g : Feature) → accepted_by (if b then Some g else None) → g ≡ f
         → is_accepted f x.value ≡ true
-    by_support true g accepted same =
-        let rows = none_holds (set_rows s c x g) accepted in
-        subst (λ h. is_accepted h x.value ≡ true) same (not-false (is_accepted g x.value) rows.0)
-    by_support false g accepted same = absurd (cc accepted)
+    by_support b g h e = search rules
 
     -- a Set that a controller accepts for a feature, if there is one, has a dword that the feature accepts
     by_feature : (y : Controller) (o : Option Feature)
         → accepted_by (option_map_or
         (λ g. if is_supported y.rules y.identity.numbers.vwc g then Some g else None) o None)
         → o ≡ Some f → is_accepted f x.value ≡ true
-    by_feature y None accepted e = absurd (cc e)
-    by_feature y (Some g) accepted e =
-        let same : g ≡ f = cc e in
-        by_support (is_supported y.rules y.identity.numbers.vwc g) g accepted same
+    by_feature y o h e = search (rules, by_support)
 
     -- a Set that is accepted by a controller, if there is one, has a dword that the feature accepts
     by_controller : (o : Option Controller)
@@ -168,37 +142,16 @@ module _ (s : State) (c : ℕ) (x : FeatureSetting) where
 
   -- a Set Features adds or removes no controller
   pub feature_controllers : length (with_feature s c x).controllers ≡ length s.controllers
-  feature_controllers = by (feature_of x.fid)
-    where
-      by : (o : Option Feature)
-          → length (option_map_or (λ f. with_controller s c (to_controller f)) o s).controllers
-          ≡ length s.controllers
-      by None = refl
-      by (Some f) = length-changed_at (to_controller f) s.controllers c
+  feature_controllers = grind (arith, common_steps, feature_of, option_map_or, length-changed_at)
 
 -- ---- a number that is returned
-
--- the capabilities of a feature are a number of 32 bits
-capabilities_fit : (a b c : Bool)
-    → (if a then 1 else 0) + (if b then 2 else 0) + (if c then 4 else 0) < 2 ^ 32
-capabilities_fit a b c = grind arith
 
 -- what a select names for a sound value and default is a number of 32 bits
 selected_fits : (rule : FeatureRule) (f : Feature) (sel selector : ℕ) (x : FeatureValue)
     → is_value f (default_of rule selector) ≡ true
     → may_have f x ≡ true → selected rule f sel selector x < 2 ^ 32
 selected_fits rule f sel selector x default is =
-    let parts = and_parts (is_value f x.current) (option_map_or (is_value f) x.saved true) is in
-    let first = value_fits f (default_of rule selector) default in
-    chosen_fits (λ n. n < 2 ^ 32) (sel == 0) _ _ (value_fits f x.current parts.0)
-    (chosen_fits (λ n. n < 2 ^ 32) (sel == 1) _ _ first
-    (chosen_fits (λ n. n < 2 ^ 32) (sel == 2) _ _ (saved_fits x.saved parts.1)
-    (capabilities_fit rule.saveable (row_of f).per_namespace rule.changeable)))
-  where
-    saved_fits : (o : Option ℕ) → option_map_or (is_value f) o true ≡ true
-        → unwrap_or o (default_of rule selector) < 2 ^ 32
-    saved_fits None e = value_fits f (default_of rule selector) default
-    saved_fits (Some v) e = value_fits f v e
+    grind (arith, common_steps, and_parts, is_value, option_map_or, value_fits, chosen_fits, row_of, unwrap_or)
 
 -- what a Get names for a controller's feature is a number of 32 bits
 told_fits : (s : State) (x : Controller) → IsController s.namespaces x

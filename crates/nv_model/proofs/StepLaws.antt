@@ -1,9 +1,10 @@
 -- A command leaves a well-formed subsystem well formed.
-use Rattle.std.proofs.Common.{rules, ◌≡◌, ◌∙◌, ℕ, ◌+◌, ◌<◌, ◌≤◌, ◌^◌, refl, subst, arith, suc, Bool, true, false, List}
+use Rattle.std.proofs.lemmas.Grind.{common_steps}
+use Rattle.std.proofs.Common.{rules, ◌≡◌, ℕ, ◌+◌, ◌<◌, ◌≤◌, ◌^◌, refl, arith, List}
 use Rattle.std.proofs.Common.{[], ◌∷◌, length, take, Option, Some, None, min}
 use Rattle.nv_model.specs.Step.{next_count, refused, step, step_by, with_command, with_refusal, log_entry}
 use Rattle.nv_model.proofs.Words.{All-cons, All-take, AllByRecursion, Command, effect_of, ErrorEntry, ErrorEntryFits}
-use Rattle.nv_model.proofs.Words.{first_refusal, greatest_count, if◌then◌else◌, IsRefusal, IsWellFormed, length-take}
+use Rattle.nv_model.proofs.Words.{first_refusal, greatest_count, IsRefusal, IsWellFormed}
 use Rattle.nv_model.proofs.Words.{namespace_of, Refusal, refusal_of, Row, rows_of, State}
 use Rattle.nv_model.proofs.ChangedAtLaws.{length-changed_at}
 use Rattle.nv_model.proofs.KeepingLaws.{KeepsController, keeps}
@@ -15,19 +16,13 @@ next_count-le n = omega arith
 
 -- counting a command keeps a controller
 pub counting_keeps : KeepsController (λ x. record x { commands = next_count x.commands })
-counting_keeps = record {
-  identity = λ x. refl;
-  attached = λ x. refl;
-  sound = λ s x h. assumption (next_count-le x.commands);
-}
+counting_keeps = search rules
 
 -- the log after a refusal has as many entries as there were refusals, but at most as many as are kept
 length-with_refusal : (most refusals : ℕ) (e : ErrorEntry) (log : List ErrorEntry) → 0 < most → most
     ≤ 256 → refusals ≤ greatest_count → length log ≡ min refusals most
     → length (take most (e ∷ log)) ≡ min (next_count refusals) most
-length-with_refusal most refusals e log some few low len =
-    length-take most (e ∷ log) ∙ (let up : length (e ∷ log) ≡ suc (length log) = refl in
-    omega arith)
+length-with_refusal most refusals e log some few low len = grind (arith, common_steps)
 
 -- the entry of a refusal fits its record
 entry_fits : (count cid nsid : ℕ) (r : Refusal) → count ≤ greatest_count → nsid < 2 ^ 32
@@ -61,8 +56,7 @@ with_command_keeps s c w = keeps s c _ counting_keeps w
 -- a refusal leaves a well-formed subsystem well formed
 pub refused_keeps : (s : State) (c nsid cid : ℕ) (r : Refusal) → nsid < 2 ^ 32 → cid < 2 ^ 16
     → IsRefusal r → IsWellFormed s → IsWellFormed (with_command (refused s c nsid cid r) c)
-refused_keeps s c nsid cid r a b fits w = with_command_keeps (refused s c nsid cid r) c
-    (keeps s c _ (booking_keeps nsid cid r a b fits) w)
+refused_keeps s c nsid cid r a b fits w = search (rules, with_command_keeps, keeps, booking_keeps)
 
 -- ---- one command
 
@@ -71,19 +65,11 @@ pub rows_fit : (s : State) (c : ℕ) (k : Command) → AllByRecursion (λ row. I
     (rows_of s c k)
 rows_fit s c k = (sound k).rows s c
 
--- if a row's refusal and the refusals of later rows are refusals, so is the one that is chosen
-chosen_fits : (b : Bool) (first r : Refusal) (later : Option Refusal) → IsRefusal first
-    → (later ≡ Some r → IsRefusal r)
-    → (if b then Some first else later) ≡ Some r → IsRefusal r
-chosen_fits true first r later here there e = let same : first ≡ r = cc in subst IsRefusal same here
-chosen_fits false first r later here there e = there e
-
 -- the first refusal of rows that all have refusals is a refusal
 first_fits : (rows : List Row) (r : Refusal) → AllByRecursion (λ row. IsRefusal row.refusal) rows
     → first_refusal rows ≡ Some r → IsRefusal r
 first_fits [] r all e = absurd (cc)
-first_fits (row ∷ rows) r all e =
-    chosen_fits row.when row.refusal r (first_refusal rows) all.0 (first_fits rows r all.1) e
+first_fits (row ∷ rows) r all e = grind (arith, common_steps, first_fits rows r all.1)
 
 -- what refuses a command is a refusal
 pub refusal_fits : (s : State) (c : ℕ) (k : Command) (r : Refusal) → refusal_of s c k ≡ Some r
@@ -104,25 +90,18 @@ effect_controllers s c k = (sound k).controllers s c
 step_by_keeps : (o : Option Refusal) (s : State) (c : ℕ) (k : Command) (cid : ℕ) → refusal_of s c k
     ≡ o → ((r : Refusal) → o ≡ Some r → IsRefusal r) → namespace_of k < 2 ^ 32 → cid < 2 ^ 16
     → IsWellFormed s → IsWellFormed (step_by o s c k cid).state
-step_by_keeps None s c k cid is fits a b w =
-    with_command_keeps (effect_of s c k) c (effect_keeps s c k is w)
-step_by_keeps (Some r) s c k cid is fits a b w =
-    refused_keeps s c (namespace_of k) cid r a b (fits r refl) w
+step_by_keeps None s c k cid is fits a b w = search (rules, with_command_keeps, effect_keeps)
+step_by_keeps (Some r) s c k cid is fits a b w = search (rules, refused_keeps)
 
 -- a step leaves a well-formed subsystem well formed
 pub step_keeps : (s : State) (c : ℕ) (k : Command) (cid : ℕ) → namespace_of k < 2 ^ 32 → cid
     < 2 ^ 16 → IsWellFormed s → IsWellFormed (step s c k cid).state
-step_keeps s c k cid a b w =
-    step_by_keeps (refusal_of s c k) s c k cid refl (refusal_fits s c k) a b w
+step_keeps s c k cid a b w = search (rules, step_by_keeps, refusal_of, refusal_fits)
 
 -- a step, refused or not, adds or removes no controller
 step_by_controllers : (o : Option Refusal) (s : State) (c : ℕ) (k : Command) (cid : ℕ)
     → length (step_by o s c k cid).state.controllers ≡ length s.controllers
-step_by_controllers None s c k cid = length-changed_at _ (effect_of s c k).controllers c
-    ∙ effect_controllers s c k
-step_by_controllers (Some r) s c k cid =
-    length-changed_at _ (refused s c (namespace_of k) cid r).controllers c
-    ∙ length-changed_at (with_refusal (namespace_of k) cid r) s.controllers c
+step_by_controllers o s c k cid = grind (arith, common_steps, length-changed_at)
 
 -- a step adds or removes no controller
 pub step_controllers : (s : State) (c : ℕ) (k : Command) (cid : ℕ)

@@ -1,11 +1,12 @@
 -- The capacity that is in use when a namespace is added or removed.
+use Rattle.std.proofs.lemmas.Grind.{common_steps}
 use Rattle.std.proofs.Common.{◌≡◌, ◌∙◌, ℕ, ◌+◌, List, [], ◌∷◌, map, length, cond, Some, None, refl, sym, ap, arith}
-use Rattle.std.proofs.Common.{Ordering}
+use Rattle.std.proofs.Common.{Ordering, rules}
 use Rattle.std.specs.FinMap as map_of
 use Rattle.std.specs.FinMap.Entries.{put, find}
-use Rattle.nv_model.proofs.Words.{entries-insert, eq-eqb, Equal, get-entries, get_of_insert, get_of_remove, Greater}
-use Rattle.nv_model.proofs.Words.{len-empty, len-entries, Less, Namespace, Namespaces, nat_cmp, nat_cmp_total}
-use Rattle.nv_model.proofs.Words.{nat_tests, same_numbers, sum_by, sum_by-cons, used}
+use Rattle.nv_model.proofs.Words.{entries-insert, eq-eqb, get-entries, get_of_insert, get_of_remove}
+use Rattle.nv_model.proofs.Words.{len-empty, len-entries, Namespace, Namespaces, nat_cmp, nat_cmp_total}
+use Rattle.nv_model.proofs.Words.{same_numbers, sum_by, sum_by-cons, used}
 
 -- the sum of the capacities of some entries
 total : List (ℕ × Namespace) → ℕ
@@ -22,11 +23,7 @@ put_at : (o : Ordering) (k : ℕ) (v : Namespace) (e : ℕ × Namespace) (es : L
     → nat_cmp k e.0 ≡ o → find nat_cmp k (e ∷ es) ≡ None
     → (find nat_cmp k es ≡ None → total (put nat_cmp k v es) ≡ v.capacity + total es)
     → total (put nat_cmp k v (e ∷ es)) ≡ v.capacity + total (e ∷ es)
-put_at Less k v e es is none rest = rw is (total-cons (k, v) (e ∷ es))
-put_at Equal k v e es is none rest = let some : Some e.1 ≡ None = rw is at none in absurd (cc some)
-put_at Greater k v e es is none rest =
-    let free : find nat_cmp k es ≡ None = rw is at none in
-    rw is (omega (arith, total-cons e (put nat_cmp k v es), total-cons e es, rest free))
+put_at o k v e es h f g = search (rules, total-cons)
 
 -- a namespace that is put under an NSID without one adds its capacity
 total-put : (k : ℕ) (v : Namespace) (es : List (ℕ × Namespace)) → find nat_cmp k es ≡ None
@@ -44,9 +41,7 @@ used-insert m k v none = ap total (entries-insert nat_cmp_total m k v)
 -- inserting a namespace again that was removed gives back the map
 put_back : (m : Namespaces) (n : ℕ) (v : Namespace) → map_of.get m n ≡ Some v
     → map_of.insert (map_of.remove m n) n v ≡ m
-put_back m n v found =
-    same_numbers _ m
-    (λ q. grind (arith, nat_tests, get_of_insert (map_of.remove m n) n v q, get_of_remove m n q, found))
+put_back m n v found = search (rules, same_numbers, get_of_insert, get_of_remove)
 
 -- a namespace that is removed frees its capacity
 pub used-remove : (m : Namespaces) (n : ℕ) (v : Namespace) → map_of.get m n ≡ Some v
@@ -60,21 +55,12 @@ used-remove m n v found =
 pub used-change : (m : Namespaces) (n : ℕ) (v w : Namespace) → map_of.get m n ≡ Some v
     → w.capacity ≡ v.capacity → used (map_of.insert m n w) ≡ used m
 used-change m n v w found same =
-    let again : map_of.insert m n w ≡ map_of.insert (map_of.remove m n) n w = same_numbers _ _
-    (λ q. grind (arith, get_of_insert m n w q, get_of_insert (map_of.remove m n) n w q, get_of_remove m n q)) in
-    omega (
-      arith,
-      ap used again,
-      used-insert (map_of.remove m n) n w
-          (get_of_remove m n n ∙ ap (λ b. cond b None (map_of.get m n)) (eq-eqb n n refl)),
-      used-remove m n v found,
-    )
+    grind (arith, common_steps, same_numbers, get_of_insert, get_of_remove, used, eq-eqb, used-remove)
 
 -- the sum of the capacities of no entries is 0
 none_used : (es : List (ℕ × Namespace)) → length es ≡ 0 → total es ≡ 0
 unfolding total
-none_used [] h = refl
-none_used (e ∷ es) h = absurd (omega arith)
+none_used es h = grind (arith, common_steps)
 
 -- an empty map of namespaces uses no capacity
 pub used-empty : used map_of.empty ≡ 0
