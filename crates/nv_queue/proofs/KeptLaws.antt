@@ -1,9 +1,9 @@
 -- Whole numbers, and how a ring keeps them.
 use Rattle.std.proofs.Common.{◌≡◌, ◌≢◌, ℕ, ◌+◌, ◌-◌, ◌*◌, ◌/◌, ◌%◌, ◌==◌, ◌<◌, ◌≤◌, ◌⊎◌, not, inl, inr, sym, ap, ◌∙◌}
-use Rattle.std.proofs.Common.{arith}
+use Rattle.std.proofs.Common.{arith, rules}
 use Rattle.std.proofs.Math.Nat.{add-mod_right, add-mul-mod_self_left, div-add-mod, mod-add-mod, zero-mod}
 use Rattle.nv_queue.specs.Numbers.{IsSlotBetween, ahead, distance, first_in_slot, kept_number, next, phase_of, slot_of}
-use Rattle.nv_queue.proofs.Words.{cases_lt, common_steps, mod_below}
+use Rattle.nv_queue.proofs.Words.{cases_lt, mod_below}
 use Rattle.nv_queue.proofs.NumberLaws.{ahead_slot, distance_cases, rest_is, slot_below, slot_cases, times_is}
 
 -- ---- whole numbers
@@ -13,14 +13,9 @@ pub slot_again : (d n : ℕ) → slot_of d (n + d) ≡ slot_of d n
 unfolding slot_of
 slot_again d n = add-mod_right n d
 
--- of two numbers 0 and 1, the next one modulo 2 is 0 if and only if the number isn't
-even_next : (r : ℕ) → r < 2 → (r + 1) % 2 == 0 ≡ not (r == 0)
-even_next r h = grind (arith, common_steps, cases_lt)
-
 -- a number is odd if and only if the next one is even
 even_after : (q : ℕ) → (q + 1) % 2 == 0 ≡ not (q % 2 == 0)
-even_after q =
-    ap (λ x. x == 0) (sym (mod-add-mod q 2 1)) ∙ even_next (q % 2) (mod_below q 2 (omega arith))
+even_after q = search rules
 
 -- a number that is a depth further has the other phase
 pub phase_again : (d n : ℕ) → 0 < d → phase_of d (n + d) ≡ not (phase_of d n)
@@ -59,9 +54,7 @@ whole d n = omega (arith, div-add-mod n (2 * d))
 -- a kept number has the slot of the number
 pub slot_kept : (d n : ℕ) → slot_of d (kept_number d n) ≡ slot_of d n
 unfolding slot_of kept_number
-slot_kept d n =
-    let r = n % (2 * d) in
-    sym (ap (λ x. x % d) (whole d n) ∙ add-mul-mod_self_left r d (2 * (n / (2 * d))))
+slot_kept d n = search (rules, whole, add-mul-mod_self_left)
 
 -- a kept number has the phase of the number
 pub phase_kept : (d n : ℕ) → 0 < d → phase_of d (kept_number d n) ≡ phase_of d n
@@ -91,9 +84,7 @@ distance_further d r j x h i e l = grind (arith, further d r j h i, distance_cas
 -- if a is j above b, and j is below twice the depth, the kept number of a is j above the kept number of b
 pub distance_kept : (d a b j : ℕ) → 0 < d → a ≡ b + j → j < 2 * d
     → distance d (kept_number d a) (kept_number d b) ≡ j
-distance_kept d a b j p e l =
-    distance_further d (kept_number d b) j (kept_number d a) (kept_below d b p) l (kept_more d a b j e)
-    (kept_below d a p)
+distance_kept d a b j p e l = search (rules, distance_further, kept_below, kept_more)
 
 -- numbers that are less than a depth apart have different slots
 pub slots_apart : (d a b : ℕ) → b < a → a < b + d → slot_of d a ≢ slot_of d b

@@ -1,7 +1,7 @@
 -- The contents of a ring's slots as entries are written.
 use Rattle.std.proofs.Common.{◌≡◌, ◌≢◌, ℕ, ◌+◌, ◌-◌, ◌*◌, ◌<◌, ◌≤◌, inl, inr, Bool, not, List, [], ◌∷◌, ◌++◌, length}
-use Rattle.std.proofs.Common.{slice_index_or, None, Some, ◌↔◌, refl, ap, ◌∙◌, arith}
-use Rattle.std.proofs.lemmas.List.{get_or_append_left, get_or_push}
+use Rattle.std.proofs.Common.{slice_index_or, None, Some, ◌↔◌, ap, ◌∙◌, arith, rules}
+use Rattle.std.proofs.lemmas.List.{get_or_push}
 use Rattle.std.proofs.Math.Nat.{mul-le-mul_left}
 use Rattle.nv_host.specs.Bytes.{bytes_at, with_bytes}
 use Rattle.nv_layout.specs.Sqe.{SqeFits}
@@ -56,8 +56,7 @@ awaited_tag bytes base d posted k p holds e =
 pub not_posted : (bytes : List ℕ) (base d : ℕ) (posted : List Cqe) (k : ℕ) → 0 < d
     → HoldsPosted bytes base d posted → k ≡ length posted
     → (completion_at bytes base (slot_of d k)).phase ≢ phase_of d k
-not_posted bytes base d posted k p holds e =
-    not_own _ _ (awaited_tag bytes base d posted k p holds e)
+not_posted bytes base d posted k p holds e = search (rules, awaited_tag)
 
 -- ---- one slot is written
 
@@ -100,16 +99,13 @@ pub put_written : (bytes : List ℕ) (ring : PostNumbers) (c : Cqe) → 0 < ring
     → ring.base + 16 * ring.depth ≤ length bytes → CqeFits c
     → WritesCompletion bytes (with_completion bytes ring c) ring.base ring.depth
     (slot_of ring.depth ring.posted) (put_as ring c)
-put_written bytes ring c p inside fits =
-    completion_written bytes ring.base ring.depth (slot_of ring.depth ring.posted) (put_as ring c)
-    inside (slot_within ring.depth ring.posted p) assumption
+put_written bytes ring c p inside fits = search (rules, completion_written, slot_within)
 
 -- a memory keeps its length when a completion is put
 pub length-with_completion : (bytes : List ℕ) (ring : PostNumbers) (c : Cqe) → 0 < ring.depth
     → ring.base + 16 * ring.depth ≤ length bytes
     → length (with_completion bytes ring c) ≡ length bytes
-length-with_completion bytes ring c p inside =
-    grind (arith, common_steps, slot_within, length-bytes_of_cqe, length-with_bytes)
+length-with_completion bytes ring c p inside = search (rules, slot_within, length-bytes_of_cqe, length-with_bytes)
 
 -- ---- a submission
 
@@ -117,8 +113,7 @@ length-with_completion bytes ring c p inside =
 pub length-with_submission : (bytes : List ℕ) (ring : SubmitNumbers) (c : Sqe) → 0 < ring.depth
     → ring.base + 64 * ring.depth ≤ length bytes
     → length (with_submission bytes ring c) ≡ length bytes
-length-with_submission bytes ring c p inside =
-    grind (arith, common_steps, slot_within, length-bytes_of_sqe, length-with_bytes)
+length-with_submission bytes ring c p inside = search (rules, slot_within, length-bytes_of_sqe, length-with_bytes)
 
 -- a submission that is written is in its slot, and the other slots don't change
 pub push_written : (bytes : List ℕ) (ring : SubmitNumbers) (c : Sqe) → 0 < ring.depth
@@ -136,17 +131,7 @@ pub holds_after : (old new : List ℕ) (base d : ℕ) (posted : List Cqe) (c : C
     → HoldsPosted old base d posted
     → HoldsPosted new base d (posted ++ posted_as d (length posted) c ∷ [])
 holds_after old new base d posted c p written holds =
-    grind (
-      arith,
-      common_steps,
-      length_push,
-      cases_lt,
-      get_or_append_left,
-      get_or_push,
-      slots_apart,
-      slot_within,
-      slot_low,
-    )
+    grind (arith, common_steps, length_push, cases_lt, get_or_push, slots_apart, slot_within, slot_low)
 
 -- ---- the calls
 
@@ -171,20 +156,15 @@ pub awaited_stands : (bytes : List ℕ) (ring : CollectNumbers) (posted : List C
     → 1 < ring.depth → ring.collected ≡ kept_number ring.depth k → k < length posted
     → length posted ≤ k + ring.depth → HoldsPosted bytes ring.base ring.depth posted
     → awaited_completion bytes ring ≡ slice_index_or posted k other
-awaited_stands bytes ring posted k other p number l h holds =
-    let slot = ap (slot_of ring.depth) number ∙ slot_kept ring.depth k in
-    ap (completion_at bytes ring.base) slot ∙ holds.standing k other l h
+awaited_stands bytes ring posted k other p number l h holds = search (rules, slot_kept)
 
 -- if the awaited completion isn't there, it was not posted, and collecting nothing is right
 pub collects_none : (bytes : List ℕ) (ring : CollectNumbers) → IsCollectRing ring
     → ¬ IsAwaitedThere bytes ring → CollectsPosted bytes ring None
-collects_none bytes ring is away posted k number l h holds =
-    let there = awaited_posted bytes ring posted k is.deep.0 number l h holds in
-    (((λ e. cc), (λ below. absurd (away (there.1 below)))), tt)
+collects_none bytes ring is away posted k number l h holds = search (rules, awaited_posted)
 
 -- if the awaited completion is there, it is the one that was posted next, and collecting it is right
 pub collects_one : (bytes : List ℕ) (ring : CollectNumbers) (c : Cqe) → IsCollectRing ring
     → IsAwaitedThere bytes ring → c ≡ awaited_completion bytes ring
     → CollectsPosted bytes ring (Some c)
-collects_one bytes ring c is there value posted k number l h holds =
-    grind (arith, common_steps, awaited_posted, awaited_stands)
+collects_one bytes ring c is there value posted k number l h holds = search (rules, awaited_posted, awaited_stands)

@@ -1,11 +1,11 @@
 -- The phase tags of a completion ring's slots, by the number of the next completion.
-use Rattle.std.proofs.Common.{if◌then◌else◌, ◌≡◌, ◌≢◌, ℕ, ◌-◌, ◌*◌, ◌<◌, ◌≤◌, Bool, true, false, not, nat_lt, List}
-use Rattle.std.proofs.Common.{refl, arith, inl, inr, ◌⊎◌, None, Some}
+use Rattle.std.proofs.Common.{◌≡◌, ◌≢◌, ℕ, ◌-◌, ◌*◌, ◌<◌, ◌≤◌, not, nat_lt, List}
+use Rattle.std.proofs.Common.{arith, ◌⊎◌, None, Some, rules}
 use Rattle.std.proofs.lemmas.Bool.Decides.{nat_tests}
 use Rattle.nv_queue.specs.Numbers.{distance, next, phase_of, slot_of, tag_below}
 use Rattle.nv_queue.specs.Slots.{FindsByTags, HoldsTags, IsAwaitedThere, KeepsTags, posted_as, with_completion}
 use Rattle.nv_queue.specs.inner.Slots.{WritesCompletion}
-use Rattle.nv_queue.proofs.Words.{cases_eq, cases_lt, CollectNumbers, common_steps, Cqe, IsCollectRing, PostNumbers}
+use Rattle.nv_queue.proofs.Words.{cases_eq, CollectNumbers, common_steps, Cqe, IsCollectRing, PostNumbers}
 use Rattle.nv_queue.proofs.NumberLaws.{distance_cases, next_below, next_cases, phase_high, phase_low, slot_below}
 use Rattle.nv_queue.proofs.NumberLaws.{slot_cases, slot_high, slot_low}
 use Rattle.nv_queue.proofs.SlotLaws.{not_own, put_written}
@@ -15,20 +15,7 @@ tag_cases : (d n s : ℕ) → n < 2 * d
     → ((n < d) × (tag_below d n s ≡ nat_lt s n))
     ⊎ ((d ≤ n) × (tag_below d n s ≡ not (nat_lt s (n - d))))
 unfolding tag_below
-tag_cases d n s h =
-    elim (cases_lt n d) [
-      | inl l ↦ inl (l, rw (slot_low d n l, phase_low d n l) (if_true_false (nat_lt s n)))
-      | inr g ↦
-          inr (g, rw (slot_high d n g h, phase_high d n g h) (if_false_true (nat_lt s (n - d))))
-    ]
-  where
-    if_true_false : (b : Bool) → (if b then true else false) ≡ b
-    if_true_false true = refl
-    if_true_false false = refl
-
-    if_false_true : (b : Bool) → (if b then false else true) ≡ not b
-    if_false_true true = refl
-    if_false_true false = refl
+tag_cases d n s h = grind (arith, common_steps, slot_low, phase_low, slot_high, phase_high)
 
 -- before number n is posted, its slot doesn't have its phase tag
 pub tag_below_here : (d n : ℕ) → n < 2 * d → tag_below d n (slot_of d n) ≡ not (phase_of d n)
@@ -50,8 +37,7 @@ tag_below_next_other d n s h i o = grind (arith, common_steps, nat_tests, slot_c
 pub tags_after : (old new : List ℕ) (base d n : ℕ) (c : Cqe) → n < 2 * d
     → WritesCompletion old new base d (slot_of d n) (posted_as d n c)
     → HoldsTags old base d n → HoldsTags new base d (next d n)
-tags_after old new base d n c h written tags s l =
-    grind (arith, common_steps, cases_eq, tag_below_next_same, tag_below_next_other)
+tags_after old new base d n c h written tags s l = search (rules, cases_eq, tag_below_next_same, tag_below_next_other)
 
 -- a completion that is put keeps the phase tags in the state that KeepsTags says
 pub keeps_tags : (old new : List ℕ) (ring : PostNumbers) (c : Cqe) → 1 < ring.depth
@@ -67,8 +53,7 @@ keeps_tags old new ring c p h written inside fits tags =
 -- the slot of a number that was posted has the tag that is due
 pub tag_there : (d n k : ℕ) → n < 2 * d → k < 2 * d → distance d n k < d → n ≢ k
     → tag_below d n (slot_of d k) ≡ phase_of d k
-tag_there d n k h i f o =
-    grind (arith, nat_tests, slot_cases d k i, distance_cases d n k h i, tag_cases d n (slot_of d k) h)
+tag_there d n k h i f o = search (rules, slot_cases, distance_cases, tag_cases)
 
 -- if the awaited completion isn't there by its tag, collecting nothing is right
 pub finds_none : (bytes : List ℕ) (ring : CollectNumbers) → IsCollectRing ring

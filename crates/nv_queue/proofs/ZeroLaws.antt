@@ -3,7 +3,7 @@ use Rattle.std.proofs.Common.{◌≡◌, ◌∙◌, ℕ, ◌+◌, ◌-◌, ◌*�
 use Rattle.std.proofs.Common.{append_assoc, arith, false, length-append, refl, sym}
 use Rattle.std.specs.Prelude.{replicate}
 use Rattle.std.proofs.lemmas.Bool.Decides.{nat_tests}
-use Rattle.std.proofs.lemmas.List.{drop-replicate, replicate-append-replicate, length-take-le, take-append-drop}
+use Rattle.std.proofs.lemmas.List.{drop-replicate, replicate-append-replicate, length-take-le}
 use Rattle.std.proofs.lemmas.List.{take-replicate, take_at}
 use Rattle.std.proofs.lemmas.Slice.{drop-append-drop}
 use Rattle.nv_host.specs.Bytes.{bytes_at, with_bytes}
@@ -76,9 +76,7 @@ written_behind bytes base at first second is inside =
 -- writing no slots changes nothing
 pub zeroed_none : (bytes : List ℕ) (base : ℕ) → bytes ≡ with_bytes bytes base (replicate (16 * 0) 0)
 unfolding with_bytes
-zeroed_none bytes base =
-    let same : base ≡ base + 0 = omega arith in
-    sym (take-append-drop base bytes) ∙ ap (λ k. take base bytes ++ drop k bytes) same
+zeroed_none bytes base = grind (arith, common_steps)
 
 -- after n slots were zeroed, zeroing the next one gives n + 1 zeroed slots
 pub zeroed_more : (old mid new : List ℕ) (base n d at : ℕ) → base + 16 * d ≤ length old → n < d
