@@ -3,7 +3,7 @@ a file, each changed byte, and deep or large files. tests/rows/file_*.txt has si
 
 import unittest
 
-from tests.support import table
+from tests.support import large_file, table
 from tests.test_rows import answers_to, edited
 
 DEMO = edited('demo.toml')
@@ -38,16 +38,12 @@ def beginnings():
 
 def largest():
     """Returns a file with as many tables of each kind as there can be."""
-    file = 'version = 1\nnn = 1024\ntnvmcap = 524288\nsubnqn = "n"\n' + 16 * '\n[[format]]\nlbads = 9\n'
-    for place in range(16):
-        file += f'\n[[controller]]\ncntlid = {place}\nsn = "S{place}"\nmn = "Model"\nfr = "1"\nelpe = 255\nvwc = 7\n'
-        for fid in 1, 2, 5, 6, 8, 10, 11:
-            file += f'[[controller.feature]]\nfid = {fid}\nsaveable = {"false" if fid == 5 else "true"}\n'
-        file += '[controller.smart]\nsensors = [1, 2, 3, 4, 5, 6, 7, 8]\n'
-    for nsid in range(1, 1025):
-        file += f'\n[[namespace]]\nnsid = {nsid}\nbytes = 512\nformat = 15\nshared = true\n'
-        file += f'controllers = [{", ".join(map(str, range(16)))}]\n'
-    return file
+    features = ''.join(f'[[controller.feature]]\nfid = {fid}\nsaveable = {"false" if fid == 5 else "true"}\n'
+                       for fid in (1, 2, 5, 6, 8, 10, 11))
+    more = f'elpe = 255\nvwc = 7\n{features}[controller.smart]\nsensors = [1, 2, 3, 4, 5, 6, 7, 8]\n'
+    file = large_file(range(16), range(16)).replace('fr = "1"\n', f'fr = "1"\n{more}')
+    of_format = '[[format]]\nlbads = 9\n'
+    return file.replace(of_format, 16 * of_format).replace('format = 0', 'format = 15')
 
 
 class SubsystemFiles(unittest.TestCase):
