@@ -68,39 +68,35 @@ def value_of(key, size, values):
     return digits
 
 
-def pieces_of(layout):
-    """Yields the layout of each value of a record, and of reserved bytes."""
+def fields(kind):
+    """Yields the key, the layout and the place of each value of a record."""
+    layout, keys = LAYOUTS[kind]
+    place, names = 0, iter(keys.split())
     for part in re.findall(r'\d*[a-zA-Z]', layout):
-        yield from [part] if part[-1] in 'sx' else part[-1] * int(part[:-1] or 1)
+        for piece in [part] if part[-1] in 'sx' else part[-1] * int(part[:-1] or 1):
+            if 'x' not in piece:
+                yield next(names), piece, place
+            place += struct.calcsize(f'<{piece}')
 
 
 def places(kind):
     """Returns the place and the size of each value of a record, by its key."""
-    layout, keys = LAYOUTS[kind]
-    found, place, names = {}, 0, iter(keys.split())
-    for piece in pieces_of(layout):
-        size = struct.calcsize(f'<{piece}')
-        if 'x' not in piece:
-            found[next(names)] = place, size
-        place += size
-    return found
+    return {key: (place, struct.calcsize(f'<{piece}')) for key, piece, place in fields(kind)}
 
 
-def encoded(kind, fields):
+def encoded(kind, written):
     """Returns the bytes of a record, in hexadecimal digits, or the number of a status. Its fields are given as in
     `opcode=6 cid=1`, and those that aren't are 0."""
-    values = dict(field.split('=') for field in fields.split())
+    values = dict(field.split('=') for field in written.split())
     if kind == 'status':
-        written = f'{joined(kind, values):#x}'
+        found = f'{joined(kind, values):#x}'
     elif kind in LISTS:
-        written = list_of(kind, values).hex()
+        found = list_of(kind, values).hex()
     else:
-        layout, keys = LAYOUTS[kind]
-        sizes = [piece for piece in pieces_of(layout) if 'x' not in piece]
-        written = struct.pack(layout, *(value_of(key, size, values) for key, size in zip(keys.split(), sizes))).hex()
+        found = struct.pack(LAYOUTS[kind][0], *(value_of(key, piece, values) for key, piece, _ in fields(kind))).hex()
     if values:
         raise ValueError(f'{kind} has no {list(values)}')
-    return written
+    return found
 
 
 def fields_in(key, value):
@@ -125,5 +121,5 @@ def decoded(kind, written):
         given = numbers[1:numbers[0] + 1] if kind == 'ctrl_list' else [number for number in numbers if number]
         return f'{key}={",".join(map(hex, given))}' if given else ''
     layout, keys = LAYOUTS[kind]
-    return ' '.join(field for key, value in zip(keys.split(), struct.unpack(layout, data))
-                    for field in fields_in(key, value))
+    values = zip(keys.split(), struct.unpack(layout, data))
+    return ' '.join(field for key, value in values for field in fields_in(key, value))

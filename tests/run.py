@@ -75,11 +75,8 @@ class Part:
     """A module that runs as a process. If it is killed, its files and the processes that it started are found through
     this object."""
 
-    is_late = False
-
     def __init__(self, name):
-        self.name = name
-        self.begun_at = time.monotonic()
+        self.name, self.is_late, self.begun_at = name, False, time.monotonic()
         self.written = tempfile.TemporaryFile()
         self.process = subprocess.Popen(
             [sys.executable, '-m', 'tests.run', '--one', name], cwd=TOP, env=environment({'TMPDIR': process_folder()}),
@@ -140,12 +137,12 @@ def run_all(names, times, most, limit=60 * MINUTES):
             while waiting and len(running) < most:
                 running.append(Part(waiting.pop(0)))
             time.sleep(0.1)
-            for part in running:
+            for part in [*running]:
                 part.ends_in_time(limit)
-            for part in [part for part in running if part.process.poll() is not None]:
-                running.remove(part)
-                sums = [sum(pair) for pair in zip(sums, part.counts())]
-                seconds[part.name] = part.seconds
+                if part.process.poll() is not None:
+                    running.remove(part)
+                    sums = [sum(pair) for pair in zip(sums, part.counts())]
+                    seconds[part.name] = part.seconds
         times.parent.mkdir(exist_ok=True)
         times.write_text(json.dumps(seconds))
     finally:

@@ -166,8 +166,8 @@ def shell_line(command, source=b'', out=None, err=None, env=(), cwd=TOP):
     if not isinstance(source, bytes):
         line += f' < {source}'
     elif source:
-        is_plain = [32 <= byte < 127 and byte not in b"%'\\" for byte in source[:2000]]
-        text = ''.join(chr(byte) if plain else f'\\{byte:03o}' for byte, plain in zip(source, is_plain))
+        text = ''.join(chr(byte) if 32 <= byte < 127 and byte not in b"%'\\" else f'\\{byte:03o}'
+                       for byte in source[:2000])
         line = f"printf '{text}' | {line}"
     return f'cd {shlex.quote(str(cwd))} && {line}' + (f' > {out}' if out else '') + (f' 2> {err}' if err else '')
 
@@ -256,7 +256,8 @@ class Running:
             self.hears, its_output = os.pipe()
         self.process = subprocess.Popen(
             command, stdin=its_input, stdout=its_output, stderr=its_output, cwd=cwd, env=environment(env),
-            start_new_session=terminal, preexec_fn=own_terminal if terminal else None)
+            # (the terminal becomes the controlling one, whose keys send signals)
+            start_new_session=terminal, preexec_fn=(lambda: fcntl.ioctl(0, termios.TIOCSCTTY, 0)) if terminal else None)
         for number in {its_input, its_output}:
             os.close(number)
 
@@ -311,11 +312,6 @@ class Running:
         return Ended(self.line, status, self.heard)
 
 
-def own_terminal():
-    """Makes the terminal at the input the controlling terminal, whose keys send signals."""
-    fcntl.ioctl(0, termios.TIOCSCTTY, 0)
-
-
 def difference(name, wanted, got):
     """Describes the first line in which an output differs from the wanted one. Returns nothing if no line differs."""
     lines = itertools.zip_longest(wanted.splitlines(True), got.splitlines(True))
@@ -350,9 +346,8 @@ class Case(unittest.TestCase):
     def transcribe(self, transcript):
         """Runs a transcript in a plain shell, in the test's folder."""
         with self.subTest(transcript.place):
-            if transcript.headings['root'] and not IS_ROOT:
-                self.skipTest('root alone can run this')
-            env = {'place': self.folder, 'top': TOP, **self.env}
+            transcript.skip_where_it_cannot_run(self)
+            env = {'place': self.folder, 'top': TOP, 'other': ' '.join(USERS[-1]), **self.env}
             transcript.agrees(self, run('sh', '-c', transcript.beginning + transcript.script, cwd=self.folder, env=env))
 
     def file(self, name, data):

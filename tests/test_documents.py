@@ -9,7 +9,6 @@ checked."""
 import re
 import runpy
 import shutil
-import subprocess
 import textwrap
 import unittest
 from xml.etree import ElementTree
@@ -18,9 +17,6 @@ from tests.pages import PAGES, Page
 from tests.support import IS_UNPROVED, TOP, Case, program, run
 
 ALL = [Page(str(path.relative_to(TOP))) for pattern in PAGES for path in sorted(TOP.glob(pattern))]
-MANUAL = sorted(TOP.glob('docs/*.[13]'))
-# "crate" is Rust's word, "to and fro" is English, and Nd and Fo are macros of manual pages.
-NO_MISTAKES = 'crate,fro,nd,fo'
 
 
 def text_of(name):
@@ -54,7 +50,7 @@ def stands(block, text):
     return block != [] and any(textwrap.dedent('\n'.join(span)).splitlines() == block for span in spans)
 
 
-class Pages(Case):
+class Pages(Case, transcripts='pages'):
     def test_links(self):
         self.assertGreater(len(of_kind('links')), 100)
         self.assertEqual([link for page in ALL for link in page.broken_links()], [])
@@ -71,17 +67,13 @@ class Pages(Case):
         self.assertEqual([link for page in installed for link in page.broken_links()], [])
 
     def test_files(self):
-        for _, place, path in of_kind('files'):
-            # files that a build makes exist only after a build
-            if not re.match(r'crates/[^/]*/out(/|$)', path):
-                with self.subTest(place):
-                    self.assertTrue(any(TOP.glob(path)), f'{place}: there is no {path}')
+        # files that a build makes exist only after a build
+        self.assertEqual([f'{place}: {path}' for _, place, path in of_kind('files')
+                          if not re.match(r'crates/[^/]*/out(/|$)', path) and not any(TOP.glob(path))], [])
 
     def test_words_of_clauses(self):
         known = words_of_sources()
-        for _, place, word in of_kind('words'):
-            with self.subTest(place):
-                self.assertTrue(word in known, f'{place}: {word} is in no source of the crates')
+        self.assertEqual([f'{place}: {word}' for _, place, word in of_kind('words') if word not in known], [])
 
     def test_blocks(self):
         for page, place, block, name in of_kind('blocks'):
@@ -92,13 +84,6 @@ class Pages(Case):
     def test_lines_are_not_wide(self):
         self.assertEqual([place for _, place, _ in of_kind('wide')], [])
 
-    @unittest.skipIf(shutil.which('codespell') is None, 'codespell is not installed')
-    def test_spelling(self):
-        paths = [TOP / page.name for page in ALL] + MANUAL
-        said = subprocess.run(['codespell', '--ignore-words-list', NO_MISTAKES, *paths], cwd=TOP,
-                              capture_output=True, text=True)
-        self.assertEqual((said.stdout, said.returncode), ('', 0), said.stderr)
-
     def test_no_folder_of_a_machine(self):
         # a page names only folders that every machine has
         for page in ALL:
@@ -108,19 +93,13 @@ class Pages(Case):
                 self.assertNotRegex(page.text, r'\b[Pp]apers?\b')
 
 
-class Examples(Case):
+class Examples(Case, transcripts='examples_of_pages'):
     """Checks that the program writes what pages show."""
 
     def setUp(self):
         super().setUp()
         if IS_UNPROVED:
             self.skipTest('the examples of the pages are run by the proved program')
-
-    def test_session_of_benches(self):
-        session = re.search(r'(?m)(?:^    .*\n)+', text_of('docs/dev/BENCHES.md')).group()
-        lines = textwrap.dedent(session).splitlines(keepends=True)
-        ended = run(program('nvme_bench'), source=''.join(line[2:] for line in lines if line[:2] == '> ').encode())
-        self.ends(ended, 0, ''.join(line for line in lines if line[:2] != '> ').encode(), b'')
 
     def test_first_script_of_readme(self):
         """README has each line of an example beside what it prints."""
@@ -143,44 +122,11 @@ class Examples(Case):
                     ended = run(program('nvme_script'), *arguments, source=script.encode(), err='&1')
                     self.assertEqual(ended.out.decode(), re.sub(r'(?m)^> .*\n', '', block), ended)
 
-    def test_check_of_guide(self):
-        """The check sees that every line succeeded, and that there was no subsystem file."""
-        section = text_of('docs/GUIDE.md').partition('\n## Check the result')[2].partition('\n## ')[0]
-        check, query = (textwrap.dedent(block) for block in re.findall(r'(?m)(?:^    .*\n)+', section))
-        for name in 'nvme-script', 'examples':
-            (self.folder / name).symlink_to(TOP / name)
-        self.ends(run('sh', '-c', check, cwd=self.folder), 0, b'every line succeeded\n', b'')
-        self.ends(run('sh', '-c', check.replace('guide.toml', 'missing.toml'), cwd=self.folder), 0,
-                  b"nvme-script: subsystem: unreadable\nnvme-script: there is no file 'examples/missing.toml'\n", b'')
-        if shutil.which('jq'):
-            self.ends(run('sh', '-c', query, cwd=self.folder), 0, b'"0"\n', b'')
-
-    def test_numbers_of_speed(self):
-        """SPEED's command for time measures a line, here a comment."""
-        command, = re.findall(r'(?m)^    (tools/speed --time) ', text_of('docs/SPEED.md'))
-        ended = run('sh', '-c', f'{command} --rounds 1 comment')
-        self.ends(ended, 0, err=b'')
-        self.assertRegex(ended.out, rb'\A\| Line \| Microseconds \|\n\| --- \| --- \|\n'
-                         rb'\| a comment of 48 bytes \| \d+\.\d\d \|\n\Z')
-
-    def test_faults_of_subsystem_files(self):
-        """Each row of the table shows the fault of the built-in file with one text in place of another."""
-        rows = re.findall(r'^\| `(.+?)` \| `(.+?)` \| (?:`(.+?)`)? ?\| .*\|$', text_of('docs/SUBSYSTEM-FILE.md'), re.M)
-        self.assertEqual(len(rows), 9)
-        demo = text_of('examples/demo.toml')
-        for fault, old, new in rows:
-            with self.subTest(fault):
-                self.assertEqual(demo.count(old), 1)
-                path = self.file('subsystem.toml', demo.replace(old, new).encode())
-                ended = run(program('nvme_script'), '--subsystem', path)
-                self.ends(ended, 3, b'', f'nvme-script: subsystem: {fault}\n'.encode())
-
 
 class Copies(Case):
     def test_pictures(self):
         """The pictures show what is in the sources, and are what the program makes, which sees what isn't."""
-        said = run(TOP / 'tools/pictures', '--check')
-        self.ends(said, 0, b'', b'')
+        self.ends(run(TOP / 'tools/pictures', '--check'), 0, b'', b'')
         for path in TOP.glob('docs/**/*.svg'):
             ElementTree.parse(path)
         pictures = runpy.run_path(str(TOP / 'tools/pictures'))
@@ -258,35 +204,16 @@ class Copies(Case):
                 self.assertIn(piece.strip(), sources, message)
 
     def test_counts_of_definitions(self):
-        table = subprocess.run([TOP / 'tools/believed', '--page'], capture_output=True, check=True, text=True).stdout
-        is_there = f'\n{table}\n' in text_of('docs/dev/PROOFS.md')
-        self.assertTrue(is_there, f'docs/dev/PROOFS.md: tools/believed --page prints\n{table}')
-
-    def test_definitions_of_a_call(self):
-        """PROOFS's command prints as many definitions of a call as its table counts."""
+        """PROOFS has the table of the tool, and its command prints as many definitions of a call as a table counts."""
         page = text_of('docs/dev/PROOFS.md')
+        table = run(TOP / 'tools/believed', '--page').out.decode()
+        self.assertTrue(table and f'\n{table}\n' in page, f'tools/believed --page prints\n{table}')
         command, crate, call = re.search(r'(?m)^    (tools/believed (\w+) (\w+))$', page).groups()
         count = re.search(rf'(?m)^\| `{call}` \| `{crate}` \| (\d+) \|', page)[1]
         ended = run('sh', '-c', command)
         self.ends(ended, 0, err=b'')
         said = rf'\A==== [\s\S]*\n==== {count} definitions, over \d+ names of the libraries\n\Z'
         self.assertRegex(ended.out.decode(), said)
-
-    def test_definitions_of_generic_types(self):
-        for crate, name, definition in (('nv_trace', 'Traced', 'SaysAll'), ('nv_trace', 'Traced', 'TaggedTurn'),
-                                        ('nv_trace', 'Marked', 'IsMarked'), ('nv_stream', 'OverRead', 'Gives')):
-            with self.subTest(name, definition=definition):
-                ended = run(TOP / 'tools/believed', crate, name)
-                self.ends(ended, 0, err=b'')
-                self.assertIn(f'\nabbrev pub {definition} : '.encode(), ended.out)
-
-    def test_no_public_contract_reaches_inner_definitions(self):
-        said = subprocess.run([TOP / 'tools/believed', '--inner'], capture_output=True, check=True, text=True).stdout
-        self.assertEqual(said, '')
-
-    def test_each_edit_shows_something(self):
-        said = subprocess.run([TOP / 'tools/edits'], capture_output=True, text=True)
-        self.assertEqual((said.stderr, said.returncode), ('', 0))
 
     def test_demonstration_file(self):
         source_file, = TOP.glob('crates/*/src/demo.rt')

@@ -2,10 +2,9 @@
 installs it only in CI. A stand-in for apt-get stores what it was told."""
 
 import contextlib
-import importlib.machinery
-import importlib.util
 import io
 import re
+import runpy
 import subprocess
 import sys
 
@@ -40,29 +39,10 @@ class Runner(Case):
         self.assertEqual(ended.status, int(int(found[2]) > 0), ended)
 
 
-class Tools(Case):
-    def test_arguments(self):
-        # (without a look at their arguments, these would build, or try all edits and tests)
-        build = rb'usage: tools/build \[PROGRAM\], .* nvme_script nvme_trace$'
-        for words, status, text in (('tools/build bogus', 72, build), ('tools/build --help', 72, build),
-                                    ('tools/build nvme_trace nvme_bench', 72, build),
-                                    ('tools/library --help', 72, b'tools/library takes no arguments'),
-                                    ('tools/mutants --help', 0, rb'usage: mutants \[-h\] \[WORD '),
-                                    ('tools/speed_of_drives --help', 0, rb'usage: speed_of_drives \[-h\] '),
-                                    ('tools/coverage --help', 0, rb'usage: coverage \[-h\] \[MODULE '),
-                                    ('tools/mutants --bogus', 2, b'unrecognized arguments: --bogus')):
-            with self.subTest(words):
-                ended = run(*words.split(), err='&1')
-                self.ends(ended, status)
-                self.assertRegex(ended.out, text)
-
-
 class Mutants(Case):
     def test_each_edit_can_be_made(self):
-        loader = importlib.machinery.SourceFileLoader('mutants', str(TOP / 'tools/mutants'))
-        mutants = importlib.util.module_from_spec(importlib.util.spec_from_loader('mutants', loader))
-        loader.exec_module(mutants)
-        edits = [*mutants.edits()]
+        mutants = runpy.run_path(str(TOP / 'tools/mutants'))
+        edits = [*mutants['edits']()]
         self.assertGreater(len(edits), 100)
         for edit in edits:
-            self.assertEqual(mutants.why_not(edit, TOP / edit.file), '', edit)
+            self.assertEqual(mutants['why_not'](edit, TOP / edit.file), '', edit)

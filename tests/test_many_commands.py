@@ -1,8 +1,5 @@
 """Sends hundreds of commands through `nvme_bench`: the error log after 300 refusals, identifiers after 65,536 commands,
-and as many namespaces as there may be. tests/rows has single commands.
-
-    python3 -m unittest tests.test_many_commands
-"""
+and as many namespaces as there may be. tests/rows has single commands."""
 
 import unittest
 
@@ -11,6 +8,7 @@ from tests.test_rows import answers_to, edited
 
 REFUSALS = 300
 REFUSED = 'status=0x600b dword0=0x0 bytes='
+ACCEPTED = 'status=0x0 dword0={:#x} bytes='
 
 
 def subsystem(*edits):
@@ -22,14 +20,6 @@ def get_log(lid, offset, length):
     """Returns the operation that reads a part of a log of the first controller."""
     numd = length // 4 - 1
     return f'passthrough 0 0x02 cdw10={(numd & 0xffff) << 16 | lid} cdw11={numd >> 16} cdw12={offset} room={length}'
-
-
-def data_of(answer):
-    """Returns the data of an accepted command."""
-    beginning = 'status=0x0 dword0=0x0 bytes='
-    if not answer.startswith(beginning):
-        raise AssertionError(answer[:200])
-    return bytes.fromhex(answer[len(beginning):])
 
 
 def booked(number):
@@ -53,34 +43,30 @@ class ManyCommands(unittest.TestCase):
         "Error Information (Log Identifier 01h)"."""
         for elpe in 0, 3, 255:
             with self.subTest(elpe=elpe):
-                log = ''.join(booked(REFUSALS - index) for index in range(elpe + 1))
-                end = len(log) // 2
+                entries = [booked(REFUSALS - index) for index in range(elpe + 1)]
+                rows = [(f'log_entry 0 {index}', f'bytes={entry}') for index, entry in enumerate(entries)]
+                rows += [(f'log_entry 0 {elpe + 1}', 'refused: no such entry')]
                 # there are zeros past the log's end, and a log page begins no later than its end
-                whole = bytes.fromhex(log) + bytes(200)
-                around = {place for step in range(0, 140, 4) for place in (step, end - 136 + step)}
-                places = sorted(place for place in around if 0 <= place <= end)
-                entries = [f'log_entry 0 {index}' for index in range(elpe + 2)]
-                answers = self.refused(elpe, entries + [get_log(1, place, 68) for place in places])
-                told = [f'bytes={booked(REFUSALS - index)}' for index in range(elpe + 1)] + ['refused: no such entry']
-                self.assertEqual(answers[:len(entries)], told)
-                for place, answer in zip(places, answers[len(entries):]):
-                    self.assertEqual(data_of(answer), whole[place:place + 68], place)
+                whole, end = ''.join(entries) + 400 * '0', 64 * len(entries)
+                for place in sorted({place for step in range(0, 140, 4) for place in (step, end - 136 + step)}):
+                    if 0 <= place <= end:
+                        rows.append((get_log(1, place, 68), ACCEPTED.format(0) + whole[2 * place:2 * place + 136]))
+                self.assertEqual(self.refused(elpe, [asked for asked, _ in rows]), [wanted for _, wanted in rows])
 
     def test_errors_in_the_health(self):
         """The health log counts all errors. Section "SMART / Health Information (Log Identifier 02h)", Number of Error
         Information Log Entries."""
-        health = data_of(self.refused(3, [get_log(2, 0, 512)])[0])
-        self.assertEqual(health, bytes(176) + REFUSALS.to_bytes(16, 'little') + bytes(320))
+        health = bytes(176) + REFUSALS.to_bytes(16, 'little') + bytes(320)
+        self.assertEqual(self.refused(3, [get_log(2, 0, 512)]), [ACCEPTED.format(0) + health.hex()])
 
     def test_counts_beyond_the_command_identifiers(self):
         """Identifiers go from 0 to FFFEh and then begin anew, so the 65,537th command has 1. The counts continue.
         Section "Submission Queue Entry - Command Format": no command has FFFFh."""
         accepted = 65536 * ['passthrough 0 0x0a cdw10=6']
         told = ['passthrough 0 0x06', 'counts 0', 'log_entry 0 0']
-        answers = answers_to(['subsystem', 'bring_up'] + accepted + told)
-        self.assertEqual(answers[2:-3], 65536 * ['status=0x0 dword0=0x1 bytes='])
         entry = encoded('error_entry', 'count=1 cid=1 status=0x600b phase=1 location=0xffff')
-        self.assertEqual(answers[-3:], [REFUSED, 'refusals=0x1 commands=0x10001', f'bytes={entry}'])
+        self.assertEqual(answers_to(['subsystem', 'bring_up'] + accepted + told)[2:], 65536 * [ACCEPTED.format(1)] + [
+            REFUSED, 'refusals=0x1 commands=0x10001', f'bytes={entry}'])
 
     def test_namespaces(self):
         """Each of 1,024 NSIDs is assigned, the least free one first. Section "Namespace Management command"."""
@@ -88,6 +74,5 @@ class ManyCommands(unittest.TestCase):
         full = 'status=0x6116 dword0=0x0 bytes='
         answers = answers_to([subsystem('nn = 4', 'nn = 1024'), 'bring_up'] + 1023 * [create]
                              + ['passthrough 0 0x0d nsid=500 cdw10=1', create, create])
-        given = [2] + list(range(4, 1025))
-        self.assertEqual(answers[2:-4], [f'status=0x0 dword0={nsid:#x} bytes=' for nsid in given])
-        self.assertEqual(answers[-4:], [full, 'status=0x0 dword0=0x0 bytes=', 'status=0x0 dword0=0x1f4 bytes=', full])
+        given = [ACCEPTED.format(nsid) for nsid in (2, *range(4, 1025))]
+        self.assertEqual(answers[2:], given + [full, ACCEPTED.format(0), ACCEPTED.format(500), full])

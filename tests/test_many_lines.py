@@ -7,6 +7,9 @@ from tests.support import DEMO, Case, large_file, program, run
 
 SCRIPT = program('nvme_script')
 REFUSAL = 'NVMe status: Invalid Namespace or Format (0x600b)'
+# The composite temperature and eight sensors, first the over and then the under temperature thresholds.
+SELECTORS = [*range(9), *range(16, 25)]
+OVER, UNDER = [*range(300, 309)], [*range(216, 225)]
 
 
 def error_text(index, count, cid, nsid=0):
@@ -25,21 +28,13 @@ class Scripts(Case):
         self.ends(ended, status, output.encode(), messages.encode())
 
 
-def is_under(selector):
-    return selector >= 16
-
-
 def usual(selector):
     """Returns the value of a threshold that the file doesn't give. Section "Temperature Threshold (Feature Identifier
     04h)"."""
-    return 0 if is_under(selector) else 0xffff if selector else 343
+    return 0 if selector >= 16 else 0xffff if selector else 343
 
 
 class Thresholds(Scripts):
-    # the composite temperature and eight sensors, first the over and then the under temperature thresholds
-    selectors = [*range(9), *range(16, 25)]
-    over, under = [*range(300, 309)], [*range(216, 225)]
-
     def setUp(self):
         super().setUp()
         self.script = self.output = ''
@@ -50,11 +45,12 @@ class Thresholds(Scripts):
         self.script += f'set-feature /dev/nvme0 -f 4 -v {value}{" -s" * save}\n'
         self.output += f'set-feature:0x4 (Temperature Threshold), value:{value:#x}, save:{save}\n'
 
-    def get(self, kind, selector, threshold):
-        """Adds a line that asks for a threshold of a kind."""
-        sel = ['Current', 'Default', 'Saved'].index(kind)
-        self.script += f'get-feature /dev/nvme0 -f 4 -s {sel} -c {selector << 16}\n'
-        self.output += f'get-feature:0x4 (Temperature Threshold), {kind} value:{threshold:#x}\n'
+    def get(self, selector, **thresholds):
+        """Adds lines that ask for the thresholds of these kinds."""
+        for kind, threshold in thresholds.items():
+            sel = ['Current', 'Default', 'Saved'].index(kind)
+            self.script += f'get-feature /dev/nvme0 -f 4 -s {sel} -c {selector << 16}\n'
+            self.output += f'get-feature:0x4 (Temperature Threshold), {kind} value:{threshold:#x}\n'
 
     def check(self, keys='saveable = true\n', controller=''):
         """Checks what the lines so far write, if the first controller's thresholds have these keys."""
@@ -64,54 +60,46 @@ class Thresholds(Scripts):
         self.script = self.output = ''
 
     def test_each_is_set_and_saved_alone(self):
-        for chosen in self.selectors:
+        for chosen in SELECTORS:
             self.set(chosen, 0x1234, save=1)
             self.set(chosen, 0xfedc)
-            for selector in self.selectors:
-                is_chosen = selector == chosen
-                self.get('Current', selector, 0xfedc if is_chosen else usual(selector))
-                self.get('Saved', selector, 0x1234 if is_chosen else usual(selector))
-                self.get('Default', selector, usual(selector))
+            for selector in SELECTORS:
+                current, saved = (0xfedc, 0x1234) if selector == chosen else 2 * (usual(selector),)
+                self.get(selector, Current=current, Saved=saved, Default=usual(selector))
             self.check()
 
     def test_all_of_a_kind_are_set_at_once(self):
-        for every in 15, 31:
-            for saved in False, True:
-                if saved:
-                    self.set(every, 0x30, save=1)
-                self.set(every, 0x20)
-                for selector in self.selectors:
-                    is_set = is_under(selector) == is_under(every)
-                    self.get('Current', selector, 0x20 if is_set else usual(selector))
-                    self.get('Saved', selector, 0x30 if is_set and saved else usual(selector))
-                    self.get('Default', selector, usual(selector))
-                self.check()
+        for every, is_saved in (15, False), (15, True), (31, False), (31, True):
+            if is_saved:
+                self.set(every, 0x30, save=1)
+            self.set(every, 0x20)
+            for selector in SELECTORS:
+                is_set = (selector >= 16) == (every >= 16)
+                self.get(selector, Current=0x20 if is_set else usual(selector),
+                         Saved=0x30 if is_set and is_saved else usual(selector), Default=usual(selector))
+            self.check()
 
     def test_each_keeps_its_saved_value(self):
-        for selector in self.selectors:
-            self.set(selector, selector + 256, save=1)
-        for selector in self.selectors:
-            self.set(selector, selector + 512)
-        for selector in self.selectors:
-            self.get('Current', selector, selector + 512)
-            self.get('Saved', selector, selector + 256)
-            self.get('Default', selector, usual(selector))
+        for more, save in (256, 1), (512, 0):
+            for selector in SELECTORS:
+                self.set(selector, selector + more, save)
+        for selector in SELECTORS:
+            self.get(selector, Current=selector + 512, Saved=selector + 256, Default=usual(selector))
         self.check()
 
     def test_the_lists_of_the_file_are_the_defaults(self):
-        for over, under in (self.over, self.under), (self.over, []), ([], self.under), ([], []):
+        for over, under in (OVER, UNDER), (OVER, []), ([], UNDER), ([], []):
             given = dict(zip(range(9), over)) | dict(zip(range(16, 25), under))
-            for kind in 'Default', 'Current', 'Saved':
-                for selector in self.selectors:
-                    self.get(kind, selector, given.get(selector, usual(selector)))
+            for selector in SELECTORS:
+                default = given.get(selector, usual(selector))
+                self.get(selector, Default=default, Current=default, Saved=default)
             self.check(f'over = {over}\n' * bool(over) + f'under = {under}\n' * bool(under))
 
     def test_the_first_default_is_the_controllers_warning(self):
-        for keys, first, second in (('', 300, 0xffff), (f'under = {self.under}\n', 300, 0xffff),
+        for keys, first, second in (('', 300, 0xffff), (f'under = {UNDER}\n', 300, 0xffff),
                                     (f'over = {[*range(1, 10)]}\n', 1, 2)):
-            self.get('Current', 0, first)
-            self.get('Default', 0, first)
-            self.get('Current', 1, second)
+            self.get(0, Current=first, Default=first)
+            self.get(1, Current=second)
             self.check(keys, 'wctemp = 300\n')
 
 
@@ -127,11 +115,16 @@ class Refusals(Scripts):
             self.leaves(script, output, messages + f'line 303: {REFUSAL}\n', options=f'--depth {depth}')
 
 
-def listed(place, serial, nsid, blocks):
-    """Returns a line of `list`, which has 120 bytes, and its JSON object, for a namespace with blocks of 512 bytes."""
-    node, size = f'/dev/nvme{place}n{nsid}', blocks * 512
-    line = f'{node:<18} {serial:<20} {"M":<40} {nsid:>10} {size:>20} {512:>6}\n'
-    return line, {'block_size': 512, 'bytes': size, 'model': 'M', 'namespace': nsid, 'node': node, 'serial': serial}
+def listed(rows):
+    """Returns what `list` prints, with a line of 120 bytes for each namespace, and its JSON. A row has the number of
+    the controller, the NSID, and the number of blocks, of 512 bytes."""
+    lines, devices = '', []
+    for place, nsid, blocks in rows:
+        node, serial, size = f'/dev/nvme{place}n{nsid}', f'S{place}', blocks * 512
+        lines += f'{node:<18} {serial:<20} {"M":<40} {nsid:>10} {size:>20} {512:>6}\n'
+        devices.append({'block_size': 512, 'bytes': size, 'model': 'M', 'namespace': nsid, 'node': node,
+                        'serial': serial})
+    return lines, json.dumps({'devices': devices}, separators=(',', ':')) + '\n'
 
 
 class Lists(Scripts):
@@ -145,29 +138,30 @@ class Lists(Scripts):
     def test_the_same_whatever_the_geometry_is(self):
         """`list` sends two commands and forty to each controller, twice. Their number is the next command's
         identifier."""
-        lines, objects = zip(*[listed(place, f'S{place}', nsid, nsid) for place in (0, 1) for nsid in range(1, 41)])
-        text = ''.join(lines)
+        text, of_json = listed((place, nsid, nsid) for place in (0, 1) for nsid in range(1, 41))
         self.assertEqual(len(text), 9600)
-        script, messages = 'list\nlist -o json\n', ''
-        output = text + json.dumps({'devices': objects}, separators=(',', ':')) + '\n'
-        for place in 0, 1:
-            script += f'id-ns /dev/nvme{place} -n 0\nerror-log /dev/nvme{place}\n'
-            output += error_text(0, 1, 84)
-            messages += f'line {3 + 2 * place}: {REFUSAL}\n'
+        script = 'list\nlist -o json\n' + ''.join(
+            f'id-ns /dev/nvme{place} -n 0\nerror-log /dev/nvme{place}\n' for place in (0, 1))
+        output = text + of_json + 2 * error_text(0, 1, 84)
         geometries = [f'--depth {depth} --window {window} --pace {pace}'
                       for depth, window in ((2, 1), (17, 16), (4, 3), (4096, 16)) for pace in (1, 5)]
         geometries += ['--depth 17 --window 16 --pace 16 --page-size 65536 --offset 65532 --list-offset 65528']
         for options in geometries:
             for version in 1, 2:
                 file = self.shared.replace('version = 1', f'version = {version}')
-                self.leaves(script, output, messages, file=file, options=options)
+                self.leaves(script, output, f'line 3: {REFUSAL}\nline 5: {REFUSAL}\n', file=file, options=options)
+
+    def test_1024_namespaces_of_each_of_sixteen_controllers(self):
+        _, output = listed((place, nsid, 1) for place in range(16) for nsid in range(1, 1025))
+        for options in '', '--depth 17 --window 16 --pace 16':
+            self.leaves('list -o json', output, file=large_file(range(1, 17), range(1, 17)), options=options)
 
     def test_1024_namespaces_of_the_last_of_sixteen_controllers(self):
         """The identifiers of the controllers go down from 100, and the last controller has all namespaces."""
         file = large_file(range(100, 84, -1), [85])
         self.leaves('list-ns /dev/nvme15 -n 1022\nlist-ns /dev/nvme0\nlist-ns /dev/nvme16\n',
                     '[   0]:0x3fe\n[   1]:0x3ff\n[   2]:0x400\n', 'line 3: no such device\n', 1, file)
-        lines = [listed(15, 'S15', nsid, 1)[0] for nsid in range(1, 1025)]
-        self.assertEqual(lines[-1], '/dev/nvme15n1024   S15                  M                                       '
-                                    '       1024                  512    512\n')
-        self.leaves('list', ''.join(lines), file=file, options='--window 16 --pace 4096')
+        output, _ = listed((15, nsid, 1) for nsid in range(1, 1025))
+        last = f'/dev/nvme15n1024   S15                  M{46 * " "}1024                  512    512\n'
+        self.assertEqual(output[-120:], last)
+        self.leaves('list', output, file=file, options='--window 16 --pace 4096')

@@ -31,9 +31,7 @@ class Order(Case, transcripts='order'):
         talk.comes(b'list-ns /dev/nvme0 -n 1\n[   0]:0x1\n[   1]:0x3\n')
         self.ends(talk.end(), 0)
 
-
-class FullDevice(Case):
-    def test_told_in_the_next_line_that_prints(self):
+    def test_full_device_is_told_in_the_next_line_that_prints(self):
         # the fault ends the run before the script ends
         talk = Running('sh', '-c', 'exec "$0" > /dev/full', SCRIPT)
         talk.say(b'list-ns /dev/nvme0\n')

@@ -1,10 +1,9 @@
-"""Runs nvme-script on arguments, files and standard streams that a script can't give it, and on each script of
-examples/ and of tests/scripts.
+"""Runs nvme-script on arguments and files that a script can't give it, and on each script of examples/ and of
+tests/scripts. A transcript has the streams that fail, and want of memory.
 
-With UNPROVED=1 in the environment, `rt try` runs the sources on these rows, and the rows that it can't run are skipped.
+With UNPROVED=1 in the environment, `rt try` runs the sources on these rows.
 """
 
-import json
 import pathlib
 import re
 import shlex
@@ -12,21 +11,11 @@ import tempfile
 import typing
 
 from tests.support import (
-    DEMO, IS_UNPROVED, TOP, Case, Ended, large_file, process_folder, program, run, run_unproved, shell_line,
-    table)
+    DEMO, IS_UNPROVED, TOP, Case, Ended, process_folder, program, run, run_unproved, shell_line, table)
 
 SCRIPT = 'nvme_script' if IS_UNPROVED else program('nvme_script')
 TEXT = DEMO.read_text()
 MISSING = str(process_folder() / 'missing.toml')
-# The special rows that an unproved run can't have, each with the reason.
-ONLY_BUILT = {
-    'failing input': 'rt try gives a run its own streams',
-    'failing output': 'rt try gives a run its own streams',
-    'failing messages': 'rt try gives a run its own streams',
-    'not UTF-8': 'rt try takes no such argument',
-    'long output': 'rt try holds a mebibyte of output',
-    'little memory': 'rt try makes allocations fail in all rows or in none',
-}
 unproved = {}
 
 
@@ -36,18 +25,14 @@ class Row(typing.NamedTuple):
     arguments: tuple = ()
     status: int = 0
     messages: bytes = b''
-    output: typing.Union[bytes, str, None] = None
+    output: typing.Optional[bytes] = None
     script: bytes = b'list-ns /dev/nvme0\n'
-    special: str = ''
     source: str = ''
 
-    def given(self):
-        return self.arguments, self.script, self.special
 
-
-def told(text, *arguments, **more):
+def told(text, *arguments):
     """Returns a row in which the program ends with status 3 and reports this reason."""
-    return Row(arguments, 3, b'nvme-script: %s\n' % text.encode(), **more)
+    return Row(arguments, 3, b'nvme-script: %s\n' % text.encode())
 
 
 def file(name, text):
@@ -59,22 +44,16 @@ def file(name, text):
 
 def statuses():
     list_of_demo = b'[   0]:0x1\n[   1]:0x3\n'
-    yield Row(output=list_of_demo)
-    yield Row(('--subsystem', str(DEMO)), output=list_of_demo)
-    yield Row((f'--subsystem={DEMO}',), output=list_of_demo)
+    for arguments in (), ('--subsystem', str(DEMO)), (f'--subsystem={DEMO}',):
+        yield Row(arguments, output=list_of_demo)
     yield Row((), 1, b'line 1: usage error\n', script=b'bogus\n')
     yield Row((), 2, b'line 1: NVMe status: Invalid Namespace or Format (0x600b)\n', script=b'id-ns /dev/nvme0 -n 0\n')
 
 
 def refused_arguments():
+    """Arguments, and options that aren't 32-bit numbers."""
     for words, reason in table('refused_arguments_of_script'):
         yield told(reason, *shlex.split(words))
-    yield told('arguments', b'\xff', special='not UTF-8')
-    yield told('arguments', '--subsystem', b'examples/\xff', special='not UTF-8')
-
-
-def refused_options():
-    """Options that aren't 32-bit numbers."""
     for option in 'depth', 'page-size', 'offset', 'list-offset', 'window', 'pace':
         for value in '', 'x', '-1', '08', '4294967296':
             yield told('arguments', f'--{option}={value}')
@@ -82,84 +61,48 @@ def refused_options():
     yield told('subsystem: unreadable', '--pace', '0', '--subsystem', MISSING)
 
 
-def geometry_shows_in_no_byte():
-    for options in ('', '--depth 2', '--depth=0x1000 --pace=010 --window=16', '--page-size 65536 --offset 65532',
-                    '--page-size 8192 --offset 8188 --list-offset 8184', '--offset 4092 --depth 2 --pace 4096'):
-        yield Row(tuple(options.split()), 0, b'line 2: NVMe status: Invalid Namespace or Format (0x600b)\n',
-                  'as the first', b'list-ns /dev/nvme0\nid-ns /dev/nvme0 -n 0\nid-ns /dev/nvme0n3\n')
-
-
-def largest_list():
-    """A list of 1,024 namespaces on each of sixteen controllers."""
-    text = large_file(range(1, 17), range(1, 17))
-    devices = [{'block_size': 512, 'bytes': 512, 'model': 'M', 'namespace': number,
-                'node': f'/dev/nvme{place}n{number}', 'serial': f'S{place}'}
-               for place in range(16) for number in range(1, 1025)]
-    output = json.dumps({'devices': devices}, separators=(',', ':')).encode() + b'\n'
-    for options in '', '--depth 17 --window 16 --pace 16':
-        yield Row(('--subsystem', file('largest.toml', text), *options.split()), output=output,
-                  script=b'list -o json\n', special='long output')
-
-
-def mebibyte():
-    """Returns a file of the greatest length."""
-    return (TEXT.encode() + b'# a comment\n' * 100000)[:1048576]
-
-
 def unreadable_files():
-    yield Row(('--subsystem', file('whole.toml', mebibyte())))
-    long = file('long.toml', mebibyte() + b'#')
-    for path in MISSING, '', '.', '/proc/self/mem', long:
+    """Files that can't be read, and one of the greatest length, which can."""
+    whole = TEXT + (1048576 - len(TEXT)) * '#'
+    yield Row(('--subsystem', file('whole.toml', whole)))
+    for path in MISSING, '', '.', '/proc/self/mem', file('long.toml', f'{whole}#'):
         yield told('subsystem: unreadable', '--subsystem', path)
 
 
 def faults_of_files():
-    """Files with a first fault of each kind."""
-    yield told('subsystem: not TOML', '--subsystem', file('equals.toml', '=\n'))
+    """A file that is no text, and the faults that SUBSYSTEM-FILE shows, by the built-in file with one text in place of
+    another."""
     yield told('subsystem: not TOML', '--subsystem', file('bytes.toml', b'\xff\n'))
-    for text, old, new in (
-            ('missing top.nn', 'nn = 4\n', ''),
-            ('wrong kind top.nn', 'nn = 4\n', 'nn = "4"\n'),
-            ('out of range top.nn', 'nn = 4\n', 'nn = 1025\n'),
-            ('repeated controller.cntlid', 'cntlid = 1\n', 'cntlid = 0\n'),
-            ('unknown key in top', 'version = 1\n', 'x = 1\nversion = 1\n'),
-            ('capacity', 'tnvmcap = 10485760\n', 'tnvmcap = 1053183\n'),
-            ('attachment', 'bytes = 4608\nformat = 0\ncontrollers = [0]\n',
-             'bytes = 4608\nformat = 0\ncontrollers = [0, 1]\n')):
+    page = (TOP / 'docs/SUBSYSTEM-FILE.md').read_text()
+    rows = re.findall(r'(?m)^\| `(.+?)` \| `(.+?)` \| (?:`(.+?)`)? ?\| .*\|$', page)
+    assert len(rows) == 9
+    for text, old, new in rows:
         assert TEXT.count(old) == 1, old
         yield told(f'subsystem: {text}', '--subsystem', file(f'{text}.toml', TEXT.replace(old, new)))
 
 
 def examples():
-    """The scripts of examples/. The files beside a script have what it writes, and the last line of its file .err is
-    its status."""
+    """The scripts of examples/, and one of them with other geometries. The files beside a script have what it writes,
+    and the last line of its file .err is its status."""
+    others = ['--depth 2', '--depth=0x1000 --pace=010 --window=16', '--page-size 65536 --offset 65532',
+              '--page-size 8192 --offset 8188 --list-offset 8184', '--offset 4092 --depth 2 --pace 4096']
     for script in sorted(TOP.glob('examples/*.nvme')):
         *messages, last = script.with_suffix('.err').read_bytes().splitlines(True)
         subsystem = script.with_suffix('.toml')
         arguments = ('--subsystem', str(subsystem)) if subsystem.exists() else ()
-        yield Row(arguments, int(last.split()[1]), b''.join(messages), script.with_suffix('.out').read_bytes(),
-                  script.read_bytes(), source=script.name)
+        for options in ['', *(others if script.stem == 'demo' else [])]:
+            yield Row((*arguments, *options.split()), int(last.split()[1]), b''.join(messages),
+                      script.with_suffix('.out').read_bytes(), script.read_bytes(), script.name)
 
 
 def scripts_of(path):
     """Returns the scripts of a file of tests/scripts, with their outputs, their messages and their status."""
-    script = None
-    for line in path.read_bytes().splitlines(True):
-        if line == b'\n' or line.startswith(b'#'):
-            continue
-        if script is None:
-            assert line.startswith(b'>'), f'{path}: a script begins with {line}'
-            script = {'>': b'', 'out': b'', 'err': b''}
-        if line.startswith(b'>'):
-            script['>'] += re.sub(rb'^> ?', b'', line)
-        elif re.match(rb'line [0-9]+: ', line):
-            script['err'] += line
-        elif re.fullmatch(rb'status [0-9]+\n', line):
-            yield script['>'], script['out'], script['err'], int(line.split()[1])
-            script = None
-        else:
-            script['out'] += line
-    assert script is None, f'{path}: the last script has no status'
+    *parts, rest = re.split(rb'(?m)^status ([0-9]+)\n', re.sub(rb'(?m)^(#.*)?\n', b'', path.read_bytes()))
+    assert parts and rest == b'', f'{path}: the last script has no status'
+    for text, status in zip(parts[::2], parts[1::2]):
+        assert text.startswith(b'>'), f'{path}: a script begins with {text}'
+        yield (b''.join(re.findall(rb'(?m)^> ?(.*\n)', text)), re.sub(rb'(?m)^(>|line [0-9]+: ).*\n', b'', text),
+               b''.join(re.findall(rb'(?m)^line [0-9]+: .*\n', text)), int(status))
 
 
 def geometries():
@@ -183,26 +126,12 @@ def scripts():
     for path in sorted(TOP.glob('tests/scripts/*.txt')):
         subsystem = path.with_suffix('.toml') if path.with_suffix('.toml').exists() else DEMO
         version_2 = re.sub(r'(?m)^version = 1$', 'version = 2', subsystem.read_text())
-        found = list(scripts_of(path))
-        assert found, f'{path} has no script'
-        for number, (script, output, messages, status) in enumerate(found):
+        for number, (script, output, messages, status) in enumerate(scripts_of(path)):
             options = [('--subsystem', str(subsystem), *more) for more in geometries()]
             if version_2 != subsystem.read_text():
                 options.append(('--subsystem', file(subsystem.name, version_2)))
             for words in [options[number % len(options)]] if IS_UNPROVED else options:
-                yield Row(words, status, messages, output, script, source=path.name)
-
-
-def failing_streams():
-    yield Row((), 4, b'nvme-script: read fault\n', special='failing input')
-    yield Row((), 5, b'nvme-script: write fault\n', special='failing output')
-    yield Row((), 5, b'', script=b'bogus\n', special='failing messages')
-
-
-def want_of_memory():
-    """A file of 1 MiB, which has no room in the least memory with which the program starts."""
-    whole = file('whole.toml', mebibyte())
-    yield Row(('--subsystem', whole), 6, b'nvme-script: out of memory\n', special='little memory')
+                yield Row(words, status, messages, output, script, path.name)
 
 
 def given_to_rt_try(rows):
@@ -224,27 +153,7 @@ def given_to_rt_try(rows):
         if end.startswith(b'ended status='):
             line = 'unproved: ' + shell_line([SCRIPT, *row.arguments], row.script)
             text = re.sub(rb'(?m)^allocations: .*\n', b'', text)
-            unproved[row.given()] = Ended(line, int(re.split(rb'[= ]', end)[2]), output_of[name], text)
-
-
-def with_little_memory(row):
-    """Runs a row with the least memory with which the program starts, in steps of 50 KiB."""
-    for room in range(1250, 100000, 50):
-        ended = run('sh', '-c', 'ulimit -v "$0" && exec "$@"', str(room), SCRIPT, *row.arguments, source=row.script)
-        if ended.status != 127:
-            break
-    return ended
-
-
-def outcome(row):
-    """Returns how the run of a row ended."""
-    if IS_UNPROVED:
-        return unproved[row.given()]
-    if row.special == 'little memory':
-        return with_little_memory(row)
-    return run(SCRIPT, *row.arguments, source=TOP if row.special == 'failing input' else row.script,
-               out='/dev/full' if row.special == 'failing output' else None,
-               err='/dev/full' if row.special == 'failing messages' else None)
+            unproved[row.arguments, row.script] = Ended(line, int(re.split(rb'[= ]', end)[2]), output_of[name], text)
 
 
 class Rows(Case):
@@ -252,30 +161,36 @@ class Rows(Case):
 
     tables = ()
 
+    def __init_subclass__(cls, **more):
+        super().__init_subclass__(**more)
+        for each in cls.tables:
+            setattr(cls, f'test_{each.__name__}', lambda self, table=each: self.check(table))
+
     @classmethod
     def setUpClass(cls):
         if IS_UNPROVED:
-            given_to_rt_try([row for table in cls.tables for row in table() if not row.special])
+            given_to_rt_try([row for table in cls.tables for row in table()])
 
     def check(self, table):
-        rows = list(table())
-        first = outcome(rows[0]).out if rows[0].output == 'as the first' else None
-        for row in rows:
+        for row in table():
             with self.subTest(row.source, arguments=row.arguments):
-                if IS_UNPROVED and row.special in ONLY_BUILT:
-                    self.skipTest(ONLY_BUILT[row.special])
-                self.ends(outcome(row), row.status, first or row.output, row.messages)
+                ended = (unproved[row.arguments, row.script] if IS_UNPROVED else
+                         run(SCRIPT, *row.arguments, source=row.script))
+                self.ends(ended, row.status, row.output, row.messages)
 
 
 class Program(Rows):
-    tables = (statuses, refused_arguments, refused_options, geometry_shows_in_no_byte, largest_list, unreadable_files,
-              faults_of_files, examples, unended_lines, failing_streams, want_of_memory)
+    tables = statuses, refused_arguments, unreadable_files, faults_of_files, examples, unended_lines
 
 
 class Scripts(Rows):
-    tables = (scripts,)
+    tables = scripts,
 
 
-for rows in Program, Scripts:
-    for each in rows.tables:
-        setattr(rows, f'test_{each.__name__}', lambda self, table=each: self.check(table))
+class Built(Case, transcripts='program'):
+    env = {'script': SCRIPT}
+
+    def setUp(self):
+        super().setUp()
+        if IS_UNPROVED:
+            self.skipTest('rt try gives a run its own streams and memory')

@@ -11,45 +11,22 @@ FORMAT = 'nvme format /dev/nvme0n1 --lbaf 1 --force'
 
 
 class Refuse(ModelCase, transcripts='refuse'):
-    def ended(self, rules, script, status=0, left=(), options=()):
-        """Runs a shell script with these rules. Returns its output, and checks its status and which rules are
-        reported with how many commands."""
-        ended = self.shell(script, options=[*(f'--refuse={rule}' for rule in rules), *options])
-        self.assertEqual(ended.status, status, ended)
-        found = re.findall(r'(?m)^nvme-model: --(\w+ \S+) (?:refused|delayed) no command; (\d+) came$',
-                           ended.err.decode())
-        self.assertEqual([(rule, int(count)) for rule, count in found], list(left), ended)
-        return ended
-
-    def sent(self, rules, *words, left=()):
-        """Returns the statuses of commands."""
-        script = f'python3 {self.programs()}/sender.py {" ".join(words)}'
-        return self.ended(rules, script, left=left).out.decode().split()
-
     def test_counts(self):
         for rules, words, statuses, *left in table('refused_commands'):
             with self.subTest(rules):
-                left = [tuple(row) for row in left]
-                self.assertEqual(self.sent(rules.split(), *words.split(), left=left), statuses.split())
-
-    def test_io(self):
-        for rules, words, statuses in table('refused_io_commands'):
-            with self.subTest(rules):
-                self.assertEqual(self.sent(rules.split(), *words.split()), statuses.split())
-        # a refused write writes nothing
-        write = 'printf %4096s x > "$1/data" && nvme write /dev/nvme0n1 -s 0 -c 7 -z 4096 -d "$1/data"'
-        ended = self.shell(f'{write} 2>&1; cmp -n 4096 /dev/nvme0n1 /dev/zero && echo zeros; {write} 2>&1', self.folder,
-                           options=['--refuse=write=0x4081'])
-        self.assertRegex(ended.out, rb'\(0x4081\)\nzeros\nwrite: Success\n')
+                ended = self.shell(f'python3 {self.programs()}/sender.py {words}',
+                                   options=[f'--refuse={rule}' for rule in rules.split()])
+                told = ''.join(f'nvme-model: --{rule} refused no command; {count} came\n' for rule, count in left)
+                self.ends(ended, 0, None, told.encode())
+                self.assertEqual(ended.out.decode().split(), statuses.split())
 
     def test_what_is_not_refused(self):
         """The launcher's own commands, and those that a rule refuses aren't seen by a controller."""
         trace = self.folder / 'trace'
         options = ['--refuse=id-ctrl,0,99=1', '--refuse=id-ns,0,99=1', '--refuse=list-ns,0,99=1', f'--trace={trace}']
-        script = 'ls /dev/nvme*; nvme id-ctrl /dev/nvme0 > /dev/null 2>&1; nvme id-ctrl /dev/nvme0 > /dev/null 2>&1; ' \
-                 'nvme id-ns /dev/nvme0 -n 1 > /dev/null 2>&1; nvme list-ns /dev/nvme0 > /dev/null 2>&1'
-        before = self.shell('true', options=[f'--trace={trace}'])
-        self.ends(before, 0, b'', b'')
+        script = 'ls /dev/nvme*; for command in id-ctrl id-ctrl "id-ns -n 1" list-ns; do ' \
+                 'nvme $command /dev/nvme0 > /dev/null 2>&1; done'
+        self.ends(self.shell('true', options=[f'--trace={trace}']), 0, b'', b'')
         own = trace.read_text()
         self.assertIn('nvme0 taken Identify ', own)
         ended = self.shell(script, options=options)
@@ -65,8 +42,7 @@ class Refuse(ModelCase, transcripts='refuse'):
 
     def test_delays(self):
         started = time.monotonic()
-        ended = self.ended([], FORMAT, options=['--delay=format=3'])
-        self.ends(ended, 0, b'Success formatting namespace:1\n')
+        self.ends(self.shell(FORMAT, options=['--delay=format=3']), 0, b'Success formatting namespace:1\n')
         self.assertGreaterEqual(time.monotonic() - started, 3)
         # (nothing else waits meanwhile, so this ends long before the delay)
         running = self.stepped(f'{FORMAT} & step; nvme smart-log /dev/nvme0 > /dev/null; '
@@ -84,18 +60,18 @@ class Refuse(ModelCase, transcripts='refuse'):
         self.ends(ended, 0)
         self.assertRegex(ended.out, rb'\(0x2002\)\nstep\n(?s:.*)status 137\n$')
 
+    def refuses(self, status, said, *words):
+        ended = run(installed(), *words, 'true')
+        self.ends(ended, status, b'')
+        self.assertRegex(ended.err.decode(), said)
+
     def test_wrong_rules(self):
         for rule, said in table('wrong_rules'):
             for option in '--refuse', '--delay':
                 with self.subTest(rule, option=option):
-                    ended = run(installed(), option, rule, 'true')
-                    self.ends(ended, 72, b'')
-                    self.assertTrue(ended.err.decode().startswith(f'nvme-model: {option} {rule}: {said}'), ended)
-                    self.assertTrue(ended.err.endswith(b'\nsee nvme-model --help\n'), ended)
-        self.ends(run(installed(), '--refuse', 'format=0x8000', 'true'), 72, b'',
-                  b'nvme-model: --refuse format=0x8000: the form is COMMAND[,SKIP[,TIMES]]=STATUS, with a STATUS of 1 '
-                  b'to 0x7fff\nsee nvme-model --help\n')
+                    beginning = re.escape(f'nvme-model: {option} {rule}: {said}')
+                    self.refuses(72, rf'\A{beginning}.*\nsee nvme-model --help\n\Z', option, rule)
+        self.refuses(72, '=STATUS, with a STATUS of 1 to 0x7fff\n', '--refuse', 'format=0x8000')
         most = [word for _ in range(64) for word in ('--refuse', 'format=1')]
-        self.ends(run(installed(), *most, 'true'), 0, b'')
-        self.ends(run(installed(), *most, '--delay', 'format=1', 'true'), 72, b'',
-                  b'nvme-model: --delay format=1: 64 rules are the most\nsee nvme-model --help\n')
+        self.refuses(0, r'(--refuse format=1 refused no command; 0 came\n.*){64}', *most)
+        self.refuses(72, '--delay format=1: 64 rules are the most\n', *most, '--delay', 'format=1')

@@ -46,37 +46,29 @@ RESETS = [
 
 
 class Requests(Case):
-    def answered(self, rows, *options, status=0, err=b''):
-        """Checks the answers to requests, which may be cut short."""
+    def answered(self, rows, options='', sent=0, status=0, err=b''):
+        """Checks the answers to requests, which may be cut short, and how many entries the first controller was
+        sent."""
         requests, answers = (b''.join(column) for column in zip(*rows))
-        ended = run(DEVICE, *options, source=requests)
-        self.ends(ended, status, answers, err)
-
-    def sent(self, rows, *options):
-        """Returns how many entries the first controller was sent."""
-        ended = run(DEVICE, '--trace', *options, source=b''.join(asked for asked, _ in rows))
-        return ended.err.count(b'nvme0 taken ')
+        self.ends(run(DEVICE, *options.split(), source=requests), status, answers, err)
+        traced = run(DEVICE, '--trace', *options.split(), source=requests)
+        self.assertEqual((traced.out, traced.err.count(b'nvme0 taken ')), (answers, sent), traced)
 
     def test_entries_and_lists(self):
         for options in '--page-size 65536', '--depth 2 --offset 4 --list-offset 4088':
-            self.answered(ENTRIES, *options.split())
-            self.assertEqual(self.sent(ENTRIES, *options.split()), 6)
+            self.answered(ENTRIES, options, 6)
 
     def test_a_reset_between_entries(self):
-        self.answered(RESETS, status=4, err=b'nvme-device: request too long\n')
-        self.assertEqual(self.sent(RESETS), 3)
+        self.answered(RESETS, '', 3, 4, b'nvme-device: request too long\n')
 
     def test_a_request_cut_short_is_not_executed(self):
-        whole, _ = ENTRIES[2]
         self.answered([(b'', b'')])
         for length in 1, 71, 72, 75:
-            rows = [(whole[:length], b'')]
             with self.subTest(length):
-                self.answered(rows, status=4, err=b'nvme-device: request cut short\n')
-                self.assertEqual(self.sent(rows), 0)
+                self.answered([(ENTRIES[2][0][:length], b'')], '', 0, 4, b'nvme-device: request cut short\n')
 
     def test_a_geometry_out_of_its_limits(self):
-        self.answered([(bytes(72), b'')], '--depth', '1', status=3, err=b'nvme-device: geometry: depth\n')
+        self.answered([(bytes(72), b'')], '--depth 1', 0, 3, b'nvme-device: geometry: depth\n')
 
     def test_pointers_of_an_entry_by_the_offsets(self):
         """Get Log Page of 131,072 bytes: the data and the list begin at the geometry's offsets in their pages."""
@@ -86,7 +78,5 @@ class Requests(Case):
             with self.subTest(options):
                 ended = run(DEVICE, '--trace', *options.split(), source=long_log)
                 self.ends(ended, 0, answer(data=bytes(4)))
-                pointers = rb'nvme0 taken Get Log Page .* prp1=(0x\w+) prp2=(0x\w+) '
-                self.assertRegex(ended.err, pointers)
-                prp1, prp2 = (int(number, 16) for number in re.search(pointers, ended.err).groups())
-                self.assertEqual((prp1 % page_size, prp2 % page_size), (offset, list_offset))
+                (prp1, prp2), = re.findall(rb'nvme0 taken Get Log Page .* prp1=(0x\w+) prp2=(0x\w+) ', ended.err)
+                self.assertEqual((int(prp1, 16) % page_size, int(prp2, 16) % page_size), (offset, list_offset))

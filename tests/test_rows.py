@@ -11,10 +11,7 @@ asq=.. acq=.. cc=..)` stands for the register writes that enable a controller, a
 
 `@NAME` stands for the bytes of a subsystem file of examples/, such as `@demo.toml`, and `@NAME["OLD", "NEW"]` for those
 of the file with NEW in place of OLD. There may be more such pairs. `@"TEXT"` stands for the bytes of a text. In these
-texts, `(TEXT*N)` stands for N times TEXT.
-
-    python3 -m unittest tests.test_rows
-"""
+texts, `(TEXT*N)` stands for N times TEXT."""
 
 import contextlib
 import json
@@ -24,34 +21,29 @@ import struct
 from tests.records import KINDS, decoded, encoded
 from tests.support import TOP, Case, Running, program, run
 
-PLACE = TOP / "tests" / "rows"
-REPEATED = re.compile(r"\(([0-9a-f]{2})\*([0-9]+)\)")
-REPEATED_TEXT = re.compile(r"\(([^()]+)\*([0-9]+)\)")
+PLACE = TOP / 'tests/rows'
+REPEATED = re.compile(r'\(([0-9a-f]{2})\*([0-9]+)\)')
+REPEATED_TEXT = re.compile(r'\(([^()]+)\*([0-9]+)\)')
 FILE = re.compile(r'@(?:([a-z_]+\.toml)(\[.*\])?|(".*"))')
 RECORD = re.compile(rf'@({"|".join(KINDS)})\(([^()]*)\)')
-ENABLE = re.compile(r"@enable\(([^()]*)\)")
+ENABLE = re.compile(r'@enable\(([^()]*)\)')
 
 
-def numbers_in(fields):
-    """Returns the number of each field."""
-    return {key: int(number, 0) for key, number in (field.split("=") for field in fields.split())}
-
-
-def with_records(text):
-    """Returns the text with each record written out."""
-    return RECORD.sub(lambda record: encoded(record[1], record[2]), text)
+def repeats(pattern, text):
+    """Returns the text with each repetition written out."""
+    return pattern.sub(lambda run: run[1] * int(run[2]), text)
 
 
 def named(row, found):
     """Returns an answer in which each record that the row expects has its fields by name, if it can be read as one."""
-    expected = re.findall(r"(?:@\w+\([^()]*\)|\S)+", with_repeats(row))
+    expected = re.findall(r'(?:@\w+\([^()]*\)|\S)+', repeats(REPEATED, row))
     words = found.split()
     for place, (wanted, word) in enumerate(zip(expected, words)):
-        record = re.fullmatch(r"(\w+=)" + RECORD.pattern, wanted)
+        record = re.fullmatch(r'(\w+=)' + RECORD.pattern, wanted)
         if record and word.startswith(record[1]):
             with contextlib.suppress(ValueError, struct.error):
-                words[place] = f"{record[1]}@{record[2]}({decoded(record[2], word[len(record[1]):])})"
-    return " ".join(words)
+                words[place] = f'{record[1]}@{record[2]}({decoded(record[2], word[len(record[1]):])})'
+    return ' '.join(words)
 
 
 def enabling(ctrl, aqa, asq, acq, cc):
@@ -59,112 +51,85 @@ def enabling(ctrl, aqa, asq, acq, cc):
     Sections "Register Definition" and "Controller Initialization"."""
     addresses = (asq % 2**32, asq >> 32, acq % 2**32, acq >> 32)
     writes = zip((0x14, 0x24, 0x28, 0x2C, 0x30, 0x34, 0x14), (0, aqa, *addresses, cc))
-    return ",".join(f"{ctrl:#x},{offset:#x},{dword:#x}" for offset, dword in writes)
-
-
-def with_writes(text):
-    """Returns the text with the writes of each `@enable` written out."""
-    return ENABLE.sub(lambda fields: enabling(**numbers_in(fields[1])), text)
-
-
-def with_repeats(text):
-    """Returns the text with each `(HH*N)` written out."""
-    return REPEATED.sub(lambda run: run[1] * int(run[2]), text)
-
-
-def text_of(text):
-    """Returns a text with each `(TEXT*N)` written out."""
-    return REPEATED_TEXT.sub(lambda run: run[1] * int(run[2]), text)
+    return ','.join(f'{ctrl:#x},{offset:#x},{dword:#x}' for offset, dword in writes)
 
 
 def edited(name, *edits):
     """Returns a subsystem file of examples/ in which, for each pair of texts, the second replaces the first."""
-    file = (TOP / "examples" / name).read_text("utf-8")
+    file = (TOP / 'examples' / name).read_text('utf-8')
     for old, new in zip(edits[::2], edits[1::2]):
         if old not in file:
-            raise ValueError(f"{name} has no {old!r}")
-        file = file.replace(old, text_of(new))
+            raise ValueError(f'{name} has no {old!r}')
+        file = file.replace(old, repeats(REPEATED_TEXT, new))
     return file
 
 
-def with_file(text):
-    """Returns the text with a subsystem file written out, in hexadecimal digits."""
-
-    def digits(file):
-        if file[3] is not None:
-            return text_of(json.loads(file[3])).encode().hex()
-        return edited(file[1], *json.loads(file[2] or "[]")).encode().hex()
-
-    return FILE.sub(digits, text)
+def file_of(found):
+    """Returns a subsystem file in hexadecimal digits."""
+    name, edits, text = found.groups()
+    file = edited(name, *json.loads(edits or '[]')) if name else repeats(REPEATED_TEXT, json.loads(text))
+    return file.encode().hex()
 
 
 def written_out(text):
-    return with_writes(with_records(with_repeats(with_file(text))))
+    text = RECORD.sub(lambda record: encoded(*record.groups()), repeats(REPEATED, FILE.sub(file_of, text)))
+    return ENABLE.sub(lambda found: enabling(**{
+        key: int(number, 0) for key, number in (field.split('=') for field in found[1].split())}), text)
 
 
 def rows_of(path):
     """Returns the rows of a file: the number of each operation's line, the operation, and the expected answer, with
     records as they are written there."""
     rows = []
-    answered = True
-    for number, line in enumerate(path.read_text("utf-8").splitlines(), 1):
-        if line.startswith("> include "):
+    for number, line in enumerate(path.read_text('utf-8').splitlines(), 1):
+        if line.startswith('> include '):
             rows += [(number, operation, wanted) for _, operation, wanted in rows_of(path.parent / line[10:])]
-            answered = True
-        elif line.startswith("> "):
-            rows.append((number, line[2:], "done"))
-            answered = False
-        elif line and not line.startswith("#"):
-            if answered:
-                raise ValueError(f"{path}:{number}: there is no operation above this line")
+        elif line.startswith('> '):
+            rows.append((number, line[2:], None))
+        elif line and line[0] != '#':
+            if not rows or rows[-1][2] is not None:
+                raise ValueError(f'{path}:{number}: there is no operation above this line')
             rows[-1] = (*rows[-1][:2], line)
-            answered = True
     if not rows:
-        raise ValueError(f"{path}: no rows")
-    return rows
+        raise ValueError(f'{path}: no rows')
+    return [(number, operation, 'done' if wanted is None else wanted) for number, operation, wanted in rows]
 
 
 def short(text):
-    return text if len(text) <= 160 else f"{text[:100]}.. ({len(text)} characters) ..{text[-40:]}"
+    return text if len(text) <= 160 else f'{text[:100]}.. ({len(text)} characters) ..{text[-40:]}'
 
 
 def answers_to(operations):
     """Returns the program's answers to these operations, in one session."""
-    script = "".join(f"{operation}\n" for operation in operations)
-    ended = run(program("nvme_bench"), source=script.encode())
-    if (ended.status, ended.err) != (0, b""):
+    script = ''.join(f'{operation}\n' for operation in operations)
+    ended = run(program('nvme_bench'), source=script.encode())
+    if (ended.status, ended.err) != (0, b''):
         raise AssertionError(str(ended))
     return ended.out.decode().splitlines()
 
 
-class Rows(Case):
-    """A test for each file of rows."""
-
-    def check(self, path):
-        rows = rows_of(path)
+class RowCase(Case):
+    def check(self, rows):
+        """Checks the answers to operations, which have these numbers of lines."""
         answers = answers_to(written_out(operation) for _, operation, _ in rows)
         for (number, operation, wanted), found in zip(rows, answers):
             if found != written_out(wanted):
-                self.fail(
-                    f"{path.relative_to(TOP)}:{number}: {short(operation)}\n"
-                    f"  wanted {short(wanted)}\n  found  {short(named(wanted, found))}\n"
-                    f"  python3 -m unittest tests.test_rows.Rows.test_{path.stem}"
-                )
-        self.assertEqual(len(answers), len(rows), f"{path}: as many answers as operations")
+                self.fail(f'line {number}: {short(operation)}\n  wanted {short(wanted)}\n'
+                          f'  found  {short(named(wanted, found))}\n  python3 -m unittest {self.id()}')
+        self.assertEqual(len(answers), len(rows), 'as many answers as operations')
 
 
-def test_of(path):
-    return lambda self: self.check(path)
+class Rows(RowCase):
+    """A test for each file of rows."""
 
 
-FILES = sorted(PLACE.glob("*.txt"))
-for file in FILES:
-    setattr(Rows, f"test_{file.stem}", test_of(file))
+for file in sorted(PLACE.glob('*.txt')):
+    setattr(Rows, f'test_{file.stem}', lambda self, path=file: self.check(rows_of(path)))
 
 
 def command(number):
     """Returns the bytes of a command with this number as its identifier."""
-    return encoded("sqe", f"opcode=6 cid={number} nsid=7 prp1=0x5004 prp2=0x9000 cdw10=1 cdw15=0xffffffff")
+    return encoded('sqe', f'opcode=6 cid={number} nsid=7 prp1=0x5004 prp2=0x9000 cdw10=1 cdw15=0xffffffff')
 
 
 def exchange(depth, number):
@@ -172,22 +137,22 @@ def exchange(depth, number):
     expected answer. Number n is in slot n modulo the depth. A completion's phase tag is 1 in the first pass over its
     ring, and is inverted on each pass. Sections "Submission Queue & Completion Queue Definition" and "Completion Queue
     Entry"."""
-    slot, after = number % depth, (number + 1) % depth
-    phase = 1 - number // depth % 2
-    completion = f"command_specific=0x1020304 sq_head={after} cid={number} status=0x600b"
+    slot, after, phase = number % depth, (number + 1) % depth, 1 - number // depth % 2
+    completion = f'command_specific=0x1020304 sq_head={after} cid={number} status=0x600b'
+    posted, collected = encoded('cqe', completion), encoded('cqe', f'{completion} phase={phase}')
     return [
-        (f"submit {command(number)}", f"tail={after:#x}"),
-        ("slots", f"sq_head={slot:#x} sq_empty=0x1 phase={phase:#x} cq_full=0x0"),
-        (f"tail {after}", "done"),
-        ("take", f"bytes={command(number)}"),
-        ("slots", f"sq_head={after:#x} sq_empty=0x1 phase={phase:#x} cq_full=0x0"),
-        ("collect", "refused: no completion"),
-        (f"post {encoded('cqe', completion)}", "done"),
-        ("collect", f"bytes={encoded('cqe', f'{completion} phase={phase}')}"),
-        ("tell", f"head={after:#x}"),
-        ("tell", "refused: no head to tell"),
-        (f"head {after}", "done"),
-        (f"free {after}", "done"),
+        (f'submit {command(number)}', f'tail={after:#x}'),
+        ('slots', f'sq_head={slot:#x} sq_empty=0x1 phase={phase:#x} cq_full=0x0'),
+        (f'tail {after}', 'done'),
+        ('take', f'bytes={command(number)}'),
+        ('slots', f'sq_head={after:#x} sq_empty=0x1 phase={phase:#x} cq_full=0x0'),
+        ('collect', 'refused: no completion'),
+        (f'post {posted}', 'done'),
+        ('collect', f'bytes={collected}'),
+        ('tell', f'head={after:#x}'),
+        ('tell', 'refused: no head to tell'),
+        (f'head {after}', 'done'),
+        (f'free {after}', 'done'),
     ]
 
 
@@ -197,56 +162,48 @@ def exchanges(depth, count):
     rows = [row for number in range(count) for row in exchange(depth, number)]
     if count <= 100:
         return rows
-    return [(said, wanted) for said, wanted in rows if said not in ("slots", "tell") and "refused" not in wanted]
+    return [(said, wanted) for said, wanted in rows if said not in ('slots', 'tell') and 'refused' not in wanted]
 
 
-def new_rings(depth):
-    return [("memory 65536 5", "done"), (f"rings {depth} 0 0x40000", "done")]
-
-
-class Rings(Case):
+class Rings(RowCase):
     """Queues over many commands, past the wraps of both. Each test is a session of computed rows."""
 
-    def check(self, rows):
-        answers = answers_to(operation for operation, _ in rows)
-        self.assertEqual(len(answers), len(rows))
-        for (operation, wanted), found in zip(rows, answers):
-            self.assertEqual(found, wanted, operation)
+    def check_rings(self, depth, rows):
+        rows = [('memory 65536 5', 'done'), (f'rings {depth} 0 0x40000', 'done'), *rows]
+        self.check([(number, *row) for number, row in enumerate(rows, 1)])
 
     def test_both_rings_wrap(self):
         for depth, count in (2, 6), (3, 9), (17, 51), (4096, 8194):
             with self.subTest(depth=depth):
-                tails = ((count + number) % depth for number in range(1, depth))
-                fill = [("submit 00", f"tail={tail:#x}") for tail in tails]
-                full = [("submit 00", "refused: submission ring full")]
-                self.check(new_rings(depth) + exchanges(depth, count) + fill + full)
+                fill = [('submit 00', f'tail={(count + number) % depth:#x}') for number in range(1, depth)]
+                full = [('submit 00', 'refused: submission ring full')]
+                self.check_rings(depth, exchanges(depth, count) + fill + full)
 
     def test_both_rings_begin_anew(self):
         """Rings can begin anew whatever numbers they have reached, even with a command that is waiting."""
         for depth, before, count in (2, 1, 6), (2, 2, 6), (2, 3, 6), (17, 20, 51), (4096, 4097, 3):
             with self.subTest(depth=depth, before=before):
                 after = (before + 1) % depth
-                waiting = [(f"submit {command(before)}", f"tail={after:#x}"), (f"tail {after}", "done")]
-                renewed = [("renew", "done"), ("zero", "done")]
-                begun = [("slots", "sq_head=0x0 sq_empty=0x1 phase=0x1 cq_full=0x0")]
-                rows = exchanges(depth, before) + waiting + renewed + begun + exchanges(depth, count)
-                self.check(new_rings(depth) + rows)
+                waiting = [(f'submit {command(before)}', f'tail={after:#x}'), (f'tail {after}', 'done')]
+                begun = [('renew', 'done'), ('zero', 'done'),
+                         ('slots', 'sq_head=0x0 sq_empty=0x1 phase=0x1 cq_full=0x0')]
+                self.check_rings(depth, exchanges(depth, before) + waiting + begun + exchanges(depth, count))
 
 
 class Pipes(Case):
     """Talks to the program through pipes, as a host does."""
 
     def test_each_answer_comes_before_the_next_operation(self):
-        bench = Running(program("nvme_bench"))
-        for operation, wanted in (b"store 0 c0ffee", b"done"), (b"load 0x0 4", b"bytes=c0ffee00"):
-            bench.say(operation + b"\n")
-            bench.comes(wanted + b"\n")
-        self.ends(bench.end(), 0, b"done\nbytes=c0ffee00\n")
+        bench = Running(program('nvme_bench'))
+        for operation, wanted in (b'store 0 c0ffee', b'done'), (b'load 0x0 4', b'bytes=c0ffee00'):
+            bench.say(operation + b'\n')
+            bench.comes(wanted + b'\n')
+        self.ends(bench.end(), 0, b'done\nbytes=c0ffee00\n')
 
     def test_bytes_that_are_no_text(self):
-        ended = run(program("nvme_bench"), source=b"load 0 1\xff\nload 0 1")
-        self.ends(ended, 0, b"error: not UTF-8 text\nbytes=00\n", b"")
+        ended = run(program('nvme_bench'), source=b'load 0 1\xff\nload 0 1')
+        self.ends(ended, 0, b'error: not UTF-8 text\nbytes=00\n', b'')
 
     def test_streams_that_fail(self):
-        self.ends(run(program("nvme_bench"), source=PLACE), 4, b"", b"nvme-bench: read fault\n")
-        self.ends(run(program("nvme_bench"), source=b"sizes\n", out="/dev/full"), 5, err=b"nvme-bench: write fault\n")
+        self.ends(run(program('nvme_bench'), source=PLACE), 4, b'', b'nvme-bench: read fault\n')
+        self.ends(run(program('nvme_bench'), source=b'sizes\n', out='/dev/full'), 5, err=b'nvme-bench: write fault\n')

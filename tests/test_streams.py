@@ -25,18 +25,13 @@ DEVICE, KERNEL = 'is a device of this machine', 'leads to the kernel or to a pro
 
 
 def path_of(path, flags):
-    return lambda folder: [os.open(path, flags)]
-
-
-def file_in(name, flags=os.O_RDWR | os.O_CREAT):
-    return lambda folder: [os.open(folder / name, flags, 0o666)]
+    return lambda folder: [os.open(folder / path, flags, 0o666)]
 
 
 def named_pipe(folder):
-    path = folder / 'fifo'
-    if not path.exists():
-        os.mkfifo(path)
-    return [os.open(path, os.O_RDWR)]
+    with contextlib.suppress(FileExistsError):
+        os.mkfifo(folder / 'fifo')
+    return [os.open(folder / 'fifo', os.O_RDWR)]
 
 
 def deleted_file(folder):
@@ -52,7 +47,7 @@ KINDS = {
     'pipe': (lambda folder: os.pipe()[::-1], ''),
     'named pipe': (named_pipe, ''),
     'socket': (lambda folder: [end.detach() for end in socket.socketpair()], ''),
-    'file': (file_in('file'), ''),
+    'file': (path_of('file', os.O_RDWR | os.O_CREAT), ''),
     'deleted file': (deleted_file, ''),
     'terminal': (lambda folder: pty.openpty()[::-1], ''),
     'null': (path_of('/dev/null', os.O_RDWR), ''),
@@ -73,12 +68,11 @@ KINDS = {
     'secret memory': (lambda folder: [LIBC.syscall(MEMFD_SECRET, 0)], KERNEL)}
 
 # What the launcher has open besides the streams, and whether it must be in one of the sandbox's own mounts.
-KEPT = {r'socket:\[\d+\]': False, r'pipe:\[\d+\]': False, '/sys(/.*)?': True,
-        r'/dev/#\d+ \(deleted\)': True,
+KEPT = {r'(socket|pipe):\[\d+\]': False, r'/sys(/.*)?|/dev/#\d+ \(deleted\)': True,
         'anon_inode:.*(eventfd|inotify|signalfd|seccomp notify).*': False}
 
 
-class StreamCase(ModelCase):
+class Streams(ModelCase):
     def setUp(self):
         super().setUp()
         self.folder.chmod(0o777)
@@ -109,8 +103,7 @@ class StreamCase(ModelCase):
     def launchers(self):
         """Returns the folders in /proc of the launcher, its keeper and its helpers, of which there may be many."""
         devices, keepers, helpers, launcher = parts()
-        self.assertEqual([len(devices), len(keepers), len(launcher)], [1, 1, 1])
-        self.assertTrue(helpers)
+        self.assertEqual([len(devices), len(keepers), len(launcher), bool(helpers)], [1, 1, 1, True])
         return [pathlib.Path(f'/proc/{number}') for number in (*keepers, *helpers, *launcher)]
 
     def check_kept(self, process, streams):
@@ -139,8 +132,7 @@ class StreamCase(ModelCase):
             reasons = [KINDS[kind][1] if number is not None else '' for kind, number in zip(kinds, streams)]
             process = self.start(user, streams, path)
             if any(reasons):
-                self.assertEqual(process.wait(LIMIT), 72, kinds)
-                self.assertFalse(self.seen.exists(), kinds)
+                self.assertEqual((process.wait(LIMIT), self.seen.exists()), (72, False), kinds)
             else:
                 self.assertTrue(until(lambda: self.seen.exists() or process.poll() is not None))
                 try:
@@ -156,8 +148,6 @@ class StreamCase(ModelCase):
                 wanted = f'nvme-model: standard {NAMES[refused[-1]]} {reasons[refused[-1]]}.*\n' if refused else ''
                 self.assertRegex(said, f'^{wanted}$')
 
-
-class Streams(StreamCase):
     def test_each_kind(self):
         for kind in KINDS:
             for user in USERS:
