@@ -18,7 +18,7 @@ import socket
 import subprocess
 
 from tests.as_qemu import BROKEN
-from tests.modelled import CLIENT, PARTS, PROGRAMS, ModelCase, installed, is_there, options_for
+from tests.modelled import CLIENT, PARTS, ModelCase, installed, is_there, options_for
 from tests.support import DEMO, LIMIT, TOP, Case, Running, difference, library, process_folder, run, table
 
 SCENARIOS = 'configuration', 'registers', 'commands', 'interrupts', 'sections', 'gone'
@@ -87,12 +87,12 @@ class Messages(Case, transcripts='stand_ins'):
     def test_broken_messages(self):
         for name in BROKEN:
             with self.subTest(name):
-                self.ends(self.said(name), 72, b'', b"nvme-model: QEMU sent a message that isn't known here\n")
+                self.ends(self.said(f'broken:{name}'), 72, b'', b"nvme-model: QEMU sent a message that isn't known here\n")
 
     def test_random_messages(self):
         for seed in SEEDS:
             with self.subTest(seed):
-                self.ends(self.said(f'random:{seed}:3000'), 72, b'',
+                self.ends(self.said(f'random_messages:{seed}:3000'), 72, b'',
                           b"nvme-model: QEMU sent a message that isn't known here\n")
 
     def test_arguments(self):
@@ -114,47 +114,6 @@ class Messages(Case, transcripts='stand_ins'):
         for option in '--qemu', '--vfio-user':
             self.ends(run(launcher, option, '--help'), 0, run(program(), '--help').out, b'')
             self.assertIn(b'see nvme-model --help\n', run(launcher, '--no-notice', option, 'true').err)
-
-    def ended(self, script, *words, **more):
-        """Runs the program over a stand-in with this script."""
-        self.stand_in(script, **more)
-        return run(program(), *words, env=self.env)
-
-    def test_ends(self):
-        for devices in 'x-pci-proxy-dev', 'vfio-user-pci':
-            with self.subTest(devices):
-                self.stand_in(b'echo runs >&2; exec sleep 1000', devices=devices)
-                running = Running(program(), env=self.env)
-                running.comes(b'runs\n')
-                running.process.terminate()
-                self.assertEqual(running.end().status, -signal.SIGTERM)
-        # (QEMU alone ends at the keys of a terminal)
-        self.stand_in(b'echo runs >&2; read line; exit 5')
-        running = Running(program(), env=self.env)
-        running.comes(b'runs\n')
-        running.process.send_signal(signal.SIGINT)
-        running.process.send_signal(signal.SIGQUIT)
-        self.assertEqual(running.end().status, 5)
-
-    def test_options_of_qemu(self):
-        words = '--memory', '2G', '--', '-x', 'y z'
-        self.assertRegex(self.ended(b'echo "$*"', *words).out,
-                         rb'-object \S+,share=on,size=2G( -device x-pci-proxy-dev,fd=\d+){2} -x y z\n')
-        # (the sockets have no names, and yet can be reached)
-        reach = f'echo "$*"; exec python3 {PROGRAMS}/reach.py "$@"'.encode()
-        said = self.ended(reach, *words, devices='vfio-user-pci').out.decode()
-        device = (r'-device \{"driver":"vfio-user-pci","id":"nvme-model-%d",'
-                  r'"socket":\{"type":"unix","path":"/proc/self/fd/\d+"\}\}')
-        self.assertRegex(said, rf'-object \S+,share=on,size=2G {device % 0} {device % 1} -x y z\nTrue\nTrue\n$')
-        # (nothing is left by a program that is killed)
-        self.stand_in(b'echo runs >&2; exec sleep 1000', devices='vfio-user-pci')
-        place = self.folder / 'temporary'
-        place.mkdir()
-        running = Running(program(), env={**self.env, 'TMPDIR': place})
-        running.comes(b'runs\n')
-        running.process.kill()
-        running.end()
-        self.assertEqual(list(place.iterdir()), [])
 
 
 def kernel():
@@ -179,16 +138,15 @@ def why_not():
         return 'there is no kernel with its modules: NVME_TEST_KERNEL and NVME_TEST_MODULES name them'
     if any(pathlib.Path(kernel()[1]).rglob('nvme*.ko.zst')):
         return 'the modules of the kernel are packed in a way that Python does not know'
-    if not devices():
+    if not re.search(b'vfio-user-pci|x-pci-proxy-dev', devices()):
         return 'this QEMU has neither vfio-user-pci nor x-pci-proxy-dev'
     return None
 
 
 @functools.lru_cache(maxsize=None)
 def devices():
-    """Returns which of the two devices QEMU has that reach another process."""
-    said = run('qemu-system-x86_64', '-device', 'help').out
-    return [name for name in (b'vfio-user-pci', b'x-pci-proxy-dev') if name in said]
+    """Returns the text in which QEMU names its devices."""
+    return run('qemu-system-x86_64', '-device', 'help').out
 
 
 def module(name):
@@ -256,17 +214,6 @@ def apart_from_scans(text):
     return re.sub(rb'(?m)^refused: .*\n', b'', before + mark + errors + end + rest)
 
 
-def documents(text):
-    """Returns the JSON documents in a text, in order."""
-    decoder = json.JSONDecoder()
-    found = []
-    while text.strip():
-        document, end = decoder.raw_decode(text.strip())
-        found.append(document)
-        text = text.strip()[end:]
-    return found
-
-
 def command_of_page(path):
     """Returns the words with which QEMU starts over a controller's socket."""
     text = re.search(r'(?m)^    (qemu-system-x86_64 (?:.*\\\n)+.*) \.\.$', (TOP / 'docs/QEMU.md').read_text())[1]
@@ -288,6 +235,15 @@ class Drivers(ModelCase):
             self.skipTest(why_not())
         self.subsystem.write_bytes(DEMO.read_bytes().replace(b'elpe = 3', b'elpe = 63'))
         self.console, self.results = self.folder / 'console', self.folder / 'results'
+        # (Without KVM, the older device has no interrupts. A busy machine fails the kernel's check of the timer.)
+        self.is_new = b'vfio-user-pci' in devices()
+        self.polls = '' if self.is_new else ' irqpoll nolapic_timer'
+
+    def linux(self, more=''):
+        """Returns QEMU's options for Linux, with two processors if they get interrupts."""
+        return ('-serial', f'file:{self.console}', '-serial', f'file:{self.results}', '-smp', str(1 + self.is_new),
+                '-kernel', kernel()[0], '-initrd', initial_files(), '-append',
+                f'console=ttyS0 panic=-1 no_timer_check{self.polls}{more}')
 
     def boot(self, *options, own=()):
         """Runs a machine until it would reset itself, and returns what the program reported at its end."""
@@ -314,13 +270,10 @@ class Drivers(ModelCase):
         self.assertEqual(self.console.read_bytes(), b'SECTOR 2000\n')
 
     def test_linux(self):
-        # (Without KVM, the older device has no interrupts. A busy machine fails the kernel's check of the timer.)
-        is_new = b'vfio-user-pci' in devices()
-        summary = self.boot('-serial', f'file:{self.console}', '-serial', f'file:{self.results}',
-                            *['-smp', '2'] * is_new, '-kernel', kernel()[0], '-initrd', initial_files(), '-append',
-                            'console=ttyS0 panic=-1 no_timer_check' + ' irqpoll nolapic_timer' * (not is_new))
+        summary = self.boot(*self.linux())
         console = self.console.read_text(errors='replace')
-        self.assertEqual(len(re.findall('1/0/0 default/read/poll queues', console)), 3, console[-3000:])
+        queues = f'{1 + self.is_new}/0/0 default/read/poll queues'
+        self.assertEqual(len(re.findall(queues, console)), 3, console[-3000:])
         self.assertEqual(re.findall(r'(?i)nvme.*(?:timeout|timed out|dead|abort)', console), [])
         script, logs = self.results.read_text().split('END OF SCRIPT\n')
         wanted = self.model('sh', GUEST / 'guest.sh')
@@ -328,29 +281,29 @@ class Drivers(ModelCase):
         self.assertEqual(difference('guest', wanted, got), [], console[-3000:])
         # what the guest read last, and what the program reported at its end
         self.assertTrue(logs.endswith('END OF LOGS\n'), logs)
-        pages = documents(logs[:-len('END OF LOGS\n')])
+        pages = json.loads('[%s]' % re.sub(r'}\s*{', '},{', logs[:-len('END OF LOGS\n')]))
         errors = [told(error) for page in pages[::2] for error in page['errors'] if error['error_count']]
         self.assertEqual(errors, re.findall(ERROR, summary))
         refused = [smart['num_err_log_entries'] for smart in pages[1::2]]
         self.assertEqual(refused, [counts[2] for counts in re.findall(COUNTS, summary)])
 
     def test_data(self):
-        # what Linux writes is there after the machine's restart, and in the file
+        # what Linux writes is there after the machine's restart and resets of the functions, and in the file; and the
+        # second processor gets its own interrupts
         place = self.folder / 'data'
         place.mkdir()
-        interrupts = '' if b'vfio-user-pci' in devices() else ' irqpoll nolapic_timer'
         ended = run(program(), '--subsystem', self.subsystem, '--data', place, '--', '-nodefaults', '-display', 'none',
-                    '-serial', f'file:{self.console}', '-serial', f'file:{self.results}', '-kernel', kernel()[0],
-                    '-initrd', initial_files(), '-append', f'console=ttyS0 panic=-1 no_timer_check{interrupts} kept')
+                    *self.linux(' kept'))
         self.ends(ended, 0, b'')
         stored = (place / 'subsystem0.namespace1').read_bytes()
         digest = hashlib.md5(stored).hexdigest()
         self.assertEqual((len(stored), stored[:4]), (1 << 20, b'full'))
-        self.assertEqual(self.results.read_text(), f'WRITTEN {digest}  -\nREAD {digest}  -\n')
+        more = 'RESET\nRESET\nINTERRUPTED PROCESSOR 1\n' * self.is_new
+        self.assertEqual(self.results.read_text(), f'WRITTEN {digest}  -\n{more}READ {digest}  -\n')
 
     def test_plugged(self):
         # a controller is unplugged, and plugged in again, in two machines one after the other
-        if b'vfio-user-pci' not in devices():
+        if not self.is_new:
             self.skipTest('this QEMU has no vfio-user-pci')
         server = Running(program(), '--vfio-user', '--socket', self.folder / 's', '--subsystem', self.subsystem)
         self.addCleanup(server.process.kill)
@@ -390,8 +343,7 @@ class Drivers(ModelCase):
             for old, new in ((' /lib/', f' {place}/lib/'), ('/boot/', f'{place}/boot/'), (' -S ', f' -d {place} -S ')):
                 self.assertIn(old, commands)
                 commands = commands.replace(old, new)
-        added = '' if b'vfio-user-pci' in devices() else ' irqpoll nolapic_timer'
-        commands = commands.replace('-append console=ttyS0', f'-append "console=ttyS0 no_timer_check{added}"')
+        commands = commands.replace('-append console=ttyS0', f'-append "console=ttyS0 no_timer_check{self.polls}"')
         (self.folder / 'here').mkdir()
         (self.folder / 'here/nvme-model').symlink_to(program())
         running = Running('sh', '-c', commands, cwd=self.folder / 'here', env={'HOME': self.folder})
