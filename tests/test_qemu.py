@@ -6,8 +6,8 @@ instead of the newest one in /boot or that of tools/kernel, and NVME_TEST_MODULE
 import functools
 import glob
 import hashlib
+import importlib.util
 import json
-import lzma
 import os
 import pathlib
 import re
@@ -30,8 +30,6 @@ GUEST = TOP / 'tests/guest'
 COUNTS = r'nvme-model: controller (\d+): commands (\d+), refused (\d+)\n'
 ERROR = r'nvme-model: error (\d+): command (\d+), status 0x([0-9a-f]+), location 0x([0-9a-f]+), NSID 0x([0-9a-f]+)\n'
 
-# The modules that Linux's driver needs if it isn't part of the kernel. Each module lists those that it needs itself.
-MODULES = 'crct10dif_generic', 'crc64_rocksoft_generic', 'nvme'
 # Reads the sector 2000 of the drive from which it was booted (int 13h), writes it to the serial port up to a zero byte,
 # and turns the machine off.
 BOOT_SECTOR = bytes.fromhex('fc 31c0 8ed8 b442 be247c cd13 be0080 ac 84c0 7406 baf803 ee ebf5 ba0406 b80020 ef f4 ebfd'
@@ -74,26 +72,19 @@ class Messages(Case, transcripts='stand_ins'):
         return run(program(*SANITIZERS), '--summary', env={**self.env, 'SCENARIO': scenario})
 
     def test_scenarios(self):
+        ended = {scenario: self.said(scenario) for scenario in SCENARIOS}
         for scenario in SCENARIOS:
             with self.subTest(scenario):
-                self.ends(self.said(scenario), 0, b'')
-
-    def test_counts(self):
+                self.ends(ended[scenario], 0, b'')
         # (the reset, the refused command and the requests are those of the scenario)
-        ended = self.said('commands')
-        self.assertEqual(re.findall(COUNTS, ended.err.decode()), [('0', '22', '1'), ('1', '21', '0')])
-        self.assertEqual(re.findall(ERROR, ended.err.decode()), [('1', '104', '6001', 'ffff', '0')], ended)
+        told = ended['commands'].err.decode()
+        self.assertEqual(re.findall(COUNTS, told), [('0', '22', '1'), ('1', '21', '0')])
+        self.assertEqual(re.findall(ERROR, told), [('1', '104', '6001', 'ffff', '0')], told)
 
-    def test_broken_messages(self):
-        for name in BROKEN:
-            with self.subTest(name):
-                self.ends(self.said(f'broken:{name}'), 72, b'', b"nvme-model: QEMU sent a message that isn't known here\n")
-
-    def test_random_messages(self):
-        for seed in SEEDS:
-            with self.subTest(seed):
-                self.ends(self.said(f'random_messages:{seed}:3000'), 72, b'',
-                          b"nvme-model: QEMU sent a message that isn't known here\n")
+    def test_invalid_messages(self):
+        for scenario in [f'broken:{name}' for name in BROKEN] + [f'random_messages:{seed}:3000' for seed in SEEDS]:
+            with self.subTest(scenario):
+                self.ends(self.said(scenario), 72, b'', b"nvme-model: QEMU sent a message that isn't known here\n")
 
     def test_arguments(self):
         for words, said in [*table('refused_arguments_of_qemu'), ['--subsystem x ' * 17, '']]:
@@ -136,8 +127,6 @@ def why_not():
         return 'busybox is not static'
     if not all(map(os.access, kernel(), (os.R_OK, os.R_OK))):
         return 'there is no kernel with its modules: NVME_TEST_KERNEL and NVME_TEST_MODULES name them'
-    if any(pathlib.Path(kernel()[1]).rglob('nvme*.ko.zst')):
-        return 'the modules of the kernel are packed in a way that Python does not know'
     if not re.search(b'vfio-user-pci|x-pci-proxy-dev', devices()):
         return 'this QEMU has neither vfio-user-pci nor x-pci-proxy-dev'
     return None
@@ -149,24 +138,13 @@ def devices():
     return run('qemu-system-x86_64', '-device', 'help').out
 
 
-def module(name):
-    """Returns a module's name as files spell it, and its bytes, or nothing if it is part of the kernel."""
-    pattern = re.sub('[-_]', '[-_]', name)
-    for path in pathlib.Path(kernel()[1]).rglob(f'{pattern}.ko*'):
-        data = path.read_bytes()
-        return path.name.partition('.')[0], lzma.decompress(data) if path.suffix == '.xz' else data
-    return name, None
-
-
-def modules(names):
-    """Returns the files of these modules, each after those that it needs."""
-    found = {}
-    for name in names:
-        own_name, data = module(name)
-        if data is not None:
-            needs = re.search(rb'\0depends=([^\0]*)', data).group(1).decode().split(',')
-            found.update({**modules(filter(None, needs)), own_name: data})
-    return found
+def modules():
+    """Returns the modules that Linux's driver needs, each after those that it needs itself, as `--vm` finds them."""
+    found = importlib.util.spec_from_file_location('vm', CLIENT / 'vm.py')
+    vm = importlib.util.module_from_spec(found)
+    found.loader.exec_module(vm)
+    vm.NEEDED = 'nvme',
+    return {os.path.basename(path).partition('.')[0]: vm.content(path) for path in vm.find_modules(*kernel())}
 
 
 @functools.lru_cache(maxsize=None)
@@ -182,7 +160,7 @@ def initial_files():
         shutil.copy(path, root / path[1:])
     shutil.copy(nvme, root / 'bin/nvme')
     shutil.copy(shutil.which('busybox'), root / 'bin/busybox')
-    needed = modules(MODULES)
+    needed = modules()
     for name, data in needed.items():
         (root / 'modules' / name).write_bytes(data)
     (root / 'modules/order').write_text(' '.join(needed))
@@ -359,20 +337,14 @@ class Drivers(ModelCase):
         self.assertRegex(said, r'(?m)^\[ +0\]:0x1\r?$')
         self.assertEqual(os.listdir(self.folder / 'here'), ['nvme-model'])
 
-    def order(self, name, event=None, **arguments):
+    def order(self, name, event='', **arguments):
         """Tells QEMU's monitor a command, and waits for its answer, and for an event if one is named."""
         with socket.socket(socket.AF_UNIX) as monitor:
             monitor.settimeout(LIMIT)
             monitor.connect(f'{self.folder}/monitor')
-            lines = monitor.makefile('rw')
-            seen = [None]
             for command in {'execute': 'qmp_capabilities'}, {'execute': name, 'arguments': arguments}:
-                lines.write(json.dumps(command))
-                lines.flush()
-                answer = {}
-                while not answer.keys() & {'return', 'error'}:
-                    answer = json.loads(lines.readline())
-                    seen.append(answer.get('event'))
-                self.assertEqual(answer, {'return': {}})
-            while event not in seen:
-                seen.append(json.loads(lines.readline()).get('event'))
+                monitor.sendall(json.dumps(command).encode())
+            said = ''
+            while said.count('"return": {}') < 2 or event not in said:
+                said += monitor.recv(4096).decode() or self.fail(said)
+                self.assertNotIn('"error"', said)
