@@ -13,13 +13,15 @@ enum { DELETE_SUBMISSIONS = 0, CREATE_SUBMISSIONS, DELETE_COMPLETIONS = 4, CREAT
 enum { SET_FEATURES = 9, GET_FEATURES, REQUEST_EVENT = 0x0c, NUMBER_OF_QUEUES = 7, EVENTS = 0x0b, ANY = -1 };
 enum { IS_CONTIGUOUS = 1, HAS_INTERRUPTS = 2, KEEPS_EVENT = 1 << 15, WANTS_CHANGES = 1 << 8, CAN_CHANGE = 4 };
 #define IS_SAVED (1u << 31)
-/* Dword 0 of the event that namespaces have changed, which a log lists. */
-enum { CHANGE = 2 | LOG_OF_CHANGES << 16 };
+/* Bytes of what Identify Controller says, and what drives add: events of namespaces, how many requests for them may
+   wait, one less, and commands. */
+enum { OAES = 93, AERL = 259, ONCS = 520, HAS_COMPARE = 1, HAS_DATASET = 4, HAS_WRITE_ZEROES = 8, HAS_VERIFY = 0x80 };
 
 /* A command that is answered here, and dword 0 of its completion. */
 struct command {
     struct function *function;
-    unsigned char entry[ENTRY_BYTES], *memory;
+    unsigned char entry[ENTRY_BYTES];
+    struct memory memory;
     uint32_t dword_0;
 };
 
@@ -57,14 +59,14 @@ static int create_queue(struct command *command) {
         return INVALID_FIELD;
     if (is_submissions && (other == 0 || other > (drive->counts >> 16) + 1))
         return INVALID_QUEUE;
-    if (other > 0 && !(is_submissions && has_completions))
+    if (is_submissions ? !has_completions : other > 0 && other >= command->function->vectors)
         return is_submissions ? NO_COMPLETION_QUEUE : INVALID_VECTOR;
     if (is_submissions) {
         nvme_submission_queue_make(&drive->submissions[id].queue, (uint16_t)id, base, last_slot + 1);
         drive->submissions[id].completions = (uint16_t)other;
     } else {
         nvme_completion_queue_make(&drive->completions[id].queue, base, last_slot + 1);
-        drive->completions[id].interrupts = (how & HAS_INTERRUPTS) != 0;
+        drive->completions[id].vector = how & HAS_INTERRUPTS ? (uint64_t)1 << other : 0;
     }
     return DONE;
 }
@@ -144,17 +146,10 @@ static const struct row {
             {GET_FEATURES, NUMBER_OF_QUEUES, get_queue_counts},
             {REQUEST_EVENT, ANY, hold_request}};
 
-/* What Identify Controller must therefore say, by the offset of a byte: that there are events of namespaces (OAES), how
-   many requests for events may wait (AERL, one less), and that there are Compare, Dataset Management, Write Zeroes and
-   Verify (ONCS). */
-static const struct {
-    unsigned offset, bits;
-} additions[] = {{93, WANTS_CHANGES >> 8}, {259, MOST_REQUESTS - 1}, {520, 1 << 0 | 1 << 2 | 1 << 3 | 1 << 7}};
-
 /* Writes data to where a command wants it. Returns the status. */
 static int write_data(const struct command *command, const unsigned char *data, size_t length) {
-    uint32_t page = page_size(command->function);
-    return nvme_entry_write(command->entry, command->memory, MOST_MEMORY / page, page, data, length);
+    const struct memory *memory = &command->memory;
+    return nvme_entry_write(command->entry, memory->bytes, memory->pages, memory->page, data, length);
 }
 
 /* ---- what a controller's answers are made of, by the number of its function */
@@ -162,8 +157,7 @@ static int write_data(const struct command *command, const unsigned char *data, 
 const unsigned char *identity_of(unsigned controller) { return functions[controller].identity; }
 
 int read_namespace(unsigned controller, uint32_t nsid, int is_active, unsigned char page[IDENTIFY_BYTES]) {
-    const struct function *function = functions + controller;
-    return nvme_machine_namespace(function->machine, function->number, nsid, is_active, page);
+    return nvme_machine_namespace(functions[controller].machine, functions[controller].number, nsid, is_active, page);
 }
 
 int is_attached(unsigned controller, uint32_t nsid) { return functions[controller].drive.is_active[nsid]; }
@@ -183,9 +177,7 @@ static int answer_by_data(struct command *command) {
     int status = supplied(&asked, command->entry, page), is_log = command->entry[0] == OPCODE_GET_LOG;
     uint64_t dwords = (uint64_t)(dword(command, 11) & 0xffff) << 16 | dword(command, 10) >> 16;
     uint64_t length = is_log ? 4 * dwords + 4 : IDENTIFY_BYTES;
-    if (status == NOT_SUPPLIED)
-        return status;
-    if (command->entry[1] || length > IDENTIFY_BYTES)
+    if (status != NOT_SUPPLIED && (command->entry[1] || length > IDENTIFY_BYTES))
         return INVALID_FIELD;
     if (status == DONE)
         status = write_data(command, page, length);
@@ -207,36 +199,32 @@ static int answer(struct command *command) {
 
 /* ---- what follows from commands that the controllers accept */
 
-static void change(struct function *function, uint32_t nsid) {
-    function->drive.has_changed[nsid] = 1;
-    function->has_more = 1;
+/* Returns whether a host wants to know of changes at first, which a controller that nothing else uses is asked. */
+int wish_at_start(nvme_machine *machine, uint16_t number) {
+    static unsigned char memory[2 * SMALL_PAGE] = {GET_FEATURES, [40] = EVENTS};
+    nvme_machine_write32(machine, number, NVME_AQA, 0x10001);
+    nvme_machine_write32(machine, number, NVME_ACQ, SMALL_PAGE);
+    nvme_machine_write32(machine, number, NVME_CC, 0x460001);
+    nvme_machine_write32(machine, number, NVME_TAIL_DOORBELL, 1);
+    nvme_machine_turn(machine, number, memory, 2, SMALL_PAGE, 1);
+    return memory[SMALL_PAGE + 1] & WANTS_CHANGES >> 8;
 }
 
-/* Looks at each namespace, which may have come or gone, here or at other controllers. */
-void look_at_namespaces(struct subsystem *subsystem, enum moment moment) {
+/* Looks at each namespace of a function's subsystem, which may have come or gone, here or at other controllers, or was
+   formatted, as all that are active here may be. */
+void look_at_namespaces(const struct function *function, enum moment moment, uint32_t formatted) {
+    struct subsystem *subsystem = function->subsystem;
     unsigned char about[IDENTIFY_BYTES];
     for (uint32_t nsid = 1; nsid <= MOST_NSID; nsid++) {
-        follow_namespace(subsystem, nsid, moment);
+        int is_new = nsid == formatted || (formatted == EVERY_NSID && function->drive.is_active[nsid]);
+        follow_namespace(subsystem, nsid, is_new ? AFTER_FORMAT : moment);
         for (struct function *at = subsystem->functions; at < subsystem->functions + subsystem->count; at++) {
             int is_known = nvme_machine_namespace(at->machine, at->number, nsid, 1, about);
             int is_active = is_known && number_at(about, 8) > 0;
-            if (is_active != at->drive.is_active[nsid])
-                change(at, nsid);
+            if (is_active != at->drive.is_active[nsid] || (is_active && is_new))
+                at->drive.has_changed[nsid] = at->has_more = 1;
             at->drive.is_active[nsid] = (unsigned char)is_active;
         }
-    }
-}
-
-/* Clears the data of the namespaces that were formatted: one, or all that are active. */
-static void clear_formatted(struct function *function, uint32_t formatted) {
-    struct subsystem *subsystem = function->subsystem;
-    for (uint32_t nsid = 1; nsid <= MOST_NSID; nsid++) {
-        if (nsid != formatted && (formatted != EVERY_NSID || !function->drive.is_active[nsid]))
-            continue;
-        follow_namespace(subsystem, nsid, AFTER_FORMAT);
-        for (struct function *at = subsystem->functions; at < subsystem->functions + subsystem->count; at++)
-            if (at->drive.is_active[nsid])
-                change(at, nsid);
     }
 }
 
@@ -246,28 +234,29 @@ static void see_accepted(const struct command *command) {
     unsigned char opcode = command->entry[0], selector = command->entry[40], page[IDENTIFY_BYTES];
     if (opcode == OPCODE_IDENTIFY && selector == CNS_CONTROLLER) {
         nvme_machine_identify(function->machine, function->number, page);
-        for (unsigned at = 0; at < sizeof additions / sizeof *additions; at++)
-            page[additions[at].offset] |= (unsigned char)additions[at].bits;
+        page[OAES] |= WANTS_CHANGES >> 8;
+        page[AERL] |= MOST_REQUESTS - 1;
+        page[ONCS] |= HAS_COMPARE | HAS_DATASET | HAS_WRITE_ZEROES | HAS_VERIFY;
         write_data(command, page, sizeof page);
     } else if (opcode == SET_FEATURES && selector == EVENTS) {
         drive->wants_changes = (dword(command, 11) & WANTS_CHANGES) != 0;
         drive->saved_wish = dword(command, 10) & IS_SAVED ? drive->wants_changes : drive->saved_wish;
-    } else if (opcode == OPCODE_FORMAT)
-        clear_formatted(function, dword(command, 1));
-    else if (opcode == OPCODE_MANAGEMENT || opcode == OPCODE_ATTACHMENT)
-        look_at_namespaces(function->subsystem, AFTER_COMMAND);
-    // (other functions may have something to do, although they were looked at already)
-    function->has_more |= opcode == OPCODE_FORMAT || opcode == OPCODE_MANAGEMENT || opcode == OPCODE_ATTACHMENT;
+    } else if (opcode == OPCODE_FORMAT || opcode == OPCODE_MANAGEMENT || opcode == OPCODE_ATTACHMENT) {
+        look_at_namespaces(function, AFTER_COMMAND, opcode == OPCODE_FORMAT ? dword(command, 1) : 0);
+        // (other functions may have something to do, although they were looked at already)
+        function->has_more = 1;
+    }
 }
 
 /* ---- the admin queue */
 
 /* Lets the controller take the next entry. Returns whether it did. */
-static int pass_on(const struct command *command, size_t pages) {
+static int pass_on(const struct command *command) {
     struct function *function = command->function;
+    const struct memory *memory = &command->memory;
     uint64_t refused_before, refused, count;
     nvme_machine_counts(function->machine, function->number, &refused_before, &count);
-    if (nvme_machine_turn(function->machine, function->number, command->memory, pages, page_size(function), 1) != 1)
+    if (!nvme_machine_turn(function->machine, function->number, memory->bytes, memory->pages, memory->page, 1))
         return 0;
     nvme_machine_counts(function->machine, function->number, &refused, &count);
     if (refused == refused_before)
@@ -276,60 +265,55 @@ static int pass_on(const struct command *command, size_t pages) {
 }
 
 /* Takes the next entry, and completes it unless it is held. Returns whether there was one. */
-static int take_over(struct command *command, size_t pages, int status) {
-    nvme_machine *machine = command->function->machine;
-    uint16_t number = command->function->number;
-    uint32_t page = page_size(command->function);
+static int take_over(struct command *command, int status) {
+    struct function *function = command->function;
+    struct memory to = command->memory;
     nvme_answer answer = {command->dword_0, 0, (uint16_t)status};
     if (status == IS_HELD)
-        return nvme_machine_fetch(machine, number, command->memory, pages, page, command->entry);
-    return nvme_machine_complete(machine, number, command->memory, pages, page, answer);
+        return nvme_machine_fetch(function->machine, function->number, to.bytes, to.pages, to.page, command->entry);
+    return nvme_machine_complete(function->machine, function->number, to.bytes, to.pages, to.page, answer);
 }
 
 /* Sees that a completion was posted. */
-static void complete(struct function *function, uint64_t slot) {
+static void complete(struct function *function) {
     nvme_completion_queue *queue = &function->drive.completions[0].queue;
     queue->posted = (queue->posted + 1) % (2 * queue->depth);
-    give_back(slot);
-    function->has_message = 1;
+    give_back();
+    function->drive.due |= 1;
 }
 
 /* Takes the next entry of the admin queue, or lets the controller take it. Where it or the slot for its completion
-   isn't in memory, the controller finds no memory at all, which is fatal for it. Returns whether it took one, and another
-   one waits. */
+   isn't in memory, the controller finds no memory at all, which is fatal for it. Returns whether it took one, and
+   another one waits. */
 int take_command(struct function *function) {
     nvme_submission_queue *queue = &function->drive.submissions[0].queue;
-    uint64_t slot = next_completion(&function->drive.completions[0].queue);
     if (queue->fetched == queue->rung)
         return 0;
-    struct command command = {.function = function, .memory = lend(function, next_entry(queue), slot)};
-    uint32_t page = page_size(function);
-    size_t pages = command.memory ? MOST_MEMORY / page : 0;
+    struct memory memory = lend(function, function->drive.submissions);
+    struct command command = {.function = function, .memory = memory};
     int status = NOT_SUPPLIED;
-    if (nvme_machine_next(function->machine, function->number, command.memory, pages, page, command.entry))
+    if (nvme_machine_next(function->machine, function->number, memory.bytes, memory.pages, memory.page, command.entry))
         status = answer(&command);
-    if (!(status == NOT_SUPPLIED ? pass_on(&command, pages) : take_over(&command, pages, status)))
+    if (!(status == NOT_SUPPLIED ? pass_on(&command) : take_over(&command, status)))
         return 0;
     queue->fetched = (queue->fetched + 1) % (2 * queue->depth);
     if (status != IS_HELD)
-        complete(function, slot);
+        complete(function);
     return queue->fetched != queue->rung;
 }
 
-/* Completes a request for events if namespaces have changed since the host was told so. */
+/* Completes a request for events if namespaces have changed since the host was told so. (Dword 0 names the event's type
+   and information, which are 2 and 0, and the log that lists them.) */
 void tell_changes(struct function *function) {
     struct drive *drive = &function->drive;
-    nvme_answer answer = {CHANGE, drive->requests[0], DONE};
+    nvme_answer answer = {2 | LOG_OF_CHANGES << 16, drive->requests[0], DONE};
     if (drive->request_count == 0 || !drive->wants_changes || drive->is_told ||
         !memchr(drive->has_changed, 1, sizeof drive->has_changed))
         return;
-    uint64_t slot = next_completion(&drive->completions[0].queue);
-    unsigned char *memory = lend(function, slot, slot);
-    uint32_t page = page_size(function);
-    size_t pages = memory ? MOST_MEMORY / page : 0;
-    if (!nvme_machine_post(function->machine, function->number, memory, pages, page, answer))
+    struct memory memory = lend(function, drive->submissions);
+    if (!nvme_machine_post(function->machine, function->number, memory.bytes, memory.pages, memory.page, answer))
         return;
-    complete(function, slot);
+    complete(function);
     drive->is_told = 1;
     drive->request_count--;
     memmove(drive->requests, drive->requests + 1, drive->request_count * sizeof *drive->requests);

@@ -36,7 +36,7 @@ struct submissions {
 
 struct completions {
     nvme_completion_queue queue;
-    int interrupts;
+    uint64_t vector; /* of its interrupts, as a bit, or 0 */
 };
 
 /* Queues stand at their identifiers, and have a depth if they exist. Those at 0 follow what the controller does with
@@ -48,6 +48,7 @@ struct drive {
     unsigned next;                    /* the submission queue that is looked at next */
     int has_failed;                   /* whether a slot or data couldn't be had, which is fatal */
     uint32_t notice;                  /* of a shutdown, as in CC */
+    uint64_t due;                     /* the vectors, as bits, by which messages are due */
     uint16_t requests[MOST_REQUESTS]; /* the command identifiers of Asynchronous Event Requests that wait */
     unsigned request_count;
     int wants_changes, saved_wish;    /* whether the host wants to know that namespaces changed, also after a reset */
@@ -57,15 +58,14 @@ struct drive {
 
 struct function;
 uint32_t page_size(const struct function *function);
-uint64_t next_entry(const nvme_submission_queue *queue);
-uint64_t next_completion(const nvme_completion_queue *queue);
 void reset_drive(struct function *function);
 void ring(struct function *function, uint32_t offset, uint32_t value);
-int has_completions(const struct function *function);
+uint64_t waiting_vectors(const struct function *function);
 int take_command(struct function *function);
 int take_entry(struct function *function);
 void tell_changes(struct function *function);
-void look_at_namespaces(struct subsystem *subsystem, enum moment moment);
+void look_at_namespaces(const struct function *function, enum moment moment, uint32_t formatted);
+int wish_at_start(nvme_machine *machine, uint16_t number);
 void prepare_data(const char *folder, uint64_t most);
 void follow_namespace(struct subsystem *subsystem, uint32_t nsid, enum moment moment);
 int reserve(struct volume *volume, const nvme_range *part);

@@ -17,6 +17,8 @@
 enum { MOST_FUNCTIONS = 16, MOST_SECTIONS = 256, MOST_FILES = 8, MOST_ACCESS = 0x4000 };
 enum { FAILED = 72, HEADER = 16, MOST_MESSAGE = HEADER + 16 + MOST_ACCESS, BATCH = 256 /* bytes of small messages */ };
 enum { BAR_SIZE = MOST_ACCESS, CONFIG_SIZE = 256, SMALL_PAGE = 4096, IS_READY = 1 /* of the status */ };
+/* The event counters of a function: of the messages by their vectors, of the pin, and of the pin's being seen. */
+enum { VECTORS = 64, PIN = VECTORS, SEEN, COUNTERS };
 #define MOST_MEMORY ((uint64_t)128 << 30) /* the addresses that a controller reaches */
 
 /* A piece of the machine's memory, in a file that is mapped with this access. What has none (-1) is a hole. */
@@ -24,6 +26,13 @@ struct section {
     uint64_t address, size, offset;
     int file, access;
     unsigned char *bytes;
+};
+
+/* Memory that is lent for calls of the library. */
+struct memory {
+    unsigned char *bytes;
+    size_t pages;
+    uint32_t page;
 };
 
 /* Descriptors that came with a message, and whether others couldn't be kept. */
@@ -37,6 +46,7 @@ struct function {
     struct subsystem *subsystem;
     nvme_machine *machine;
     uint16_t number;                           /* of the controller in its machine */
+    uint16_t vectors;                          /* how many messages MSI-X has, or 0 if there is no MSI-X */
     unsigned char identity[IDENTIFY_BYTES];    /* what Identify Controller said at the start */
     struct drive drive;
     int socket, listener;                      /* or -1 */
@@ -49,11 +59,10 @@ struct function {
     unsigned char config[CONFIG_SIZE];
     struct section sections[MOST_SECTIONS];
     unsigned section_count;
-    int pin, bell, unmask; /* event counters for the pin, for messages, and of the pin's being seen; or -1 */
+    int counters[COUNTERS]; /* or -1 */
     enum { UNMASKED, BY_RAISE, BY_CLIENT } mask; /* whether the pin waits to be seen, or the client masked it */
-    int64_t raised_at;         /* when the pin was raised, in milliseconds */
-    int has_taken;             /* whether the guest wrote a head since then */
-    int has_message, has_more; /* whether a message is due, and whether something may be to do after the last turn */
+    int64_t raised_at;       /* when the pin was raised, in milliseconds */
+    int has_taken, has_more; /* whether the guest wrote a head since then, and something may be left to do */
 };
 
 extern struct function functions[MOST_FUNCTIONS];
@@ -76,14 +85,14 @@ int use(struct function *function, int is_config, uint64_t offset, uint64_t coun
 void take_turn(struct function *function);
 int is_counter(int file);
 void prepare_interrupts(void);
-void set_counter(struct function *function, int *counter, int *file);
+void set_counter(struct function *function, unsigned number, int *file);
 unsigned interrupt(struct function *function, uint32_t served);
 void see_interrupt(struct function *function);
 void reserve_memory(void);
 int add_section(struct function *function, struct section section, int *file);
 int drop_sections(struct function *function, uint64_t address, uint64_t size);
-unsigned char *lend(const struct function *function, uint64_t entry, uint64_t slot);
-void give_back(uint64_t slot);
+struct memory lend(const struct function *function, const struct submissions *from);
+void give_back(void);
 void let_go(struct function *function, int *file);
 unsigned serve_client(struct function *function, struct pollfd awaited[2], unsigned other);
 #endif

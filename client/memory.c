@@ -19,6 +19,7 @@ static uint64_t pages[MOST_PAGES];                   /* the pages that it has to
 static unsigned char before[MOST_PAGES][SMALL_PAGE]; /* and what the guest's held at the beginning of the turn */
 static unsigned page_count, kept_count; /* of these, and of those among them that are there from former turns */
 static uint64_t expected;               /* the page behind those that were brought last, in this turn */
+static uint64_t slot;                   /* where the next completion goes */
 static volatile sig_atomic_t is_copying;
 static sigjmp_buf copying;
 
@@ -138,18 +139,20 @@ int drop_sections(struct function *function, uint64_t address, uint64_t size) {
     return size > 0 && to == end ? ENOENT : 0;
 }
 
-/* Lends a function's memory for calls of the library about an entry and the slot of its completion, or nothing if one
-   of them isn't in memory. Of the pages of former calls, theirs are kept, and as many of the latest ones as the last
-   turn touched anew, or all, if it touched none. */
-unsigned char *lend(const struct function *function, uint64_t entry, uint64_t slot) {
+/* Lends a function's memory for calls of the library about the next entry of a queue and the slot of its completion, or
+   no pages if one of them isn't in memory. Of the pages of former calls, theirs are kept, and as many of the latest
+   ones as the last turn touched anew, or all, if it touched none. */
+struct memory lend(const struct function *function, const struct submissions *from) {
+    const nvme_completion_queue *to = &function->drive.completions[from->completions].queue;
+    uint64_t entry = from->queue.base + from->queue.fetched % (from->queue.depth ?: 1) * 64u;
+    uint32_t page = page_size(function);
     unsigned touched = page_count - kept_count, wanted = touched > LEAST_KEPT ? touched : LEAST_KEPT;
     unsigned kept = 0, surplus = touched > 0 && page_count > wanted ? page_count - wanted : 0, count;
-    entry -= entry % SMALL_PAGE;
-    slot -= slot % SMALL_PAGE;
+    slot = to->base + to->posted % (to->depth ?: 1) * 16u;
     for (unsigned number = 0; number < page_count; number += count) {
         uint64_t first = pages[number], next = first;
         for (count = 0; count < surplus && number + count < page_count && pages[number + count] == next; count++) {
-            if (next == entry || next == slot)
+            if (next == entry - entry % SMALL_PAGE || next == slot - slot % SMALL_PAGE)
                 break;
             next += SMALL_PAGE;
         }
@@ -164,12 +167,13 @@ unsigned char *lend(const struct function *function, uint64_t entry, uint64_t sl
     user = function;
     for (unsigned number = 0; number < page_count; number++)
         load(number);
-    return section_at(function, entry) && section_at(function, slot) ? lent : NULL;
+    int is_there = section_at(function, entry) && section_at(function, slot);
+    return (struct memory){lent, is_there ? MOST_MEMORY / page : 0, page};
 }
 
-/* Writes what the calls changed, of each page from the first byte to the last one. The completion in this slot comes
-   after all data, and its phase tag at the end. */
-void give_back(uint64_t slot) {
+/* Writes what the calls changed, of each page from the first byte to the last one. The completion comes after all data,
+   and its phase tag at the end. */
+void give_back(void) {
     unsigned char completion[16];
     memcpy(completion, lent + slot, sizeof completion);
     for (unsigned at = 0; at < page_count; at++) {

@@ -85,9 +85,8 @@ static void lose(struct function *function) {
         errx(FAILED, "QEMU sent a message that isn't known here");
     end_message(function);
     close(function->socket);
-    let_go(function, &function->pin);
-    let_go(function, &function->bell);
-    let_go(function, &function->unmask);
+    for (unsigned at = 0; at < COUNTERS; at++)
+        let_go(function, function->counters + at);
     drop_sections(function, 0, 0);
     close(function->to_receiver);
     function->socket = function->to_receiver = -1;
@@ -188,7 +187,7 @@ unsigned serve_client(struct function *function, struct pollfd awaited[2], unsig
     int listener = is_paused || function->receiver > 0 ? -1 : function->listener;
     int event = function->is_asked ? 0 : function->to_send > 0 ? POLLOUT : POLLIN;
     awaited[0] = (struct pollfd){function->socket >= 0 ? function->socket : listener, event, 0};
-    awaited[1] = (struct pollfd){function->is_asked ? function->to_receiver : function->unmask, POLLIN, 0};
+    awaited[1] = (struct pollfd){function->is_asked ? function->to_receiver : function->counters[SEEN], POLLIN, 0};
     unsigned rest = interrupt(function, function->seen), wait = function->has_more ? 0 : is_paused ? PAUSE : rest;
     return wait < other ? wait : other;
 }

@@ -26,8 +26,8 @@ static void set_memory(struct function *function, const unsigned char *body) {
 static void set_interrupt(struct function *function) {
     struct files *files = &function->files;
     int are_valid = files->count == 2 && is_counter(files->at[0]) && is_counter(files->at[1]), none = -1;
-    set_counter(function, &function->pin, are_valid ? files->at : &none);
-    set_counter(function, &function->unmask, are_valid ? files->at + 1 : &none);
+    set_counter(function, PIN, are_valid ? files->at : &none);
+    set_counter(function, SEEN, are_valid ? files->at + 1 : &none);
 }
 
 /* Reads or writes by an address and a value, of 32 bits for the configuration and of 64 for registers, and a length. */

@@ -15,17 +15,15 @@
 /* Statuses, and what there may be at most. */
 enum { NOT_EXECUTABLE = 126, NOT_FOUND = 127, MOST_FILE = 1 << 20, MOST_GIBIBYTES = 64, MOST_WAITING = 4 };
 
-static int is_server, has_summary; /* the values of the options */
-static const char *paths[MOST_FUNCTIONS], *memory = "128M";
+static int is_server, has_summary, has_msix; /* the values of the options */
+static const char *paths[MOST_FUNCTIONS], *memory = "128M", *folder_of_data;
 static unsigned path_count, function_count;
 struct function functions[MOST_FUNCTIONS];
 static struct subsystem subsystems[MOST_FUNCTIONS];
-static const char *folder_of_data;
 static unsigned long long most_data;
-static int ways[MOST_FUNCTIONS];     /* QEMU's ways to the sockets */
-static char folder[100], *sockets;   /* for QEMU's sockets, and how the paths of all begin */
+static int ways[MOST_FUNCTIONS], noted; /* QEMU's ways to the sockets, and an event counter of signals */
+static char folder[100], *sockets;      /* for QEMU's sockets, and how the paths of all begin */
 static pid_t qemu;
-static int noted;          /* an event counter of signals */
 static _Atomic int ending; /* the signal that ends this process */
 static sigset_t former_mask, watched;
 
@@ -148,40 +146,39 @@ static void watch_signals(void) {
         errx(FAILED, "a thread could not be started");
 }
 
-/* Opens the machine of a subsystem: that of a file, or the demonstration subsystem. */
-static nvme_machine *open_machine(const char *path) {
+/* Opens two machines of a subsystem: that of a file, or the demonstration subsystem. */
+static void open_machines(const char *path, nvme_machine *machines[2]) {
     static unsigned char bytes[MOST_FILE + 1];
     char fault[512] = "";
-    nvme_machine *machine;
     FILE *file = path ? fopen(path, "re") : NULL;
     size_t length = file ? fread(bytes, 1, sizeof bytes, file) : 0;
     errno = length > MOST_FILE ? EFBIG : errno;
     if (path && (!file || ferror(file) || length > MOST_FILE || fclose(file) != 0))
         err(FAILED, "%s", path);
-    if (path ? nvme_machine_open(bytes, length, &machine, fault, sizeof fault) : nvme_machine_demo(&machine))
-        errx(FAILED, "%s", *fault ? fault : "out of memory");
-    return machine;
+    for (nvme_machine **at = machines; at < machines + 2; at++)
+        if (path ? nvme_machine_open(bytes, length, at, fault, sizeof fault) : nvme_machine_demo(at))
+            errx(FAILED, "%s", *fault ? fault : "out of memory");
 }
 
-/* Makes a function for each controller of a subsystem, and the data of its namespaces. */
+/* Makes a function for each controller of a subsystem, and the data of its namespaces. Another machine is asked what
+   hosts want at first, because controllers count commands. */
 static void make_functions(const char *path, unsigned place, const struct protocol *protocol) {
-    nvme_machine *machine = open_machine(path);
+    nvme_machine *opened[2];
     struct subsystem *subsystem = subsystems + place;
-    subsystem->machine = machine;
-    subsystem->number = place;
-    subsystem->functions = functions + function_count;
-    subsystem->count = nvme_machine_controllers(machine);
+    open_machines(path, opened);
+    *subsystem = (struct subsystem){*opened, place, functions + function_count, nvme_machine_controllers(*opened), {}};
     for (uint16_t number = 0; number < subsystem->count; number++, function_count++) {
         if (function_count == MOST_FUNCTIONS)
             errx(FAILED, "there are more than %d controllers", MOST_FUNCTIONS);
-        functions[function_count] = (struct function){protocol, subsystem, machine, number, .socket = -1,
-            .listener = -1, .to_receiver = -1, .pin = -1, .bell = -1, .unmask = -1,
-            .files.at = {[0 ... MOST_FILES - 1] = -1}};
-        nvme_machine_identify(machine, number, functions[function_count].identity);
+        functions[function_count] = (struct function){protocol, subsystem, *opened, number,
+            protocol == &vfio_user && (has_msix || !is_server) ? VECTORS : 0, .socket = -1, .listener = -1,
+            .drive.saved_wish = wish_at_start(opened[1], number), .to_receiver = -1,
+            .counters = {[0 ... COUNTERS - 1] = -1}, .files.at = {[0 ... MOST_FILES - 1] = -1}};
+        nvme_machine_identify(*opened, number, functions[function_count].identity);
+        reset(functions + function_count);
     }
-    look_at_namespaces(subsystem, AT_START);
-    for (unsigned number = 0; number < subsystem->count; number++)
-        reset(subsystem->functions + number);
+    nvme_machine_close(opened[1]);
+    look_at_namespaces(subsystem->functions, AT_START, 0);
 }
 
 /* Makes the sockets. A socket at which nobody listens is replaced, and no other file. (A connection to one that isn't a
@@ -239,9 +236,9 @@ static int read_size(const char *text, unsigned long long *size) {
     char unit = 0, rest;
     int count = *text >= '0' && *text <= '9' ? sscanf(text, "%12llu%c%c", size, &unit, &rest) : 0;
     const char *found = strchr("KMG", unit);
-    *size = found && unit ? *size << 10 * (found - "KMG" + 1) : *size;
+    int is_over = __builtin_mul_overflow(*size, 1ull << (found && unit ? 10 * (found - "KMG" + 1) : 0), size);
     *size += *size == 0;
-    return count == 1 || (count == 2 && found);
+    return !is_over && (count == 1 || (count == 2 && found));
 }
 
 static unsigned read_options(int count, char **arguments) {
@@ -252,16 +249,15 @@ static unsigned read_options(int count, char **arguments) {
                                             {"socket", required_argument, NULL, 'p'},
                                             {"data", required_argument, NULL, 'd'},
                                             {"data-limit", required_argument, NULL, 'l'},
+                                            {"msix", no_argument, &has_msix, 1},
                                             {"summary", no_argument, &has_summary, 1},
                                             {"help", no_argument, NULL, 'h'},
                                             {0}};
-    unsigned size;
-    char unit[2], rest;
+    unsigned long long size = 0;
     for (int option; (option = getopt_long(count, arguments, "+", options, NULL)) != -1;) {
         if (option == 's' && path_count < MOST_FUNCTIONS)
             paths[path_count++] = optarg;
-        else if (option == 'm' && *optarg >= '1' && sscanf(optarg, "%5u%1[MG]%c", &size, unit, &rest) == 2 &&
-                 size <= (*unit == 'G' ? MOST_GIBIBYTES : MOST_GIBIBYTES << 10))
+        else if (option == 'm' && read_size(optarg, &size) && size >> 20 > 0 && (size - 1) >> 30 < MOST_GIBIBYTES)
             memory = optarg;
         else if (option == 'p')
             sockets = optarg;
@@ -300,7 +296,7 @@ int main(int count, char **arguments) {
     atexit(remove_sockets);
     make_sockets();
     for (unsigned path = 0; path < path_count || path == 0; path++)
-        look_at_namespaces(subsystems + path, AFTER_START);
+        look_at_namespaces(subsystems[path].functions, AFTER_START, 0);
     pid_t self = getpid();
     if (!is_server && (qemu = fork()) == 0)
         run_qemu(arguments + at, (unsigned)count - at, self);

@@ -9,18 +9,10 @@ uint32_t page_size(const struct function *function) {
     return SMALL_PAGE << (read_register(function, NVME_CC) >> 7 & 15);
 }
 
-uint64_t next_entry(const nvme_submission_queue *queue) {
-    return queue->depth > 0 ? queue->base + queue->fetched % queue->depth * 64u : 0;
-}
-
-uint64_t next_completion(const nvme_completion_queue *queue) {
-    return queue->depth > 0 ? queue->base + queue->posted % queue->depth * 16u : 0;
-}
-
 /* Removes all queues, and creates the admin queues if the controller has them. */
 void reset_drive(struct function *function) {
     struct drive *drive = &function->drive;
-    struct drive new = {.counts = DEFAULT_COUNTS, .completions[0].interrupts = 1};
+    struct drive new = {.counts = DEFAULT_COUNTS, .completions[0].vector = 1};
     uint32_t depths = read_register(function, NVME_AQA);
     uint64_t base = nvme_machine_read64(function->machine, function->number, NVME_ASQ);
     memcpy(new.is_active, drive->is_active, sizeof new.is_active);
@@ -46,12 +38,12 @@ void ring(struct function *function, uint32_t offset, uint32_t value) {
         nvme_completion_queue_head(&drive->completions[id].queue, value);
 }
 
-/* Returns whether a completion waits for which there is an interrupt. */
-int has_completions(const struct function *function) {
-    const struct completions *at = function->drive.completions, *end = at + MOST_QUEUES + 1;
-    while (at < end && (!at->interrupts || at->queue.posted == at->queue.told))
-        at++;
-    return at < end;
+/* Returns the vectors, as bits, of the interrupts for completions that wait. */
+uint64_t waiting_vectors(const struct function *function) {
+    uint64_t found = 0;
+    for (const struct completions *at = function->drive.completions, *last = at + MOST_QUEUES; at <= last; at++)
+        found |= at->queue.posted != at->queue.told ? at->vector : 0;
+    return found;
 }
 
 /* Returns the part of the data that an entry names, or nothing if it isn't there or longer than any transfer. */
@@ -65,11 +57,12 @@ static nvme_range part_of(const struct volume *volume, const unsigned char *entr
 
 /* Clears what an entry deallocates or zeroes, by holes in the file. Returns whether that is all that it does. */
 static int clear(struct volume *volume, const nvme_blocks *blocks, const unsigned char *entry,
-                 const unsigned char *memory, uint32_t page) {
+                 const struct memory *memory) {
     nvme_range ranges[256];
     if (entry[0] != NVME_IO_WRITE_ZEROES && entry[0] != NVME_IO_DATASET_MANAGEMENT)
         return 0;
-    int count = nvme_blocks_zeroing(blocks, entry, memory, MOST_MEMORY / page, page, ranges), is_done = count >= 0;
+    int count = nvme_blocks_zeroing(blocks, entry, memory->bytes, memory->pages, memory->page, ranges);
+    int is_done = count >= 0;
     for (int at = 0; at < count && is_done; at++)
         is_done = set_zeros(volume, ranges + at);
     return is_done;
@@ -78,41 +71,39 @@ static int clear(struct volume *volume, const nvme_blocks *blocks, const unsigne
 /* Lets the library take an entry over the data of its namespace, with memory for what is written. Returns whether that
    could be done. */
 static int turn_over(struct function *function, struct volume *volume, struct submissions *from,
-                     struct completions *to, const unsigned char *entry, unsigned char *memory) {
+                     struct completions *to, const unsigned char *entry, const struct memory *memory) {
     nvme_range part = part_of(volume, entry);
-    uint32_t page = page_size(function);
     int reads = entry[0] == NVME_IO_READ || entry[0] == NVME_IO_COMPARE, writes = entry[0] == NVME_IO_WRITE;
     nvme_blocks blocks = {volume->bytes, volume->size, (uint32_t)number_at(entry + 4, 4), volume->block_size,
                           (uint64_t)SMALL_PAGE << function->identity[MDTS], writes && !reserve(volume, &part)};
-    if (clear(volume, &blocks, entry, memory, page))
-        return nvme_queue_complete(&from->queue, &to->queue, memory, MOST_MEMORY / page, page, (nvme_answer){0}) == 1;
+    if (clear(volume, &blocks, entry, memory))
+        return nvme_queue_complete(&from->queue, &to->queue, memory->bytes, memory->pages, memory->page,
+                                   (nvme_answer){0}) == 1;
     blocks.data = begin_use(volume, reads ? &part : NULL);
-    int status = nvme_queue_turn(&from->queue, &to->queue, memory, MOST_MEMORY / page, page, &blocks);
+    int status = nvme_queue_turn(&from->queue, &to->queue, memory->bytes, memory->pages, memory->page, &blocks);
     return end_use() && status >= 0;
 }
 
 /* Takes the next entry of a queue. Returns whether there was one. */
 static int take_from(struct function *function, struct submissions *from) {
     struct completions *to = function->drive.completions + from->completions;
-    uint64_t slot = next_completion(&to->queue);
-    unsigned char entry[ENTRY_BYTES], *memory = lend(function, next_entry(&from->queue), slot);
-    uint32_t page = page_size(function);
-    size_t pages = memory ? MOST_MEMORY / page : 0;
-    int is_taken = nvme_queue_next(&from->queue, &to->queue, memory, pages, page, entry);
+    const struct memory memory = lend(function, from);
+    unsigned char entry[ENTRY_BYTES];
+    int is_taken = nvme_queue_next(&from->queue, &to->queue, memory.bytes, memory.pages, memory.page, entry);
     if (is_taken == 0)
         return 0;
     uint64_t nsid = is_taken > 0 ? number_at(entry + 4, 4) : 0;
     struct volume *volume = function->subsystem->volumes + (nsid <= MOST_NSID ? nsid : 0);
     if (is_taken > 0 && nsid <= MOST_NSID && function->drive.is_active[nsid] && volume->bytes)
-        is_taken = turn_over(function, volume, from, to, entry, memory);
+        is_taken = turn_over(function, volume, from, to, entry, &memory);
     else if (is_taken > 0)
-        is_taken = nvme_queue_turn(&from->queue, &to->queue, memory, pages, page, NULL) >= 0;
+        is_taken = nvme_queue_turn(&from->queue, &to->queue, memory.bytes, memory.pages, memory.page, NULL) >= 0;
     if (is_taken <= 0) {
         function->drive.has_failed = 1;
         return 0;
     }
-    give_back(slot);
-    function->has_message |= to->interrupts;
+    give_back();
+    function->drive.due |= to->vector;
     return 1;
 }
 

@@ -8,8 +8,8 @@ enum { RESET = 13, COMMANDS };
 enum { KIND = 15, IS_ANSWER = 1, WANTS_NONE = 0x10, IS_ERROR = 0x20, CAN_RESET = 1, IS_PCI = 2 };
 enum { MAY_READ = 1, MAY_WRITE = 2, UNMAP_ALL = 2, HAS_COUNTER = 1, IS_MASKABLE = 2, MASKS_ITSELF = 4, IS_FIXED = 8 };
 enum { WITH_NONE = 1, WITH_COUNTER = 4, MASK = 8, UNMASK = 0x10, TRIGGER = 0x20 };
-/* The regions and interrupts of a PCI function, and which this one has. (It also tells of the absent MSI-X.) */
-enum { REGIONS = 9, BAR_REGION = 0, CONFIG_REGION = 7, INTERRUPTS = 5, PIN = 0, MESSAGES = 1, MESSAGES_X = 2 };
+/* The regions and interrupts of a PCI function, and which this one has. */
+enum { REGIONS = 9, BAR_REGION = 0, CONFIG_REGION = 7, INTERRUPTS = 5, BY_PIN = 0, BY_MSI = 1, BY_MSIX = 2 };
 
 /* The sizes of the commands' payloads, of which two can be longer. */
 static const uint32_t payload_sizes[COMMANDS] = {
@@ -57,24 +57,34 @@ static int tell_region(unsigned char *payload) {
     return index < REGIONS ? (int)put_dwords(payload, words, 8) : -EINVAL;
 }
 
-static int tell_interrupt(unsigned char *payload) {
-    uint32_t index = number_at(payload + 8, 4), flags = index == PIN ? IS_MASKABLE | MASKS_ITSELF : IS_FIXED;
-    const uint32_t words[] = {16, HAS_COUNTER | flags, index, index != MESSAGES_X};
-    return index <= MESSAGES_X ? (int)put_dwords(payload, words, 4) : -EINVAL;
+/* Returns how many interrupts of a kind there are. */
+static uint32_t count_of(const struct function *function, uint32_t index) {
+    return index == BY_MSIX ? function->vectors : index < BY_MSIX;
 }
 
-/* Binds or unbinds an event counter, or masks or unmasks the pin. */
+static int tell_interrupt(const struct function *function, unsigned char *payload) {
+    static const uint32_t flags[] = {HAS_COUNTER | IS_MASKABLE | MASKS_ITSELF, HAS_COUNTER | IS_FIXED, HAS_COUNTER};
+    uint32_t index = number_at(payload + 8, 4), is_known = index <= BY_MSIX;
+    const uint32_t words[] = {16, is_known ? flags[index] : 0, index, count_of(function, index)};
+    return is_known ? (int)put_dwords(payload, words, 4) : -EINVAL;
+}
+
+/* Binds or unbinds event counters, all of a kind if the count is 0, or masks or unmasks the pin. */
 static int set_interrupts(struct function *function, const unsigned char *payload) {
-    uint32_t flags = number_at(payload + 4, 4), index = number_at(payload + 8, 4), count = number_at(payload + 16, 4);
-    if (index > MESSAGES || number_at(payload + 12, 4) != 0 || count > 1 ||
-        function->files.count > (flags & WITH_COUNTER ? 1 : 0) ||
-        (function->files.count > 0 && !is_counter(function->files.at[0])))
+    uint32_t flags = number_at(payload + 4, 4), index = number_at(payload + 8, 4), first = number_at(payload + 12, 4);
+    uint32_t count = number_at(payload + 16, 4), most = count_of(function, index);
+    struct files *files = &function->files;
+    int none = -1, are_valid = files->count == 0 || (files->count == count && flags & WITH_COUNTER);
+    for (unsigned at = 0; at < files->count; at++)
+        are_valid &= is_counter(files->at[at]);
+    if (first >= most || count > most - first || !are_valid)
         return -EINVAL;
     if (flags == (TRIGGER | (count ? WITH_COUNTER : WITH_NONE)))
-        set_counter(function, index == PIN ? &function->pin : &function->bell, function->files.at);
-    else if (flags == (UNMASK | WITH_COUNTER) && index == PIN && count)
-        set_counter(function, &function->unmask, function->files.at);
-    else if ((flags == (MASK | WITH_NONE) || flags == (UNMASK | WITH_NONE)) && index == PIN && count)
+        for (uint32_t at = first; at < (count ? first + count : most); at++)
+            set_counter(function, (index == BY_PIN ? PIN : 0) + at, files->count ? files->at + (at - first) : &none);
+    else if (flags == (UNMASK | WITH_COUNTER) && index == BY_PIN && count)
+        set_counter(function, SEEN, files->at);
+    else if ((flags == (MASK | WITH_NONE) || flags == (UNMASK | WITH_NONE)) && index == BY_PIN && count)
         function->mask = flags == (MASK | WITH_NONE) ? BY_CLIENT : UNMASKED;
     else
         return -EINVAL;
@@ -101,7 +111,7 @@ static int serve_command(struct function *function, uint32_t command, unsigned c
            : command == DMA_UNMAP   ? unmap(function, payload)
            : command == DEVICE_INFO ? (int)put_dwords(payload, device, 4)
            : command == REGION_INFO ? tell_region(payload)
-           : command == IRQ_INFO    ? tell_interrupt(payload)
+           : command == IRQ_INFO    ? tell_interrupt(function, payload)
            : command == SET_IRQS    ? set_interrupts(function, payload)
            : command == RESET       ? (reset(function), 0)
                                     : use_region(function, payload, size, command == REGION_WRITE);

@@ -25,10 +25,6 @@ void prepare_data(const char *name, uint64_t most) {
         err(FAILED, "%s", name);
 }
 
-static void print_name(char name[MOST_NAME], const struct subsystem *subsystem, uint32_t nsid) {
-    snprintf(name, MOST_NAME, "subsystem%u.namespace%u", subsystem->number, nsid);
-}
-
 static void count_used(struct volume *volume) {
     struct stat about = {.st_blocks = 0};
     if (volume->file >= 0)
@@ -89,7 +85,7 @@ void follow_namespace(struct subsystem *subsystem, uint32_t nsid, enum moment mo
     struct volume *volume = subsystem->volumes + nsid, now = {.file = -1};
     unsigned char about[IDENTIFY_BYTES] = {0};
     char name[MOST_NAME];
-    print_name(name, subsystem, nsid);
+    snprintf(name, sizeof name, "subsystem%u.namespace%u", subsystem->number, nsid);
     nvme_machine_namespace(subsystem->machine, 0, nsid, 0, about);
     const unsigned char *format = about + LBA_FORMATS + 4 * (about[FLBAS] & 15);
     now.is_there = number_at(about, 8) > 0;
@@ -136,8 +132,8 @@ int reserve(struct volume *volume, const nvme_range *part) {
         return 1;
     if (count > limit || all_used > limit - count)
         return 0;
-    int result = fallocate(volume->file, FALLOC_FL_KEEP_SIZE, (off_t)part->offset, (off_t)part->length);
-    int is_done = result == 0 || errno == EOPNOTSUPP;
+    int is_done = fallocate(volume->file, FALLOC_FL_KEEP_SIZE, (off_t)part->offset, (off_t)part->length) == 0 ||
+                  errno == EOPNOTSUPP;
     count_used(volume);
     return is_done;
 }
@@ -145,10 +141,9 @@ int reserve(struct volume *volume, const nvme_range *part) {
 /* Sets a part of the data to zeros, which then takes no memory. Returns whether it could. */
 int set_zeros(struct volume *volume, const nvme_range *part) {
     int how = FALLOC_FL_PUNCH_HOLE | FALLOC_FL_KEEP_SIZE;
-    if (part->length > 0 && fallocate(volume->file, how, (off_t)part->offset, (off_t)part->length) < 0)
-        return 0;
+    int is_done = part->length == 0 || fallocate(volume->file, how, (off_t)part->offset, (off_t)part->length) == 0;
     count_used(volume);
-    return 1;
+    return is_done;
 }
 
 /* Lends the data for a turn. If it only reads this part, and that isn't all there, a copy of the part is lent, because

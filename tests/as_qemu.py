@@ -1,6 +1,6 @@
 """Takes QEMU's place in the tests of `./nvme-model --qemu`, as a program that is run with QEMU's options: it sends the
-PCI functions the messages of a scenario of this file, `python3 -m tests.as_qemu SCENARIO OPTION..`. Its expectations
-are assertions, and its status is 0 if they hold."""
+PCI functions the messages of a scenario of this file, `python3 -m tests.as_qemu SCENARIO[:ARGUMENT..] OPTION..`. Its
+expectations are assertions, and its status is 0 if they hold."""
 
 import contextlib
 import mmap
@@ -139,6 +139,8 @@ def interrupts(first, second):
     first.take()
     first.acknowledge()
     assert not first.is_raised(0.1)
+    # (the pin has no vectors: Create I/O Completion Queue is refused with Invalid Interrupt Vector)
+    assert first.status_of(5, 8 * PAGE, dword10=15 << 16 | 1, dword11=1 << 16 | 3) == 0x108
     # (anything but two counters leaves none, and isn't kept)
     pipe, before = os.pipe()[0], kept(os.getppid())
     for files in ([], [first.interrupt], [pipe] * 2, [first.interrupt] * 3, [pipe, first.interrupt],
@@ -193,13 +195,11 @@ BROKEN = {
     'cut_body': said(BAR_READ, 0, 24, body=bytes(23)), 'no_body': said(MEMORY, 0, 192), 'first_byte': b'\0'}
 
 
-def broken(name):
+def broken(first, second, name):
     """After an invalid message, the other process ends."""
-    def scenario(first, second):
-        first.socket.sendall(BROKEN[name])
-        first.socket.shutdown(socket.SHUT_WR)
-        signal.pause()
-    return scenario
+    first.socket.sendall(BROKEN[name])
+    first.socket.shutdown(socket.SHUT_WR)
+    signal.pause()
 
 
 def gone(first, second):
@@ -221,44 +221,31 @@ def random_body(lot, kind):
     return b''
 
 
-def random_messages(seed, count):
-    """Returns a scenario of random messages, in which valid memory and random queues recur."""
-    def scenario(first, second):
-        lot = random.Random(seed)
-        files = [memory_file(64 * PAGE), memory_file(PAGE), counter(), os.open('/dev/null', os.O_RDWR)]
-        for turn in range(count):
-            function = lot.choice((first, second))
-            if turn % 50 == 0:
-                function.begin()
-                function.listen()
-                os.close(function.interrupt), os.close(function.seen)
-            if function.ram and turn % 3 == 0:
-                function.ram[:2 * PAGE] = lot.randbytes(2 * PAGE) if turn % 2 else bytes(2 * PAGE)
-            kind = lot.choice((MEMORY, CONFIG_WRITE, CONFIG_READ, *[BAR_WRITE] * 3, BAR_READ, INTERRUPT, RESET))
-            given = lot.choices(files, k=lot.choice((0, 0, 1, 2, 3, 8, 12)))
-            if kind in (MEMORY, INTERRUPT):
-                function.say(kind, random_body(lot, kind), given)
-            else:
-                function.ask(kind, random_body(lot, kind), given if turn % 7 == 0 else [])
-        first.say(lot.randrange(-3, 12), lot.randbytes(lot.randrange(40)), size=lot.getrandbits(64))
-        # (nvme-model ends at this message, and nothing else comes)
-        with contextlib.suppress(ConnectionError):
-            first.socket.recv(1)
-    return scenario
-
-
-def scenario_of(name):
-    if name in BROKEN:
-        return broken(name)
-    if name.startswith('random'):
-        return random_messages(*map(int, name.split(':')[1:]))
-    return globals()[name]
-
-
-def main(name, *options):
-    numbers = re.findall(r'x-pci-proxy-dev,fd=(\d+)', ' '.join(options))
-    scenario_of(name)(*(Function(int(number)) for number in numbers))
+def random_messages(first, second, seed, count):
+    """Random messages, in which valid memory and random queues recur."""
+    lot = random.Random(int(seed))
+    files = [memory_file(64 * PAGE), memory_file(PAGE), counter(), os.open('/dev/null', os.O_RDWR)]
+    for turn in range(int(count)):
+        function = lot.choice((first, second))
+        if turn % 50 == 0:
+            function.begin()
+            function.listen()
+            os.close(function.interrupt), os.close(function.seen)
+        if function.ram and turn % 3 == 0:
+            function.ram[:2 * PAGE] = lot.randbytes(2 * PAGE) if turn % 2 else bytes(2 * PAGE)
+        kind = lot.choice((MEMORY, CONFIG_WRITE, CONFIG_READ, *[BAR_WRITE] * 3, BAR_READ, INTERRUPT, RESET))
+        given = lot.choices(files, k=lot.choice((0, 0, 1, 2, 3, 8, 12)))
+        if kind in (MEMORY, INTERRUPT):
+            function.say(kind, random_body(lot, kind), given)
+        else:
+            function.ask(kind, random_body(lot, kind), given if turn % 7 == 0 else [])
+    first.say(lot.randrange(-3, 12), lot.randbytes(lot.randrange(40)), size=lot.getrandbits(64))
+    # (nvme-model ends at this message, and nothing else comes)
+    with contextlib.suppress(ConnectionError):
+        first.socket.recv(1)
 
 
 if __name__ == '__main__':
-    main(*sys.argv[1:])
+    name, *arguments = sys.argv[1].split(':')
+    numbers = re.findall(r'x-pci-proxy-dev,fd=(\d+)', ' '.join(sys.argv))
+    globals()[name](*(Function(int(number)) for number in numbers), *arguments)

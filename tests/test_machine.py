@@ -239,27 +239,6 @@ class Machines(MachineCase, transcripts='on_machines'):
             script = 'test -c /dev/net/tun && test ! -e /dev/fuse'
             self.ends(self.shell(script, options=['--device', '/dev/net/tun']), 0)
 
-    @unittest.skipUnless(IS_ROOT, 'root alone has rights to give up')
-    def test_less_than_all_rights(self):
-        # root that can't make a mount namespace gets one through a user namespace
-        less = 'setpriv', '--bounding-set=-sys_admin', '--inh-caps=-sys_admin'
-        with contextlib.closing(Machine(self, 'devices')) as machine:
-            ended = machine.model(ATTACK + 'attack', by=less)
-            self.reached_nothing(machine, ended, 5)
-            self.assertEqual(ended.err, b'')
-
-    def test_other_callers(self):
-        # a user that the machine doesn't know, without a home; and a folder that can't be written
-        for machine, user in self.users():
-            unknown = ('setpriv', '--reuid=54321', '--regid=54321', '--clear-groups', 'env', '-u', 'HOME') if (
-                machine.kind == 'devices' and not user) else ('env', '-u', 'HOME')
-            self.ends(machine.model('test -b /dev/nvme0n1; echo $?', user, by=unknown), 0, b'0\n', b'')
-            if not user:
-                read_only = ('unshare', '-m', 'sh', '-c', 'mount --bind "$place" "$place" && mount -o remount,bind,ro '
-                             '"$place" && cd "$place" && exec "$@"', 'sh')
-                self.ends(machine.model('touch x 2> /dev/null || echo $PWD', by=read_only), 0,
-                          f'{self.folder}\n'.encode(), b'')
-
     @unittest.skipUnless(IS_ROOT, 'root alone can mount without a user namespace')
     def test_other_mounts(self):
         # a mount that its user can't reach before the folder above it is opened, also one whose path the kernel writes
@@ -281,22 +260,16 @@ class Machines(MachineCase, transcripts='on_machines'):
                 self.assertIn(b'Permission denied' if is_kept else b"can't be kept from the command", ended.err)
                 (self.folder / folder).chmod(0o755)
 
-    @unittest.skipUnless(IS_ROOT, 'root alone can chroot')
+    @unittest.skipUnless(IS_ROOT, 'root alone has rights to give up, and can chroot')
     def test_other_roots(self):
-        # another root that is a mount point; and one with nodes in a plain folder. (Other views of its /dev would be
-        # devtmpfs on a true machine, but are tmpfs here.)
-        ways = {'a mount point': 'mount --rbind / "$place/root" && chroot "$place/root" "$@"',
-                'a plain /dev': 'for m in alias bound; do mount -o remount,bind,ro "$place/$m"; done; '
-                'mount -t tmpfs x "$place/root" && cd / && for d in *; do case $d in dev) ;; *) test -d $d && '
-                'test ! -L $d && mkdir "$place/root/$d" && mount --rbind $d "$place/root/$d" || '
-                'cp -a $d "$place/root/$d" ;; esac; done; mkdir "$place/root/dev"; cp -a /dev/null /dev/zero /dev/full '
-                '/dev/random /dev/urandom /dev/tty /dev/nvme0 /dev/nvme0n1 "$place/root/dev" && '
-                'chroot "$place/root" "$@"'}
-        for name, way in ways.items():
-            with self.subTest(name), contextlib.closing(Machine(self, 'devices')) as machine:
-                by = 'unshare', '-m', 'sh', '-c', way + '; exit', 'sh'
-                ended = machine.model(ATTACK + 'cd ../../..; attack', by=by)
+        # root that can't make a mount namespace, and gets one through a user namespace; another root that is a mount
+        # point; and one with nodes in a plain folder
+        less = 'setpriv', '--bounding-set=-sys_admin', '--inh-caps=-sys_admin'
+        for by in less, *(('unshare', '-m', 'sh', TOP / 'tests/other_root.sh', kind) for kind in ('mounted', 'plain')):
+            with self.subTest(by), contextlib.closing(Machine(self, 'devices')) as machine:
+                ended = machine.model(ATTACK + ('attack' if by == less else 'cd ../../..; attack'), by=by)
                 self.reached_nothing(machine, ended, 5)
+                self.assertTrue(by != less or not ended.err, ended)
 
     def test_eight_at_once(self):
         with contextlib.closing(Machine(self, 'files')) as machine:

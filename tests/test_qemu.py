@@ -6,8 +6,8 @@ instead of the newest one in /boot or that of tools/kernel, and NVME_TEST_MODULE
 import functools
 import glob
 import hashlib
+import importlib.util
 import json
-import lzma
 import os
 import pathlib
 import re
@@ -18,7 +18,7 @@ import socket
 import subprocess
 
 from tests.as_qemu import BROKEN
-from tests.modelled import CLIENT, PARTS, PROGRAMS, ModelCase, installed, is_there, options_for
+from tests.modelled import CLIENT, PARTS, ModelCase, installed, is_there, options_for
 from tests.support import DEMO, LIMIT, TOP, Case, Running, difference, library, process_folder, run, table
 
 SCENARIOS = 'configuration', 'registers', 'commands', 'interrupts', 'sections', 'gone'
@@ -30,8 +30,6 @@ GUEST = TOP / 'tests/guest'
 COUNTS = r'nvme-model: controller (\d+): commands (\d+), refused (\d+)\n'
 ERROR = r'nvme-model: error (\d+): command (\d+), status 0x([0-9a-f]+), location 0x([0-9a-f]+), NSID 0x([0-9a-f]+)\n'
 
-# The modules that Linux's driver needs if it isn't part of the kernel. Each module lists those that it needs itself.
-MODULES = 'crct10dif_generic', 'crc64_rocksoft_generic', 'nvme'
 # Reads the sector 2000 of the drive from which it was booted (int 13h), writes it to the serial port up to a zero byte,
 # and turns the machine off.
 BOOT_SECTOR = bytes.fromhex('fc 31c0 8ed8 b442 be247c cd13 be0080 ac 84c0 7406 baf803 ee ebf5 ba0406 b80020 ef f4 ebfd'
@@ -74,26 +72,19 @@ class Messages(Case, transcripts='stand_ins'):
         return run(program(*SANITIZERS), '--summary', env={**self.env, 'SCENARIO': scenario})
 
     def test_scenarios(self):
+        ended = {scenario: self.said(scenario) for scenario in SCENARIOS}
         for scenario in SCENARIOS:
             with self.subTest(scenario):
-                self.ends(self.said(scenario), 0, b'')
-
-    def test_counts(self):
+                self.ends(ended[scenario], 0, b'')
         # (the reset, the refused command and the requests are those of the scenario)
-        ended = self.said('commands')
-        self.assertEqual(re.findall(COUNTS, ended.err.decode()), [('0', '22', '1'), ('1', '21', '0')])
-        self.assertEqual(re.findall(ERROR, ended.err.decode()), [('1', '104', '6001', 'ffff', '0')], ended)
+        told = ended['commands'].err.decode()
+        self.assertEqual(re.findall(COUNTS, told), [('0', '22', '1'), ('1', '21', '0')])
+        self.assertEqual(re.findall(ERROR, told), [('1', '104', '6001', 'ffff', '0')], told)
 
-    def test_broken_messages(self):
-        for name in BROKEN:
-            with self.subTest(name):
-                self.ends(self.said(name), 72, b'', b"nvme-model: QEMU sent a message that isn't known here\n")
-
-    def test_random_messages(self):
-        for seed in SEEDS:
-            with self.subTest(seed):
-                self.ends(self.said(f'random:{seed}:3000'), 72, b'',
-                          b"nvme-model: QEMU sent a message that isn't known here\n")
+    def test_invalid_messages(self):
+        for scenario in [f'broken:{name}' for name in BROKEN] + [f'random_messages:{seed}:3000' for seed in SEEDS]:
+            with self.subTest(scenario):
+                self.ends(self.said(scenario), 72, b'', b"nvme-model: QEMU sent a message that isn't known here\n")
 
     def test_arguments(self):
         for words, said in [*table('refused_arguments_of_qemu'), ['--subsystem x ' * 17, '']]:
@@ -114,47 +105,6 @@ class Messages(Case, transcripts='stand_ins'):
         for option in '--qemu', '--vfio-user':
             self.ends(run(launcher, option, '--help'), 0, run(program(), '--help').out, b'')
             self.assertIn(b'see nvme-model --help\n', run(launcher, '--no-notice', option, 'true').err)
-
-    def ended(self, script, *words, **more):
-        """Runs the program over a stand-in with this script."""
-        self.stand_in(script, **more)
-        return run(program(), *words, env=self.env)
-
-    def test_ends(self):
-        for devices in 'x-pci-proxy-dev', 'vfio-user-pci':
-            with self.subTest(devices):
-                self.stand_in(b'echo runs >&2; exec sleep 1000', devices=devices)
-                running = Running(program(), env=self.env)
-                running.comes(b'runs\n')
-                running.process.terminate()
-                self.assertEqual(running.end().status, -signal.SIGTERM)
-        # (QEMU alone ends at the keys of a terminal)
-        self.stand_in(b'echo runs >&2; read line; exit 5')
-        running = Running(program(), env=self.env)
-        running.comes(b'runs\n')
-        running.process.send_signal(signal.SIGINT)
-        running.process.send_signal(signal.SIGQUIT)
-        self.assertEqual(running.end().status, 5)
-
-    def test_options_of_qemu(self):
-        words = '--memory', '2G', '--', '-x', 'y z'
-        self.assertRegex(self.ended(b'echo "$*"', *words).out,
-                         rb'-object \S+,share=on,size=2G( -device x-pci-proxy-dev,fd=\d+){2} -x y z\n')
-        # (the sockets have no names, and yet can be reached)
-        reach = f'echo "$*"; exec python3 {PROGRAMS}/reach.py "$@"'.encode()
-        said = self.ended(reach, *words, devices='vfio-user-pci').out.decode()
-        device = (r'-device \{"driver":"vfio-user-pci","id":"nvme-model-%d",'
-                  r'"socket":\{"type":"unix","path":"/proc/self/fd/\d+"\}\}')
-        self.assertRegex(said, rf'-object \S+,share=on,size=2G {device % 0} {device % 1} -x y z\nTrue\nTrue\n$')
-        # (nothing is left by a program that is killed)
-        self.stand_in(b'echo runs >&2; exec sleep 1000', devices='vfio-user-pci')
-        place = self.folder / 'temporary'
-        place.mkdir()
-        running = Running(program(), env={**self.env, 'TMPDIR': place})
-        running.comes(b'runs\n')
-        running.process.kill()
-        running.end()
-        self.assertEqual(list(place.iterdir()), [])
 
 
 def kernel():
@@ -177,38 +127,24 @@ def why_not():
         return 'busybox is not static'
     if not all(map(os.access, kernel(), (os.R_OK, os.R_OK))):
         return 'there is no kernel with its modules: NVME_TEST_KERNEL and NVME_TEST_MODULES name them'
-    if any(pathlib.Path(kernel()[1]).rglob('nvme*.ko.zst')):
-        return 'the modules of the kernel are packed in a way that Python does not know'
-    if not devices():
+    if not re.search(b'vfio-user-pci|x-pci-proxy-dev', devices()):
         return 'this QEMU has neither vfio-user-pci nor x-pci-proxy-dev'
     return None
 
 
 @functools.lru_cache(maxsize=None)
 def devices():
-    """Returns which of the two devices QEMU has that reach another process."""
-    said = run('qemu-system-x86_64', '-device', 'help').out
-    return [name for name in (b'vfio-user-pci', b'x-pci-proxy-dev') if name in said]
+    """Returns the text in which QEMU names its devices."""
+    return run('qemu-system-x86_64', '-device', 'help').out
 
 
-def module(name):
-    """Returns a module's name as files spell it, and its bytes, or nothing if it is part of the kernel."""
-    pattern = re.sub('[-_]', '[-_]', name)
-    for path in pathlib.Path(kernel()[1]).rglob(f'{pattern}.ko*'):
-        data = path.read_bytes()
-        return path.name.partition('.')[0], lzma.decompress(data) if path.suffix == '.xz' else data
-    return name, None
-
-
-def modules(names):
-    """Returns the files of these modules, each after those that it needs."""
-    found = {}
-    for name in names:
-        own_name, data = module(name)
-        if data is not None:
-            needs = re.search(rb'\0depends=([^\0]*)', data).group(1).decode().split(',')
-            found.update({**modules(filter(None, needs)), own_name: data})
-    return found
+def modules():
+    """Returns the modules that Linux's driver needs, each after those that it needs itself, as `--vm` finds them."""
+    found = importlib.util.spec_from_file_location('vm', CLIENT / 'vm.py')
+    vm = importlib.util.module_from_spec(found)
+    found.loader.exec_module(vm)
+    vm.NEEDED = 'nvme',
+    return {os.path.basename(path).partition('.')[0]: vm.content(path) for path in vm.find_modules(*kernel())}
 
 
 @functools.lru_cache(maxsize=None)
@@ -224,7 +160,7 @@ def initial_files():
         shutil.copy(path, root / path[1:])
     shutil.copy(nvme, root / 'bin/nvme')
     shutil.copy(shutil.which('busybox'), root / 'bin/busybox')
-    needed = modules(MODULES)
+    needed = modules()
     for name, data in needed.items():
         (root / 'modules' / name).write_bytes(data)
     (root / 'modules/order').write_text(' '.join(needed))
@@ -256,17 +192,6 @@ def apart_from_scans(text):
     return re.sub(rb'(?m)^refused: .*\n', b'', before + mark + errors + end + rest)
 
 
-def documents(text):
-    """Returns the JSON documents in a text, in order."""
-    decoder = json.JSONDecoder()
-    found = []
-    while text.strip():
-        document, end = decoder.raw_decode(text.strip())
-        found.append(document)
-        text = text.strip()[end:]
-    return found
-
-
 def command_of_page(path):
     """Returns the words with which QEMU starts over a controller's socket."""
     text = re.search(r'(?m)^    (qemu-system-x86_64 (?:.*\\\n)+.*) \.\.$', (TOP / 'docs/QEMU.md').read_text())[1]
@@ -288,6 +213,15 @@ class Drivers(ModelCase):
             self.skipTest(why_not())
         self.subsystem.write_bytes(DEMO.read_bytes().replace(b'elpe = 3', b'elpe = 63'))
         self.console, self.results = self.folder / 'console', self.folder / 'results'
+        # (Without KVM, the older device has no interrupts. A busy machine fails the kernel's check of the timer.)
+        self.is_new = b'vfio-user-pci' in devices()
+        self.polls = '' if self.is_new else ' irqpoll nolapic_timer'
+
+    def linux(self, more=''):
+        """Returns QEMU's options for Linux, with two processors if they get interrupts."""
+        return ('-serial', f'file:{self.console}', '-serial', f'file:{self.results}', '-smp', str(1 + self.is_new),
+                '-kernel', kernel()[0], '-initrd', initial_files(), '-append',
+                f'console=ttyS0 panic=-1 no_timer_check{self.polls}{more}')
 
     def boot(self, *options, own=()):
         """Runs a machine until it would reset itself, and returns what the program reported at its end."""
@@ -314,13 +248,10 @@ class Drivers(ModelCase):
         self.assertEqual(self.console.read_bytes(), b'SECTOR 2000\n')
 
     def test_linux(self):
-        # (Without KVM, the older device has no interrupts. A busy machine fails the kernel's check of the timer.)
-        is_new = b'vfio-user-pci' in devices()
-        summary = self.boot('-serial', f'file:{self.console}', '-serial', f'file:{self.results}',
-                            *['-smp', '2'] * is_new, '-kernel', kernel()[0], '-initrd', initial_files(), '-append',
-                            'console=ttyS0 panic=-1 no_timer_check' + ' irqpoll nolapic_timer' * (not is_new))
+        summary = self.boot(*self.linux())
         console = self.console.read_text(errors='replace')
-        self.assertEqual(len(re.findall('1/0/0 default/read/poll queues', console)), 3, console[-3000:])
+        queues = f'{1 + self.is_new}/0/0 default/read/poll queues'
+        self.assertEqual(len(re.findall(queues, console)), 3, console[-3000:])
         self.assertEqual(re.findall(r'(?i)nvme.*(?:timeout|timed out|dead|abort)', console), [])
         script, logs = self.results.read_text().split('END OF SCRIPT\n')
         wanted = self.model('sh', GUEST / 'guest.sh')
@@ -328,29 +259,29 @@ class Drivers(ModelCase):
         self.assertEqual(difference('guest', wanted, got), [], console[-3000:])
         # what the guest read last, and what the program reported at its end
         self.assertTrue(logs.endswith('END OF LOGS\n'), logs)
-        pages = documents(logs[:-len('END OF LOGS\n')])
+        pages = json.loads('[%s]' % re.sub(r'}\s*{', '},{', logs[:-len('END OF LOGS\n')]))
         errors = [told(error) for page in pages[::2] for error in page['errors'] if error['error_count']]
         self.assertEqual(errors, re.findall(ERROR, summary))
         refused = [smart['num_err_log_entries'] for smart in pages[1::2]]
         self.assertEqual(refused, [counts[2] for counts in re.findall(COUNTS, summary)])
 
     def test_data(self):
-        # what Linux writes is there after the machine's restart, and in the file
+        # what Linux writes is there after the machine's restart and resets of the functions, and in the file; and the
+        # second processor gets its own interrupts
         place = self.folder / 'data'
         place.mkdir()
-        interrupts = '' if b'vfio-user-pci' in devices() else ' irqpoll nolapic_timer'
         ended = run(program(), '--subsystem', self.subsystem, '--data', place, '--', '-nodefaults', '-display', 'none',
-                    '-serial', f'file:{self.console}', '-serial', f'file:{self.results}', '-kernel', kernel()[0],
-                    '-initrd', initial_files(), '-append', f'console=ttyS0 panic=-1 no_timer_check{interrupts} kept')
+                    *self.linux(' kept'))
         self.ends(ended, 0, b'')
         stored = (place / 'subsystem0.namespace1').read_bytes()
         digest = hashlib.md5(stored).hexdigest()
         self.assertEqual((len(stored), stored[:4]), (1 << 20, b'full'))
-        self.assertEqual(self.results.read_text(), f'WRITTEN {digest}  -\nREAD {digest}  -\n')
+        more = 'RESET\nRESET\nINTERRUPTED PROCESSOR 1\n' * self.is_new
+        self.assertEqual(self.results.read_text(), f'WRITTEN {digest}  -\n{more}READ {digest}  -\n')
 
     def test_plugged(self):
         # a controller is unplugged, and plugged in again, in two machines one after the other
-        if b'vfio-user-pci' not in devices():
+        if not self.is_new:
             self.skipTest('this QEMU has no vfio-user-pci')
         server = Running(program(), '--vfio-user', '--socket', self.folder / 's', '--subsystem', self.subsystem)
         self.addCleanup(server.process.kill)
@@ -390,8 +321,7 @@ class Drivers(ModelCase):
             for old, new in ((' /lib/', f' {place}/lib/'), ('/boot/', f'{place}/boot/'), (' -S ', f' -d {place} -S ')):
                 self.assertIn(old, commands)
                 commands = commands.replace(old, new)
-        added = '' if b'vfio-user-pci' in devices() else ' irqpoll nolapic_timer'
-        commands = commands.replace('-append console=ttyS0', f'-append "console=ttyS0 no_timer_check{added}"')
+        commands = commands.replace('-append console=ttyS0', f'-append "console=ttyS0 no_timer_check{self.polls}"')
         (self.folder / 'here').mkdir()
         (self.folder / 'here/nvme-model').symlink_to(program())
         running = Running('sh', '-c', commands, cwd=self.folder / 'here', env={'HOME': self.folder})
@@ -407,20 +337,14 @@ class Drivers(ModelCase):
         self.assertRegex(said, r'(?m)^\[ +0\]:0x1\r?$')
         self.assertEqual(os.listdir(self.folder / 'here'), ['nvme-model'])
 
-    def order(self, name, event=None, **arguments):
+    def order(self, name, event='', **arguments):
         """Tells QEMU's monitor a command, and waits for its answer, and for an event if one is named."""
         with socket.socket(socket.AF_UNIX) as monitor:
             monitor.settimeout(LIMIT)
             monitor.connect(f'{self.folder}/monitor')
-            lines = monitor.makefile('rw')
-            seen = [None]
             for command in {'execute': 'qmp_capabilities'}, {'execute': name, 'arguments': arguments}:
-                lines.write(json.dumps(command))
-                lines.flush()
-                answer = {}
-                while not answer.keys() & {'return', 'error'}:
-                    answer = json.loads(lines.readline())
-                    seen.append(answer.get('event'))
-                self.assertEqual(answer, {'return': {}})
-            while event not in seen:
-                seen.append(json.loads(lines.readline()).get('event'))
+                monitor.sendall(json.dumps(command).encode())
+            said = ''
+            while said.count('"return": {}') < 2 or event not in said:
+                said += monitor.recv(4096).decode() or self.fail(said)
+                self.assertNotIn('"error"', said)

@@ -1,4 +1,5 @@
-"""Tests the interrupts of ./nvme-model --vfio-user: completions raise them, none is lost, and there are few others."""
+"""Tests the interrupts of ./nvme-model --vfio-user: completions raise them, none is lost, and there are few others. And
+what else a function's configuration space does: MSI-X, and resets."""
 
 import os
 import random
@@ -8,13 +9,17 @@ import sys
 import time
 
 from tests.as_client import (
-    BAR, BIND, BIND_UNMASK, MASK, MESSAGES, MESSAGE_CONTROL, PIN, REGION_WRITE, SET_IRQS, STATUS, UNBIND, UNMASK,
-    WANTS_NONE, access, message)
+    BAR, BIND, BIND_UNMASK, IRQ_INFO, MASK, MESSAGES, MESSAGE_CONTROL, PIN, REGION_WRITE, SET_IRQS, STATUS,
+    UNBIND, UNMASK, WANTS_NONE, access, message)
+from tests.blocks import FLUSH, INVALID_VECTOR, MANAGE, SET_FEATURES, Blocks, block_entry
 from tests.driver import (
-    COMMAND, CSTS, HEAD, IDENTIFY, MASTER, NO_INTERRUPT, PAGE, TAIL, counter, is_raised, memory_file)
+    CC, COMMAND, CSTS, HEAD, IDENTIFY, MASTER, NO_INTERRUPT, PAGE, TAIL, counter, is_raised, memory_file)
 from tests.modelled import is_there
 from tests.served import EINVAL, Served
 from tests.support import DEMO, LIMIT, left_running, until
+from tests.test_vfio_blocks import event, request
+
+VECTORS, VECTOR_CONTROL = 2, 0xa2  # the index of MSI-X, and its register
 
 
 class Processors:
@@ -77,12 +82,16 @@ class Processors:
         return 1000 * (time.monotonic() - begun_at)
 
 
-def full_counter():
-    """Returns an event counter on which a write waits."""
-    found = counter()
-    os.set_blocking(found, True)
-    os.write(found, struct.pack('=Q', 2 ** 64 - 2))
-    return found
+def fill(bell):
+    """Fills an event counter, so that a write to it waits."""
+    os.set_blocking(bell, True)
+    os.write(bell, struct.pack('=Q', 2 ** 64 - 2))
+    return bell
+
+
+def written(offset, value):
+    """Returns the message by which QEMU writes a register."""
+    return message(REGION_WRITE, access(BAR, offset, 4) + struct.pack('<I', value), flags=WANTS_NONE)
 
 
 class Interrupts(Served):
@@ -193,9 +202,8 @@ class Interrupts(Served):
         bell = driver.counters()[1]
         for _ in range(50):
             driver.put(IDENTIFY, 2 * PAGE, dword10=1, rings=False)
-            driver.socket.sendall(b''.join(
-                message(REGION_WRITE, access(BAR, offset, 4) + struct.pack('<I', queue.next), flags=WANTS_NONE)
-                for offset, queue in ((HEAD, driver.completions[0]), (TAIL, driver.submissions[0]))))
+            heads = written(HEAD, driver.completions[0].next)
+            driver.socket.sendall(heads + written(TAIL, driver.submissions[0].next))
             self.assertTrue(is_raised(bell, LIMIT))
             self.assertEqual(driver.advance(), 0)
         self.stop(self.server)
@@ -215,29 +223,6 @@ class Interrupts(Served):
             os.write(seen, struct.pack('=Q', 1))
         self.follow('idle')
 
-    def test_invalid_requests(self):
-        kept = self.kept()
-        pipe = os.pipe()
-        for request in (
-                (BIND, 2, 1, counter()), (BIND, MESSAGES, 1, counter(), 1), (BIND, MESSAGES, 2, counter()),
-                (BIND, PIN, 0), (BIND, MESSAGES, 1, pipe[1]), (BIND, PIN, 1, memory_file(8)),
-                (UNBIND, PIN, 0, counter()), (UNBIND, PIN), (MASK, MESSAGES), (UNMASK, PIN, 0), (0x22, PIN),
-                (0x23, PIN), (0x64, PIN), (0x38, PIN), (0, PIN), (BIND, 0xffff_ffff, 1, counter()),
-                (BIND, MESSAGES, 0xffff_ffff, counter(), 1), (BIND_UNMASK, MESSAGES, 1, counter()),
-                (BIND_UNMASK, PIN, 1, pipe[0])):
-            self.assertEqual(self.driver.set_irqs(*request), EINVAL, request)
-        payload = struct.pack('<5I', 20, BIND, PIN, 0, 1)
-        self.assertEqual(self.driver.refusal(SET_IRQS, payload, files=[counter()] * 2), EINVAL)
-        self.keeps(kept)
-
-    def test_full_counter(self):
-        # a counter on which a write waits doesn't hold up the server, and is raised once it is read
-        self.bind(MESSAGES, full_counter())
-        self.follow('put take')
-        self.assertEqual(self.greeted(1).config(0), 0x0010_1b36)
-        self.assertEqual(os.read(self.bell, 8), struct.pack('=Q', 2 ** 64 - 1))
-        self.follow('put raised')
-
     def test_many_full_counters(self):
         # fifteen of them don't slow down the commands of another client
         self.driver.close()
@@ -252,7 +237,7 @@ class Interrupts(Served):
         for _ in range(20):
             serial(usual)
             for guest in guests[1:]:
-                full = full_counter()
+                full = fill(counter())
                 self.assertEqual(guest.set_irqs(BIND, MESSAGES, file=full), 0)
                 os.close(full)
                 guest.put(IDENTIFY, 2 * PAGE, dword10=1, rings=False)
@@ -263,3 +248,183 @@ class Interrupts(Served):
                 guest.take()
         # (a busy machine makes both slow)
         self.assertLess(min(waits), 0.1 + 10 * min(usual))
+
+
+class Vectors(Blocks):
+    """The messages of MSI-X, which a server offers if it is told so, and resets of a function."""
+
+    def setUp(self):
+        super().setUp()
+        self.restart('--msix')
+
+    def bind(self, drive, first, files, count=None, flags=BIND, index=VECTORS):
+        """Binds counters to vectors. Returns with which error this is refused, or 0."""
+        payload = struct.pack('<5I', 20, flags, index, first, len(files) if count is None else count)
+        return drive.refusal(SET_IRQS, payload, files=files)
+
+    def ready(self, vectors):
+        """Returns a drive with counters for all vectors, bound eight at a time as QEMU does, and a pair of queues for
+        each of these vectors."""
+        drive = self.drive(pairs=0, layout=[(0, 128 * PAGE)])
+        drive.bells = [counter() for _ in range(64)]
+        for at in range(0, 64, 8):
+            self.assertEqual(self.bind(drive, at, drive.bells[at:at + 8]), 0)
+        for number, vector in enumerate(vectors, 1):
+            self.pair(drive, number, vector)
+        self.raised(drive)
+        return drive
+
+    def pair(self, drive, number, vector, flags=3):
+        rings = (2 + 2 * number) * PAGE, (3 + 2 * number) * PAGE
+        drive.at(rings[1], PAGE)[:] = bytes(PAGE)
+        self.assertEqual(drive.create_completions(number, rings[1], flags=flags, vector=vector), 0)
+        self.assertEqual(drive.create_submissions(number, rings[0]), 0)
+
+    def raised(self, drive):
+        """Returns the vectors that were raised since the last call."""
+        drive.register(0)
+        return [vector for vector, bell in enumerate(drive.bells) if is_raised(bell)]
+
+    def flush(self, drive, *numbers):
+        """Puts an entry into each of these queues, and rings their doorbells at once."""
+        for number in numbers:
+            drive.put_io(number, block_entry(FLUSH, 1), rings=False)
+        drive.socket.sendall(b''.join(written(TAIL + 8 * number, drive.submissions[number].next) for number in numbers))
+        return self.raised(drive)
+
+    def test_capability(self):
+        # 64 vectors, with a table and pending bits behind the doorbells, before the capabilities of every server
+        client = self.greeted()
+        self.assertEqual([client.config(at) for at in (0x34, 0xa0, 0xa4, 0xa8)], [0xa0, 0x3f4011, 0x2000, 0x3000])
+        self.assertEqual([client.ask(IRQ_INFO, struct.pack('<4I', 16, 0, index, 0)) for index in range(3)],
+                         [struct.pack('<4I', 16, *words) for words in ((7, 0, 1), (9, 1, 1), (1, 2, 64))])
+        self.restart()
+        client = self.greeted()
+        client.set_config(VECTOR_CONTROL, 0xffff, 2)
+        self.assertEqual([client.config(at, 1) for at in (0x34, 0x41, 0x61)], [0x40, 0x60, 0])
+        self.assertEqual([client.config(at) for at in (0xa0, 0xa4, 0xa8)], [0, 0, 0])
+        self.assertEqual(self.bind(client, 0, [counter()]), EINVAL)
+
+    def test_each_queue_has_its_vector(self):
+        drive = self.ready((5, 63, 5, 0))
+        self.pair(drive, 5, vector=9, flags=1)
+        self.assertEqual(self.raised(drive), [0])
+        for number, vectors in (1, [5]), (2, [63]), (3, [5]), (4, [0]), (5, []):
+            self.assertEqual(self.flush(drive, number), vectors)
+        self.assertEqual(self.flush(drive, 1, 2, 3), [5, 63])
+        self.answers(lambda vector: drive.create_completions(9, 32 * PAGE, vector=vector),
+                     (64, INVALID_VECTOR), (65, INVALID_VECTOR), (0xffff, INVALID_VECTOR), (63, 0))
+
+    def test_pin_beside_vectors(self):
+        # enabled messages hold it back, even before their counters come
+        drive = self.drive(pairs=0)
+        pin = counter()
+        self.assertEqual(self.bind(drive, 0, [pin], index=PIN), 0)
+        for control, is_high in (0x8000, False), (0x4000, True):
+            drive.set_config(VECTOR_CONTROL, control, 2)
+            drive.put(IDENTIFY, 2 * PAGE, dword10=1)
+            self.assertEqual((drive.config(VECTOR_CONTROL, 2), is_raised(pin)), (control | 63, is_high))
+
+    def test_absent_counters(self):
+        # a message that finds no counter is kept until there is one, and all or some can be unbound
+        drive = self.ready((7, 8))
+        for flags, first, count in (UNBIND, 0, 0), (BIND, 0, 64), (BIND, 7, 2):
+            self.assertEqual(self.bind(drive, first, [], count, flags), 0)
+            self.assertEqual(self.flush(drive, 1, 2), [])
+            self.assertEqual(self.bind(drive, 8, [drive.bells[8]]), 0)
+            self.assertEqual(self.raised(drive), [8])
+            self.assertEqual(self.bind(drive, 0, drive.bells[:8]), 0)
+            self.assertEqual(self.raised(drive), [7])
+            for number in 1, 2:
+                drive.take_io(number)
+            self.assertEqual((self.bind(drive, 7, drive.bells[7:9]), self.raised(drive)), (0, []))
+
+    def test_invalid_requests(self):
+        drive, pipe, kept = self.ready((1,)), os.pipe(), self.kept()
+        bell, most = drive.bells[2], 2 ** 32 - 1
+        for index, flags, first, count, *files in (
+                (VECTORS, BIND, 64, 1, bell), (VECTORS, BIND, 63, 2, bell, bell), (VECTORS, BIND, 63, 2),
+                (VECTORS, BIND, 0, 65), (VECTORS, BIND, 1, most), (VECTORS, BIND, most, 1, bell),
+                (VECTORS, BIND, 2 ** 31, 2 ** 31), (VECTORS, BIND, 0, 2, bell), (VECTORS, BIND, 0, 1, bell, bell),
+                (VECTORS, BIND, 0, 0, bell), (VECTORS, BIND, 0, 9, *[bell] * 9), (VECTORS, BIND, 0, 2, bell, pipe[0]),
+                (VECTORS, BIND, 0, 1, memory_file(8)), (VECTORS, BIND_UNMASK, 0, 1, bell), (VECTORS, UNBIND, 64, 0),
+                (VECTORS, UNBIND, 0, 1), (VECTORS, UNBIND, 0, 0, bell), (VECTORS, MASK, 0, 1), (VECTORS, UNMASK, 0, 1),
+                (MESSAGES, BIND, 1, 1, bell), (MESSAGES, BIND, 0, 2, bell), (MESSAGES, BIND, 1, most, bell),
+                (MESSAGES, BIND, 0, 1, pipe[1]), (MESSAGES, BIND_UNMASK, 0, 1, bell), (MESSAGES, MASK, 0, 1),
+                (PIN, BIND, 0, 0), (PIN, BIND, 0, 1, memory_file(8)), (PIN, BIND, 0, 1, bell, bell),
+                (PIN, BIND_UNMASK, 0, 1, pipe[0]), (PIN, UNBIND, 0, 0, bell), (PIN, UNBIND, 0, 1), (PIN, UNMASK, 0, 0),
+                *((PIN, flags, 0, 1) for flags in (0x22, 0x23, 0x64, 0x38, 0)), (3, BIND, 0, 1, bell),
+                (most, BIND, 0, 1, bell)):
+            refused = self.bind(drive, first, files, count, flags, index)
+            self.assertEqual(refused, EINVAL, (index, hex(flags), first, count, files))
+        self.assertEqual(self.flush(drive, 1), [1])
+        self.keeps(kept)
+
+    def test_full_counters(self):
+        # no counter on which a write waits holds up the server, and each is raised once it is read
+        drive = self.ready(range(1, 25))
+        for bell in drive.bells:
+            fill(bell)
+        self.assertEqual(self.flush(drive, *range(1, 25)), [*range(64)])
+        self.assertEqual(self.flush(drive, *range(1, 25)), [*range(1, 25)])
+
+    def test_reset_of_what_is_due(self):
+        # a controller that is reset before its messages were sent has no completions, and so sends none
+        drive = self.ready((3,))
+        drive.put_io(1, block_entry(FLUSH, 1), rings=False)
+        drive.socket.sendall(written(TAIL + 8, 1) + written(CC, 0))
+        self.assertEqual(self.raised(drive), [])
+
+    def test_function_reset(self):
+        # by the bit Initiate Function Level Reset; counters and data stay
+        drive = self.ready((3,))
+        self.assertEqual(drive.store(1, 5, b'kept' * 128), 0)
+        self.assertEqual(drive.config(0x64), 0x1000_8000)
+        for control, length in (0x800f, 2), (0x80, 1):
+            drive.set_config(VECTOR_CONTROL, 0xc000, 2)
+            drive.set_config(0x68, 0x7f0f, 2)
+            self.assertEqual([drive.config(at, 2) for at in (VECTOR_CONTROL, 0x68)], [0xc03f, 0xf])
+            self.assertEqual(drive.register(CSTS), 1)
+            drive.set_config(0x6a - length, control, length)
+            self.assertEqual([drive.register(at) for at in (CC, CSTS)], [0, 0])
+            self.assertEqual([drive.config(at, 2) for at in (COMMAND, VECTOR_CONTROL, 0x68)], [0, 63, 0])
+            self.begin(drive, 0)
+            self.pair(drive, 1, vector=3)
+            self.raised(drive)
+            self.assertEqual((self.flush(drive, 1), drive.take_io(1).status), ([3], 0))
+            self.assertEqual(drive.load(1, 5, 1), b'kept' * 128)
+
+    def test_first_wish_for_events(self):
+        # a host is told of changes as the subsystem file says, also after a reset, until it saves another wish
+        feature = b'[[controller.feature]]\nfid = 11\ndefault = 256\nsaveable = true\n\n[[controller]]\ncntlid = 1'
+        self.restart('--subsystem', self.file('wish.toml', DEMO.read_bytes().replace(
+            b'[[controller]]\ncntlid = 1', feature)))
+        first, second = self.drive(0, pairs=0), self.drive(1, pairs=0)
+        for turn, is_told in enumerate((True, True, False)):
+            held = request(first)
+            request(second)
+            nsid = self.create(first, 8)
+            self.assertEqual(event(first), held if is_told else None)
+            self.assertEqual((self.attach(first, nsid, [1]), event(second)), (0, None))
+            self.assertEqual(first.status_of(MANAGE, nsid=nsid, dword10=1), 0)
+            self.assertEqual(first.status_of(SET_FEATURES, dword10=0xb | min(turn, 1) << 31), 0)
+            for drive in first, second:
+                drive.at(PAGE, PAGE)[:] = bytes(PAGE)
+                drive.enable()
+
+    def test_random_requests(self):
+        # counters come and go while queues are used, and what remains is a server that works
+        lot, drive = random.Random(1), self.ready(range(1, 9))
+        for _ in range(2000):
+            first = lot.choice((0, 7, 56, 63, lot.randrange(70)))
+            count = lot.choice((0, 1, 2, 8, 64, lot.getrandbits(32)))
+            files = lot.choices(drive.bells, k=lot.choice((0, min(count, 8), lot.randrange(9))))
+            refused = self.bind(drive, first, files, count, lot.choice((BIND, BIND, BIND, UNBIND, lot.getrandbits(7))))
+            self.assertIn(refused, (0, EINVAL))
+            number = lot.randrange(1, 9)
+            drive.put_io(number, block_entry(FLUSH, 1))
+            self.assertEqual(drive.take_io(number).status, 0)
+        for at in range(0, 64, 8):
+            self.assertEqual(self.bind(drive, at, drive.bells[at:at + 8]), 0)
+        self.raised(drive)
+        self.assertEqual(self.flush(drive, *range(1, 9)), [*range(1, 9)])

@@ -2,6 +2,7 @@
 (tests/block_model.py): after each step, all of the guest's memory and of the data is as in the model. NVME_TEST_STEPS
 sets the steps of each seed."""
 
+import contextlib
 import os
 import random
 import struct
@@ -65,25 +66,17 @@ class Random(Served):
                 self.random_entries(random.Random(seed))
 
     def random_entries(self, lot):
-        drive = Drive(f'{self.path}0', layout=[(0, PAGES * PAGE)])
-        self.addCleanup(drive.close)
         self.model = Model(bytearray(PAGES * PAGE), 32 * PAGE)
         for nsid, blocks, size in NAMESPACES:
             with open(self.kept / f'subsystem0.namespace{nsid}', 'rb') as file:
                 self.model.data[nsid] = bytearray(file.read()), size
                 self.assertEqual(len(self.model.data[nsid][0]), blocks * size)
-        self.begin(drive, lot)
-        try:
-            self.steps(drive, lot)
-        finally:
-            drive.close()
-
-    def steps(self, drive, lot):
-        for step in range(STEPS):
-            if self.model.has_failed or lot.random() < 0.01:
-                self.begin(drive, lot)
-            self.step(drive, lot, step)
-            self.agree(drive, step)
+        with contextlib.closing(Drive(f'{self.path}0', layout=[(0, PAGES * PAGE)])) as drive:
+            for step in range(STEPS):
+                if step == 0 or self.model.has_failed or lot.random() < 0.01:
+                    self.begin(drive, lot)
+                self.step(drive, lot, step)
+                self.agree(drive, step)
 
     def begin(self, drive, lot):
         """Enables the controller with its own queues in the last pages, and creates random queues."""
@@ -137,11 +130,11 @@ class Random(Served):
         tail = lot.choice((*[(queue.doorbell + count) % queue.depth] * 6, lot.randrange(70), lot.getrandbits(32)))
         drive.set_register(TAIL + 8 * number, tail)
         model.ring_tail(number, tail)
-        while model.take(number):
-            pass
+        self.run_all()
 
     def run_all(self):
-        """Lets the model take entries that waited for room. (Each submission queue has its own completion queue.)"""
+        """Lets the model take all entries for which there is room. (Each submission queue has its own completion
+        queue.)"""
         for number in self.model.submissions:
             while self.model.take(number):
                 pass

@@ -32,7 +32,7 @@ class Commands(Served):
             size = {0: 0x4000, 7: 0x100}.get(index, 0)
             self.assertEqual(client.ask(REGION_INFO, struct.pack('<IIIIQQ', 32, 0, index, 0, 0, 0)),
                              struct.pack('<IIIIQQ', 32, 3 if size else 0, index, 0, size, 0))
-        for index, flags, count in (0, 7, 1), (1, 9, 1), (2, 9, 0):
+        for index, flags, count in (0, 7, 1), (1, 9, 1), (2, 1, 0):
             self.assertEqual(client.ask(IRQ_INFO, struct.pack('<4I', 16, 0, index, 0)),
                              struct.pack('<4I', 16, flags, index, count))
         binds = client.set_irqs, BIND, PIN, 1, counter(), 0
@@ -52,14 +52,14 @@ class Commands(Served):
         whole = client.read(CONFIG, 0, 256)
         wanted = bytearray(256)
         for at, value in ((0, '361b1000'), (6, '10'), (8, '02020801'), (0x2c, 'f41a0011'), (0x34, '40'), (0x3d, '01'),
-                          (0x40, '05008000')):
+                          (0x40, '05608000'), (0x60, '1000920000800010')):
             wanted[at:at + len(value) // 2] = bytes.fromhex(value)
         self.assertEqual(whole.hex(), wanted.hex())
         writable = {COMMAND: 0x406, BASE: 0xffff_c000, 0x3c: 0xff, 0x40: 0x0001_0000, 0x44: 0xffff_fffc,
-                    0x48: 0xffff_ffff, 0x4c: 0xffff}
+                    0x48: 0xffff_ffff, 0x4c: 0xffff, 0x68: 0xf}
         for offset in range(0, 256, 4):
             before = client.config(offset)
-            client.set_config(offset, 0xffff_ffff)
+            client.set_config(offset, 0xffff_ffff if offset != 0x68 else 0xffff_7fff)  # (a reset)
             mask = writable.get(offset, 0)
             self.assertEqual(client.config(offset), before & ~mask | mask, hex(offset))
             client.set_config(offset, 0)

@@ -1,12 +1,12 @@
-"""Stands for QEMU: tells of each socket in its options whether the server of a controller answers there."""
+"""Stands for QEMU: tells of each socket in its options where the capabilities of the function there begin."""
 
 import re
-import socket
-import struct
 import sys
 
+from tests.as_client import Client
+
 for path in re.findall('"path":"([^"]+)"', ' '.join(sys.argv)):
-    with socket.socket(socket.AF_UNIX) as function:
-        function.connect(path)
-        function.sendall(struct.pack('<HHIIIHH', 1, 1, 20, 0, 0, 0, 0))
-        print('max_msg_fds' in function.recv(1000).decode(errors='replace'))
+    function = Client(path)
+    function.greet()
+    print(hex(function.config(0x34, 1)))
+    function.close()
