@@ -13,8 +13,8 @@ import time
 import unittest
 
 from tests.modelled import (ASAN, ASKING, DEVICES, PARTS, RECEIVING, SANITIZERS, ModelCase, compiled_c, do_helpers,
-                            installed, parts, sanitized, signals, works)
-from tests.support import IS_ROOT, LIMIT, USERS, Case, Running, left_running, processes, run, table, until
+                            installed, parts, sanitized, signals)
+from tests.support import IS_ROOT, LIMIT, Case, Running, left_running, processes, run, table, until
 
 CHECK = 'check', 'check_client'
 PARTS_OF_CHECK = 'commands', 'wide', 'lengths', 'many', 'broken', 'killed', 'nodes', 'gone'
@@ -91,22 +91,6 @@ class Arguments(ModelCase, transcripts='launcher'):
                 self.ends(ended, 72, b'')
                 self.assertRegex(ended.err.decode(), f'^nvme-model: {said}\nsee nvme-model --help\n$')
         self.ends(self.model('true', options=['--depth', '1', '--depth', '4', '--window', '3']), 0, b'', b'')
-
-    def test_in_a_container(self):
-        # (there, the launcher may be process 1)
-        container = *USERS[-1], 'unshare', '-Urpf', '--mount-proc'
-        if works(*container):
-            for words in ['true'], ['--no-notice', 'true']:
-                self.ends(run(*container, installed(), *words), 0, b'', b'')
-
-    def test_without_nvme_cli(self):
-        # where there is none at all, its package is named
-        hides = 'for folder in /usr/sbin /sbin; do test -L $folder || mount -t tmpfs none $folder; done; exec "$@"'
-        if works('unshare', '-Urm'):
-            by = *USERS[-1], 'env', 'PATH=/usr/bin:/bin', 'unshare', '-Urm', 'sh', '-c', hides, 'sh'
-            ended = run(*by, installed(), 'nvme', 'list')
-            self.ends(ended, 127, b'',
-                      b'nvme-model: nvme: No such file or directory: install the package nvme-cli\n')
 
 
 class Subsystems(ModelCase, transcripts='subsystems'):
