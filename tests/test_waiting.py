@@ -214,32 +214,6 @@ class Processes(WaitingCase, transcripts='waiting'):
         self.gives('busybox sh -c "seq 2000 > /dev/nvme0n2"; until test $(busybox wc -c < /dev/nvme0n2) = 4608; do '
                    'sleep 0.1; done; step', is_idle, out=GREW + b'step\n')
 
-    @unittest.skipUnless(IS_ROOT, 'root alone can take groups')
-    def test_many_groups(self):
-        # a signal is passed on, however much the kernel tells about bwrap before it
-        groups = '--groups=' + ','.join(map(str, range(1_000_000_000, 1_000_001_000)))
-        for user in ('setpriv', groups), ('setpriv', '--reuid=65534', '--regid=65534', groups):
-            with self.subTest(user=user[1:-1]):
-                self.assertEqual(self.ends_by_signal(self.begun(user, 'echo go; exec sleep 1000')), b'go\n')
-
-    def test_limits(self):
-        # process 1 takes no turn in vain, and ends with the command
-        spent = 'cut -d " " -f 14,15 /proc/1/stat | tr " " +'
-        for limit in 'nofile=0:0', 'nproc=0:0', 'fsize=0:0', 'nofile=1:1', 'cpu=600:600':
-            script = (f'prlimit --pid 1 --{limit}; a=$(({"$"}({spent}))); sleep 1; b=$(({"$"}({spent}))); '
-                      f'test $((b - a)) -lt 30 || echo $a $b; echo go; test -z "$1" || sleep 1000; exit 5')
-            for user in USERS:
-                with self.subTest(limit, user=user):
-                    self.assertEqual(self.ends_by_signal(self.begun(user, script, 'x')), b'go\n')
-                    self.ends(self.begun(user, script, '').end(), 5, b'go\n')
-
-    def test_many_orphans(self):
-        # a signal is passed on while processes without parents stop and end
-        script = f'exec python3 {programs()}/orphans.py'
-        for user in USERS:
-            with self.subTest(user=user):
-                self.assertEqual(self.ends_by_signal(self.begun(user, script)), b'go\n')
-
     def test_trace_that_nobody_reads(self):
         for user in USERS:
             with self.subTest(user=user):
