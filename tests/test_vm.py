@@ -232,20 +232,13 @@ class Ends(Case, transcripts='vm'):
                     self.assertEqual([text for text in always + texts if text not in said], [], said)
 
 
-def why_not():
-    """Returns the reason why no machine can be booted here, or nothing."""
-    if not shutil.which('qemu-system-x86_64'):
-        return 'qemu-system-x86_64 not installed'
-    if not all(map(os.access, kernel(), (os.R_OK, os.R_OK))):
-        return 'there is no kernel with its modules: NVME_TEST_KERNEL and NVME_TEST_MODULES name them'
-    return None
-
-
 class Boot(Case):
     def setUp(self):
         super().setUp()
-        if why_not():
-            self.skipTest(why_not())
+        if not shutil.which('qemu-system-x86_64'):
+            self.skipTest('qemu-system-x86_64 not installed')
+        if not all(map(os.access, kernel(), (os.R_OK, os.R_OK))):
+            self.skipTest('there is no kernel with its modules: NVME_TEST_KERNEL and NVME_TEST_MODULES name them')
         self.folder.chmod(0o755)
         self.parts = parts(program())
         self.drive = self.file('drive.toml', edited(
@@ -369,5 +362,4 @@ class Boot(Case):
         self.shell.heard = b''
         self.shell.comes(b'outside: ')
         self.shell.say(b'echo status $?.\n')
-        self.shell.has(b'.\noutside: ')
-        self.assertIn(b'\nstatus 7.\n', self.shell.heard)
+        self.shell.has(b'\nstatus 7.\n')
