@@ -20,17 +20,14 @@ LISTED = dict(word.split('=', 1) for word in shlex.split((CLIENT / 'programs.sh'
 PARTS = {'bin/nvme-model': (*LISTED['launcher'].split(),),
          'lib/nvme-model/library.so': (*LISTED['preloaded'].split(),),
          'lib/nvme-model/qemu': (*LISTED['qemu'].split(),)}
+SANITIZERS = '-fsanitize=address,undefined', '-fno-sanitize-recover=all', '-ldl', '-pthread'
+ASAN = {'ASAN_OPTIONS': 'verify_asan_link_order=0:detect_leaks=0'}
 WARNINGS = '-Wall', '-Wextra', '-Wshadow', '-Werror'
-# Waits in a shell until what was written past the end of a node is cut off.
-CUT = 'until test $(busybox wc -c < /dev/nvme0n2) = 4608; do sleep 0.1; done; '
-# The line that tells of this.
-GREW = b'nvme-model: /dev/nvme0n2: what was written past the end is cut off; Linux would have refused it\n'
 VERSION = (TOP / 'VERSION').read_text().strip()
 
 # Programs that need not be installed. A test that calls one is skipped if it isn't.
 TOOLS = ('nvme', 'smartctl', 'busybox', 'inotifywait', 'lsblk', 'blkid', 'blkdiscard', 'wipefs', 'mkfs.ext4', 'debugfs',
-         'e2fsck', 'sudo', 'strace', 'script', 'udevadm', 'lspci', 'fdisk',
-         'sg_inq', 'e2label')
+         'e2fsck', 'sudo', 'strace', 'script', 'udevadm', 'lspci', 'fdisk', 'sg_inq', 'e2label')
 # (an ordinary user's PATH may lack those that root uses)
 os.environ['PATH'] += ':/usr/sbin:/sbin'
 
@@ -45,8 +42,8 @@ def is_there(tool):
 
 def missing_tools(text):
     """Returns the tools that a script calls and that aren't installed."""
-    called = [tool for tool in TOOLS if re.search(rf'(?<![\w/.-]){re.escape(tool)}(?![\w/.=-])', text)]
-    return [tool for tool in called if not is_there(tool)]
+    return [tool for tool in TOOLS
+            if re.search(rf'(?<![\w/.-]){re.escape(tool)}(?![\w/.=-])', text) and not is_there(tool)]
 
 
 @functools.lru_cache(maxsize=None)
@@ -92,6 +89,12 @@ def installed():
     return place / 'bin/nvme-model'
 
 
+def sanitized(folder):
+    """Compiles the launcher with sanitizers, with its parts, and returns it."""
+    shutil.copytree(installed().parents[1] / 'lib', folder / 'lib')
+    return compiled_c(folder / 'bin/nvme-model', PARTS['bin/nvme-model'], *SANITIZERS)
+
+
 # What a reason ends with where no sandbox can be made.
 BY_VM = '--vm runs the command on a kernel of its own, in a virtual machine'
 
@@ -102,11 +105,12 @@ def programs():
     return shutil.copytree(PROGRAMS, process_folder() / 'programs')
 
 
-def static_program(name, *options):
-    """Compiles a program of tests/programs that is linked statically."""
-    made = programs() / '-'.join((name, *options))
+def static_program(name, *sources):
+    """Compiles a program of tests/programs, with other sources, that is linked statically."""
+    made = programs() / name
     if not made.exists():
-        subprocess.run(['cc', *WARNINGS, '-static', *options, '-o', made, PROGRAMS / f'{name}.c'], check=True)
+        subprocess.run(['cc', '-O1', *WARNINGS, '-static', '-I', CLIENT, '-o', made, PROGRAMS / f'{name}.c', *sources],
+                       check=True)
     return made
 
 
@@ -118,12 +122,6 @@ def mounts(process='self'):
 def nodes():
     """Returns the names in /dev that a model could have left there, and those of this machine's own controllers."""
     return sorted(name for name in os.listdir('/dev') if name.startswith(('.model', 'nvme', 'ng')))
-
-
-def processes_of_models():
-    """Returns the processes of all models that the tests of this process started."""
-    names = [b'bwrap\n', b'nvme-model\n', b'launcher\n', b'device\n']
-    return [*{*left_running()} & {*processes('comm', lambda text: text in names)}]
 
 
 DEVICES, KEEPERS, HELPERS, LAUNCHER = range(4)
@@ -152,10 +150,10 @@ def parts(devices=1):
     return found[b'device'], others[:devices], others[devices:], [launcher]
 
 
-def signals(part, number, devices=1):
+def signals(part, number):
     """Returns a call that sends a signal to these parts."""
     def send():
-        found = parts(devices)[part]
+        found = parts()[part]
         assert found, 'there is no such process'
         for process in found:
             os.kill(process, number)
@@ -247,13 +245,9 @@ class ModelCase(Case):
 
     def leaves_nothing(self):
         """Checks that no device and no mount is left, and that the launcher left nothing in the machine's folders."""
-        self.assertTrue(until(lambda: not processes_of_models()), 'a device was left running')
+        names = b'bwrap\n', b'nvme-model\n', b'launcher\n', b'device\n'
+        self.assertTrue(until(lambda: not {*left_running()} & {*processes('comm', lambda text: text in names)}),
+                        'a device was left running')
         new = [line for line in mounts() if line not in self.mounts and ('.model' in line or 'newroot' in line)]
         self.assertEqual(new, [], 'mounts are seen outside')
         self.assertEqual(nodes(), self.nodes, 'nodes are seen outside')
-
-    def says(self, ended, status, text):
-        """Checks that a run ended with this status, and with a last message that begins with this text."""
-        self.ends(ended, status)
-        last = (ended.err.splitlines() or [b''])[-1]
-        self.assertTrue(last.startswith(os.fsencode(text)), f'{ended}\nThe test alone: python3 -m unittest {self.id()}')

@@ -3,7 +3,7 @@ that was cut short. A run of many lines or requests uses no more memory than a r
 
 import concurrent.futures
 
-from tests.support import LIMIT, TOP, Case, compiled, program, run
+from tests.support import LIMIT, TOP, Case, compiled, large_file, program, run
 
 # How many processes refuse the allocations of one program side by side.
 PARTS = 8
@@ -26,26 +26,28 @@ class Refusing(Case):
         return ended, int(allocations), int(most)
 
 
-class EachAllocation(Refusing):
-    script = b'list-ns /dev/nvme0\nid-ctrl /dev/nvme0 -o json\nlist\nsmart-log /dev/nvme1\n'
-    request = (TOP / 'crates/nvme_device/stdin').read_bytes()
-    operations = b'subsystem\nbring_up\npassthrough 0 6 cdw10=2 room=8\nsaw\n'
-    other_file = '--subsystem', 'examples/two_controllers.toml'
+REQUEST = (TOP / 'crates/nvme_device/stdin').read_bytes()
+SCRIPT = b'list-ns /dev/nvme0\nid-ctrl /dev/nvme0 -o json\nlist\nsmart-log /dev/nvme1\n'
+OTHER_FILE = '--subsystem', 'examples/two_controllers.toml'
+# Runs of which each allocation is refused.
+RUNS = ((SCRIPT, 'nvme_script'), (SCRIPT, 'nvme_script', *OTHER_FILE), (REQUEST, 'nvme_device'),
+        (REQUEST, 'nvme_device', *OTHER_FILE),
+        (b'subsystem\nbring_up\npassthrough 0 6 cdw10=2 room=8\nsaw\n', 'nvme_bench'))
 
-    def each(self, crate, *arguments, source):
-        whole, allocations, _ = self.whole(crate, *arguments, source=source)
-        messages = crate.replace('_', '-').encode() + b': out of memory\n'
-        statuses = set()
-        for number in range(1, allocations + 1):
-            with self.subTest(allocation=number):
-                ended = self.refused(number, crate, *arguments, source=source)
-                statuses.add(ended.status)
-                if ended.status == 0:
-                    # a vector that can't grow may get a smaller size instead: then nothing shows
-                    self.ends(ended, 0, whole.out, b'')
-                else:
-                    self.ends(ended, 6, whole.out[:len(ended.out)], messages)
-        self.assertIn(6, statuses, 'no refused allocation shows')
+
+class EachAllocation(Refusing):
+    def test_runs(self):
+        for source, crate, *arguments in RUNS:
+            whole, allocations, _ = self.whole(crate, *arguments, source=source)
+            messages, statuses = crate.replace('_', '-').encode() + b': out of memory\n', set()
+            for number in range(1, allocations + 1):
+                with self.subTest(crate, arguments=arguments, allocation=number):
+                    ended = self.refused(number, crate, *arguments, source=source)
+                    statuses.add(ended.status)
+                    # (a vector that can't grow may get a smaller size instead: then nothing shows)
+                    self.ends(ended, ended.status and 6, whole.out[:len(ended.out)] if ended.status else whole.out,
+                              messages if ended.status else b'')
+            self.assertIn(6, statuses, 'no refused allocation shows')
 
     def test_failing_tests(self):
         # (this program looks itself at what is left, so each allocation is refused in a copy of its process)
@@ -66,41 +68,12 @@ class EachAllocation(Refusing):
         self.ends(ended, 0, err=b'')
         return [tuple(map(int, line.split())) for line in calls.read_text().splitlines()[:-1]]
 
-    def test_script(self):
-        self.each('nvme_script', source=self.script)
-
-    def test_script_of_another_file(self):
-        self.each('nvme_script', *self.other_file, source=self.script)
-
-    def test_device(self):
-        self.each('nvme_device', source=self.request)
-
-    def test_bench(self):
-        self.each('nvme_bench', source=self.operations)
-
-    def test_device_of_another_file(self):
-        self.each('nvme_device', *self.other_file, source=self.request)
-
 
 class AllocationsOfCommands(Refusing):
-    subsystem = b"""version = 1
-nn = 64
-tnvmcap = 64
-subnqn = "nqn.2026-11.org.example:allocations"
-[[format]]
-lbads = 9
-[[controller]]
-cntlid = 1
-sn = "1"
-mn = "M"
-fr = "1.0"
-"""
-
     def of_ten_lines(self, namespaces):
         """Returns how often ten lines allocate that list this number of namespaces, after ten such lines."""
-        each = b'[[namespace]]\nnsid = %d\nformat = 0\nbytes = 512\ncontrollers = [1]\n'
-        of = self.file('many.toml', self.subsystem.replace(b'tnvmcap = 64', b'tnvmcap = %d' % (512 * namespaces))
-                       + b''.join(each % nsid for nsid in range(1, namespaces + 1)))
+        top, *each = large_file([1], [1]).split('[[namespace]]')
+        of = self.file('many.toml', '[[namespace]]'.join([top, *each[:namespaces]]).encode())
         first, both = (self.whole('nvme_script', '--subsystem', of, source=b'list\n' * lines)[1] for lines in (10, 20))
         return both - first
 
@@ -111,13 +84,8 @@ fr = "1.0"
 
 
 class MemoryHeld(Refusing):
-    def holds_as_much(self, crate, line):
-        _, _, of_few = self.whole(crate, source=line * 10)
-        _, _, of_many = self.whole(crate, source=line * 10000)
-        self.assertEqual(of_few, of_many, f'{crate}: the bytes that are held over 10 and over 10,000 of {line}')
-
-    def test_script(self):
-        self.holds_as_much('nvme_script', b'list-ns /dev/nvme0\n')
-
-    def test_device(self):
-        self.holds_as_much('nvme_device', EachAllocation.request)
+    def test_many(self):
+        for crate, line in ('nvme_script', b'list-ns /dev/nvme0\n'), ('nvme_device', REQUEST):
+            with self.subTest(crate):
+                (*_, of_few), (*_, of_many) = (self.whole(crate, source=line * count) for count in (10, 10000))
+                self.assertEqual(of_few, of_many, 'the bytes that are held over 10 and over 10,000')

@@ -15,10 +15,10 @@ class Faulty(Case):
         # the demonstration file, with 256 errors kept
         self.subsystem = self.file('subsystem.toml', DEMO.read_bytes().replace(b'\nelpe = 3\n', b'\nelpe = 255\n'))
 
-    def faulty(self, source, out=None, **faults):
-        """Runs the program over this input while these calls fail."""
+    def faulty(self, crate, source, out=None, **faults):
+        """Runs a program over this input while these calls fail."""
         faults['LD_PRELOAD'] = compiled('faults.c', '-ldl')
-        return run(program(self.crate), '--subsystem', self.subsystem, source=source, out=out, env=faults)
+        return run(program(crate), '--subsystem', self.subsystem, source=source, out=out, env=faults)
 
 
 def tried_lines():
@@ -37,8 +37,6 @@ def pieces(texts):
 
 
 class EachCall(Faulty):
-    crate = 'nvme_script'
-
     def setUp(self):
         super().setUp()
         lines, self.outputs, self.messages = zip(*tried_lines())
@@ -49,82 +47,62 @@ class EachCall(Faulty):
         for number in range(1, len(self.script) + 2):
             with self.subTest(read=number):
                 lines = self.script[:number - 1].count(b'\n')
-                self.ends(self.faulty(self.script, MOST_READ=1, FAIL_READ=number), 4, b''.join(self.outputs[:lines]),
+                ended = self.faulty('nvme_script', self.script, MOST_READ=1, FAIL_READ=number)
+                self.ends(ended, 4, b''.join(self.outputs[:lines]),
                           b''.join(self.messages[:lines]) + b'nvme-script: read fault\n')
 
-    def test_writes_of_output(self):
-        # each write takes at most seven bytes of a line's text, and if it fails, the next line with output isn't done
-        for number, (line, written) in enumerate(pieces(self.outputs), 1):
-            with self.subTest(write=number):
-                ended = self.faulty(self.script, MOST_READ=1, MOST_WRITE=7, FAIL_1=number)
-                later = next((at for at in range(line + 1, len(self.outputs)) if self.outputs[at]), None)
-                self.ends(ended, 5, written, b''.join(self.messages[:later]) + b'nvme-script: write fault\n')
-
-    def test_writes_of_messages(self):
-        for number, (line, written) in enumerate(pieces(self.messages), 1):
-            with self.subTest(write=number):
-                ended = self.faulty(self.script, MOST_READ=1, MOST_WRITE=7, FAIL_2=number)
-                self.ends(ended, 5, b''.join(self.outputs[:line]), written + b'nvme-script: write fault\n')
+    def test_writes(self):
+        # each write takes at most seven bytes of a line's text, and if one fails, the next line with output isn't done
+        for stream, texts in (1, self.outputs), (2, self.messages):
+            for number, (line, written) in enumerate(pieces(texts), 1):
+                with self.subTest(stream=stream, write=number):
+                    ended = self.faulty('nvme_script', self.script, MOST_READ=1, MOST_WRITE=7,
+                                        **{f'FAIL_{stream}': number})
+                    later = next((at for at in range(line + 1, len(self.outputs)) if self.outputs[at]), None)
+                    output, messages = ((written, b''.join(self.messages[:later])) if stream == 1 else
+                                        (b''.join(self.outputs[:line]), written))
+                    self.ends(ended, 5, output, messages + b'nvme-script: write fault\n')
 
 
-class Script(Faulty):
-    crate = 'nvme_script'
-    line = b'list-ns /dev/nvme0 -n 3\n'
-    three_lines = line + b'list-ns\n' + line
+LINE, SHOWN = b'list-ns /dev/nvme0 -n 3\n', b'[   0]:0x3\n'
+REQUESTS, ANSWER = (TOP / 'crates/nvme_device/stdin').read_bytes() * 2, (TOP / 'crates/nvme_device/stdout').read_bytes()
+# How each program ends, its output and its messages over an input, perhaps with an output, where these calls fail.
+FAULTS = {
+    'nvme_script': [
+        # (the first line's output is still buffered when the second read fails)
+        (LINE, None, {'FAIL_READ': 2}, 4, SHOWN, b'nvme-script: read fault\n'),
+        # (after any end other than a status, a flush that fails is not reported)
+        (LINE, '/dev/full', {'FAIL_READ': 2}, 4, b'', b'nvme-script: read fault\n'),
+        (TOP, '/dev/full', {}, 4, b'', b'nvme-script: read fault\n'),
+        # (interrupted writes are made again)
+        *((LINE + b'list-ns\n' + LINE, None, fault, 0, SHOWN * 2, b'line 2: usage error\n')
+          for fault in ({'INTERRUPT_1': 1}, {'INTERRUPT_1': 2}, {'INTERRUPT_2': 1}))],
+    'nvme_device': [
+        (REQUESTS, None, {}, 0, ANSWER * 2, b''),
+        (REQUESTS, None, {'FAIL_READ': 2}, 4, ANSWER, b'nvme-device: read fault\n'),
+        (REQUESTS, None, {'INTERRUPT_1': 1}, 0, ANSWER * 2, b''),
+        (REQUESTS, '/dev/full', {}, 5, b'', b'nvme-device: write fault\n'),
+        (REQUESTS[:100], None, {}, 4, ANSWER, b'nvme-device: request cut short\n'),
+        # (it is answered with outcome 3)
+        (b'\0\0\0\0\1\0\x10\0' + b'0' * 64, None, {}, 4, b'\0\0\0\0\0\0\3\0\0\0\0\0',
+         b'nvme-device: request too long\n')]}
 
-    def test_read_fault(self):
-        # the first line's output is still buffered when the second read fails
-        self.ends(self.faulty(self.line, FAIL_READ=2), 4, b'[   0]:0x3\n', b'nvme-script: read fault\n')
 
-    def test_full_device(self):
-        # after any end other than a status, a flush that fails is not reported
-        self.ends(self.faulty(self.line, '/dev/full', FAIL_READ=2), 4, err=b'nvme-script: read fault\n')
-
-    def test_folder_as_the_script(self):
-        ended = run(program(self.crate), source=self.folder, out='/dev/full')
-        self.ends(ended, 4, err=b'nvme-script: read fault\n')
-
-    def test_interrupted_writes_are_made_again(self):
-        for fault in ({'INTERRUPT_1': 1}, {'INTERRUPT_1': 2}, {'INTERRUPT_2': 1}):
-            with self.subTest(fault):
-                ended = self.faulty(self.three_lines, **fault)
-                self.ends(ended, 0, b'[   0]:0x3\n' * 2, b'line 2: usage error\n')
+class Ends(Faulty):
+    def test_faults(self):
+        for crate, rows in FAULTS.items():
+            for source, out, faults, *wanted in rows:
+                with self.subTest(crate, source=source, out=out, faults=faults):
+                    self.ends(self.faulty(crate, source, out, **faults), *wanted)
 
     def test_interrupted_log(self):
         # a line that writes more than the buffer holds: the log has some 16,000 bytes
         script = b'create-ns /dev/nvme0 -s 1 -c 1 -f 0\n' * 64 + b'error-log /dev/nvme0 -e 64\n'
-        whole = self.faulty(script)
+        whole = self.faulty('nvme_script', script)
         self.ends(whole, 0)
         self.assertGreater(len(whole.out), 8192)
-        last_message = whole.err.count(b'\n')
-        self.ends(self.faulty(script, INTERRUPT_1=1, INTERRUPT_2=last_message), 0, whole.out, whole.err)
-
-
-class Device(Faulty):
-    crate = 'nvme_device'
-    request = (TOP / 'crates/nvme_device/stdin').read_bytes()
-    answer = (TOP / 'crates/nvme_device/stdout').read_bytes()
-
-    def test_two_requests(self):
-        self.ends(self.faulty(self.request * 2), 0, self.answer * 2, b'')
-
-    def test_read_fault_between_requests(self):
-        self.ends(self.faulty(self.request * 2, FAIL_READ=2), 4, self.answer, b'nvme-device: read fault\n')
-
-    def test_interrupted_answer(self):
-        self.ends(self.faulty(self.request * 2, INTERRUPT_1=1), 0, self.answer * 2, b'')
-
-    def test_full_device(self):
-        self.ends(self.faulty(self.request * 2, '/dev/full'), 5, err=b'nvme-device: write fault\n')
-
-    def test_request_that_is_cut_short(self):
-        ended = self.faulty((self.request * 2)[:100])
-        self.ends(ended, 4, self.answer, b'nvme-device: request cut short\n')
-
-    def test_request_that_is_too_long(self):
-        # it is answered with outcome 3
-        ended = self.faulty(b'\0\0\0\0\1\0\x10\0' + b'0' * 64)
-        self.ends(ended, 4, b'\0\0\0\0\0\0\3\0\0\0\0\0', b'nvme-device: request too long\n')
+        faults = {'INTERRUPT_1': 1, 'INTERRUPT_2': whole.err.count(b'\n')}
+        self.ends(self.faulty('nvme_script', script, **faults), 0, whole.out, whole.err)
 
 
 # The functions of which each of the first calls fails (tests/failing_calls.c), by the names of the launcher outside of

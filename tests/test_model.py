@@ -12,13 +12,12 @@ import threading
 import time
 import unittest
 
-from tests.modelled import (ASKING, CLIENT, DEVICES, PARTS, PROGRAMS, RECEIVING, WARNINGS, ModelCase, compiled_c,
-                            do_helpers, installed, parts, signals, works)
-from tests.support import (IS_ROOT, LIMIT, TOP, USERS, Case, Running, left_running, processes, program, run, table,
-                           until)
+from tests.modelled import (ASAN, ASKING, DEVICES, PARTS, RECEIVING, SANITIZERS, ModelCase, compiled_c, do_helpers,
+                            installed, parts, sanitized, signals)
+from tests.support import IS_ROOT, LIMIT, Case, Running, left_running, processes, run, table, until
 
 CHECK = 'check', 'check_client'
-PARTS_OF_CHECK = 'commands', 'wide', 'lengths', 'many', 'broken', 'killed', 'nodes'
+PARTS_OF_CHECK = 'commands', 'wide', 'lengths', 'many', 'broken', 'killed', 'nodes', 'gone'
 GEOMETRIES = ('', '--depth 2 --page-size 65536 --offset 65532', '--page-size 8192 --offset 4092 --list-offset=8184',
               '--depth 4096 --list-offset 4088 --window 16 --pace 4096',
               '--depth=3 --page-size=16384 --window=2 --offset 8')
@@ -48,37 +47,31 @@ class Ioctls(ModelCase):
         check = compiled_c(self.folder / 'check', CHECK, '-pthread')
         for geometry, part in itertools.product(GEOMETRIES, PARTS_OF_CHECK):
             with self.subTest(geometry=geometry, part=part):
-                self.ends(self.model(check, part, options=geometry.split(), env=self.env), 0, b'', b'')
-        for geometry in GEOMETRIES:
-            with self.subTest(geometry=geometry, part='gone'):
-                self.says(self.model(check, 'gone', options=geometry.split(), env=self.env), 0,
-                          'nvme-model: the device ended')
+                ended = self.model(check, part, options=geometry.split(), env=self.env)
+                self.ends(ended, 0, b'')
+                self.assertRegex(ended.err, rb'(?m)^nvme-model: the device ended.*\n\Z' if part == 'gone' else b'^$')
 
     def test_sanitized(self):
         # the library's sources are compiled into the check itself; the preloaded library is another one
-        sanitizers = '-fsanitize=address,undefined', '-fno-sanitize-recover=all', '-ldl', '-pthread'
-        launcher = compiled_c(self.folder / 'bin/nvme-model', PARTS['bin/nvme-model'], *sanitizers)
-        check = compiled_c(self.folder / 'check', CHECK + PARTS['lib/nvme-model/library.so'], *sanitizers)
-        parts = self.folder / 'lib/nvme-model'
-        parts.mkdir(parents=True)
-        subprocess.run(['cc', '-shared', '-o', parts / 'library.so', '-x', 'c', '-'], input=b'int no;', check=True)
-        shutil.copy(program('nvme_device'), parts)
-        env = {'ASAN_OPTIONS': 'verify_asan_link_order=0:detect_leaks=0', **self.env}
-        for part in (*PARTS_OF_CHECK, 'gone'):
+        launcher = sanitized(self.folder)
+        check = compiled_c(self.folder / 'check', CHECK + PARTS['lib/nvme-model/library.so'], *SANITIZERS)
+        other = 'cc', '-shared', '-o', self.folder / 'lib/nvme-model/library.so', '-x', 'c', '-'
+        subprocess.run(other, input=b'int no;', check=True)
+        for part in PARTS_OF_CHECK:
             with self.subTest(part):
-                ended = run(launcher, '--subsystem', self.subsystem, check, part, env=env)
+                ended = run(launcher, '--subsystem', self.subsystem, check, part, env={**ASAN, **self.env})
                 self.ends(ended, 0, b'')
                 for word in b'Sanitizer', b'runtime error', b'check: ':
                     self.assertNotIn(word, ended.err, ended)
 
     def test_device_is_killed_in_a_call(self):
         # each of several calls that wait for an answer gets one, and later calls fail at once
-        check = compiled_c(self.folder / 'check', CHECK, '-pthread')
         def kill():
             self.assertTrue(do_helpers(ASKING, 4))
             signals(DEVICES, 9)()
         running = self.stepped('step; for i in 1 2 3 4; do "$1" many & done; step; wait; '
-                               'test -c /dev/nvme0 || echo gone', signals(DEVICES, 19), kill, words=[check])
+                               'test -c /dev/nvme0 || echo gone', signals(DEVICES, 19), kill,
+                               words=[compiled_c(self.folder / 'check', CHECK, '-pthread')])
         ended = running.end()
         self.assertRegex(ended.out, b'(?s)^step\nstep\nnvme-model: the device ended.*gone\n$', ended)
 
@@ -99,87 +92,8 @@ class Arguments(ModelCase, transcripts='launcher'):
                 self.assertRegex(ended.err.decode(), f'^nvme-model: {said}\nsee nvme-model --help\n$')
         self.ends(self.model('true', options=['--depth', '1', '--depth', '4', '--window', '3']), 0, b'', b'')
 
-    def test_wrong_devices(self):
-        # (the letters are ways to be wrong: tests/programs/wrong_device.c)
-        place, wrong = self.folder / 'place', 'nvme-model: the device does not answer as it should\n'
-        shutil.copytree(installed().parents[1], place)
-        made = place / 'lib/nvme-model/nvme_device'
-        subprocess.run(['cc', *WARNINGS, '-I', CLIENT, '-o', made, PROGRAMS / 'wrong_device.c'], check=True)
-        for way, status, said in (
-                ('0', 72, wrong), ('m', 72, wrong), ('f', 72, wrong),
-                ('l', 72, 'nvme-model: the device ended before it answered\n'),
-                *((way, 72, f'nvme-model: the device ended, or answered what was not asked\n{wrong}') for way in 'eb'),
-                ('n', 0, ''),
-                ('s', 0, '(nvmex{4995}\n)+'), ('o', 1, 'get-feature: No such device or address\n')):
-            with self.subTest(way):
-                ended = run(place / 'bin/nvme-model', '--subsystem', self.file('way', way.encode()), 'sh', '-c',
-                            'ls /dev/nvme*; nvme get-feature /dev/nvme0 -f 6 > /dev/null')
-                self.ends(ended, status, b'' if status == 72 else b'/dev/nvme0\n')
-                self.assertRegex(ended.err.decode(), f'^{said}$')
-
-    def test_compiled_as_bubblewrap(self):
-        place = installed().parents[1]
-        parts = [place / part for part in PARTS if (place / part).exists()]
-        self.assertGreater(len(parts), 1)
-        for part in parts:
-            told = run('readelf', '-hldsW', part).out.decode()
-            for mark in r' DYN \(', 'BIND_NOW', 'GNU_RELRO', '__stack_chk_fail', r'__\w+_chk\b':
-                with self.subTest(part.name, mark=mark):
-                    self.assertRegex(told, mark)
-
-    def test_in_a_container(self):
-        # (there, the launcher may be process 1)
-        container = *USERS[-1], 'unshare', '-Urpf', '--mount-proc'
-        if works(*container):
-            for words in ['true'], ['--no-notice', 'true']:
-                self.ends(run(*container, installed(), *words), 0, b'', b'')
-
-    def test_without_nvme_cli(self):
-        # where there is none at all, its package is named
-        hides = 'for folder in /usr/sbin /sbin; do test -L $folder || mount -t tmpfs none $folder; done; exec "$@"'
-        if works('unshare', '-Urm'):
-            by = *USERS[-1], 'env', 'PATH=/usr/bin:/bin', 'unshare', '-Urm', 'sh', '-c', hides, 'sh'
-            ended = run(*by, installed(), 'nvme', 'list')
-            self.ends(ended, 127, b'',
-                      b'nvme-model: nvme: No such file or directory: install the package nvme-cli\n')
-
-    def test_script_in_a_copy(self):
-        # nothing is compiled without a device; a compiler needs the C library; two launchers may build the client at the
-        # same time; paths have spaces and links
-        copy, link = self.folder / 'a folder: here', self.folder / 'link'
-        copy.mkdir()
-        for name in 'nvme-model', 'VERSION':
-            shutil.copy(TOP / name, copy)
-        shutil.copytree(CLIENT, copy / 'client')
-        link.symlink_to(copy / 'nvme-model')
-        self.says(run(copy / 'nvme-model', 'true'), 72,
-                  'nvme-model: there is no proved device program of these sources')
-        self.ends(run(copy / 'nvme-model', '--compile', ''), 72, b'',
-                  b'nvme-model: --compile needs the name of a folder\n')
-        self.assertFalse((copy / 'out').exists())
-        (copy / 'tools').mkdir()
-        (copy / 'tools/stamp').symlink_to('/bin/true')
-        (self.folder / 'cc').symlink_to('/bin/false')
-        self.ends(run(copy / 'nvme-model', 'true', env={'PATH': f'{self.folder}:{os.environ["PATH"]}'}), 72, b'',
-                  b"nvme-model: cc doesn't find the C library: apt install libc6-dev\n")
-        made = copy / 'crates/nvme_device/out/nvme_device'
-        made.parent.mkdir(parents=True)
-        made.symlink_to(program('nvme_device'))
-        both = run('sh', '-c', '"$0" true & "$0" true && wait $!', copy / 'nvme-model')
-        self.ends(both, 0, b'', b'')
-        self.assertEqual(sorted(str(path.relative_to(copy / 'out/client')) for path in (copy / 'out').rglob('*')
-                                if not path.is_dir()), ['bin/nvme-model', 'lib/nvme-model/library.so',
-                                                        'lib/nvme-model/nvme_device'])
-        self.ends(run(link, 'test', '-b', '/dev/nvme0n1', cwd='/'), 0, b'', b'')
-        made.unlink()
-        self.ends(run(link, 'true'), 72, b'')
-
 
 class Subsystems(ModelCase, transcripts='subsystems'):
-    def test_most(self):
-        self.ends(self.shell('ls -d /dev/nvme?? | wc -l; nvme id-ctrl /dev/nvme63 | grep -c "^sn .*S1"',
-                             options=['--subsystem', self.subsystem] * 31), 0, b'54\n1\n', b'')
-
     def test_one_device_is_killed(self):
         running = self.stepped('step; while test -c /dev/nvme3; do sleep 0.1; done; cat /dev/nvme2n1; '
                                'nvme id-ctrl /dev/nvme1 | grep -c "^sn .*S1"; nvme id-ctrl /dev/nvme4 | grep "^sn "; '
@@ -199,44 +113,38 @@ class Signals(ModelCase):
         running.comes(b'ready\n')
         return running
 
+    def signalled(self, script, name):
+        """Begins a script, sends it a signal, and returns how it ends."""
+        running = self.begun(script)
+        running.process.send_signal(signal.Signals['SIG' + name])
+        return running.end()
+
     def test_passed_on(self):
         for name, status in BY_SIGNAL.items():
             with self.subTest(name):
-                running = self.begun('echo ready; exec sleep 1000')
-                running.process.send_signal(signal.Signals['SIG' + name])
-                self.ends(running.end(), status, b'ready\n')
+                self.ends(self.signalled('echo ready; exec sleep 1000', name), status, b'ready\n')
                 self.leaves_nothing()
         for name in (*BY_SIGNAL, 'USR1', 'USR2'):
             with self.subTest(name, command='which takes it'):
-                running = self.begun(f'trap "exit 9" {name}; echo ready; while :; do sleep 0.1; done')
-                running.process.send_signal(signal.Signals['SIG' + name])
-                self.ends(running.end(), 9, b'ready\n')
-
-        # once, for each signal, and whatever the command does first
-        running = self.begun('trap "echo one" TERM; trap "exit 8" USR1; echo ready; while :; do sleep 0.1; done')
-        running.process.terminate()
-        running.comes(b'one\n')
-        running.process.send_signal(signal.SIGUSR1)
-        self.ends(running.end(), 8, b'ready\none\n')
-
-        # and each time
-        running = self.begun('trap "echo one" USR1; trap "exit 8" TERM; echo ready; while :; do sleep 0.1; done')
-        for count in range(1, 4):
-            running.process.send_signal(signal.SIGUSR1)
-            self.assertTrue(until(lambda: running.hear(0) is None or running.heard.count(b'one\n') == count))
-        running.process.terminate()
-        self.ends(running.end(), 8, b'ready\none\none\none\n')
+                script = f'trap "exit 9" {name}; echo ready; while :; do sleep 0.1; done'
+                self.ends(self.signalled(script, name), 9, b'ready\n')
+        # once, for each signal, whatever the command does first, and each time
+        running = self.begun('trap "echo one" TERM; trap "echo two" USR1; trap "exit 8" USR2; echo ready; '
+                             'while :; do sleep 0.1; done')
+        for number, said in (signal.SIGTERM, b'one\n'), *[(signal.SIGUSR1, b'two\n')] * 3:
+            wanted = running.heard + said
+            running.process.send_signal(number)
+            running.comes(wanted)
+        running.process.send_signal(signal.SIGUSR2)
+        self.ends(running.end(), 8, b'ready\none\ntwo\ntwo\ntwo\n')
 
     def test_while_requests_and_data_are_under_way(self):
         script = ('while :; do nvme create-ns /dev/nvme0 -s 8 -c 8 -f 0; nvme delete-ns /dev/nvme0 -n 2; done '
                   '> /dev/null 2>&1 & while :; do dd if=/dev/urandom of=/dev/nvme0n1 bs=4k; done 2> /dev/null & '
                   'echo ready; wait')
-        for name in ('INT', 'TERM', 'HUP', 'KILL'):
+        for name in 'INT', 'TERM', 'HUP', 'KILL':
             with self.subTest(name):
-                running = self.begun(script)
-                running.process.send_signal(signal.Signals['SIG' + name])
-                self.assertTrue(until(lambda: running.process.poll() is not None))
-                self.assertEqual(running.process.returncode, {**BY_SIGNAL, 'KILL': -9}[name])
+                self.assertEqual(self.signalled(script, name).status, {**BY_SIGNAL, 'KILL': -9}[name])
                 self.leaves_nothing()
 
     def test_killed_at_any_time(self):
@@ -273,30 +181,19 @@ class Signals(ModelCase):
                 with contextlib.suppress(ProcessLookupError):
                     os.kill(number, signal.SIGKILL)
 
-    def test_what_is_left_in_the_background(self):
-        # (each would go on for longer than the test waits for it)
-        ended = self.shell('(echo > "$1"; sleep 1000) & (setsid sh -c \'trap "" TERM HUP; echo > "$1"; '
-                           'sleep 1000\' sh "$2" &); until test -e "$1" && test -e "$2"; do sleep 0.1; done; exit 3',
-                           self.folder / 'one', self.folder / 'two')
-        self.ends(ended, 3, b'', b'')
-        self.assertTrue(until(lambda: not left_running()))
-
     def test_typed_at_a_terminal(self):
         for script, key, status in (('echo ready; exec sleep 1000', b'\x03', 130),
                                     ('echo ready; exec sleep 1000', b'\x1c', 131),
                                     ('trap "nvme list-ns /dev/nvme0 > /dev/null && exit 5" INT; echo ready; '
-                                     'while :; do sleep 0.1; done', b'\x03', 5)):
+                                     'while :; do sleep 0.1; done', b'\x03', 5),
+                                    # (it comes once)
+                                    (f'exec {sys.executable} {self.programs()}/counts.py', b'\x03', 0)):
             with self.subTest(script, key=key):
                 running = Running(*self.command('sh', '-c', script), terminal=True)
                 running.comes(b'ready\n')
                 running.say(key)
                 self.assertEqual(running.process.wait(LIMIT), status)
                 self.leaves_nothing()
-        # it comes once
-        running = Running(*self.command(sys.executable, self.programs() / 'counts.py'), terminal=True)
-        running.comes(b'ready\n')
-        running.say(b'\x03')
-        self.assertRegex(running.end().out, b'ready\n(?s:.*)once\n')
         # the command has terminals, and makes new ones
         running = Running(*self.command('sh', '-c', 'tty; script -qec "test -t 0 && echo inner" /dev/null'),
                           terminal=True)

@@ -1,22 +1,11 @@
 """Tests what ./nvme-model shows to programs: nodes in /dev and files in /sys, the data of namespaces, a library that
 stays in all processes, and the installed tools."""
 
-import json
 import re
 import subprocess
-import unittest
 
-from tests.modelled import ModelCase, installed, works
-from tests.support import IS_ROOT, TOP, large_file, run
-
-# Runs a command in a namespace of users, with one of its groups and one that isn't there.
-IN_NAMESPACE = '''
-setpriv --groups=disk,4242424 unshare -U \
-    sh -c 'for i in $(seq 600); do grep -q . /proc/self/gid_map && exec "$@"; sleep 0.1; done' sh "$@" &
-for map in uid gid; do
-    until (echo 0 0 60000 > /proc/$!/${map}_map) 2> /dev/null; do kill -0 $! || exit; sleep 0.1; done; done; wait $!
-'''
-
+from tests.modelled import ModelCase, installed
+from tests.support import TOP, large_file, run
 
 class Shown(ModelCase, transcripts='shown'):
     pass
@@ -34,56 +23,12 @@ class Nodes(ModelCase, transcripts='nodes'):
         self.assertEqual(ended.out.splitlines(),
                          [b'32784', b'16384', b'1024', b'%d' % (16384 * 60 + 16 * 10), b'16384'])
 
-    @unittest.skipUnless(IS_ROOT, 'root alone can become another user')
-    def test_groups_of_other_users(self):
-        # what a user may open depends on its own groups, and not on those of the launcher
-        for own, groups, status in ('--groups=disk', '--clear-groups', 1), ('--clear-groups', '--groups=disk', 0):
-            command = self.command('setpriv', '--reuid=65534', '--regid=65534', groups, 'dd', 'if=/dev/nvme0n1',
-                                   'of=/dev/null', 'iflag=direct', 'count=1', 'status=none')
-            self.ends(run('setpriv', own, *command), status, b'')
-        if not works('unshare', '-U'):
-            self.skipTest('users can make no namespaces here')
-        # a group that the model's namespace has no number for takes no other one away, whoever opened something before
-        script = ('for way in clear keep clear keep clear keep; do setpriv --reuid=1000 --regid=1000 --$way-groups dd '
-                  'if=/dev/nvme0n1 iflag=direct count=1 status=none 2> /dev/null | wc -c; done')
-        self.ends(run('sh', '-c', IN_NAMESPACE, 'sh', *self.command('sh', '-c', script)), 0, b'0\n512\n' * 3, b'')
-
 
 class Data(ModelCase, transcripts='data'):
-    def test_limit(self):
-        big = 'nvme create-ns /dev/nvme0 -s 8192 -c 8192 -f 0 && nvme attach-ns /dev/nvme0 -n 2 -c 0 && '
-        ended = self.shell(big + 'dd if=/dev/zero of=/dev/nvme0n3 bs=64k; '
-                           'dd if=/dev/zero of=/dev/nvme0n3 bs=4096 count=128; '
-                           'blkdiscard /dev/nvme0n3 && dd if=/dev/zero of=/dev/nvme0n3 bs=1M count=1',
-                           options=['--data-limit=2M'])
-        self.ends(ended, 0)
-        self.assertIn(b"dd: error writing '/dev/nvme0n3': No space left on device", ended.err)
-        written = [int(number) for number in re.findall(rb'(?m)^(\d+) bytes', ended.err)]
-        self.assertTrue(1 << 20 <= written[0] <= (2 << 20) + (1 << 18), ended)
-        self.assertEqual(written[1:], [128 * 4096, 1 << 20], ended)
-        self.ends(self.shell('dd if=/dev/zero of=/dev/nvme0n1 bs=64k 2>&1 | grep -c "^1048576 bytes"'), 0, b'1\n', b'')
-
-
-class Library(ModelCase):
-    def test_preloaded_already(self):
-        other = self.folder / 'other.so'
-        subprocess.run(['cc', '-shared', '-fPIC', '-o', other, '-x', 'c', '-'], input=b'int unused;', check=True)
-        self.ends(self.shell('echo ${LD_PRELOAD#*:}', env={'LD_PRELOAD': other}), 0, f'{other}\n'.encode(), b'')
-
-    def test_model_in_a_model(self):
-        inner = [installed(), '--subsystem', TOP / 'examples/two_controllers.toml']
-        ended = self.model(*inner, 'sh', '-c', 'nvme id-ctrl /dev/nvme0 | grep "^sn "; ls /dev/nvme*n*')
-        self.ends(ended, 72, b'')
-        self.assertRegex(ended.err, rb'^nvme-model: no sandbox can be made: .+\n$')
+    pass
 
 
 class Tools(ModelCase, transcripts='tools'):
-    def test_list(self):
-        devices = json.loads(self.model('nvme', 'list', '-o', 'json').out)['Devices']
-        self.assertEqual(sorted((one['DevicePath'], one['PhysicalSize'], one['SectorSize'], one['SerialNumber'])
-                                for one in devices),
-                         [('/dev/nvme0n1', 1048576, 512, 'S0'), ('/dev/nvme0n2', 4608, 512, 'S0')])
-
     def test_registers(self):
         for geometry in ('', '--depth 2 --page-size 65536', '--depth 4096 --window 16',
                          '--depth=3 --page-size=8192 --window 2'):

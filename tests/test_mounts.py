@@ -4,7 +4,7 @@ user."""
 import contextlib
 import os
 import shutil
-import stat
+import subprocess
 import unittest
 
 from tests.modelled import PROGRAMS, ModelCase
@@ -24,14 +24,13 @@ ADDED = {'a terminal': (4, 1), 'a serial port': (188, 0), 'video': (81, 0), 'sou
 
 @unittest.skipUnless(IS_ROOT, 'root alone can make nodes and mounts')
 class Mounts(MachineCase, transcripts='mounts'):
-    def exchange(self, machine, user, other):
-        """Runs a command whose added device becomes another file before bwrap binds it."""
+    def exchange(self, machine, user, line):
+        """Runs a command whose added device is exchanged for what a shell's line makes before bwrap binds it."""
         place = machine.root / 'dev/open'
         shutil.rmtree(place, ignore_errors=True)
         place.mkdir()
         place.chmod(0o777)
-        os.mknod(place / 'node', stat.S_IFCHR | 0o666, os.makedev(10, 200))
-        other(place / 'other')
+        subprocess.run(['sh', '-c', f'mknod node c 10 200 && {line}'], cwd=place, check=True)
         tools = 'env', f'PATH={self.folder / "tools"}:{os.environ["PATH"]}'
         return machine.model('stat -c %t:%T /dev/open/node; ls /dev/open/node; echo end', user,
                              ['--device', '/dev/open/node'], by=tools)
@@ -41,24 +40,18 @@ class Mounts(MachineCase, transcripts='mounts'):
         self.file('tools/bwrap', EXCHANGES.encode()).chmod(0o755)
         with contextlib.closing(Machine(self, 'devices')) as machine:
             block = os.stat(machine.root / 'dev/nvme0n1').st_rdev
-            ways = {'loop-control': lambda path: os.mknod(path, stat.S_IFCHR | 0o666, os.makedev(10, 237)),
-                    'a block device': lambda path: os.mknod(path, stat.S_IFBLK | 0o666, block),
-                    "a block device with a terminal's number": lambda path: os.mknod(path, stat.S_IFBLK | 0o666,
-                                                                                     os.makedev(4, 64)),
-                    'a folder': lambda path: path.mkdir(),
-                    'a file': lambda path: path.write_bytes(b''),
-                    'a link': lambda path: path.symlink_to('/dev/nvme0n1')}
             for user in (), NOBODY:
-                for name, other in ways.items():
-                    with self.subTest(name, user=user):
-                        ended = self.exchange(machine, user, other)
+                # (the third one has a terminal's number)
+                for line in ('mknod other c 10 237', f'mknod other b {os.major(block)} {os.minor(block)}',
+                             'mknod other b 4 64', 'mkdir other', ': > other', 'ln -s /dev/nvme0n1 other'):
+                    with self.subTest(line, user=user):
+                        ended = self.exchange(machine, user, line)
                         self.ends(ended, 72, b'')
                         self.assertRegex(ended.err, rb"nvme-model: /dev/open/node\S* isn't the device that it was")
                 # a device that may be added can take its place
                 for name, number in ADDED.items():
                     with self.subTest(name, user=user):
-                        device = os.makedev(*number)
-                        ended = self.exchange(machine, user, lambda path: os.mknod(path, stat.S_IFCHR, device))
+                        ended = self.exchange(machine, user, 'mknod -m 0 other c %d %d' % number)
                         self.ends(ended, 0, b'%x:%x\n/dev/open/node\nend\n' % number)
 
 

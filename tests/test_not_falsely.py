@@ -3,7 +3,6 @@ partitions, lengths, transfers, files with the names of nodes, and delayed comma
 another user."""
 
 import re
-import shutil
 
 from tests.modelled import DELAYING, ModelCase, do_helpers
 from tests.support import USERS
@@ -14,16 +13,6 @@ class Names(ModelCase, transcripts='names_of_nodes'):
 
 
 class Refused(ModelCase, transcripts='refused'):
-    def test_file_systems(self):
-        # (that of XFS wants to set the size of a buffer)
-        file = self.subsystem.read_bytes().replace(b'bytes = 1048576', b'bytes = 536870912')
-        self.subsystem.write_bytes(file.replace(b'tnvmcap = 10485760', b'tnvmcap = 1073741824'))
-        for made in 'mkfs.ext4 -q', 'mkfs.xfs -q', 'mkfs.btrfs -q', 'mkfs.vfat', 'mkswap':
-            if shutil.which(made.split()[0]):
-                with self.subTest(made):
-                    ended = self.shell(f'{made} /dev/nvme0n1 > /dev/null; echo $?; blkid -o value -s TYPE /dev/nvme0n1')
-                    self.assertRegex(ended.out, rb'^0\n(ext4|xfs|btrfs|vfat|swap)\n$', ended)
-
     def test_delayed_command_after_a_reset(self):
         # it fails at once when its controller is reset, by whatever way, and isn't done
         for reset in ('nvme reset /dev/nvme0', 'echo 1 > /sys/class/nvme/nvme0/reset_controller'):

@@ -5,51 +5,22 @@ import contextlib
 import os
 import pathlib
 import re
-import subprocess
 import unittest
 
-from tests.modelled import CLIENT, DEVICES, WARNINGS, ModelCase, mounts, parts, process_folder, works
-from tests.support import IS_ROOT, NOBODY, TOP, USERS, Running, left_running, processes, run
+from tests.modelled import CLIENT, DEVICES, ModelCase, mounts, parts, static_program
+from tests.support import IS_ROOT, USERS, Running, left_running, processes, run
 from tests.transcripts import WITH_UDEV
 
-NESTED = 'unshare', '-Ur'
 # What root may do in the sandbox.
 RIGHTS = 0x200000fb
-
-
-def helper(name, *sources):
-    """Compiles a program of tests/programs, which all users can run."""
-    made = process_folder() / name
-    if not made.exists():
-        source = TOP / f'tests/programs/{name}.c'
-        subprocess.run(['cc', '-g', *WARNINGS, '-I', CLIENT, '-o', made, source, *sources], check=True)
-    return made
 
 
 class Confined(ModelCase, transcripts='confined'):
     def test_calls(self):
         # (what is tried is in tests/programs/confined.c)
-        program = helper('confined', CLIENT / 'filter.c')
+        program = static_program('confined', CLIENT / 'filter.c')
         for which, wanted in ('launcher', b'end\n'), ('device', b'end\nend\n'):
             self.ends(run(program, which), 0, wanted, b'')
-
-    def test_numbers(self):
-        # no number finds the launcher, its keeper, its helper or the device
-        finds, most = helper('finds'), str(max(int(name) for name in os.listdir('/proc') if name.isdigit()) + 1000)
-        script = '"$1" "$2"; set -- /proc/[0-9]*; echo $#'
-        for user in [*USERS, NESTED] if works(*NESTED) else USERS:
-            for inside in [(), NOBODY] if IS_ROOT and not user else [()]:
-                with self.subTest(user=user, inside=inside):
-                    ended = run(*user, *self.command(*inside, 'sh', '-c', script, 'sh', finds, most))
-                    # (process 1 and the shell)
-                    self.ends(ended, 0, b'end\n2\n', b'')
-
-    def test_process_one(self):
-        pries = helper('pries')
-        for user in [*USERS, NESTED] if works(*NESTED) else USERS:
-            for inside in [(), NOBODY] if IS_ROOT and not user else [()]:
-                with self.subTest(user=user, inside=inside):
-                    self.ends(run(*user, *self.command(*inside, pries, '1')), 0, b'end\n', b'')
 
     def test_rights_of_the_launcher(self):
         # its processes have the command's, and that to look at each process
@@ -104,30 +75,6 @@ class Outside(ModelCase, transcripts='outside'):
                 with_terminal.comes(b'end\n')
                 with_terminal.end()
                 self.assertEqual(with_terminal.heard.replace(b'\r', b''), b'-1 1\n' * 6 + b'end\n')
-
-    def test_priorities(self):
-        # the caller's process group has processes outside, whose priorities stay
-        outside = 'sleep 1000 & "$@"; cut -d " " -f 19 /proc/$!/stat; ionice -p $!; kill $!'
-        by_old = 'for call in "97 1 0 19" "289 2 0 16390"; do "$1" $call; done'
-        ways = [(('python3', self.programs() / 'priorities.py'), '0 0\n0 0\n0 0\n0 0\n19 16390\n0 0\n0 0\n')]
-        if run(helper('old', '-O1'), '20').status == 0:
-            ways.append((('sh', '-c', by_old, 'sh', helper('old', '-O1')), '0\n0\n'))
-        for user in USERS:
-            for words, printed in ways:
-                with self.subTest(words[0], user=user):
-                    ended = run('setsid', '-w', *user, 'sh', '-c', outside, 'sh', *self.command(*words))
-                    self.ends(ended, 0, f'{printed}{os.nice(0)}\nnone: prio 0\n'.encode(), b'')
-
-    def test_what_is_shown(self):
-        # of /sys, what this machine has of these folders, and what one with a DMI has
-        script = ('for f in /sys/fs/cgroup /sys/kernel/mm /sys/class/dmi /sys/devices/virtual/dmi; do '
-                  'ls -A $f 2> /dev/null | sed 1q; done')
-        with_dmi = ('bwrap --dev-bind / / --tmpfs /sys/class --dir /sys/class/dmi/id '
-                    '--tmpfs /sys/devices/virtual --dir /sys/devices/virtual/dmi/own' + ' --cap-add ALL' * IS_ROOT)
-        for machine in [], with_dmi.split():
-            there = run(*machine, 'sh', '-c', script)
-            self.ends(there, 0, err=b'')
-            self.ends(run(*machine, *self.command('sh', '-c', script)), 0, there.out, b'')
 
     def test_limits_of_file_systems(self):
         # no file system that the sandbox makes is without a limit, but for one that another covers

@@ -58,12 +58,3 @@ class Root(ModelCase, transcripts='as_root'):
         self.assertEqual(secret.read_bytes(), b'secret\n' if IS_ROOT else b'changed\n')
         about = (self.folder / 'own').stat()
         self.assertEqual(about.st_uid, 65534 if IS_ROOT else os.geteuid())
-
-    def test_root_itself(self):
-        """For root, the option changes nothing."""
-        if not IS_ROOT:
-            self.skipTest('root alone')
-        for script in ('id; grep Cap /proc/self/status; cat /proc/self/uid_map; echo $PATH',
-                       'stat -c %u:%a /etc/shadow /dev/nvme0n1'):
-            with self.subTest(script):
-                self.ends(self.shell(script, options=['--root']), 0, self.shell(script).out, b'')

@@ -16,59 +16,38 @@ import sys
 import tempfile
 import termios
 import time
-import unittest
 
 from tests.modelled import CLIENT, WARNINGS, installed, why_no_sandbox
 from tests.support import (LIMIT, MARK, TOP, USERS, Case, Running, end_all, environment, left_running, process_folder,
                            processes, run, until)
 from tests.test_qemu import kernel, program
+from tests.test_rows import edited
 
-KVM = "'/dev/kvm'"
-SHORT = ('20, 900, 300, 60, 10', '3, 3, 3, 2, 1'),
+KVM, SHORT = "'/dev/kvm'", ('20, 900, 300, 60, 10', '3, 3, 3, 2, 1')
 NEEDED = 'virtio_pci', 'virtio_console', '9pnet_virtio', '9p', 'overlay', 'nvme'
-MIB = 1 << 20
-# A drive with a namespace for a file system.
-DRIVE = b'''version = 1
-nn = 4
-tnvmcap = 134217728
-subnqn = "nqn.2014-08.org.example:drive"
-
-[[format]]
-lbads = 9
-
-[[controller]]
-cntlid = 0
-sn = "S0"
-mn = "Demo Controller"
-fr = "1.0"
-
-[[controller]]
-cntlid = 1
-sn = "S1"
-mn = "Demo Controller"
-fr = "1.0"
-elpe = 3
-
-[[namespace]]
-nsid = 1
-bytes = 67108864
-format = 0
-controllers = [0]
-'''
 SILENT = b'nvme-model: the machine has ended without a word, as by a kill, or by too little memory\n'
-# A stand-in for QEMU, and one for the server and its machine.
-QEMU = '#!/bin/sh\ncase $* in *kvm*) exit 1 ;; *) echo vfio-user-pci ;; esac\n'
-# (the Python that every user can run)
+# A stand-in for QEMU, and one for the server and its machine, in a Python that every user can run.
+QEMU = '#!/bin/sh\ncase $* in *kvm*) exit %d ;; *) echo %s ;; esac\n'
 PYTHON = shutil.which('python3', path='/usr/bin:/bin') or sys.executable
 MACHINE = f'#!/bin/sh\nexec {PYTHON} {TOP}/tests/as_machine.py "$@"\n'
+
+
+def public_folder():
+    folder = pathlib.Path(tempfile.mkdtemp(dir=process_folder()))
+    folder.chmod(0o755)
+    return folder
+
+
+def write_script(path, text):
+    path.write_text(text)
+    path.chmod(0o755)
 
 
 @functools.lru_cache(maxsize=None)
 def parts(server, *changes):
     """Returns the folder of the programs, with the server, or the text of a script in its place, which has no KVM, and
     with changes of texts of vm.py."""
-    folder = pathlib.Path(tempfile.mkdtemp(dir=process_folder()))
-    folder.chmod(0o755)
+    folder = public_folder()
     guest = folder / 'vm_guest.static', CLIENT / 'vm_guest.c'
     subprocess.run(['cc', '-O1', '-static', '-pthread', *WARNINGS, '-o', *guest], check=True)
     for name in 'vm.py', 'vm_guest.sh':
@@ -79,44 +58,42 @@ def parts(server, *changes):
         text = text.replace(old, new)
     (folder / 'vm.py').write_text(text)
     if isinstance(server, str):
-        (folder / 'qemu').write_text(server)
+        write_script(folder / 'qemu', server)
     else:
         shutil.copy(server, folder / 'qemu')
-    (folder / 'qemu').chmod(0o755)
     return folder
 
 
 @functools.lru_cache(maxsize=None)
 def installation():
-    """Returns a folder with a kernel, its modules and QEMU, as far as they are looked at without a boot."""
-    folder = pathlib.Path(tempfile.mkdtemp(dir=process_folder()))
-    folder.chmod(0o755)
+    """Returns a folder with a kernel, its modules, QEMU and a file for KVM, as far as they are looked at without a
+    boot."""
+    folder = public_folder()
     modules = folder / 'lib/modules/1.0'
     modules.mkdir(parents=True)
     (folder / 'boot').mkdir()
-    (folder / 'boot/vmlinuz-1.0').write_bytes(b'kernel')
-    for name in NEEDED:
-        (modules / f'{name}.ko').write_bytes(b'module')
+    for path in folder / 'kvm', folder / 'boot/vmlinuz-1.0', *(modules / f'{name}.ko' for name in NEEDED):
+        path.write_bytes(b'content')
     (modules / 'modules.dep').write_text(''.join(f'kernel/{name}.ko:\n' for name in NEEDED))
     (modules / 'kernel').symlink_to('.')
-    (folder / 'qemu-system-x86_64').write_text(QEMU)
-    (folder / 'qemu-system-x86_64').chmod(0o755)
+    write_script(folder / 'qemu-system-x86_64', QEMU % (1, 'vfio-user-pci'))
     return folder
 
 
-class Machine(Case):
+class Ends(Case, transcripts='vm'):
     def setUp(self):
         super().setUp()
         self.folder.chmod(0o755)
         self.place = installation()
-        self.env = {'PATH': f'{self.place}:{os.environ["PATH"]}', 'TMPDIR': self.folder / 'none'}
+        self.kvm = KVM, repr(str(self.place / 'kvm'))
+        self.kernel = '--kernel', self.place / 'boot/vmlinuz-1.0'
+        self.env = {'PATH': f'{self.place}:{os.environ["PATH"]}', 'TMPDIR': self.folder / 'none',
+                    'kernel': self.kernel[1], 'vm': parts(MACHINE) / 'vm.py', 'short': parts(MACHINE, SHORT) / 'vm.py',
+                    'by_kvm': parts(MACHINE, SHORT, self.kvm) / 'vm.py'}
 
-    def command(self, *words, changes=()):
-        return [parts(MACHINE, *changes) / 'vm.py', '--vm', '--kernel', self.place / 'boot/vmlinuz-1.0', *words]
-
-    def machine(self, name, *words, changes=(), **more):
-        """Runs a command in a machine of this name (tests/as_machine.py)."""
-        return run(*self.command(*(words or ['true']), changes=changes), env={**self.env, 'MACHINE': name}, **more)
+    def command(self, name, *words, program='vm'):
+        """Returns what runs a command in a machine of this name (tests/as_machine.py)."""
+        return ['env', f'MACHINE={name}', self.env[program], '--vm', *self.kernel, *(words or ['true'])]
 
     def started(self, name):
         """Waits for a process that runs this file, and returns its number."""
@@ -124,48 +101,6 @@ class Machine(Case):
         self.assertTrue(until(lambda: found.extend(
             {*left_running()} & {*processes('cmdline', lambda text: f'/{name}\0'.encode() in text)}) or found))
         return found[0]
-
-    def fails(self, ended, reason):
-        self.ends(ended, 72, b'', f'nvme-model: {reason}\n'.encode())
-
-
-class Ends(Machine):
-    def test_statuses(self):
-        for user in USERS:
-            with self.subTest(user=user):
-                data = os.urandom(1000)
-                ended = run(*user, *self.command('true'), env={**self.env, 'MACHINE': 'copy'}, source=data)
-                self.ends(ended, 5, data, data)
-        self.ends(self.machine('killed'), 128 + signal.SIGUSR1, b'', b'')
-
-    def test_large_streams(self):
-        data = os.urandom(MIB) * 100
-        self.ends(self.machine('copy', source=data), 5, data, data)
-
-    def test_failures(self):
-        for name, reason in (('panics', 'the machine has ended: Kernel panic - not syncing: a reason'),
-                             ('refuses', 'a reason')):
-            with self.subTest(name):
-                self.fails(self.machine(name), reason)
-        self.ends(self.machine('breaks_off'), 72, b'some\n', SILENT)
-        self.fails(self.machine('loses'), 'what was written is lost')
-
-    def test_silence(self):
-        for name in 'is_silent', 'falls_silent':
-            with self.subTest(name):
-                self.fails(self.machine(name, changes=SHORT), "the machine doesn't answer")
-        # (a machine in which nothing has run by KVM is emulated, if it is silent or QEMU refuses it)
-        told = b'nvme-model: KVM runs no machine here, so it is emulated: --no-kvm saves 3 seconds\n'
-        by_kvm = *SHORT, (KVM, repr(str(self.file('kvm', b''))))
-        self.ends(self.machine('needs_emulation', changes=by_kvm), 3, b'tcg\n', told)
-        self.ends(self.machine('refuses_kvm', changes=by_kvm), 3, b'tcg\n', b'')
-        self.ends(self.machine('dies_by_kvm', changes=by_kvm), 72, b'', SILENT)
-        self.ends(self.machine('needs_emulation', '--no-kvm', 'true', changes=by_kvm), 3, b'tcg\n', b'')
-        self.fails(self.machine('falls_silent', changes=by_kvm), "the machine doesn't answer")
-        self.ends(self.machine('is_silent', changes=by_kvm), 72, b'',
-                  told + b"nvme-model: the machine doesn't answer\n")
-        self.ends(self.machine('lives', changes=SHORT), 0, b'', b'')
-        self.ends(self.machine('stays', changes=SHORT), 3, b'', b'')
 
     def test_what_the_machine_is_told(self):
         # (modules that are packed, or part of the kernel, each after those that it needs)
@@ -183,7 +118,8 @@ class Ends(Machine):
         (modules / 'modules.builtin').write_text('kernel/fs/overlayfs/overlay.ko\n')
         # (a Python in the C locale gives itself a variable, and takes others)
         variables = [f'PATH={self.env["PATH"]}', 'MACHINE=tells_files', 'PYTHONPATH=/none', 'x=a\nb', f'{MARK}=1']
-        words = self.command('--modules', modules, '--net', '--share', modules, '--', b'a  b', '', b'\xff', '--net')
+        options = '--modules', modules, '--net', '--share', modules, '--'
+        words = self.command('tells_files', *options, b'a  b', '', b'\xff', '--net')
         os.umask(mask := os.umask(0))
         ended = run('env', '-i', *variables, *words, cwd=modules, err='&1')
         told = dict(part.split(b' ', 1) for part in ended.out.split(b'\0')[:-1])
@@ -202,71 +138,60 @@ class Ends(Machine):
         words = parts('#!/bin/sh\necho "nvme-model: $*"\n', *changes) / 'vm.py', '--no-kvm', 'true'
         for name in '5.9', '6.1.0-9', '6.1.0-57', '10.0', '10.1':
             shutil.copytree(self.place / 'lib/modules/1.0', modules / name, symlinks=True)
-        self.fails(run(*words, env=self.env), 'no kernel of /boot can be read and has its modules: install '
-                   'linux-image-amd64, or unpack\nthat package (apt-get download, dpkg-deb -x, depmod -b) and name the '
-                   'kernel by --kernel')
+        self.ends(run(*words, env=self.env), 72, b'',
+                  b'nvme-model: no kernel of /boot can be read and has its modules: install linux-image-amd64, or '
+                  b'unpack\nthat package (apt-get download, dpkg-deb -x, depmod -b) and name the kernel by --kernel\n')
         # (each is newer than those before it, and the last one has no modules)
         (modules / '10.1/modules.dep').unlink()
         (boot / 'vmlinuz-10.1').write_bytes(b'')
-        for path in boot / 'vmlinuz-5.9', boot / 'vmlinuz-6.1.0-9', boot / 'vmlinuz-6.1.0-57', modules / '10.0/vmlinuz':
+        for path in *(boot / f'vmlinuz-{name}' for name in ('5.9', '6.1.0-9', '6.1.0-57')), modules / '10.0/vmlinuz':
             path.write_bytes(b'')
             self.assertIn(f' -kernel {path} ', run(*words, env=self.env).err.decode())
 
     def test_kills(self):
         # whichever process is killed, nothing is left, and the others say why
         for name in 'is_silent', 'falls_silent':
-            for victim in 'vm.py', 'as_machine.py':
+            for victim, status, said in ('vm.py', -signal.SIGKILL, b''), ('as_machine.py', 72, SILENT):
                 with self.subTest(name, victim=victim):
-                    running = Running(*self.command('true'), env={**self.env, 'MACHINE': name})
+                    running = Running(*self.command(name), env=self.env)
                     self.started('as_machine.py')
                     os.kill(self.started(victim), signal.SIGKILL)
-                    ended = running.end()
-                    if victim == 'vm.py':
-                        self.assertEqual(ended.status, -signal.SIGKILL)
-                    else:
-                        self.ends(ended, 72, SILENT)
+                    self.ends(running.end(), status, said)
                     self.leaves_no_process()
 
     def test_signals(self):
-        running = Running(*self.command('true'), env={**self.env, 'MACHINE': 'hears'})
+        running = Running(*self.command('hears'), env=self.env)
         running.comes(b'begun\n')
         for number in 'SIGHUP', 'SIGINT', 'SIGQUIT', 'SIGUSR1', 'SIGUSR2', 'SIGTERM':
             running.process.send_signal(getattr(signal, number))
             running.comes(f'{number} False\n'.encode())
         self.assertEqual(running.end().status, 0)
-        self.leaves_no_process()
         for number in signal.SIGTERM, signal.SIGINT, signal.SIGUSR1:
-            running = Running(*self.command('true'), env={**self.env, 'MACHINE': 'is_silent'})
+            self.leaves_no_process()
+            running = Running(*self.command('is_silent'), env=self.env)
             self.started('as_machine.py')
             running.process.send_signal(number)
             self.ends(running.end(), 128 + number, b'')
-            self.leaves_no_process()
 
     def test_stops(self):
         # (in a group that no shell could have continue, a stop has no effect)
-        running = Running(*self.command('true'), env={**self.env, 'MACHINE': 'stops'}, terminal=True)
-        self.assertEqual(running.end().status, 0)
+        self.assertEqual(Running(*self.command('stops'), env=self.env, terminal=True).end().status, 0)
 
     def test_long_stop(self):
         # (in a group of its own, which this process can have continue, a stop has an effect)
-        env = environment({**self.env, 'MACHINE': 'stops_once'})
-        with subprocess.Popen(self.command('true', changes=SHORT), env=env, preexec_fn=os.setpgrp) as process:
+        command = self.command('stops_once', program='short')
+        with subprocess.Popen(command, env=environment(self.env), preexec_fn=os.setpgrp) as process:
             self.assertTrue(os.WIFSTOPPED(os.waitpid(process.pid, os.WUNTRACED)[1]))
             time.sleep(5)  # (longer than a machine may be silent)
             process.send_signal(signal.SIGCONT)
             self.assertEqual(process.wait(LIMIT), 0)
 
-    def test_full(self):
-        # what a file has no room for is told, and the command is then as one whose output nobody reads
-        full = b'nvme-model: a stream of the command: No space left on device\n'
-        self.ends(self.machine('writes', out='/dev/full'), 0, err=full)
-
     def test_unread(self):
         ours, theirs = socket.socketpair()
         self.addCleanup(ours.close)
         ours.settimeout(100)
-        env = environment({**self.env, 'MACHINE': 'writes'})
-        with subprocess.Popen(self.command('true'), stdin=theirs, stdout=subprocess.PIPE, env=env) as process:
+        with subprocess.Popen(self.command('writes'), stdin=theirs, stdout=subprocess.PIPE,
+                              env=environment(self.env)) as process:
             theirs.close()
             with self.assertRaises((BrokenPipeError, ConnectionResetError)):
                 while True:
@@ -274,47 +199,6 @@ class Ends(Machine):
             process.stdout.read(10000)
             process.stdout.close()
             self.assertEqual(process.wait(LIMIT), 0)
-
-    def test_closed_streams(self):
-        for closed in '<&-', '>&-', '2>&-', '<&- >&- 2>&-':
-            with self.subTest(closed):
-                words = 'sh', '-c', f'exec "$@" {closed}', 'sh', *self.command('true')
-                ended = run(*words, env={**self.env, 'MACHINE': 'killed'})
-                self.ends(ended, 128 + signal.SIGUSR1, b'', b'')
-
-
-class Refusals(Machine):
-    def test_options(self):
-        for words in ((), ('--bogus',), ('--share',), ('--memory',), ('--memory=', 'true'), ('--share', 'a\nb', 'true'),
-                      ('--trace', 'true'), ('--',)):
-            with self.subTest(words):
-                ended = self.machine('copy', *words) if words else run(*self.command())
-                self.ends(ended, 72, b'')
-                self.assertTrue(ended.err.startswith(b'usage: nvme-model --vm '), ended)
-        ended = self.machine('copy', '--help')
-        self.ends(ended, 0, err=b'')
-        self.assertTrue(ended.out.startswith(b'usage: nvme-model --vm '), ended)
-        for path in '/none', '/', '/etc/passwd':
-            self.fails(self.machine('copy', '--share', path, 'true'), f'--share {path}: there is no such folder')
-
-    def test_what_is_missing(self):
-        self.env['PATH'] = '/none'
-        self.fails(self.machine('copy'), 'there is no qemu-system-x86_64: install QEMU (qemu-system-x86)')
-        self.env['PATH'] = f'{self.place}:{os.environ["PATH"]}'
-        missing = self.folder / 'missing'
-        self.fails(self.machine('copy', '--kernel', missing, 'true'), f"--kernel {missing}: this file can't be read")
-        self.fails(self.machine('copy', '--modules', missing, 'true'),
-                   f'there is no {missing}/modules.dep: name the folder of modules by --modules')
-        for name in NEEDED:
-            lacking = self.folder / name
-            lacking.mkdir()
-            (lacking / 'modules.dep').write_text(''.join(f'kernel/{other}.ko:\n' for other in NEEDED if other != name))
-            self.fails(self.machine('copy', '--modules', lacking, 'true'),
-                       f'{self.place}/boot/vmlinuz-1.0 has no module {name} in {lacking}')
-        (lacking / 'modules.dep').write_text(''.join(f'kernel/{name}.ko:\n' for name in NEEDED))
-        ended = self.machine('copy', '--modules', lacking, 'true')
-        self.ends(ended, 72, b'')
-        self.assertIn(f"nvme-model: {lacking}/kernel/virtio_pci.ko can't be unpacked: ".encode(), ended.err)
 
     def test_no_python(self):
         if why_no_sandbox():
@@ -326,62 +210,50 @@ class Refusals(Machine):
         shutil.copytree(parts(MACHINE), self.folder / 'lib/nvme-model')
         self.ends(run(*without, launcher, '--vm', 'true'), 72, b'',
                   b'nvme-model: --vm needs python3 (apt install python3): Permission denied\n')
-        self.ends(run(launcher, '--vm', '--kernel', self.place / 'boot/vmlinuz-1.0', 'true',
-                      env={**self.env, 'MACHINE': 'killed'}), 128 + signal.SIGUSR1, b'', b'')
+        self.ends(run(launcher, '--vm', *self.kernel, 'true', env={**self.env, 'MACHINE': 'killed'}),
+                  128 + signal.SIGUSR1, b'', b'')
 
     def test_words(self):
         # what QEMU and the server are given: KVM only if QEMU takes it, and polling only without either
         server = '#!/bin/sh\ncase $* in *kvm*) qemu-system-x86_64 -accel kvm || exit ;; esac\necho "nvme-model: $*"\n'
-        folder = parts(server, (KVM, repr(str(self.file('kvm', b'')))))
-        for kvm, devices, wanted in (
-                (1, 'vfio-user-pci', ('-accel tcg -cpu max -smp 3', 'mitigations=off -serial')),
-                (0, 'vfio-user-pci', ('-accel kvm -cpu host -smp 3', 'mitigations=off -serial')),
-                (1, 'x-pci-proxy-dev', ('-accel tcg -cpu max -smp 1', 'irqpoll nolapic_timer -serial')),
-                (0, 'x-pci-proxy-dev', ('-accel kvm -cpu host -smp 3', 'mitigations=off -serial'))):
-            with self.subTest(kvm=kvm, devices=devices):
-                tool = f'#!/bin/sh\ncase $* in *kvm*) exit {kvm} ;; *) echo {devices} ;; esac\n'
-                self.file('qemu-system-x86_64', tool.encode()).chmod(0o755)
+        words = [parts(server, self.kvm) / 'vm.py', *self.kernel, '--cpus', '3', '--subsystem', 'a b', 'true']
+        always = ['nvme-model: --qemu --memory 1G --subsystem a b -- -accel ',
+                  ' -fsdev local,id=root,path=/,security_model=none,readonly=on,multidevs=remap ']
+        by_kvm, emulated = ['-accel kvm -cpu host -smp 3', 'mitigations=off -serial'], ['-accel tcg']
+        for status, devices, wanted in (
+                (1, 'vfio-user-pci', ['-accel tcg -cpu max -smp 3', 'mitigations=off -serial']),
+                (0, 'vfio-user-pci', by_kvm), (0, 'x-pci-proxy-dev', by_kvm),
+                (1, 'x-pci-proxy-dev', ['-accel tcg -cpu max -smp 1', 'irqpoll nolapic_timer -serial'])):
+            with self.subTest(status=status, devices=devices):
+                write_script(self.folder / 'qemu-system-x86_64', QEMU % (status, devices))
                 path = f'{self.folder}:{os.environ["PATH"]}'
-                words = '--vm', '--kernel', self.place / 'boot/vmlinuz-1.0', '--cpus', '3', '--subsystem', 'a b', 'true'
-                for more in (), ('--no-kvm',):
-                    said = run(folder / 'vm.py', *more, *words, env={'PATH': path}).err.decode()
-                    self.assertIn('nvme-model: --qemu --memory 1G --subsystem a b -- -accel ', said)
-                    self.assertIn(' -fsdev local,id=root,path=/,security_model=none,readonly=on,multidevs=remap ', said)
-                    if more:
-                        self.assertIn('-accel tcg', said)
-                    else:
-                        self.assertEqual([word for word in wanted if word not in said], [], said)
-
-
-def why_not():
-    """Returns the reason why no machine can be booted here, or nothing."""
-    if not shutil.which('qemu-system-x86_64'):
-        return 'qemu-system-x86_64 not installed'
-    if not all(map(os.access, kernel(), (os.R_OK, os.R_OK))):
-        return 'there is no kernel with its modules: NVME_TEST_KERNEL and NVME_TEST_MODULES name them'
-    return None
+                for options, texts in ([], wanted), (['--no-kvm'], emulated):
+                    said = run(words[0], *options, *words[1:], env={'PATH': path}).err.decode()
+                    self.assertEqual([text for text in always + texts if text not in said], [], said)
 
 
 class Boot(Case):
     def setUp(self):
         super().setUp()
-        if why_not():
-            self.skipTest(why_not())
+        if not shutil.which('qemu-system-x86_64'):
+            self.skipTest('qemu-system-x86_64 not installed')
+        if not all(map(os.access, kernel(), (os.R_OK, os.R_OK))):
+            self.skipTest('there is no kernel with its modules: NVME_TEST_KERNEL and NVME_TEST_MODULES name them')
         self.folder.chmod(0o755)
         self.parts = parts(program())
-        self.drive = self.file('drive.toml', DRIVE)
-        self.temporary = self.folder / 'temporary'
-        self.temporary.mkdir()
-        self.temporary.chmod(0o777)
-        self.shared = self.folder / 'shared, with a comma'
-        self.shared.mkdir()
-        self.shared.chmod(0o777)
+        self.drive = self.file('drive.toml', edited(
+            'demo.toml', 'tnvmcap = 10485760', 'tnvmcap = 134217728', 'bytes = 1048576', 'bytes = 67108864',
+            'shared = true\n', '').encode())
+        self.temporary, self.shared = self.folder / 'temporary', self.folder / 'shared, with a comma'
+        for folder in self.temporary, self.shared:
+            folder.mkdir()
+            folder.chmod(0o777)
         self.file('shared, with a comma/old', b'old\n')
         self.here = self.folder / 'here'
         shutil.copytree(TOP / 'examples', self.here / 'examples')
         for name in 'kept', 'lost':
             self.file(f'here/{name}', b'as it was\n')
-        self.data = self.file('data', os.urandom(MIB) * 100)
+        self.data = self.file('data', os.urandom(1 << 20) * 100)
 
     def begun(self):
         """Starts the command from bash on a terminal, with pipes for input and output, as a user if there are two."""
@@ -408,8 +280,8 @@ class Boot(Case):
     def size(self, rows, columns):
         fcntl.ioctl(self.shell.speaks, termios.TIOCSWINSZ, struct.pack('4H', rows, columns, 0, 0))
 
-    def hears(self, text):
-        """Reads the output up to this text, and returns what comes before it."""
+    def hears(self, text, before=''):
+        """Reads the output up to this text, and checks what comes before it."""
         heard = b''
         while not heard.endswith(text):
             piece = os.read(self.output, 1)
@@ -418,14 +290,13 @@ class Boot(Case):
                     pass
                 self.fail(f'the output ends after {heard[-2000:]}, and the terminal has {self.shell.heard}')
             heard += piece
-        return heard[:-len(text)].decode()
+        self.assertEqual(heard[:-len(text)].decode(), before)
 
     def test_command(self):
         before = {path: path.stat().st_mtime_ns for path in self.here.rglob('*')}
         self.begun()
-        self.assertEqual(self.hears(b'begun\n').splitlines(), [
-            f'3 a  b a  value {self.here} 0027 0', 'fifo', 'fifo', 'character special file', '37 101',
-            f'{socket.gethostname()} 0'])
+        self.hears(b'begun\n', f'3 a  b a  value {self.here} 0027 0\nfifo\nfifo\ncharacter special file\n37 101\n'
+                   f'{socket.gethostname()} 0\n')
         self.streams()
         self.terminal()
         self.signals()
@@ -442,20 +313,20 @@ class Boot(Case):
         data = self.data.read_bytes()
         os.write(self.input, b'\n')
         with subprocess.Popen(['cat', self.data], stdout=self.input) as writer:
-            self.assertEqual(self.hears(b'same\n'), '')
+            self.hears(b'same\n')
             self.assertEqual(writer.wait(LIMIT), 0)
-        pieces = [b' ']
-        while pieces[-1] and sum(map(len, pieces)) <= len(data):
-            pieces.append(os.read(self.output, 1 + len(data) - sum(map(len, pieces))))
-        self.assertTrue(b''.join(pieces[1:]) == data, self.shell.heard)
+        heard = bytearray()
+        while len(heard) < len(data) and (piece := os.read(self.output, len(data) - len(heard))):
+            heard += piece
+        self.assertTrue(heard == data, self.shell.heard)
 
     def terminal(self):
-        self.assertEqual(self.hears(b'keys\n'), '')
+        self.hears(b'keys\n')
         os.write(self.input, b'\n')
         self.shell.say(b'words\r')
-        self.assertEqual(self.hears(b'waits\n'), 'typed words\n')
+        self.hears(b'waits\n', 'typed words\n')
         self.shell.say(b'\x03')
-        self.assertEqual(self.hears(b'status 5\n'), 'interrupted\n')
+        self.hears(b'status 5\n', 'interrupted\n')
         self.shell.heard = b''
         self.shell.say(b'\x1a')
         self.shell.comes(b'outside: ')
@@ -463,37 +334,32 @@ class Boot(Case):
         self.shell.say(b'fg\n')
         self.shell.has(b'fg\n$machine')
         self.shell.say(b'more\r')
-        self.assertEqual(self.hears(b'more\n'), 'continued ')
+        self.hears(b'more\n', 'continued ')
         self.size(50, 132)
 
     def signals(self):
-        self.assertEqual(self.hears(b'signals\n'), '')
+        self.hears(b'signals\n')
         number, = {*left_running()} & {*processes('cmdline', lambda text: b'/vm.py\0' in text)}
         for name in 'HUP', 'INT', 'QUIT', 'USR1', 'USR2', 'TERM':
             if signal.getsignal(signal.Signals[f'SIG{name}']) == signal.SIG_IGN:
                 continue  # (so is SIGHUP in the tests by `nohup`, and then in the machine)
             os.kill(number, signal.Signals[f'SIG{name}'])
-            self.assertEqual(self.hears(f'{name}\n'.encode()), '')
+            self.hears(f'{name}\n'.encode())
 
     def finds(self):
         # (controllers have the order of the file)
         mounted = (TOP / 'examples/mounted.txt').read_text()
-        self.assertEqual(self.hears(b'files\n'), f'udev\n0\n1\n{mounted}1\n1\n1\n1\n1\n/sys/class/net/lo\n')
+        self.hears(b'files\n', f'udev\n0\n1\n{mounted}1\n1\n1\n1\n1\n/sys/class/net/lo\n')
 
     def unread(self):
-        self.assertEqual(self.hears(b'unread\n'), '')
+        self.hears(b'unread\n')
         os.write(self.input, b'\n')
         with self.assertRaises(BrokenPipeError):
             while True:
                 os.write(self.input, bytes(10000))
-        self.assertEqual(self.hears(b'y\ny\n'), '')
+        self.hears(b'y\ny\n')
         os.close(self.output)
         self.shell.heard = b''
         self.shell.comes(b'outside: ')
         self.shell.say(b'echo status $?.\n')
-        self.shell.has(b'.\noutside: ')
-        self.assertIn(b'\nstatus 7.\n', self.shell.heard)
-
-
-if __name__ == '__main__':
-    unittest.main()
+        self.shell.has(b'\nstatus 7.\n')

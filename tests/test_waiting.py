@@ -10,10 +10,9 @@ import time
 import unittest
 from signal import SIGCONT, SIGKILL, SIGSTOP
 
-from tests.modelled import (ASKING, CUT, DEVICES, GREW, HELPERS, KEEPERS, LAUNCHER, PROGRAMS, WARNINGS, ModelCase,
-                            do_helpers, named, parts, process_folder, signals, works)
-from tests.support import (IS_ROOT, LIMIT, NOBODY, USERS, Running, environment, left_running, processes, run,
-                           until)
+from tests.modelled import (ASKING, DEVICES, HELPERS, KEEPERS, LAUNCHER, PROGRAMS, WARNINGS, ModelCase, do_helpers,
+                            named, parts, programs, signals, works)
+from tests.support import IS_ROOT, LIMIT, NOBODY, USERS, Running, environment, left_running, processes, until
 
 # Gives a place where everybody can open /dev/fuse.
 EVERYBODY = ('unshare', '-m', 'sh', '-c', 'mount -t tmpfs fuse /mnt && mknod -m 666 /mnt/fuse c 10 229 && '
@@ -22,6 +21,8 @@ NESTED = 'unshare', '-Urm'
 # What other processes do meanwhile: calls that are answered, and one that a device answers.
 OTHERS = ('for i in 1 2 3 4 5 6 7 8 9 10; do echo $i > "$2/file-$(id -u)"; done; cat "$2/file-$(id -u)"; '
           'nvme id-ctrl /dev/nvme0 2> /dev/null | grep -c "^sn .*S0"; ')
+# Tells that what was written past the end of a node is cut off.
+GREW = b'nvme-model: /dev/nvme0n2: what was written past the end is cut off; Linux would have refused it\n'
 
 
 def stat_of(number):
@@ -65,30 +66,34 @@ def ways():
 class Hung(WaitingCase):
     def setUp(self):
         super().setUp()
-        self.fuse = process_folder() / 'fuse'
+        self.fuse = programs() / 'fuse'
         if not self.fuse.exists():
             subprocess.run(['cc', *WARNINGS, '-o', self.fuse, PROGRAMS / 'fuse.c'], check=True)
         self.log = self.file('log', b'')
         self.log.chmod(0o666)
-        (self.folder / 'm').mkdir(mode=0o777)
+        (self.folder / 'm').mkdir()
         (self.folder / 'm').chmod(0o777)
 
-    def mounted(self, script, rest, way, words=(), **more):
-        """Starts a script in a user namespace with a file system in $1, and then another one outside of that."""
+    def mounted(self, script, rest, way, *words, **more):
+        """Starts a script in a user namespace with a file system in $1, and then another one outside of that, and
+        returns what they print up to a signal."""
         user, inside = way
         nested = ' '.join(inside) + f' unshare -Urm sh -c \'"$0" "$1" "$3" && {script}\' "{self.fuse}" "$@" & '
-        return self.begun(user, nested + rest, self.folder / 'm', self.folder, self.log, *words,
-                          options=['--device', '/dev/fuse'], outside=EVERYBODY if IS_ROOT else (), **more)
+        return self.ends_by_signal(self.begun(
+            user, nested + rest, self.folder / 'm', self.folder, self.log, *words, options=['--device', '/dev/fuse'],
+            outside=EVERYBODY if IS_ROOT else (), **more))
+
+    def each_way(self, script, rest, wanted, *words, **more):
+        for way in ways():
+            with self.subTest(way=way):
+                self.assertEqual(self.mounted(script, rest, way, *words, **more), wanted)
 
     def test_writers(self):
         # the server makes calls that are answered before it answers, while four writers make files
         script = ('for k in 1 2 3 4; do (for i in $(seq 25); do echo x > "$1/w$k-$i" || echo failed; done) & done; '
                   'wait; for k in 1 2 3 4; do test -e "$1/w$k-25" && echo more >> "$1/w$k-25" || echo missing; done; '
                   'echo go')
-        for way in ways():
-            with self.subTest(way=way):
-                out = self.ends_by_signal(self.mounted(script, 'sleep 1000', way))
-                self.assertEqual(out, b'ready\ngo\n')
+        self.each_way(script, 'sleep 1000', b'ready\ngo\n')
 
     def test_paths(self):
         # more opens that hang than there are helpers at most, which can't write a short text meanwhile or make a file
@@ -100,7 +105,7 @@ class Hung(WaitingCase):
                 script = f'for i in $(seq {count}); do (: > "$1/hangs") & done; wait'
                 rest = f'until test -e "$2/{begun}"; do sleep 0.1; done; {OTHERS}printf "%80s\\n" go; sleep 1000'
                 with self.subTest(count, way=way):
-                    out = self.ends_by_signal(self.mounted(script, rest, way, meanwhile=lambda: self.hang(hung, begun)))
+                    out = self.mounted(script, rest, way, meanwhile=lambda: self.hang(hung, begun))
                     # (with so many, others are told to try again)
                     self.assertRegex(out, rb'(?s)^ready\n(.*Resource temporarily unavailable\n){10}.*go\n$' if
                                      hung < count else rb'^ready\n10\n1\n +go\n$')
@@ -118,10 +123,7 @@ class Hung(WaitingCase):
     def test_memory(self):
         script = 'python3 "$4" "$1/memory" 12 "$2/started"'
         rest = 'until test -e "$2/started"; do sleep 0.1; done; ' + OTHERS + 'rm -f "$2/started"; echo go; sleep 1000'
-        for way in ways():
-            with self.subTest(way=way):
-                out = self.ends_by_signal(self.mounted(script, rest, way, [self.programs() / 'hung_memory.py']))
-                self.assertEqual(out, b'ready\n10\n1\ngo\n')
+        self.each_way(script, rest, b'ready\n10\n1\ngo\n', programs() / 'hung_memory.py')
 
     def test_folders(self):
         # changes of /dev wait then, and so does their device, but opening and the end don't
@@ -134,14 +136,10 @@ class Hung(WaitingCase):
         def change():
             self.assertTrue(until(lambda: stat_of(parts()[KEEPERS][0])[0] == 'D'), 'no change of /dev waits')
             (self.folder / 'changing').touch()
-        for way in ways():
-            with self.subTest(way=way):
-                words = [self.programs() / 'hung_memory.py']
-                out = self.ends_by_signal(self.mounted(script, rest, way, words, meanwhile=change))
-                self.assertEqual(out, b'ready\n10\ngo\n')
+        self.each_way(script, rest, b'ready\n10\ngo\n', programs() / 'hung_memory.py', meanwhile=change)
 
 
-class Processes(WaitingCase):
+class Processes(WaitingCase, transcripts='waiting'):
     def test_stopped_device(self):
         # calls of its controllers wait, and all others go on
         script = ('step; nvme id-ctrl /dev/nvme0 > /dev/null & '
@@ -203,45 +201,18 @@ class Processes(WaitingCase):
     def test_killed_launcher(self):
         self.gives('step; sleep 1000', signals(LAUNCHER, SIGKILL), status=137, out=b'step\n')
 
-    def spent(self):
-        """Returns how many ticks the launcher, its keeper and its helpers have run."""
-        lines = [stat_of(number) for part in parts()[KEEPERS:] for number in part]
-        return sum(int(line[11]) + int(line[12]) for line in lines)
-
-    def is_idle(self):
-        before = self.spent()
-        time.sleep(2)
-        self.assertLess(self.spent() - before, 20)
-
     def test_idle(self):
         # none of the launcher's processes takes a turn in vain, after a node was written or made longer
-        self.gives(f'busybox sh -c "seq 2000 > /dev/nvme0n2"; {CUT}step', self.is_idle, out=GREW + b'step\n')
+        def spent():
+            lines = [stat_of(number) for part in parts()[KEEPERS:] for number in part]
+            return sum(int(line[11]) + int(line[12]) for line in lines)
 
-    @unittest.skipUnless(IS_ROOT, 'root alone can take groups')
-    def test_many_groups(self):
-        # a signal is passed on, however much the kernel tells about bwrap before it
-        groups = '--groups=' + ','.join(map(str, range(1_000_000_000, 1_000_001_000)))
-        for user in ('setpriv', groups), ('setpriv', '--reuid=65534', '--regid=65534', groups):
-            with self.subTest(user=user[1:-1]):
-                self.assertEqual(self.ends_by_signal(self.begun(user, 'echo go; exec sleep 1000')), b'go\n')
-
-    def test_limits(self):
-        # process 1 takes no turn in vain, and ends with the command
-        spent = 'cut -d " " -f 14,15 /proc/1/stat | tr " " +'
-        for limit in 'nofile=0:0', 'nproc=0:0', 'fsize=0:0', 'nofile=1:1', 'cpu=600:600':
-            script = (f'prlimit --pid 1 --{limit}; a=$(({"$"}({spent}))); sleep 1; b=$(({"$"}({spent}))); '
-                      f'test $((b - a)) -lt 30 || echo $a $b; echo go; test -z "$1" || sleep 1000; exit 5')
-            for user in USERS:
-                with self.subTest(limit, user=user):
-                    self.assertEqual(self.ends_by_signal(self.begun(user, script, 'x')), b'go\n')
-                    self.ends(self.begun(user, script, '').end(), 5, b'go\n')
-
-    def test_many_orphans(self):
-        # a signal is passed on while processes without parents stop and end
-        script = f'exec python3 {self.programs()}/orphans.py'
-        for user in USERS:
-            with self.subTest(user=user):
-                self.assertEqual(self.ends_by_signal(self.begun(user, script)), b'go\n')
+        def is_idle():
+            before = spent()
+            time.sleep(2)
+            self.assertLess(spent() - before, 20)
+        self.gives('busybox sh -c "seq 2000 > /dev/nvme0n2"; until test $(busybox wc -c < /dev/nvme0n2) = 4608; do '
+                   'sleep 0.1; done; step', is_idle, out=GREW + b'step\n')
 
     def test_trace_that_nobody_reads(self):
         for user in USERS:
@@ -261,38 +232,6 @@ class Processes(WaitingCase):
                 os.close(reader)
                 self.leaves_nothing()
 
-    def test_limits_of_the_caller(self):
-        for limit, said in (('-n 100', 'open files (ulimit -n) is 100, and at least 256'),
-                            ('-f 0', 'the bytes of a file (ulimit -f) is 0, and at least 1048576')):
-            for user in USERS:
-                with self.subTest(limit, user=user):
-                    by = *user, 'bash', '-c', f'ulimit {limit}; exec "$@"', 'bash'
-                    ended = subprocess.run([*by, *self.command('true')], capture_output=True, env=environment())
-                    self.assertEqual((ended.returncode, ended.stderr.decode()),
-                                     (72, f'nvme-model: the limit of {said} are needed\n'))
-
-    def test_few_addresses(self):
-        # (all helpers that there can be have more room for data)
-        for user in USERS:
-            by = *user, 'bash', '-c', 'ulimit -v 400000; exec "$@"', 'bash'
-            self.ends(run(*by, *self.command('nvme', 'list-ns', '/dev/nvme0')), 0, b'[   0]:0x1\n[   1]:0x3\n', b'')
-
-    def test_many_words(self):
-        words = [*map(str, range(30000)), 'x' * 100000]
-        for user in USERS:
-            ended = run(*user, *self.command('sh', '-c', 'echo $# $2 ${30001} | wc -c', 'sh', *words))
-            self.ends(ended, 0, b'%d\n' % len(f'30001 1 {words[-1]}\n'), b'')
-
-    @unittest.skipUnless(IS_ROOT, 'root alone can take the number of a user without processes')
-    def test_no_watchers(self):
-        # without inotify, nothing would tell of nodes that become longer
-        user = 'setpriv', '--reuid=54400', '--regid=54400', '--clear-groups'
-        taker = Running(*user, 'python3', self.programs() / 'watches.py')
-        self.addCleanup(taker.process.kill)
-        taker.comes(b'full\n')
-        ended = run(*user, *self.command('true'))
-        self.ends(ended, 72, b'', b'nvme-model: changes of nodes can\'t be watched (inotify): Too many open files\n')
-
     def test_lost_at_once(self):
         # that a device was lost is reported before the command can see it
         late = self.folder / 'late.so'
@@ -301,21 +240,7 @@ class Processes(WaitingCase):
                    by=['env', f'LD_PRELOAD={late}'],
                    out=b'step\nnvme-model: the device ended, or answered what was not asked\ngone\n')
 
-    @unittest.skipUnless(IS_ROOT, 'root alone can take the number of a user without processes')
-    def test_too_few_processes(self):
-        # a launcher that can't start what it needs says so, and otherwise the command runs
-        few = rb'nvme-model: .*: Resource temporarily unavailable(; --vm runs the command .*)?\n'
-        enough = []
-        for count in range(2, 16):
-            user = ('setpriv', f'--reuid={54321 + count}', '--regid=54321', '--clear-groups', 'bash', '-c',
-                    'ulimit -u $1; shift; exec "$@"', 'bash')
-            ended = run(*user, str(count), *self.command('nvme', 'list-ns', '/dev/nvme0'))
-            enough.append(ended.status == 0)
-            self.ends(ended, 0 if enough[-1] else 72, b'[   0]:0x1\n[   1]:0x3\n' if enough[-1] else b'')
-            self.assertRegex(ended.err, b'^$' if enough[-1] else few + b'$', ended)
-        self.assertEqual((enough[0], enough[-1]), (False, True))
-
     def test_many_changes(self):
         # more files are written than the kernel tells while a keeper waits; a node that became longer gets its length
-        self.gives(f'python3 {self.programs()}/grows.py', signals(DEVICES, SIGSTOP), signals(DEVICES, SIGCONT),
+        self.gives(f'python3 {programs()}/grows.py', signals(DEVICES, SIGSTOP), signals(DEVICES, SIGCONT),
                    out=b'step\n10000\nstep\n' + GREW + b'end\n')

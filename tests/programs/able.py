@@ -12,13 +12,8 @@ from told import told
 LIBC = ctypes.CDLL(None)
 
 
-def is_opened(path, flags):
-    result = told(os.open, path, flags)
-    return result if isinstance(result, str) else 'done'
-
-
-def is_answered(file):
-    result = told(fcntl.ioctl, file, 0x4e44)
+def word(call, *words):
+    result = told(call, *words)
     return result if isinstance(result, str) else 'done'
 
 
@@ -28,7 +23,8 @@ if sys.argv[1] == 'hides':
 elif sys.argv[1] == 'has_no_rights':
     LIBC.capset(ctypes.byref((ctypes.c_uint * 2)(0x20080522, 0)), (ctypes.c_uint * 6)())
 if sys.argv[2:]:
-    print(is_opened(sys.argv[2], os.O_WRONLY))
+    print(word(os.open, sys.argv[2], os.O_WRONLY))
 else:
-    print(is_opened('/sys/block/nvme0n1/ro', os.O_WRONLY), is_opened('/proc/self/autogroup', os.O_WRONLY),
-          is_opened('/dev/nvme0n2', os.O_WRONLY | os.O_TRUNC), is_answered(own), is_answered(path))
+    print(*(word(os.open, path, os.O_WRONLY) for path in ('/sys/block/nvme0n1/ro', '/proc/self/autogroup')),
+          word(os.open, '/dev/nvme0n2', os.O_WRONLY | os.O_TRUNC),
+          *(word(fcntl.ioctl, file, 0x4e44) for file in (own, path)))

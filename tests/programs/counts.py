@@ -1,8 +1,9 @@
-"""Tells whether a signal of the terminal comes once or again."""
+"""Fails if a signal of the terminal comes again."""
 
 import signal
+import sys
 
 signal.pthread_sigmask(signal.SIG_BLOCK, {signal.SIGINT})
 print('ready', flush=True)
 signal.sigwait({signal.SIGINT})
-print('again' if signal.sigtimedwait({signal.SIGINT}, 1) else 'once')
+sys.exit(signal.sigtimedwait({signal.SIGINT}, 1))

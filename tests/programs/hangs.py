@@ -10,11 +10,4 @@ server = os.open('/dev/fuse', os.O_RDWR)
 options = b'fd=%d,rootmode=40000,user_id=0,group_id=0,allow_other' % server
 if libc.mount(b'hung', sys.argv[1].encode(), b'fuse', 0, options) < 0:
     sys.exit(77)
-ended = subprocess.Popen(sys.argv[2:])
-try:
-    status = ended.wait(300)
-except subprocess.TimeoutExpired:
-    status = 99
-os.close(server)
-ended.kill()
-sys.exit(status)
+sys.exit(subprocess.run(['timeout', '-s', 'KILL', '300', *sys.argv[2:]]).returncode)

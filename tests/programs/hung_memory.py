@@ -8,8 +8,9 @@ import os
 import sys
 import time
 
-call = ctypes.CDLL(None, use_errno=True).syscall
-OPEN, IOCTL, LIST, OPENAT2, ADMIN, HERE = 2, 16, 217, 437, 0xc0484e41, -100
+from told import ADMIN, syscall
+
+OPEN, IOCTL, LIST, OPENAT2, HERE = 2, 16, 217, 437, -100
 memory = mmap.mmap(os.open(sys.argv[1], os.O_RDWR), 4096)
 place = ctypes.c_void_p(ctypes.addressof(ctypes.c_char.from_buffer(memory)))
 calls = [(OPEN, place, os.O_WRONLY), (OPENAT2, HERE, b'/dev/null', place, 24)]
@@ -21,7 +22,7 @@ children = []
 for number in range(int(sys.argv[2])):
     children.append(os.fork())
     if children[-1] == 0:
-        call(*calls[number % len(calls)])
+        syscall(*calls[number % len(calls)])
         os._exit(0)
 while {open(f'/proc/{child}/syscall').read().split()[0] for child in children} - {str(number) for number, *_ in calls}:
     time.sleep(0.1)

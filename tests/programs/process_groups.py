@@ -1,21 +1,11 @@
-"""Signals process groups, by numbers and by a descriptor, and prints what each call gives."""
+"""Signals process groups, by a descriptor and by numbers, and prints what each call gives."""
 
-import ctypes
-import errno
 import os
+import signal
 
-call = ctypes.CDLL(None, use_errno=True).syscall
+from told import told
 
-
-def tell(*words):
-    result = call(*words)
-    print(errno.errorcode[ctypes.get_errno()] if result < 0 else result)
-
-
-for flags in 4, 0:
-    tell(424, os.pidfd_open(os.getpid()), 0, None, flags)
-for number in 99, -1, 0:
-    tell(62, 0, number)
+print(*(told(signal.pidfd_send_signal, os.pidfd_open(os.getpid()), 0, None, flags) for flags in (4, 0)))
+print(*(told(os.kill, 0, number) for number in (99, -1, 0)))
 os.setpgid(0, 0)
-tell(62, 0, 0)
-tell(62, -os.getpgrp(), 0)
+print(*(told(os.kill, group, 0) for group in (0, -os.getpgrp())))

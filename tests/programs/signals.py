@@ -6,6 +6,8 @@ import sys
 import threading
 import time
 
+from told import told
+
 signal.signal(signal.SIGTERM, signal.SIG_IGN)
 os.kill(0, signal.SIGTERM)
 end, count = time.monotonic() + 2, 0
@@ -18,9 +20,5 @@ def call():
 
 threading.Thread(target=call).start()
 while time.monotonic() < end:
-    try:
-        os.kill(1, signal.SIGTERM)
-        count += 1
-    except PermissionError:
-        pass
+    count += told(os.kill, 1, signal.SIGTERM) != 'EPERM'
 print(count)
