@@ -1,6 +1,6 @@
 -- The value of the controllers of a subsystem, with the phase tags in its logs.
-use Rattle.std.specs.Prelude.{ℕ, List, if◌then◌else◌}
-use Rattle.nv_register.specs.RegisterBank.{stops_at}
+use Rattle.std.specs.Prelude.{◌≡◌, ℕ, List, if◌then◌else◌, slice_set}
+use Rattle.nv_register.specs.RegisterBank.{stops_at, with_register_at}
 use Rattle.nv_register.specs.declared.register_bank.RegisterBank.{RegisterBank}
 use Rattle.nv_model.specs.State.{State}
 use Rattle.nv_model.specs.Step.{reset}
@@ -20,3 +20,8 @@ bus_of m = record { state = untagged m.state; banks = m.banks }
 abbrev pub machine_written : MachineValue → ℕ → ℕ → ℕ → State
 machine_written m c offset x =
     if stops_at (bank_at m.banks c) offset x then reset m.state c else m.state
+
+-- a write to a register of controller c
+pub record Writes (m : MachineValue) (c offset x : ℕ) (m' : MachineValue) : Type 0 where
+  pub state : m'.state ≡ machine_written m c offset x
+  pub banks : m'.banks ≡ slice_set m.banks c (with_register_at (bank_at m.banks c) offset x)

@@ -93,3 +93,7 @@ abbrev pub TaggedTurn : ℕ → ℕ → MachineValue → List ℕ → MachineVal
 TaggedTurn c count m bytes m' bytes' =
     TaggedBy (bank_at m.banks c).readiness c count (site m.state (bank_at m.banks c) bytes)
     (site m'.state (bank_at m'.banks c) bytes')
+
+-- the same, for any greatest number of entries
+abbrev pub Turns : MachineValue → List ℕ → ℕ → ℕ → ℕ → MachineValue → List ℕ → Type 0
+Turns m bytes c most count m' bytes' = TaggedTurn c count m bytes m' bytes'

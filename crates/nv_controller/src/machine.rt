@@ -292,8 +292,15 @@ impl Machine {
 }
 
 impl Bus for Machine {
-    // A bus doesn't show the phase tags in logs.
+    ghost use Rattle.nv_controller.specs.Machine.{Writes, bus_of};
+    ghost use Rattle.nv_controller.specs.Tags.{Turns};
+
+    // A bus doesn't show the phase tags in logs. What is said of its writes and turns does.
     ghost meaning = { λ m. bus_of m };
+
+    ghost was_written = { Writes };
+
+    ghost was_turned = { Turns };
 
     fn controllers(&self) -> u16 {
         self.subsystem.controllers()
