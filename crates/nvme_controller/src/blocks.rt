@@ -11,6 +11,7 @@ ghost use Rattle.nvme_controller.specs.Blocks.{next_number, scene_of, status_num
 ghost use Rattle.nvme_controller.specs.Queues.{fetch_of, post_of};
 
 use crate::caller::Answer;
+use crate::lent::Lent;
 use crate::queues::{CompletionQueue, SubmissionQueue};
 use nv_blocks::{Namespace, Stop, Taken, Terms, Told, complete, next_entry, turn};
 use nv_host::{LentBytes, LentMemory, Loan, are_pages};
@@ -91,28 +92,22 @@ fn rings(
 
 // ---- the next entry
 
-/// The next entry, or why there is none, and the bytes of the host's memory, which are returned.
-#[derive(Drop)]
-struct Seen<'a> {
-    next: Result<Sqe, Stop>,
-    memory: &'a mut [u8],
-}
-
 /// Looks at the next entry over these bytes, which it returns.
-fn look<'a, L: Loan>(pair: &QueuePair, memory: &'a mut [u8], page_size: u32) -> Seen<'a>
+fn look<'a, L: Loan>(
+    pair: &QueuePair,
+    memory: &'a mut [u8],
+    page_size: u32,
+) -> Lent<'a, Result<Sqe, Stop>>
     requires pages { IsTrue (are_pages page_size (length memory.old)) }
     requires loan { memory.ghost_name ≡ L.reference }
     ensures same_reference { result.memory.ghost_name ≡ memory.entry.ghost_name }
-    ensures next { result.next ≡ next_entry pair.now.fetch pair.now.post memory.old }
+    ensures next { result.value ≡ next_entry pair.now.fetch pair.now.post memory.old }
     ensures memory { result.memory.now ≡ memory.old }
 {
     let lent: LentMemory<'a, L> = LentMemory::new(memory, page_size);
-    let next = next_entry(&pair.fetch, &pair.post, &lent);
-    let LentBytes { bytes } = lent.into_bytes();
-    Seen {
-        next,
-        memory: bytes,
-    }
+    let value = next_entry(&pair.fetch, &pair.post, &lent);
+    let LentBytes { bytes: memory } = lent.into_bytes();
+    Lent { value, memory }
 }
 
 /// Copies an entry if there is one, and returns the number for it or for why there is none.
@@ -152,19 +147,12 @@ pub extern "C" fn nvme_lent_next(
     ensures memory { memory.new ≡ memory.old }
 {
     match rings(submissions, completions, page_size, memory.len()) {
-        Some(pair) => show(look::<Brand>(&pair, memory, page_size).next, entry),
+        Some(pair) => show(look::<Brand>(&pair, memory, page_size).value, entry),
         None => -1,
     }
 }
 
 // ---- turns
-
-/// What was taken, or why nothing was, and the bytes of the host's memory, which are returned.
-#[derive(Drop)]
-struct Served<'a> {
-    taken: Result<Taken, Stop>,
-    memory: &'a mut [u8],
-}
 
 /// Completes the next entry over these bytes, which it returns.
 fn answer<'a, L: Loan>(
@@ -173,23 +161,20 @@ fn answer<'a, L: Loan>(
     page_size: u32,
     sqid: u16,
     told: Told,
-) -> Served<'a>
+) -> Lent<'a, Result<Taken, Stop>>
     requires pages { IsTrue (are_pages page_size (length memory.old)) }
     requires loan { memory.ghost_name ≡ L.reference }
     ensures same_reference { result.memory.ghost_name ≡ memory.entry.ghost_name }
-    ensures taken { result.taken ≡ taken_with sqid page_size told []
+    ensures taken { result.value ≡ taken_with sqid page_size told []
         (scene pair.old.fetch pair.old.post [] memory.old) }
     ensures scene { scene pair.new.fetch pair.new.post [] result.memory.now ≡ after_answer sqid
         page_size told [] (scene pair.old.fetch pair.old.post [] memory.old) }
 {
     let mut lent: LentMemory<'a, L> = LentMemory::new(memory, page_size);
     let answer = nv_blocks::Answer { told, data: &[] };
-    let taken = complete(&mut pair.fetch, &mut pair.post, &mut lent, sqid, &answer);
-    let LentBytes { bytes } = lent.into_bytes();
-    Served {
-        taken,
-        memory: bytes,
-    }
+    let value = complete(&mut pair.fetch, &mut pair.post, &mut lent, sqid, &answer);
+    let LentBytes { bytes: memory } = lent.into_bytes();
+    Lent { value, memory }
 }
 
 /// Returns 1 for what was taken, or the number for why nothing was.
@@ -234,7 +219,7 @@ pub extern "C" fn nvme_lent_complete(
     let served = answer::<Brand>(&mut pair, memory, page_size, submissions.sqid, told);
     submissions.keep(&pair.fetch);
     completions.keep(&pair.post);
-    number(served.taken)
+    number(served.value)
 }
 
 /// Gives the queues a turn over these bytes, which it returns.
@@ -244,22 +229,19 @@ fn serve<'a, L: Loan>(
     page_size: u32,
     stored: &mut [u8],
     terms: &Terms,
-) -> Served<'a>
+) -> Lent<'a, Result<Taken, Stop>>
     requires pages { IsTrue (are_pages page_size (length memory.old)) }
     requires loan { memory.ghost_name ≡ L.reference }
     ensures same_reference { result.memory.ghost_name ≡ memory.entry.ghost_name }
-    ensures taken { result.taken ≡ taken_in terms.now page_size
+    ensures taken { result.value ≡ taken_in terms.now page_size
         (scene pair.old.fetch pair.old.post stored.old memory.old) }
     ensures scene { scene pair.new.fetch pair.new.post stored.new result.memory.now ≡ after_turn
         terms.now page_size (scene pair.old.fetch pair.old.post stored.old memory.old) }
 {
     let mut lent: LentMemory<'a, L> = LentMemory::new(memory, page_size);
-    let taken = turn(&mut pair.fetch, &mut pair.post, &mut lent, stored, terms);
-    let LentBytes { bytes } = lent.into_bytes();
-    Served {
-        taken,
-        memory: bytes,
-    }
+    let value = turn(&mut pair.fetch, &mut pair.post, &mut lent, stored, terms);
+    let LentBytes { bytes: memory } = lent.into_bytes();
+    Lent { value, memory }
 }
 
 /// Returns the status of what was taken, or -1.
@@ -302,5 +284,5 @@ pub extern "C" fn nvme_lent_turn(
     let served = serve::<Brand>(&mut pair, memory, page_size, stored, &terms);
     submissions.keep(&pair.fetch);
     completions.keep(&pair.post);
-    status(served.taken)
+    status(served.value)
 }

@@ -12,6 +12,7 @@ ghost use Rattle.nvme_controller.specs.Caller.{told_of};
 ghost use Rattle.nvme_controller.specs.Open.{Goes, IsOpen};
 
 use crate::handle::Handle;
+use crate::lent::Lent;
 use nv_bus::Told;
 use nv_controller::{Bus, Machine};
 use nv_host::{LentBytes, LentMemory, Loan, PagedMemory, are_pages};
@@ -76,61 +77,35 @@ fn act_on<M: PagedMemory>(
     }
 }
 
-/// The next entry, and the bytes of the host's memory, which are returned.
-#[derive(Drop)]
-struct Acted<'a> {
-    entry: Option<Sqe>,
-    memory: &'a mut [u8],
-}
-
-/// Does what `act_on` does over these bytes, which it returns.
+/// Does this with the next entry that the controller would take over these bytes, if there is one,
+/// and returns it with the bytes. There is none if there is no such controller, or the bytes aren't
+/// whole pages.
 fn act<'a, L: Loan>(
     machine: &mut Machine,
     ctrl: u16,
     memory: &'a mut [u8],
     page_size: u32,
     handling: Handling,
-) -> Acted<'a>
+) -> Lent<'a, Option<Sqe>>
     requires bus { IsBus (bus_of machine.old) }
-    requires ctrl { ctrl < length machine.old.banks }
-    requires pages { IsTrue (are_pages page_size (length memory.old)) }
     requires loan { memory.ghost_name ≡ L.reference }
     ensures same_reference { result.memory.ghost_name ≡ memory.entry.ghost_name }
-    ensures entry { result.entry ≡ entry_of machine.old ctrl page_size memory.old }
-    ensures machine { machine.new ≡ machine_after result.entry handling ctrl machine.old }
+    ensures entry { result.value ≡ next_over machine.old ctrl page_size memory.old }
+    ensures machine { machine.new ≡ machine_after result.value handling ctrl machine.old }
     ensures bytes { result.memory.now
-        ≡ bytes_after result.entry handling ctrl machine.old memory.old }
+        ≡ bytes_after result.value handling ctrl machine.old memory.old }
     ensures bus { IsBus (bus_of machine.new) }
 {
+    if ctrl >= machine.controllers() || !are_pages(page_size, memory.len()) {
+        return Lent {
+            value: None,
+            memory,
+        };
+    }
     let mut lent: LentMemory<'a, L> = LentMemory::new(memory, page_size);
-    let entry = act_on(machine, ctrl, &mut lent, handling);
-    let LentBytes { bytes } = lent.into_bytes();
-    Acted {
-        entry,
-        memory: bytes,
-    }
-}
-
-/// Does this with the next entry that the controller would take over these bytes, if there is one,
-/// and returns it. There is none if there is no such controller, or the bytes aren't whole pages.
-fn act_over(
-    machine: &mut Machine,
-    ctrl: u16,
-    memory: &mut [u8],
-    page_size: u32,
-    handling: Handling,
-) -> Option<Sqe>
-    requires { IsBus (bus_of machine.old) }
-    ensures entry { result ≡ next_over machine.old ctrl page_size memory.old }
-    ensures machine { machine.new ≡ machine_after result handling ctrl machine.old }
-    ensures bytes { memory.new ≡ bytes_after result handling ctrl machine.old memory.old }
-    ensures bus { IsBus (bus_of machine.new) }
-{
-    if ctrl < machine.controllers() && are_pages(page_size, memory.len()) {
-        act::<Brand>(machine, ctrl, memory, page_size, handling).entry
-    } else {
-        None
-    }
+    let value = act_on(machine, ctrl, &mut lent, handling);
+    let LentBytes { bytes: memory } = lent.into_bytes();
+    Lent { value, memory }
 }
 
 /// Copies an entry if there is one, and returns 1, or else 0.
@@ -167,7 +142,7 @@ pub extern "C" fn nvme_handle_next(
     ensures memory { memory.new ≡ memory.old }
 {
     let mut machine = handle.take(alloc);
-    let found = act_over(&mut machine, ctrl, memory, page_size, Handling::Look);
+    let found = act::<Brand>(&mut machine, ctrl, memory, page_size, Handling::Look).value;
     handle.put(machine);
     show(found, entry)
 }
@@ -194,7 +169,7 @@ pub extern "C" fn nvme_handle_fetch(
     ensures open { IsOpen handle.new.machine }
 {
     let mut machine = handle.take(alloc);
-    let found = act_over(&mut machine, ctrl, memory, page_size, Handling::Take);
+    let found = act::<Brand>(&mut machine, ctrl, memory, page_size, Handling::Take).value;
     handle.put(machine);
     show(found, entry)
 }
@@ -223,67 +198,40 @@ pub extern "C" fn nvme_handle_complete(
 {
     let mut machine = handle.take(alloc);
     let handling = Handling::Complete(answer.told());
-    let found = act_over(&mut machine, ctrl, memory, page_size, handling);
+    let found = act::<Brand>(&mut machine, ctrl, memory, page_size, handling).value;
     handle.put(machine);
     show(found, &mut [0; 64])
 }
 
-/// Whether a completion was posted, and the bytes of the host's memory, which are returned.
-#[derive(Drop)]
-struct Posted<'a> {
-    is_posted: bool,
-    memory: &'a mut [u8],
-}
-
-/// Posts the completion of an entry that was taken before, over these bytes, which it returns.
+/// Posts the completion of an entry that was taken before over these bytes, which it returns with
+/// whether it was posted: if the controller exists, the bytes are whole pages, and the completion
+/// queue has a free slot in them.
 fn post<'a, L: Loan>(
     machine: &mut Machine,
     ctrl: u16,
     memory: &'a mut [u8],
     page_size: u32,
     answer: &Answer,
-) -> Posted<'a>
+) -> Lent<'a, bool>
     requires bus { IsBus (bus_of machine.old) }
-    requires ctrl { ctrl < length machine.old.banks }
-    requires pages { IsTrue (are_pages page_size (length memory.old)) }
     requires loan { memory.ghost_name ≡ L.reference }
     ensures same_reference { result.memory.ghost_name ≡ memory.entry.ghost_name }
-    ensures posted { result.is_posted ≡ can_post machine.old ctrl page_size (length memory.old) }
-    ensures machine { machine.new ≡ machine_posted result.is_posted ctrl machine.old }
-    ensures bytes { result.memory.now ≡ bytes_posted result.is_posted ctrl machine.old
+    ensures posted { result.value ≡ posts_over machine.old ctrl page_size (length memory.old) }
+    ensures machine { machine.new ≡ machine_posted result.value ctrl machine.old }
+    ensures bytes { result.memory.now ≡ bytes_posted result.value ctrl machine.old
         answer.now.cid (told_of answer.now) memory.old }
     ensures bus { IsBus (bus_of machine.new) }
 {
+    if ctrl >= machine.controllers() || !are_pages(page_size, memory.len()) {
+        return Lent {
+            value: false,
+            memory,
+        };
+    }
     let mut lent: LentMemory<'a, L> = LentMemory::new(memory, page_size);
-    let is_posted = machine.post(ctrl, &mut lent, answer.cid, answer.told());
-    let LentBytes { bytes } = lent.into_bytes();
-    Posted {
-        is_posted,
-        memory: bytes,
-    }
-}
-
-/// Posts the completion of an entry that was taken before, if the controller exists, the bytes are
-/// whole pages, and the completion queue has a free slot in them. Returns whether it was posted.
-fn post_over(
-    machine: &mut Machine,
-    ctrl: u16,
-    memory: &mut [u8],
-    page_size: u32,
-    answer: &Answer,
-) -> bool
-    requires { IsBus (bus_of machine.old) }
-    ensures posted { result ≡ posts_over machine.old ctrl page_size (length memory.old) }
-    ensures machine { machine.new ≡ machine_posted result ctrl machine.old }
-    ensures bytes { memory.new
-        ≡ bytes_posted result ctrl machine.old answer.now.cid (told_of answer.now) memory.old }
-    ensures bus { IsBus (bus_of machine.new) }
-{
-    if ctrl < machine.controllers() && are_pages(page_size, memory.len()) {
-        post::<Brand>(machine, ctrl, memory, page_size, answer).is_posted
-    } else {
-        false
-    }
+    let value = machine.post(ctrl, &mut lent, answer.cid, answer.told());
+    let LentBytes { bytes: memory } = lent.into_bytes();
+    Lent { value, memory }
 }
 
 /// Posts the completion of an entry that was taken before. Returns 1, or 0 if that isn't possible.
@@ -307,7 +255,7 @@ pub extern "C" fn nvme_handle_post(
     ensures open { IsOpen handle.new.machine }
 {
     let mut machine = handle.take(alloc);
-    let is_posted = post_over(&mut machine, ctrl, memory, page_size, answer);
+    let is_posted = post::<Brand>(&mut machine, ctrl, memory, page_size, answer).value;
     handle.put(machine);
     i32::from(is_posted)
 }

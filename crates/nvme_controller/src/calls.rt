@@ -17,6 +17,7 @@ ghost use Rattle.nvme_controller.specs.Open.{Goes, IsOpen};
 
 use crate::fault::{number, put_fault, put_texts};
 use crate::handle::Handle;
+use crate::lent::Lent;
 use nv_controller::{Bus, Machine};
 use nv_host::{LentBytes, LentMemory, Loan, are_pages};
 use nv_subsystem::{DEMO, Subsystem, SubsystemError};
@@ -169,52 +170,29 @@ pub extern "C" fn nvme_handle_write32(
     handle.put(machine);
 }
 
-/// The number of entries that a turn took, and the bytes of the host's memory, which are returned.
-#[derive(Drop)]
-struct TurnTaken<'a> {
-    count: u16,
-    memory: &'a mut [u8],
-}
-
-/// Gives a controller a turn over these bytes, which it returns.
+/// Gives a controller a turn over these bytes, which it returns with how many entries it took.
+/// Nothing changes if there is no such controller, or the bytes aren't whole pages.
 fn turn<'a, L: Loan>(
     machine: &mut Machine,
     ctrl: u16,
     memory: &'a mut [u8],
     page_size: u32,
     most: u16,
-) -> TurnTaken<'a>
+) -> Lent<'a, u16>
     requires bus { IsBus (bus_of machine.old) }
-    requires ctrl { ctrl < length machine.old.banks }
-    requires pages { IsTrue (are_pages page_size (length memory.old)) }
     requires loan { memory.ghost_name ≡ L.reference }
     ensures same_reference { result.memory.ghost_name ≡ memory.entry.ghost_name }
-    ensures turn { BytesTurn page_size ctrl most result.count
+    ensures turned { Turned ctrl page_size most result.value
         machine.old memory.old machine.new result.memory.now }
     ensures bus { IsBus (bus_of machine.new) }
 {
+    if ctrl >= machine.controllers() || !are_pages(page_size, memory.len()) {
+        return Lent { value: 0, memory };
+    }
     let mut lent: LentMemory<'a, L> = LentMemory::new(memory, page_size);
-    let count = machine.turn(ctrl, &mut lent, most);
-    let LentBytes { bytes } = lent.into_bytes();
-    TurnTaken {
-        count,
-        memory: bytes,
-    }
-}
-
-/// Gives a controller a turn over these bytes, and returns how many entries it took. Nothing
-/// changes if there is no such controller, or the bytes aren't whole pages.
-fn turn_over(machine: &mut Machine, ctrl: u16, memory: &mut [u8], page_size: u32, most: u16) -> u16
-    requires { IsBus (bus_of machine.old) }
-    ensures turned { Turned ctrl page_size most result
-        machine.old memory.old machine.new memory.new }
-    ensures bus { IsBus (bus_of machine.new) }
-{
-    if ctrl < machine.controllers() && are_pages(page_size, memory.len()) {
-        turn::<Brand>(machine, ctrl, memory, page_size, most).count
-    } else {
-        0
-    }
+    let value = machine.turn(ctrl, &mut lent, most);
+    let LentBytes { bytes: memory } = lent.into_bytes();
+    Lent { value, memory }
 }
 
 /// Gives a controller a turn of at most `most` entries over the host's memory, and returns how many
@@ -234,7 +212,7 @@ pub extern "C" fn nvme_handle_turn(
     ensures open { IsOpen handle.new.machine }
 {
     let mut machine = handle.take(alloc);
-    let count = turn_over(&mut machine, ctrl, memory, page_size, most);
+    let count = turn::<Brand>(&mut machine, ctrl, memory, page_size, most).value;
     handle.put(machine);
     count
 }

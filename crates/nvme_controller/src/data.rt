@@ -7,6 +7,7 @@ ghost use Rattle.nv_prp.specs.Transfer.{most_bytes};
 ghost use Rattle.nv_blocks.specs.Effect.{sent};
 ghost use Rattle.nvme_controller.specs.Blocks.{CanSend, cannot_send, sent_memory, sent_status};
 
+use crate::lent::Lent;
 use nv_blocks::{Refusal, send};
 use nv_host::{LentBytes, LentMemory, Loan, are_pages};
 use nv_layout::Sqe;
@@ -15,34 +16,29 @@ use std::marker::Brand;
 /// The greatest transfer of any command, in bytes.
 const MOST_BYTES: usize = 1_048_576;
 
-/// The status of sending data, and the bytes of the host's memory, which are returned.
-#[derive(Drop)]
-struct Sent<'a> {
-    status: u16,
-    memory: &'a mut [u8],
-}
-
 /// Sends bytes to an entry's data in this memory, which it returns.
-fn write<'a, L: Loan>(entry: &Sqe, memory: &'a mut [u8], page_size: u32, bytes: &[u8]) -> Sent<'a>
+fn write<'a, L: Loan>(
+    entry: &Sqe,
+    memory: &'a mut [u8],
+    page_size: u32,
+    bytes: &[u8],
+) -> Lent<'a, u16>
     requires pages { IsTrue (are_pages page_size (length memory.old)) }
     requires few { length bytes.now ≤ most_bytes }
     requires loan { memory.ghost_name ≡ L.reference }
     ensures same_reference { result.memory.ghost_name ≡ memory.entry.ghost_name }
-    ensures status { result.status
+    ensures status { result.value
         ≡ sent_status (sent page_size entry.now bytes.now memory.old) }
     ensures memory { result.memory.now
         ≡ sent_memory (sent page_size entry.now bytes.now memory.old) memory.old }
 {
     let mut lent: LentMemory<'a, L> = LentMemory::new(memory, page_size);
-    let status = match send(&mut lent, entry, bytes) {
+    let value = match send(&mut lent, entry, bytes) {
         Ok(()) => 0,
         Err(refusal) => refusal.status().number(),
     };
-    let LentBytes { bytes } = lent.into_bytes();
-    Sent {
-        status,
-        memory: bytes,
-    }
+    let LentBytes { bytes: memory } = lent.into_bytes();
+    Lent { value, memory }
 }
 
 /// Writes bytes to where the data pointer of an entry says, and returns 0, or the status with which
@@ -64,5 +60,5 @@ pub extern "C" fn nvme_lent_write(
     if !are_pages(page_size, memory.len()) || bytes.len() > MOST_BYTES {
         return Refusal::DataTransferError.status().number();
     }
-    write::<Brand>(&Sqe::get(entry), memory, page_size, bytes).status
+    write::<Brand>(&Sqe::get(entry), memory, page_size, bytes).value
 }

@@ -13,6 +13,7 @@ mod data;
 mod fault;
 mod handle;
 mod identify;
+mod lent;
 mod parts;
 mod queues;
 mod status;

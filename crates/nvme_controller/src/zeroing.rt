@@ -11,6 +11,7 @@ ghost use Rattle.nvme_controller.specs.Zeroing.{HoldsRanges, ListsRanges};
 ghost use Rattle.nvme_controller.specs.inner.Zeroing.{is_accepted};
 
 use crate::blocks::LentBlocks;
+use crate::lent::Lent;
 use nv_blocks::{Extent, Extents, Terms, find_zeroed};
 use nv_host::{LentBytes, LentMemory, Loan, are_pages};
 use nv_layout::Sqe;
@@ -24,13 +25,6 @@ pub struct ByteRange {
     pub length: u64,
 }
 
-/// Whether an entry is accepted, and the bytes of the host's memory, which are returned.
-#[derive(Drop)]
-struct Accepted<'a> {
-    is_accepted: bool,
-    memory: &'a mut [u8],
-}
-
 /// Finds what an entry zeroes in blocks of so many bytes, over this memory, which it returns.
 fn find<'a, L: Loan>(
     entry: &Sqe,
@@ -39,21 +33,18 @@ fn find<'a, L: Loan>(
     terms: &Terms,
     size: usize,
     extents: &mut Extents,
-) -> Accepted<'a>
+) -> Lent<'a, bool>
     requires pages { IsTrue (are_pages page_size (length memory.old)) }
     requires loan { memory.ghost_name ≡ L.reference }
     ensures same_reference { result.memory.ghost_name ≡ memory.entry.ghost_name }
     ensures memory { result.memory.now ≡ memory.old }
     ensures found { let found = zeroing terms.now page_size size memory.old entry.now in
-        MatchBool result.is_accepted (found ≡ Ok extents.new) (is_accepted found ≡ false) }
+        MatchBool result.value (found ≡ Ok extents.new) (is_accepted found ≡ false) }
 {
     let lent: LentMemory<'a, L> = LentMemory::new(memory, page_size);
-    let is_accepted = find_zeroed(&lent, entry, terms, size, extents).is_ok();
-    let LentBytes { bytes } = lent.into_bytes();
-    Accepted {
-        is_accepted,
-        memory: bytes,
-    }
+    let value = find_zeroed(&lent, entry, terms, size, extents).is_ok();
+    let LentBytes { bytes: memory } = lent.into_bytes();
+    Lent { value, memory }
 }
 
 /// Copies extents to the first ranges, and returns how many they are.
@@ -93,17 +84,8 @@ pub extern "C" fn nvme_lent_zeroing(
         return -1;
     }
     let terms = lent.terms(0);
-    let mut extents = Extents::new();
-    if !find::<Brand>(
-        &Sqe::get(entry),
-        memory,
-        page_size,
-        &terms,
-        size,
-        &mut extents,
-    )
-    .is_accepted
-    {
+    let (entry, mut extents) = (Sqe::get(entry), Extents::new());
+    if !find::<Brand>(&entry, memory, page_size, &terms, size, &mut extents).value {
         return -1;
     }
     put_ranges(extents.as_slice(), ranges)

@@ -1,4 +1,4 @@
-use Rattle.nvme_controller.proofs.caller.act_over.Given as goal
+use Rattle.nvme_controller.proofs.caller.nvme_handle_next.Given as goal
 
 -- the reference to the bytes
 abbrev pub ghosts-act : goal.ghosts-act

@@ -1,4 +1,4 @@
-use Rattle.nvme_controller.proofs.calls.turn_over.Given as goal
+use Rattle.nvme_controller.proofs.calls.nvme_handle_turn.Given as goal
 
 -- the reference to the bytes
 abbrev pub ghosts-turn : goal.ghosts-turn

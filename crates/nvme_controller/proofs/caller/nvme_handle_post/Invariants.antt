@@ -1,4 +1,4 @@
-use Rattle.nvme_controller.proofs.caller.post_over.Given as goal
+use Rattle.nvme_controller.proofs.caller.nvme_handle_post.Given as goal
 
 -- the reference to the bytes
 abbrev pub ghosts-post : goal.ghosts-post
