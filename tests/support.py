@@ -320,7 +320,7 @@ def difference(name, wanted, got):
 
 
 class Case(unittest.TestCase):
-    """A test with a folder of its own, which leaves no process behind. A class may have the tests of a file of
+    """A test with a folder of its own, which leaves no process behind. A class may have the tests of files of
     tests/shell, which run with these variables."""
 
     env = {}

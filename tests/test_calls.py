@@ -9,7 +9,7 @@ FILL = 'yes | head -c 4608 > /dev/nvme0n2; '
 LOOK = 'echo $(wc -c < /dev/nvme0n2) $(yes | head -c 4608 | cmp - /dev/nvme0n2 && echo same)\n'
 
 
-class Paths(ModelCase, transcripts='paths'):
+class Calls(ModelCase, transcripts='paths rights'):
     def test_decided_calls(self):
         # each call gives the same by the numbers of programs of 64 and of 32 bits
         for bits in '32', '64':
@@ -29,12 +29,6 @@ class Paths(ModelCase, transcripts='paths'):
                                      for result, names in table('decided_calls') for name in names.split(', '))
                     self.ends(ended, 0, (wanted * (1 + (bits == '64')) + '4608 same\n0\n').encode(), b'')
 
-
-class Identities(ModelCase, transcripts='rights'):
-    pass
-
-
-class Random(ModelCase):
     def test_sanitized(self):
         # the address sanitizer looks on while thousands of processes make calls with addresses and texts of all kinds
         launcher = sanitized(self.folder)
