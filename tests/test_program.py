@@ -1,5 +1,6 @@
 """Runs nvme-script on arguments and files that a script can't give it, and on each script of examples/ and of
-tests/scripts. A transcript has the streams that fail, and want of memory.
+tests/scripts. A transcript has the streams that fail, and want of memory, and another one what --explain says. (The
+lines of scripts that it explains are the input of crates/nvme_explain.)
 
 With UNPROVED=1 in the environment, `rt try` runs the sources on these rows.
 """
@@ -187,10 +188,19 @@ class Scripts(Rows):
     tables = scripts,
 
 
-class Built(Case, transcripts='program'):
+class Built(Case, transcripts='program explain'):
     env = {'script': SCRIPT}
 
     def setUp(self):
         super().setUp()
         if IS_UNPROVED:
             self.skipTest('rt try gives a run its own streams and memory')
+
+    def test_explained_faults(self):
+        # the key and the place of its table are named
+        for old, new, wanted in table('explained_faults'):
+            with self.subTest(wanted):
+                self.assertIn(old, TEXT)
+                path = self.file('faulty.toml', TEXT.replace(old, new, 1).encode())
+                ended = run(TOP / 'nvme-script', '--explain', '--subsystem', path)
+                self.ends(ended, 1, f'subsystem: {wanted}\n'.encode(), b'')
