@@ -50,7 +50,7 @@ def parts(server, *changes):
     folder = public_folder()
     guest = folder / 'vm_guest.static', CLIENT / 'vm_guest.c'
     subprocess.run(['cc', '-O1', '-static', '-pthread', *WARNINGS, '-o', *guest], check=True)
-    for name in 'vm.py', 'vm_guest.sh':
+    for name in 'vm.py', 'vm_guest.sh', 'vm_usage.txt':
         shutil.copy(CLIENT / name, folder)
     text = (folder / 'vm.py').read_text()
     for old, new in {**{KVM: "'/none'" for _ in range(isinstance(server, str))}, **dict(changes)}.items():
