@@ -15,7 +15,7 @@ from tests.transcripts import WITH_UDEV
 RIGHTS = 0x200000fb
 
 
-class Confined(ModelCase, transcripts='confined'):
+class Confined(ModelCase, transcripts='confined outside'):
     def test_calls(self):
         # (what is tried is in tests/programs/confined.c)
         program = static_program('confined', CLIENT / 'filter.c')
@@ -64,8 +64,6 @@ class Confined(ModelCase, transcripts='confined'):
                     running = self.stepped('step', self.look, user=user, options=options)
                     self.ends(running.end(), 0, b'step\n')
 
-
-class Outside(ModelCase, transcripts='outside'):
     def test_terminals(self):
         for user in USERS:
             with self.subTest(user=user):
