@@ -109,7 +109,6 @@ def static_program(name, *sources):
 
 
 def mounts(process='self'):
-    """Returns the mounts that a process sees."""
     return pathlib.Path(f'/proc/{process}/mountinfo').read_text().splitlines()
 
 
@@ -196,7 +195,6 @@ class ModelCase(Case):
             self.skipTest(f"{', '.join(missing)} not installed, or in a version that isn't known")
 
     def transcribe(self, transcript):
-        """Runs a transcript in the sandbox."""
         transcript.check(self)
 
     def programs(self, script=''):

@@ -262,7 +262,6 @@ class Running:
             os.close(number)
 
     def say(self, text):
-        """Writes to the command's input."""
         os.write(self.speaks, text)
 
     def hear(self, limit):
@@ -351,7 +350,6 @@ class Case(unittest.TestCase):
             transcript.agrees(self, run('sh', '-c', transcript.beginning + transcript.script, cwd=self.folder, env=env))
 
     def file(self, name, data):
-        """Makes a file in the test's folder."""
         path = self.folder / name
         path.write_bytes(data)
         return path
