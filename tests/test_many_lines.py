@@ -46,7 +46,8 @@ def error_text(index, count, cid):
     """Returns what `error-log` shows of a refused Identify."""
     return (f'entry               : {index}\nerror_count         : {count}\nsqid                : 0\n'
             f'cmdid               : {cid:#x}\nstatus_field        : 0x600b\nparm_err_loc        : 0xffff\n'
-            'lba                 : 0x0\nnsid                : 0x0\nvs                  : 0x0\ncs                  : 0x0\n')
+            'lba                 : 0x0\nnsid                : 0x0\nvs                  : 0x0\n'
+            'cs                  : 0x0\n')
 
 
 class AnyBytes(Case):
