@@ -11,6 +11,7 @@ import re
 import select
 import socket
 import subprocess
+import tempfile
 
 from tests.modelled import ModelCase, installed, parts
 from tests.support import LIMIT, USERS, environment, until
@@ -34,12 +35,6 @@ def named_pipe(folder):
     return [os.open(folder / 'fifo', os.O_RDWR)]
 
 
-def deleted_file(folder):
-    number = os.open(folder / 'deleted', os.O_RDWR | os.O_CREAT)
-    os.unlink(folder / 'deleted')
-    return [number]
-
-
 # The kinds of streams: a function that returns the descriptor, and others to be closed with it; and why it is refused,
 # or nothing. What is `closed` has no descriptor, and `messages` are read by the test.
 KINDS = {
@@ -48,7 +43,7 @@ KINDS = {
     'named pipe': (named_pipe, ''),
     'socket': (lambda folder: [end.detach() for end in socket.socketpair()], ''),
     'file': (path_of('file', os.O_RDWR | os.O_CREAT), ''),
-    'deleted file': (deleted_file, ''),
+    'deleted file': (lambda folder: [os.dup(tempfile.TemporaryFile(dir=folder).fileno())], ''),
     'terminal': (lambda folder: pty.openpty()[::-1], ''),
     'null': (path_of('/dev/null', os.O_RDWR), ''),
     'path of a folder': (path_of('/', os.O_PATH), PATH),
