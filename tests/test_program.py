@@ -44,11 +44,17 @@ def file(name, text):
 
 
 def statuses():
+    """Scripts of one line, and those that don't consist of whole lines of text."""
     list_of_demo = b'[   0]:0x1\n[   1]:0x3\n'
     for arguments in (), ('--subsystem', str(DEMO)), (f'--subsystem={DEMO}',):
         yield Row(arguments, output=list_of_demo)
     yield Row((), 1, b'line 1: usage error\n', script=b'bogus\n')
     yield Row((), 2, b'line 1: NVMe status: Invalid Namespace or Format (0x600b)\n', script=b'id-ns /dev/nvme0 -n 0\n')
+    for options in geometries():
+        yield Row(options, 0, b'', b'', b'')
+        yield Row(options, 0, b'', list_of_demo, b'list-ns /dev/nvme0')
+        yield Row(options, 1, b'line 1: not UTF-8 text\n', b'', b'\xff')
+        yield Row(options, 1, b'line 1: line too long\n', b'', b'a' * 4096)
 
 
 def refused_arguments():
@@ -62,17 +68,14 @@ def refused_arguments():
     yield told('subsystem: unreadable', '--pace', '0', '--subsystem', MISSING)
 
 
-def unreadable_files():
-    """Files that can't be read, and one of the greatest length, which can."""
+def files():
+    """A file of the greatest length, and those that can't be read, one that is no text, and the faults that
+    SUBSYSTEM-FILE shows, by the built-in file with one text in place of another."""
     whole = TEXT + (1048576 - len(TEXT)) * '#'
     yield Row(('--subsystem', file('whole.toml', whole)))
     for path in MISSING, '', '.', '/proc/self/mem', file('long.toml', f'{whole}#'):
         yield told('subsystem: unreadable', '--subsystem', path)
 
-
-def faults_of_files():
-    """A file that is no text, and the faults that SUBSYSTEM-FILE shows, by the built-in file with one text in place of
-    another."""
     yield told('subsystem: not TOML', '--subsystem', file('bytes.toml', b'\xff\n'))
     page = (TOP / 'docs/SUBSYSTEM-FILE.md').read_text()
     rows = re.findall(r'(?m)^\| `(.+?)` \| `(.+?)` \| (?:`(.+?)`)? ?\| .*\|$', page)
@@ -110,15 +113,6 @@ def geometries():
     """Returns no options, and those of the least and the greatest geometry. (That no other one shows is proved.)"""
     greatest = '--depth 4096 --page-size 65536 --offset 65532 --list-offset 65528 --window 16 --pace 4096'
     return [()] if IS_UNPROVED else [(), ('--depth', '2', '--offset', '4092'), tuple(greatest.split())]
-
-
-def unended_lines():
-    """Scripts that don't consist of whole lines of text."""
-    for options in geometries():
-        yield Row(options, 0, b'', b'', b'')
-        yield Row(options, 0, b'', b'[   0]:0x1\n[   1]:0x3\n', b'list-ns /dev/nvme0')
-        yield Row(options, 1, b'line 1: not UTF-8 text\n', b'', b'\xff')
-        yield Row(options, 1, b'line 1: line too long\n', b'', b'a' * 4096)
 
 
 def scripts():
@@ -181,7 +175,7 @@ class Rows(Case):
 
 
 class Program(Rows):
-    tables = statuses, refused_arguments, unreadable_files, faults_of_files, examples, unended_lines
+    tables = statuses, refused_arguments, files, examples
 
 
 class Scripts(Rows):
