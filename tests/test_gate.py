@@ -28,8 +28,8 @@ class Gate(Case, transcripts='gate'):
         for words in ['test_bogus'], ['--quick', 'test_gate'], ['--help']:
             self.ends(run(sys.executable, '-m', 'tests.run', *words), 1, b'', usage)
         # (without a build, the module fails)
-        ended = run(sys.executable, '-m', 'tests.run', 'test_order')
-        sums = rb'test_order: (\d+) passed, (\d+) failed, 0 skipped, .*\n\1 passed, \2 failed, 0 skipped\n\Z'
+        ended = run(sys.executable, '-m', 'tests.run', 'test_requests')
+        sums = rb'test_requests: (\d+) passed, (\d+) failed, 0 skipped, .*\n\1 passed, \2 failed, 0 skipped\n\Z'
         found = re.search(b'(?m)^' + sums, ended.out)
         self.assertTrue(found, ended)
         self.assertEqual(ended.status, int(int(found[2]) > 0), ended)

@@ -1,6 +1,7 @@
 """Runs nvme-script on arguments and files that a script can't give it, and on each script of examples/ and of
 tests/scripts. A transcript has the streams that fail, and want of memory, and another one what --explain says. (The
-lines of scripts that it explains are the input of crates/nvme_explain.)
+lines of scripts that it explains are the input of crates/nvme_explain.) Through pipes and on a terminal, the output of
+a line comes before the next line is written, and outputs and messages come in the order of the lines.
 
 With UNPROVED=1 in the environment, `rt try` runs the sources on these rows.
 """
@@ -12,7 +13,7 @@ import tempfile
 import typing
 
 from tests.support import (
-    DEMO, IS_UNPROVED, TOP, Case, Ended, process_folder, program, run, run_unproved, shell_line, table)
+    DEMO, IS_UNPROVED, TOP, Case, Ended, Running, process_folder, program, run, run_unproved, shell_line, table)
 
 SCRIPT = 'nvme_script' if IS_UNPROVED else program('nvme_script')
 TEXT = DEMO.read_text()
@@ -182,7 +183,7 @@ class Scripts(Rows):
     tables = scripts,
 
 
-class Built(Case, transcripts='program explain'):
+class Built(Case, transcripts='program explain order'):
     env = {'script': SCRIPT}
 
     def setUp(self):
@@ -198,3 +199,33 @@ class Built(Case, transcripts='program explain'):
                 path = self.file('faulty.toml', TEXT.replace(old, new, 1).encode())
                 ended = run(TOP / 'nvme-script', '--explain', '--subsystem', path)
                 self.ends(ended, 1, f'subsystem: {wanted}\n'.encode(), b'')
+
+    def test_order_in_pipes(self):
+        talk = Running(SCRIPT)
+        talk.say(b'list-ns /dev/nvme0 -n 3\n')
+        talk.comes(b'[   0]:0x3\n')
+        talk.say(b'list-ns /dev/nvme9\n')
+        talk.comes(b'line 2: no such device\n')
+        # a part of a line isn't a line
+        talk.say(b'delete-ns /dev/nvme0')
+        talk.waits_for_more()
+        talk.say(b' -n 3\n')
+        talk.comes(b'delete-ns: Success, deleted nsid:3\n')
+        self.ends(talk.end(), 0, b'[   0]:0x3\nline 2: no such device\ndelete-ns: Success, deleted nsid:3\n')
+
+    def test_order_on_a_terminal(self):
+        # the terminal also shows what is typed
+        talk = Running(SCRIPT, terminal=True)
+        talk.say(b'list-ns /dev/nvme0 -n 3\n')
+        talk.comes(b'list-ns /dev/nvme0 -n 3\n[   0]:0x3\n')
+        talk.say(b'list-ns /dev/nvme0 -n 1\n')
+        talk.comes(b'list-ns /dev/nvme0 -n 1\n[   0]:0x1\n[   1]:0x3\n')
+        self.ends(talk.end(), 0)
+
+    def test_full_device_is_told_in_the_next_line_that_prints(self):
+        # the fault ends the run before the script ends
+        talk = Running('sh', '-c', 'exec "$0" > /dev/full', SCRIPT)
+        talk.say(b'list-ns /dev/nvme0\n')
+        talk.waits_for_more()
+        talk.say(b'list-ns /dev/nvme0\nlist-ns /dev/nvme9\n')
+        self.ends(talk.end(), 5, b'nvme-script: write fault\n')
