@@ -156,18 +156,6 @@ class Thresholds(Scripts):
             self.check(keys, 'wctemp = 300\n')
 
 
-class Refusals(Scripts):
-    def test_a_reset_among_300_refusals(self):
-        """Slots and phase tags begin anew, and command identifiers continue. Two commands read the log."""
-        lines = ['id-ns /dev/nvme0 -n 0\n'] * 301
-        lines[150] = 'reset /dev/nvme0\n'
-        messages = ''.join(f'line {number}: {REFUSAL}\n' for number in range(1, 302) if number != 151)
-        script = ''.join(lines) + 'error-log /dev/nvme0 -e 1\n' + lines[0] + 'error-log /dev/nvme0 -e 1\n'
-        output = 'reset: Success\n' + error_text(0, 300, 299) + error_text(0, 301, 302)
-        for depth in 2, 3, 4096:
-            self.leaves(script, output, messages + f'line 303: {REFUSAL}\n', options=f'--depth {depth}')
-
-
 def listed(rows):
     """Returns what `list` prints, with a line of 120 bytes for each namespace, and its JSON. A row has the number of
     the controller, the NSID, and the number of blocks, of 512 bytes."""
@@ -180,7 +168,7 @@ def listed(rows):
     return lines, json.dumps({'devices': devices}, separators=(',', ':')) + '\n'
 
 
-class Lists(Scripts):
+class Many(Scripts):
     # two controllers, and forty namespaces that are attached to both; namespace n has n blocks and one more byte
     shared = ('version = 1\nnn = 40\ntnvmcap = 419880\nsubnqn = "n"\n[[format]]\nlbads = 9\n'
               '[[controller]]\ncntlid = 7\nsn = "S0"\nmn = "M"\nfr = "1"\n'
@@ -218,3 +206,13 @@ class Lists(Scripts):
         last = f'/dev/nvme15n1024   S15                  M{46 * " "}1024                  512    512\n'
         self.assertEqual(output[-120:], last)
         self.leaves('list', output, file=file, options='--window 16 --pace 4096')
+
+    def test_a_reset_among_300_refusals(self):
+        """Slots and phase tags begin anew, and command identifiers continue. Two commands read the log."""
+        lines = ['id-ns /dev/nvme0 -n 0\n'] * 301
+        lines[150] = 'reset /dev/nvme0\n'
+        messages = ''.join(f'line {number}: {REFUSAL}\n' for number in range(1, 302) if number != 151)
+        script = ''.join(lines) + 'error-log /dev/nvme0 -e 1\n' + lines[0] + 'error-log /dev/nvme0 -e 1\n'
+        output = 'reset: Success\n' + error_text(0, 300, 299) + error_text(0, 301, 302)
+        for depth in 2, 3, 4096:
+            self.leaves(script, output, messages + f'line 303: {REFUSAL}\n', options=f'--depth {depth}')
