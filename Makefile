@@ -73,6 +73,7 @@ stage:
 	    [ ! -e $(CLIENT)/lib/nvme-model/$$part ] || \
 	        install -m 755 $(CLIENT)/lib/nvme-model/$$part $(STAGE)/lib/nvme-model || exit; \
 	done
+	@[ ! -e $(CLIENT)/lib/nvme-model/vm.py ] || install -m 644 client/vm_usage.txt $(STAGE)/lib/nvme-model
 	install -m 755 crates/nvme_script/out/nvme_script $(STAGE)/lib/nvme-model
 	@! $(call is_current,nvme_explain) || install -m 755 crates/nvme_explain/out/nvme_explain $(STAGE)/lib/nvme-model
 	@for name in trace bench; do \

@@ -25,25 +25,6 @@ import termios
 import threading
 import time
 
-USAGE = '''\
-usage: nvme-model --vm [OPTION..] [--] COMMAND [ARGUMENT..]
-Run COMMAND as root in a virtual machine with the NVMe devices of a model. Its files are those of this machine, and what
-it changes is gone at its end.
-
-  --subsystem FILE    use the subsystem of FILE; repeat it for several subsystems
-  --data FOLDER       keep the data of namespaces in files of FOLDER
-  --data-limit SIZE   limit the data of namespaces
-  --memory SIZE       give the machine this memory, such as 512M (default: 1G)
-  --cpus N            give it N processors (default: 2)
-  --kernel FILE       boot this kernel (default: the newest one of /boot that has its modules)
-  --modules FOLDER    take its modules from FOLDER, such as /lib/modules/6.1.0-57-amd64
-  --share FOLDER      let COMMAND change FOLDER; repeat it for several folders
-  --net               give the machine a network
-  --no-kvm            emulate the processors even if KVM works
-  --help              show this help
-
-The exit status is that of COMMAND, or 72 if nvme-model itself can't continue. See nvme-model(1).
-'''
 LIBC, SET_DEATH_SIGNAL, OF_KERNEL = ctypes.CDLL(None), 1, 0x80  # (linux/prctl.h, asm-generic/siginfo.h)
 PARTS, QEMU = os.path.dirname(os.path.abspath(__file__)), 'qemu-system-x86_64'
 KVM, BOOT, MODULES = '/dev/kvm', '/boot', '/lib/modules'
@@ -65,7 +46,7 @@ def say(text):
 
 def refuse(reason=''):
     """Ends with the reason why nvme-model can't continue, or with the usage after a wrong option."""
-    say(f'nvme-model: {reason}\n' if reason else USAGE)
+    say(f'nvme-model: {reason}\n' if reason else os.fsdecode(content(f'{PARTS}/vm_usage.txt')))
     sys.exit(72)
 
 
@@ -83,7 +64,7 @@ def read_options(words):
               '--kernel': [''], '--modules': [''], '--share': [], '--vm': [], '--net': [], '--no-kvm': []}
     while words and words[0].startswith('--') and (word := words.pop(0)) != '--':
         if word == '--help':
-            os.write(1, USAGE.encode())
+            os.write(1, content(f'{PARTS}/vm_usage.txt'))
             sys.exit(0)
         name, is_pair, value = word.partition('=')
         if name in ('--vm', '--net', '--no-kvm'):

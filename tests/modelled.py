@@ -40,12 +40,6 @@ def is_there(tool):
     return tool != 'nvme' or b'nvme version 2.3 ' in subprocess.run(['nvme', 'version'], capture_output=True).stdout
 
 
-def missing_tools(text):
-    """Returns the tools that a script calls and that aren't installed."""
-    return [tool for tool in TOOLS
-            if re.search(rf'(?<![\w/.-]){re.escape(tool)}(?![\w/.=-])', text) and not is_there(tool)]
-
-
 @functools.lru_cache(maxsize=None)
 def works(*command):
     """Returns whether a command succeeds, such as one that makes a namespace."""
@@ -115,7 +109,6 @@ def static_program(name, *sources):
 
 
 def mounts(process='self'):
-    """Returns the mounts that a process sees."""
     return pathlib.Path(f'/proc/{process}/mountinfo').read_text().splitlines()
 
 
@@ -196,11 +189,12 @@ class ModelCase(Case):
         """Skips a test that calls a tool that isn't installed, itself or in a script that it runs."""
         files = [pathlib.Path(text) for text in texts if os.fspath(text).endswith('.sh')]
         text = '\n'.join([*map(os.fspath, texts), *(file.read_text() for file in files)])
-        if missing_tools(text):
-            self.skipTest(f"{', '.join(missing_tools(text))} not installed, or in a version that isn't known")
+        missing = [tool for tool in TOOLS
+                   if re.search(rf'(?<![\w/.-]){re.escape(tool)}(?![\w/.=-])', text) and not is_there(tool)]
+        if missing:
+            self.skipTest(f"{', '.join(missing)} not installed, or in a version that isn't known")
 
     def transcribe(self, transcript):
-        """Runs a transcript in the sandbox."""
         transcript.check(self)
 
     def programs(self, script=''):

@@ -262,7 +262,6 @@ class Running:
             os.close(number)
 
     def say(self, text):
-        """Writes to the command's input."""
         os.write(self.speaks, text)
 
     def hear(self, limit):
@@ -320,7 +319,7 @@ def difference(name, wanted, got):
 
 
 class Case(unittest.TestCase):
-    """A test with a folder of its own, which leaves no process behind. A class may have the tests of a file of
+    """A test with a folder of its own, which leaves no process behind. A class may have the tests of files of
     tests/shell, which run with these variables."""
 
     env = {}
@@ -351,7 +350,6 @@ class Case(unittest.TestCase):
             transcript.agrees(self, run('sh', '-c', transcript.beginning + transcript.script, cwd=self.folder, env=env))
 
     def file(self, name, data):
-        """Makes a file in the test's folder."""
         path = self.folder / name
         path.write_bytes(data)
         return path

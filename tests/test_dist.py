@@ -24,19 +24,15 @@ PROGRAMS = {'nvme_script': 'lib/nvme-model/nvme_script', 'nvme_explain': 'lib/nv
 
 
 @functools.lru_cache(maxsize=None)
-def made(number):
-    """Makes the packages, the second time with other settings. Returns their folder and how this ended."""
+def dist(number=0):
+    """Makes the packages, the second time with other settings, and returns their folder, if all that is packed was
+    built."""
+    if shutil.which('dh_builddeb') is None:
+        raise unittest.SkipTest('there is no debhelper')
     library()
     into = process_folder() / f'dist {number}'
     mask, settings = [('022', {}), ('077', {'TZ': 'Asia/Tokyo', 'LC_ALL': 'C.UTF-8', 'HOME': '/'})][number]
-    return into, run('sh', '-c', f'umask {mask}; exec "$@"', 'sh', DIST, '--with-changes', '--into', into, env=settings)
-
-
-def dist(number=0):
-    """Returns the folder of the packages, if all that is packed was built."""
-    if shutil.which('dh_builddeb') is None:
-        raise unittest.SkipTest('there is no debhelper')
-    into, ended = made(number)
+    ended = run('sh', '-c', f'umask {mask}; exec "$@"', 'sh', DIST, '--with-changes', '--into', into, env=settings)
     if b'there is no proved' in ended.err:
         raise unittest.SkipTest(ended.err.decode().splitlines()[0])
     if ended.status != 0:

@@ -1,24 +1,37 @@
 """Runs nvme-script and nvme-device over standard streams in which a call fails: each read and each write of a script in
 turn, a read even if the output can no longer be written, and writes that are interrupted. The device also gets requests
-that are cut short or too long. Calls of the launcher fail while it starts."""
+that are cut short or too long. Each allocation of a run is refused in turn, which leaves whole lines, and nothing of
+the line that was cut short. A run of many lines or requests uses no more memory than a run of a few. Calls of the
+launcher fail while it starts."""
 
 import concurrent.futures
 import itertools
 
 from tests.modelled import ModelCase
-from tests.support import DEMO, TOP, USERS, Case, compiled, program, run
+from tests.support import DEMO, LIMIT, TOP, USERS, Case, compiled, large_file, program, run
 
-
-class Faulty(Case):
-    def setUp(self):
-        super().setUp()
-        # the demonstration file, with 256 errors kept
-        self.subsystem = self.file('subsystem.toml', DEMO.read_bytes().replace(b'\nelpe = 3\n', b'\nelpe = 255\n'))
-
-    def faulty(self, crate, source, out=None, **faults):
-        """Runs a program over this input while these calls fail."""
-        faults['LD_PRELOAD'] = compiled('faults.c', '-ldl')
-        return run(program(crate), '--subsystem', self.subsystem, source=source, out=out, env=faults)
+LINE, SHOWN = b'list-ns /dev/nvme0 -n 3\n', b'[   0]:0x3\n'
+REQUEST, ANSWER = ((TOP / f'crates/nvme_device/{name}').read_bytes() for name in ('stdin', 'stdout'))
+# How each program ends, its output and its messages over an input, perhaps with an output, where these calls fail.
+FAULTS = {
+    'nvme_script': [
+        # (the first line's output is still buffered when the second read fails)
+        (LINE, None, {'FAIL_READ': 2}, 4, SHOWN, b'nvme-script: read fault\n'),
+        # (after any end other than a status, a flush that fails is not reported)
+        (LINE, '/dev/full', {'FAIL_READ': 2}, 4, b'', b'nvme-script: read fault\n'),
+        (TOP, '/dev/full', {}, 4, b'', b'nvme-script: read fault\n'),
+        # (interrupted writes are made again)
+        *((LINE + b'list-ns\n' + LINE, None, fault, 0, SHOWN * 2, b'line 2: usage error\n')
+          for fault in ({'INTERRUPT_1': 1}, {'INTERRUPT_1': 2}, {'INTERRUPT_2': 1}))],
+    'nvme_device': [
+        (2 * REQUEST, None, {}, 0, ANSWER * 2, b''),
+        (2 * REQUEST, None, {'FAIL_READ': 2}, 4, ANSWER, b'nvme-device: read fault\n'),
+        (2 * REQUEST, None, {'INTERRUPT_1': 1}, 0, ANSWER * 2, b''),
+        (2 * REQUEST, '/dev/full', {}, 5, b'', b'nvme-device: write fault\n'),
+        ((2 * REQUEST)[:100], None, {}, 4, ANSWER, b'nvme-device: request cut short\n'),
+        # (it is answered with outcome 3)
+        (b'\0\0\0\0\1\0\x10\0' + b'0' * 64, None, {}, 4, b'\0\0\0\0\0\0\3\0\0\0\0\0',
+         b'nvme-device: request too long\n')]}
 
 
 def tried_lines():
@@ -36,11 +49,18 @@ def pieces(texts):
             for line, text in enumerate(texts) for at in range(0, len(text), 7)]
 
 
-class EachCall(Faulty):
+class Streams(Case):
     def setUp(self):
         super().setUp()
+        # the demonstration file, with 256 errors kept
+        self.subsystem = self.file('subsystem.toml', DEMO.read_bytes().replace(b'\nelpe = 3\n', b'\nelpe = 255\n'))
         lines, self.outputs, self.messages = zip(*tried_lines())
         self.script = b''.join(lines)
+
+    def faulty(self, crate, source, out=None, **faults):
+        """Runs a program over this input while these calls fail."""
+        faults['LD_PRELOAD'] = compiled('faults.c', '-ldl')
+        return run(program(crate), '--subsystem', self.subsystem, source=source, out=out, env=faults)
 
     def test_reads(self):
         # each read returns a byte, and a line is executed when its newline was read
@@ -63,32 +83,6 @@ class EachCall(Faulty):
                                         (b''.join(self.outputs[:line]), written))
                     self.ends(ended, 5, output, messages + b'nvme-script: write fault\n')
 
-
-LINE, SHOWN = b'list-ns /dev/nvme0 -n 3\n', b'[   0]:0x3\n'
-REQUESTS, ANSWER = (TOP / 'crates/nvme_device/stdin').read_bytes() * 2, (TOP / 'crates/nvme_device/stdout').read_bytes()
-# How each program ends, its output and its messages over an input, perhaps with an output, where these calls fail.
-FAULTS = {
-    'nvme_script': [
-        # (the first line's output is still buffered when the second read fails)
-        (LINE, None, {'FAIL_READ': 2}, 4, SHOWN, b'nvme-script: read fault\n'),
-        # (after any end other than a status, a flush that fails is not reported)
-        (LINE, '/dev/full', {'FAIL_READ': 2}, 4, b'', b'nvme-script: read fault\n'),
-        (TOP, '/dev/full', {}, 4, b'', b'nvme-script: read fault\n'),
-        # (interrupted writes are made again)
-        *((LINE + b'list-ns\n' + LINE, None, fault, 0, SHOWN * 2, b'line 2: usage error\n')
-          for fault in ({'INTERRUPT_1': 1}, {'INTERRUPT_1': 2}, {'INTERRUPT_2': 1}))],
-    'nvme_device': [
-        (REQUESTS, None, {}, 0, ANSWER * 2, b''),
-        (REQUESTS, None, {'FAIL_READ': 2}, 4, ANSWER, b'nvme-device: read fault\n'),
-        (REQUESTS, None, {'INTERRUPT_1': 1}, 0, ANSWER * 2, b''),
-        (REQUESTS, '/dev/full', {}, 5, b'', b'nvme-device: write fault\n'),
-        (REQUESTS[:100], None, {}, 4, ANSWER, b'nvme-device: request cut short\n'),
-        # (it is answered with outcome 3)
-        (b'\0\0\0\0\1\0\x10\0' + b'0' * 64, None, {}, 4, b'\0\0\0\0\0\0\3\0\0\0\0\0',
-         b'nvme-device: request too long\n')]}
-
-
-class Ends(Faulty):
     def test_faults(self):
         for crate, rows in FAULTS.items():
             for source, out, faults, *wanted in rows:
@@ -103,6 +97,83 @@ class Ends(Faulty):
         self.assertGreater(len(whole.out), 8192)
         faults = {'INTERRUPT_1': 1, 'INTERRUPT_2': whole.err.count(b'\n')}
         self.ends(self.faulty('nvme_script', script, **faults), 0, whole.out, whole.err)
+
+
+# How many processes refuse the allocations of one program side by side.
+PARTS = 8
+SCRIPT = b'list-ns /dev/nvme0\nid-ctrl /dev/nvme0 -o json\nlist\nsmart-log /dev/nvme1\n'
+OTHER_FILE = '--subsystem', 'examples/two_controllers.toml'
+# Runs of which each allocation is refused.
+RUNS = ((SCRIPT, 'nvme_script'), (SCRIPT, 'nvme_script', *OTHER_FILE), (REQUEST, 'nvme_device'),
+        (REQUEST, 'nvme_device', *OTHER_FILE),
+        (b'subsystem\nbring_up\npassthrough 0 6 cdw10=2 room=8\nsaw\n', 'nvme_bench'))
+
+
+class Allocations(Case):
+    def refused(self, number, crate, *arguments, source, calls=None):
+        """Runs a program in which the allocation with this number is refused, or no allocation if it is 0."""
+        refuse = {'LD_PRELOAD': compiled('allocations.c', '-ldl'), 'REFUSE': number,
+                  'CALLS': calls or self.folder / 'calls'}
+        return run(program(crate), *arguments, source=source, env=refuse, limit=3 * LIMIT)
+
+    def whole(self, crate, *arguments, source):
+        """Runs a program in which no allocation is refused. Returns how it ended, the number of its allocations, and
+        the greatest number of bytes in use."""
+        ended = self.refused(0, crate, *arguments, source=source)
+        self.ends(ended, 0, err=b'')
+        allocations, most = (self.folder / 'calls').read_text().split()
+        self.assertGreater(int(allocations), 0, ended)
+        return ended, int(allocations), int(most)
+
+    def test_runs(self):
+        for source, crate, *arguments in RUNS:
+            whole, allocations, _ = self.whole(crate, *arguments, source=source)
+            messages, statuses = crate.replace('_', '-').encode() + b': out of memory\n', set()
+            for number in range(1, allocations + 1):
+                with self.subTest(crate, arguments=arguments, allocation=number):
+                    ended = self.refused(number, crate, *arguments, source=source)
+                    statuses.add(ended.status)
+                    # (a vector that can't grow may get a smaller size instead: then nothing shows)
+                    self.ends(ended, ended.status and 6, whole.out[:len(ended.out)] if ended.status else whole.out,
+                              messages if ended.status else b'')
+            self.assertIn(6, statuses, 'no refused allocation shows')
+
+    def test_failing_tests(self):
+        # (this program looks itself at what is left, so each allocation is refused in a copy of its process)
+        name = 'nv_failing_tests'
+        _, allocations, _ = self.whole(name, source=b'')
+        with concurrent.futures.ThreadPoolExecutor() as runners:
+            found = dict(pair for part in runners.map(self.copies, range(PARTS)) for pair in part)
+        self.assertEqual(sorted(found), [*range(1, allocations + 1)])
+        for number, status in found.items():
+            with self.subTest(allocation=number):
+                self.assertIn(status, (0, 6), self.refused(number, name, source=b'') if status not in (0, 6) else '')
+        self.assertIn(6, found.values(), 'no refused allocation shows')
+
+    def copies(self, part):
+        """Returns how copies ended in which an allocation was refused, by its number, for those with this rest."""
+        calls = self.folder / f'calls{part}'
+        ended = self.refused(f'{part}/{PARTS}', 'nv_failing_tests', source=b'', calls=calls)
+        self.ends(ended, 0, err=b'')
+        return [tuple(map(int, line.split())) for line in calls.read_text().splitlines()[:-1]]
+
+    def of_ten_lines(self, namespaces):
+        """Returns how often ten lines allocate that list this number of namespaces, after ten such lines."""
+        top, *each = large_file([1], [1]).split('[[namespace]]')
+        of = self.file('many.toml', '[[namespace]]'.join([top, *each[:namespaces]]).encode())
+        first, both = (self.whole('nvme_script', '--subsystem', of, source=b'list\n' * lines)[1] for lines in (10, 20))
+        return both - first
+
+    def test_of_admin_all(self):
+        # `list` sends the commands of a controller's namespaces by `admin_all`, sixteen at a time. The texts of 33 and
+        # of 64 namespaces grow in as many steps, so the only other difference is 31 commands and a call
+        self.assertEqual(self.of_ten_lines(33), self.of_ten_lines(64))
+
+    def test_memory_of_many(self):
+        for crate, line in ('nvme_script', b'list-ns /dev/nvme0\n'), ('nvme_device', REQUEST):
+            with self.subTest(crate):
+                (*_, of_few), (*_, of_many) = (self.whole(crate, source=line * count) for count in (10, 10000))
+                self.assertEqual(of_few, of_many, 'the bytes that are held over 10 and over 10,000')
 
 
 # The functions of which each of the first calls fails (tests/failing_calls.c), by the names of the launcher outside of

@@ -18,13 +18,6 @@ from tests.support import DEMO, TOP, Case, library, program, run
 
 FLAGS = '-Wall', '-Wextra', '-Werror', '-fsanitize=address,undefined', '-fno-sanitize-recover=all', '-g'
 WRAPPED = [f'-Wl,--wrap={name}' for name in ('malloc', 'calloc', 'realloc', 'free')]
-LINES = b"""list-ns /dev/nvme0
-create-ns /dev/nvme0 -s 4096 -c 4096 -f 0
-attach-ns /dev/nvme0 -n 2 -c 0
-list-ns /dev/nvme0
-create-ns /dev/nvme0 -s 14328 -c 14328 -f 0
-error-log /dev/nvme0 -e 1
-"""
 # The structures of nvme_records.h, by the names of their layouts in tests/records.py.
 STRUCTURES = {'sqe': 'submission_entry', 'cqe': 'completion_entry', 'error_entry': 'error_entry',
               'smart': 'smart_health', 'lbaf': 'lba_format', 'id_ns': 'identify_namespace',
@@ -92,7 +85,7 @@ class Library(Case):
             self.ends(run(made), 0, '\n'.join([*wanted, '']).encode(), b'')
 
     def test_bench(self):
-        wanted = run(program('nvme_script'), '--subsystem', DEMO, source=LINES)
+        wanted = run(program('nvme_script'), '--subsystem', DEMO, source=TOP / 'tests/library/bench.nvme')
         self.assertIn(b'status_field        : 0x6115\n', wanted.out, wanted)
         self.assertEqual(wanted.err, b'line 5: NVMe status: Namespace Insufficient Capacity (0x6115)\n', wanted)
         made, python = self.compile(TOP / 'examples/c/bench.c'), TOP / 'examples/c/bench.py'

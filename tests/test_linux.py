@@ -1,22 +1,22 @@
-"""Tests what stands around the drives of ./nvme-model: files of /sys, lists of /proc, records of udev. The jobs of
-tests/linux print what they printed on a real Linux (JOB.txt, which tests/linux/keep makes), but for the lines of
+"""Tests what stands around the drives of ./nvme-model: files of /sys, lists of /proc, records of udev; and that ioctls,
+opens, reads and writes of nodes do what they do on Linux. The jobs of tests/linux and tests/linux/calls print what they
+printed on a real one (JOB.txt, which tests/linux/keep makes), over drives as it had them, but for the lines of
 JOB.differs, each below the sentence of the page that tells it."""
 
 import difflib
 import shutil
+import unittest
 
 from tests.modelled import DEVICES, ModelCase, signals
-from tests.support import IS_ROOT, NOBODY, TOP, run
+from tests.support import IS_ROOT, NOBODY, TOP, USERS, run
 from tests.transcripts import WITH_UDEV
 
-JOBS = sorted((TOP / 'tests/linux').glob('*.sh'))
+JOBS, CALLS = sorted((TOP / 'tests/linux').glob('*.sh')), TOP / 'tests/linux/calls'
 TOLD = ' '.join((TOP / 'docs/NVME-MODEL.md').read_text().split() +
                 (TOP / 'tests/linux/demo.toml').read_text().replace('\n# ', ' ').split())
 
 
-class JobCase(ModelCase):
-    """Runs jobs over the drives that the real Linux had."""
-
+class Jobs(ModelCase):
     def setUp(self):
         super().setUp()
         self.subsystem = self.file('qemu.toml', (TOP / 'tests/linux/demo.toml').read_bytes())
@@ -31,8 +31,6 @@ class JobCase(ModelCase):
         got = [*ended.out.decode().splitlines(), f'status {ended.status}']
         return [line for line in difflib.ndiff(wanted, got) if line[0] in '-+']
 
-
-class Linux(JobCase):
     def test_jobs(self):
         self.assertNotEqual(JOBS, [])
         for job in JOBS:
@@ -44,20 +42,25 @@ class Linux(JobCase):
                 with self.subTest(job.name, user=user):
                     self.assertEqual(self.differences(job, user, options), [line for line in lines if line[0] in '-+'])
 
+    def test_calls(self):
+        for name in 'blocks', 'lists':
+            for user in USERS:
+                for options in ((), ('--root',)) if user == USERS[-1] else ((),):
+                    with self.subTest(name, user=user, options=options):
+                        self.assertEqual(self.differences(CALLS / f'{name}.sh', user, options), [])
 
-class Names(ModelCase, transcripts='sys_names'):
-    pass
+    @unittest.skipUnless(IS_ROOT, 'root alone can become another user')
+    def test_rights(self):
+        self.assertEqual(self.differences(CALLS / 'rights.sh'), [])
 
 
-class Written(ModelCase, transcripts='sys_written'):
+class Linux(ModelCase, transcripts='sys_names sys_written sys_lists other_ioctls'):
     def test_reset_of_a_lost_device(self):
         running = self.stepped('step; cd /sys/class/nvme/nvme0; for n in reset rescan; do '
                                '(echo 1 > ${n}_controller) 2>&1 | sed "s/.*: //"; done', signals(DEVICES, 9))
         self.assertRegex(running.end().out, b'(?s)\nNo such device or address\nNo such device or address\n$')
 
-
-class Lists(ModelCase, transcripts='sys_lists'):
-    def test_of_modules(self):
+    def test_list_of_modules(self):
         # the machine's
         names = 'cat /proc/modules 2> /dev/null | cut -d " " -f 1'
         self.ends(self.shell(names), 0, run('sh', '-c', names).out, b'')

@@ -1,5 +1,5 @@
-"""Runs computed scripts, and checks what they write: each threshold by its selector, lists of many namespaces, and
-hundreds of refusals. tests/scripts has single lines."""
+"""Runs computed scripts, and checks what they write: lines of any bytes, each threshold by its selector, lists of many
+namespaces, and hundreds of refusals. tests/scripts has the scripts that can be written as lines of text."""
 
 import json
 
@@ -10,14 +10,67 @@ REFUSAL = 'NVMe status: Invalid Namespace or Format (0x600b)'
 # The composite temperature and eight sensors, first the over and then the under temperature thresholds.
 SELECTORS = [*range(9), *range(16, 25)]
 OVER, UNDER = [*range(300, 309)], [*range(216, 225)]
+USAGE, DEVICE, NSID = 'usage error', 'no such device', 'bad number for --namespace-id'
+TOO_LONG, INVALID = 'line too long', 'NVMe status: Controller List Invalid (0x611c)'
+LAST_NSID = b'[   0]:0x3\n'
+# Scripts of any bytes, the messages of their lines, and their output.
+ROWS = [
+    (b'\r\nlist-ns /dev/nvme0\r\n', {1: USAGE, 2: DEVICE}),
+    # a line has 4,095 bytes
+    (b'#' + b'\xff' * 4094, {}),
+    (b'#' + b'\xff' * 4095, {1: TOO_LONG}),
+    (b' ' * 4096, {1: TOO_LONG}),
+    # words of 4,000 bytes
+    (b'a' * 4000, {1: USAGE}),
+    (b'list-ns --' + b'a' * 4000, {1: USAGE}),
+    (b'list-ns /dev/nvme0 -' + b'a' * 4000, {1: USAGE}),
+    (b'list-ns -o ' + b'a' * 4000, {1: USAGE}),
+    (b'list-ns /dev/nvme' + b'1' * 4000, {1: DEVICE}),
+    (b'list-ns /dev/nvme0n' + b'1' * 4000, {1: DEVICE}),
+    (b'list-ns /dev/nvme0 -n ' + b'1' * 4000, {1: NSID}),
+    (b'list-ns /dev/nvme0 -n 0x' + b'f' * 4000, {1: NSID}),
+    # as many controllers as a line holds, of which each but the first has two bytes, and an empty one
+    (b'detach-ns /dev/nvme0n1 -c7' + b',7' * 2034, {1: INVALID}),
+    *((b'detach-ns /dev/nvme0n1 -c7' + b',7' * more, {1: TOO_LONG}) for more in (2035, 2046, 2047)),
+    (b'attach-ns /dev/nvme0n1 -c 7' + b',7' * 2033, {1: INVALID}),
+    (b'attach-ns /dev/nvme0n1 -c 7' + b',7' * 2033 + b',', {1: 'bad number for --controllers'}),
+    (b'list-ns /dev/nvme0 -n 0x' + b'0' * 4000 + b'3', {}, LAST_NSID),
+    # other blanks, and NUL bytes
+    (b'\tlist-ns\t /dev/nvme0\t\t-n\t3\t\nlist-ns\0 /dev/nvme0\nlist-ns /dev/nvme0\0\n'
+     b'list-ns /dev/nvme0 -n 3\0\nlist-ns /dev/nvme0 -n\x0b3\n \t\n\0\n',
+     {2: USAGE, 3: DEVICE, 4: NSID, 5: NSID, 7: USAGE}, LAST_NSID),
+]
 
 
-def error_text(index, count, cid, nsid=0):
+def error_text(index, count, cid):
     """Returns what `error-log` shows of a refused Identify."""
     return (f'entry               : {index}\nerror_count         : {count}\nsqid                : 0\n'
             f'cmdid               : {cid:#x}\nstatus_field        : 0x600b\nparm_err_loc        : 0xffff\n'
-            f'lba                 : 0x0\nnsid                : {nsid:#x}\nvs                  : 0x0\n'
-            f'cs                  : 0x0\n')
+            'lba                 : 0x0\nnsid                : 0x0\nvs                  : 0x0\n'
+            'cs                  : 0x0\n')
+
+
+class AnyBytes(Case):
+    """Lines as long as a line may be and longer, very long words, carriage returns and NUL bytes."""
+
+    def leaves(self, script, messages, output=b''):
+        """Checks what a script leaves, whose last line is the last one with a message."""
+        status = 2 if INVALID in messages.values() else 1 if messages else 0
+        told = ''.join(f'line {number}: {message}\n' for number, message in messages.items())
+        self.ends(run(SCRIPT, source=script), status, output, told.encode())
+
+    def test_rows(self):
+        for script, messages, *output in ROWS:
+            with self.subTest(script[:30], length=len(script)):
+                self.leaves(script, messages, *output)
+
+    def test_long_lines_of_each_byte(self):
+        for byte in set(range(256)) - set(b'\n'):
+            fault = {} if byte in b' \t#' else {1: 'not UTF-8 text' if byte >= 128 else USAGE}
+            for end in b'', b'\n':
+                with self.subTest(byte, end=end):
+                    self.leaves(bytes([byte]) * 4095 + end, fault)
+                    self.leaves(bytes([byte]) * 4096 + end, {1: TOO_LONG})
 
 
 class Scripts(Case):
@@ -103,18 +156,6 @@ class Thresholds(Scripts):
             self.check(keys, 'wctemp = 300\n')
 
 
-class Refusals(Scripts):
-    def test_a_reset_among_300_refusals(self):
-        """Slots and phase tags begin anew, and command identifiers continue. Two commands read the log."""
-        lines = ['id-ns /dev/nvme0 -n 0\n'] * 301
-        lines[150] = 'reset /dev/nvme0\n'
-        messages = ''.join(f'line {number}: {REFUSAL}\n' for number in range(1, 302) if number != 151)
-        script = ''.join(lines) + 'error-log /dev/nvme0 -e 1\n' + lines[0] + 'error-log /dev/nvme0 -e 1\n'
-        output = 'reset: Success\n' + error_text(0, 300, 299) + error_text(0, 301, 302)
-        for depth in 2, 3, 4096:
-            self.leaves(script, output, messages + f'line 303: {REFUSAL}\n', options=f'--depth {depth}')
-
-
 def listed(rows):
     """Returns what `list` prints, with a line of 120 bytes for each namespace, and its JSON. A row has the number of
     the controller, the NSID, and the number of blocks, of 512 bytes."""
@@ -127,7 +168,7 @@ def listed(rows):
     return lines, json.dumps({'devices': devices}, separators=(',', ':')) + '\n'
 
 
-class Lists(Scripts):
+class Many(Scripts):
     # two controllers, and forty namespaces that are attached to both; namespace n has n blocks and one more byte
     shared = ('version = 1\nnn = 40\ntnvmcap = 419880\nsubnqn = "n"\n[[format]]\nlbads = 9\n'
               '[[controller]]\ncntlid = 7\nsn = "S0"\nmn = "M"\nfr = "1"\n'
@@ -165,3 +206,13 @@ class Lists(Scripts):
         last = f'/dev/nvme15n1024   S15                  M{46 * " "}1024                  512    512\n'
         self.assertEqual(output[-120:], last)
         self.leaves('list', output, file=file, options='--window 16 --pace 4096')
+
+    def test_a_reset_among_300_refusals(self):
+        """Slots and phase tags begin anew, and command identifiers continue. Two commands read the log."""
+        lines = ['id-ns /dev/nvme0 -n 0\n'] * 301
+        lines[150] = 'reset /dev/nvme0\n'
+        messages = ''.join(f'line {number}: {REFUSAL}\n' for number in range(1, 302) if number != 151)
+        script = ''.join(lines) + 'error-log /dev/nvme0 -e 1\n' + lines[0] + 'error-log /dev/nvme0 -e 1\n'
+        output = 'reset: Success\n' + error_text(0, 300, 299) + error_text(0, 301, 302)
+        for depth in 2, 3, 4096:
+            self.leaves(script, output, messages + f'line 303: {REFUSAL}\n', options=f'--depth {depth}')

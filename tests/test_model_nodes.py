@@ -1,17 +1,15 @@
 """Tests what ./nvme-model shows to programs: nodes in /dev and files in /sys, the data of namespaces, a library that
-stays in all processes, and the installed tools."""
+stays in all processes, and the installed tools. Nothing succeeds that a drive of Linux refuses or does in another way:
+names of nodes, partitions, lengths, transfers, files with the names of nodes, and delayed commands."""
 
 import re
 import subprocess
 
-from tests.modelled import ModelCase, installed
-from tests.support import TOP, large_file, run
-
-class Shown(ModelCase, transcripts='shown'):
-    pass
+from tests.modelled import DELAYING, ModelCase, do_helpers, installed
+from tests.support import TOP, USERS, large_file, run
 
 
-class Nodes(ModelCase, transcripts='nodes'):
+class Nodes(ModelCase, transcripts='shown nodes data tools names_of_nodes refused'):
     def test_many_nodes(self):
         # sixteen controllers with 1,024 namespaces each
         self.subsystem = self.file('many.toml', large_file(range(16), range(16)).encode())
@@ -23,12 +21,21 @@ class Nodes(ModelCase, transcripts='nodes'):
         self.assertEqual(ended.out.splitlines(),
                          [b'32784', b'16384', b'1024', b'%d' % (16384 * 60 + 16 * 10), b'16384'])
 
+    def test_delayed_command_after_a_reset(self):
+        # it fails at once when its controller is reset, by whatever way, and isn't done
+        for reset in ('nvme reset /dev/nvme0', 'echo 1 > /sys/class/nvme/nvme0/reset_controller'):
+            for user in USERS:
+                with self.subTest(reset, user=user):
+                    running = self.stepped('D=/dev/nvme0n1; echo data > $D; nvme format $D -l 1 -f 2>&1 & '
+                                           'nvme write-zeroes $D -s 0 -c 0 2>&1 & step; nvme reset /dev/nvme1; '
+                                           f'echo two; {reset}; wait; blockdev --getss $D; head -c 4 $D; '
+                                           'nvme format $D -l 1 -f; blockdev --getss $D',
+                                           lambda: self.assertTrue(do_helpers(DELAYING, 2)), user=user,
+                                           options=['--delay=format=50', '--delay=write-zeroes=50'])
+                    out = running.end().out
+                    self.assertEqual(len(re.findall(rb'Interrupted system call', out)), 2, out)
+                    self.assertTrue(out.endswith(b'512\ndataSuccess formatting namespace:1\n4096\n'), out)
 
-class Data(ModelCase, transcripts='data'):
-    pass
-
-
-class Tools(ModelCase, transcripts='tools'):
     def test_registers(self):
         for geometry in ('', '--depth 2 --page-size 65536', '--depth 4096 --window 16',
                          '--depth=3 --page-size=8192 --window 2'):

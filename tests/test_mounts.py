@@ -11,12 +11,6 @@ from tests.modelled import PROGRAMS, ModelCase
 from tests.support import IS_ROOT, NOBODY, run
 from tests.test_machine import Machine, MachineCase
 
-# A bwrap that first puts another file in a device's place.
-EXCHANGES = '''#!/bin/sh
-mv /dev/open/node /dev/open/kept && mv /dev/open/other /dev/open/node
-PATH=${PATH#*:} exec bwrap "$@"
-'''
-
 # What --device adds, besides /dev/net/tun.
 ADDED = {'a terminal': (4, 1), 'a serial port': (188, 0), 'video': (81, 0), 'sound': (116, 1), 'graphics': (226, 0),
          'fuse': (10, 229), 'kvm': (10, 232), 'vhost-net': (10, 238), 'vhost-vsock': (10, 241)}
@@ -37,7 +31,7 @@ class Mounts(MachineCase, transcripts='mounts'):
 
     def test_devices_that_are_exchanged(self):
         (self.folder / 'tools').mkdir()
-        self.file('tools/bwrap', EXCHANGES.encode()).chmod(0o755)
+        shutil.copy(PROGRAMS / 'exchanges.sh', self.folder / 'tools/bwrap')
         with contextlib.closing(Machine(self, 'devices')) as machine:
             block = os.stat(machine.root / 'dev/nvme0n1').st_rdev
             for user in (), NOBODY:

@@ -1,5 +1,7 @@
 """Runs nvme-script on arguments and files that a script can't give it, and on each script of examples/ and of
-tests/scripts. A transcript has the streams that fail, and want of memory.
+tests/scripts. A transcript has the streams that fail, and want of memory, and another one what --explain says. (The
+lines of scripts that it explains are the input of crates/nvme_explain.) Through pipes and on a terminal, the output of
+a line comes before the next line is written, and outputs and messages come in the order of the lines.
 
 With UNPROVED=1 in the environment, `rt try` runs the sources on these rows.
 """
@@ -11,7 +13,7 @@ import tempfile
 import typing
 
 from tests.support import (
-    DEMO, IS_UNPROVED, TOP, Case, Ended, process_folder, program, run, run_unproved, shell_line, table)
+    DEMO, IS_UNPROVED, TOP, Case, Ended, Running, process_folder, program, run, run_unproved, shell_line, table)
 
 SCRIPT = 'nvme_script' if IS_UNPROVED else program('nvme_script')
 TEXT = DEMO.read_text()
@@ -43,11 +45,17 @@ def file(name, text):
 
 
 def statuses():
+    """Scripts of one line, and those that don't consist of whole lines of text."""
     list_of_demo = b'[   0]:0x1\n[   1]:0x3\n'
     for arguments in (), ('--subsystem', str(DEMO)), (f'--subsystem={DEMO}',):
         yield Row(arguments, output=list_of_demo)
     yield Row((), 1, b'line 1: usage error\n', script=b'bogus\n')
     yield Row((), 2, b'line 1: NVMe status: Invalid Namespace or Format (0x600b)\n', script=b'id-ns /dev/nvme0 -n 0\n')
+    for options in geometries():
+        yield Row(options, 0, b'', b'', b'')
+        yield Row(options, 0, b'', list_of_demo, b'list-ns /dev/nvme0')
+        yield Row(options, 1, b'line 1: not UTF-8 text\n', b'', b'\xff')
+        yield Row(options, 1, b'line 1: line too long\n', b'', b'a' * 4096)
 
 
 def refused_arguments():
@@ -61,17 +69,14 @@ def refused_arguments():
     yield told('subsystem: unreadable', '--pace', '0', '--subsystem', MISSING)
 
 
-def unreadable_files():
-    """Files that can't be read, and one of the greatest length, which can."""
+def files():
+    """A file of the greatest length, and those that can't be read, one that is no text, and the faults that
+    SUBSYSTEM-FILE shows, by the built-in file with one text in place of another."""
     whole = TEXT + (1048576 - len(TEXT)) * '#'
     yield Row(('--subsystem', file('whole.toml', whole)))
     for path in MISSING, '', '.', '/proc/self/mem', file('long.toml', f'{whole}#'):
         yield told('subsystem: unreadable', '--subsystem', path)
 
-
-def faults_of_files():
-    """A file that is no text, and the faults that SUBSYSTEM-FILE shows, by the built-in file with one text in place of
-    another."""
     yield told('subsystem: not TOML', '--subsystem', file('bytes.toml', b'\xff\n'))
     page = (TOP / 'docs/SUBSYSTEM-FILE.md').read_text()
     rows = re.findall(r'(?m)^\| `(.+?)` \| `(.+?)` \| (?:`(.+?)`)? ?\| .*\|$', page)
@@ -109,15 +114,6 @@ def geometries():
     """Returns no options, and those of the least and the greatest geometry. (That no other one shows is proved.)"""
     greatest = '--depth 4096 --page-size 65536 --offset 65532 --list-offset 65528 --window 16 --pace 4096'
     return [()] if IS_UNPROVED else [(), ('--depth', '2', '--offset', '4092'), tuple(greatest.split())]
-
-
-def unended_lines():
-    """Scripts that don't consist of whole lines of text."""
-    for options in geometries():
-        yield Row(options, 0, b'', b'', b'')
-        yield Row(options, 0, b'', b'[   0]:0x1\n[   1]:0x3\n', b'list-ns /dev/nvme0')
-        yield Row(options, 1, b'line 1: not UTF-8 text\n', b'', b'\xff')
-        yield Row(options, 1, b'line 1: line too long\n', b'', b'a' * 4096)
 
 
 def scripts():
@@ -180,17 +176,56 @@ class Rows(Case):
 
 
 class Program(Rows):
-    tables = statuses, refused_arguments, unreadable_files, faults_of_files, examples, unended_lines
+    tables = statuses, refused_arguments, files, examples
 
 
 class Scripts(Rows):
     tables = scripts,
 
 
-class Built(Case, transcripts='program'):
+class Built(Case, transcripts='program explain order'):
     env = {'script': SCRIPT}
 
     def setUp(self):
         super().setUp()
         if IS_UNPROVED:
             self.skipTest('rt try gives a run its own streams and memory')
+
+    def test_explained_faults(self):
+        # the key and the place of its table are named
+        for old, new, wanted in table('explained_faults'):
+            with self.subTest(wanted):
+                self.assertIn(old, TEXT)
+                path = self.file('faulty.toml', TEXT.replace(old, new, 1).encode())
+                ended = run(TOP / 'nvme-script', '--explain', '--subsystem', path)
+                self.ends(ended, 1, f'subsystem: {wanted}\n'.encode(), b'')
+
+    def test_order_in_pipes(self):
+        talk = Running(SCRIPT)
+        talk.say(b'list-ns /dev/nvme0 -n 3\n')
+        talk.comes(b'[   0]:0x3\n')
+        talk.say(b'list-ns /dev/nvme9\n')
+        talk.comes(b'line 2: no such device\n')
+        # a part of a line isn't a line
+        talk.say(b'delete-ns /dev/nvme0')
+        talk.waits_for_more()
+        talk.say(b' -n 3\n')
+        talk.comes(b'delete-ns: Success, deleted nsid:3\n')
+        self.ends(talk.end(), 0, b'[   0]:0x3\nline 2: no such device\ndelete-ns: Success, deleted nsid:3\n')
+
+    def test_order_on_a_terminal(self):
+        # the terminal also shows what is typed
+        talk = Running(SCRIPT, terminal=True)
+        talk.say(b'list-ns /dev/nvme0 -n 3\n')
+        talk.comes(b'list-ns /dev/nvme0 -n 3\n[   0]:0x3\n')
+        talk.say(b'list-ns /dev/nvme0 -n 1\n')
+        talk.comes(b'list-ns /dev/nvme0 -n 1\n[   0]:0x1\n[   1]:0x3\n')
+        self.ends(talk.end(), 0)
+
+    def test_full_device_is_told_in_the_next_line_that_prints(self):
+        # the fault ends the run before the script ends
+        talk = Running('sh', '-c', 'exec "$0" > /dev/full', SCRIPT)
+        talk.say(b'list-ns /dev/nvme0\n')
+        talk.waits_for_more()
+        talk.say(b'list-ns /dev/nvme0\nlist-ns /dev/nvme9\n')
+        self.ends(talk.end(), 5, b'nvme-script: write fault\n')

@@ -45,30 +45,26 @@ RESETS = [
 ]
 
 
+# Requests with their answers, options, how many entries the first controller was sent, the status and the messages.
+ROWS = [
+    (ENTRIES, '--page-size 65536', 6, 0, b''),
+    (ENTRIES, '--depth 2 --offset 4 --list-offset 4088', 6, 0, b''),
+    (RESETS, '', 3, 4, b'nvme-device: request too long\n'),
+    ([(b'', b'')], '', 0, 0, b''),
+    # a request that is cut short is not executed
+    *(([(ENTRIES[2][0][:length], b'')], '', 0, 4, b'nvme-device: request cut short\n') for length in (1, 71, 72, 75)),
+    ([(bytes(72), b'')], '--depth 1', 0, 3, b'nvme-device: geometry: depth\n'),
+]
+
+
 class Requests(Case):
-    def answered(self, rows, options='', sent=0, status=0, err=b''):
-        """Checks the answers to requests, which may be cut short, and how many entries the first controller was
-        sent."""
-        requests, answers = (b''.join(column) for column in zip(*rows))
-        self.ends(run(DEVICE, *options.split(), source=requests), status, answers, err)
-        traced = run(DEVICE, '--trace', *options.split(), source=requests)
-        self.assertEqual((traced.out, traced.err.count(b'nvme0 taken ')), (answers, sent), traced)
-
-    def test_entries_and_lists(self):
-        for options in '--page-size 65536', '--depth 2 --offset 4 --list-offset 4088':
-            self.answered(ENTRIES, options, 6)
-
-    def test_a_reset_between_entries(self):
-        self.answered(RESETS, '', 3, 4, b'nvme-device: request too long\n')
-
-    def test_a_request_cut_short_is_not_executed(self):
-        self.answered([(b'', b'')])
-        for length in 1, 71, 72, 75:
-            with self.subTest(length):
-                self.answered([(ENTRIES[2][0][:length], b'')], '', 0, 4, b'nvme-device: request cut short\n')
-
-    def test_a_geometry_out_of_its_limits(self):
-        self.answered([(bytes(72), b'')], '--depth 1', 0, 3, b'nvme-device: geometry: depth\n')
+    def test_rows(self):
+        for rows, options, sent, status, err in ROWS:
+            requests, answers = (b''.join(column) for column in zip(*rows))
+            with self.subTest(options, length=len(requests)):
+                self.ends(run(DEVICE, *options.split(), source=requests), status, answers, err)
+                traced = run(DEVICE, '--trace', *options.split(), source=requests)
+                self.assertEqual((traced.out, traced.err.count(b'nvme0 taken ')), (answers, sent), traced)
 
     def test_pointers_of_an_entry_by_the_offsets(self):
         """Get Log Page of 131,072 bytes: the data and the list begin at the geometry's offsets in their pages."""

@@ -2,8 +2,9 @@
 
 In a file, each operation comes after `>`, and the expected answer is in the line below it, or is `done` if there is no
 such line. Lines that begin with `#` are comments. A file is one session, from its first operation to its last. `(HH*N)`
-stands for N times HH, and a line `> include NAME` for the operations of the file NAME beside it. Rows of rings over
-many commands are computed.
+stands for N times HH, and a line `> include NAME` for the operations of the file NAME beside it. Rows of many commands
+are computed: rings over their wraps, the error log after 300 refusals, identifiers after 65,536 commands, and as many
+namespaces as there may be.
 
 `@sqe(KEY=VALUE ..)` stands for the bytes of an entry with these fields, and others of 0. tests/records.py has the
 fields of each such record, and a failed row names those of the record that was found. `@enable(ctrl=NUMBER aqa=..
@@ -27,6 +28,9 @@ REPEATED_TEXT = re.compile(r'\(([^()]+)\*([0-9]+)\)')
 FILE = re.compile(r'@(?:([a-z_]+\.toml)(\[.*\])?|(".*"))')
 RECORD = re.compile(rf'@({"|".join(KINDS)})\(([^()]*)\)')
 ENABLE = re.compile(r'@enable\(([^()]*)\)')
+# A command that is refused, with its answer, and that to one that isn't.
+REFUSED = 'passthrough 0 0x06', 'status=0x600b dword0=0x0 bytes='
+ACCEPTED = 'status=0x0 dword0={:#x} bytes='
 
 
 def repeats(pattern, text):
@@ -118,6 +122,10 @@ class RowCase(Case):
                           f'  found  {short(named(wanted, found))}\n  python3 -m unittest {self.id()}')
         self.assertEqual(len(answers), len(rows), 'as many answers as operations')
 
+    def check_computed(self, rows):
+        """Checks the answers to operations, which have no lines in a file."""
+        self.check([(number, *row) for number, row in enumerate(rows, 1)])
+
 
 class Rows(RowCase):
     """A test for each file of rows."""
@@ -169,8 +177,7 @@ class Rings(RowCase):
     """Queues over many commands, past the wraps of both. Each test is a session of computed rows."""
 
     def check_rings(self, depth, rows):
-        rows = [('memory 65536 5', 'done'), (f'rings {depth} 0 0x40000', 'done'), *rows]
-        self.check([(number, *row) for number, row in enumerate(rows, 1)])
+        self.check_computed([('memory 65536 5', 'done'), (f'rings {depth} 0 0x40000', 'done'), *rows])
 
     def test_both_rings_wrap(self):
         for depth, count in (2, 6), (3, 9), (17, 51), (4096, 8194):
@@ -188,6 +195,63 @@ class Rings(RowCase):
                 begun = [('renew', 'done'), ('zero', 'done'),
                          ('slots', 'sq_head=0x0 sq_empty=0x1 phase=0x1 cq_full=0x0')]
                 self.check_rings(depth, exchanges(depth, before) + waiting + begun + exchanges(depth, count))
+
+
+def get_log(lid, offset, length):
+    """Returns the operation that reads a part of a log of the first controller."""
+    numd = length // 4 - 1
+    return f'passthrough 0 0x02 cdw10={(numd & 0xffff) << 16 | lid} cdw11={numd >> 16} cdw12={offset} room={length}'
+
+
+def booked(number):
+    """Returns the entry of the refusal with this number, counted from 1, in hexadecimal digits. Its command identifier
+    is one less. Its phase tag is that of its completion, and is inverted on each pass over the ring of 32 slots.
+    Section "Completion Queue Entry", Phase Tag."""
+    phase = 1 - (number - 1) // 32 % 2
+    return encoded('error_entry', f'count={number} cid={number - 1} status=0x600b phase={phase} location=0xffff')
+
+
+class ManyCommands(RowCase):
+    def check_over(self, edits, rows):
+        """Checks the answers to operations over the demonstration file with these edits."""
+        begun = [(f'subsystem @demo.toml{json.dumps(edits)}', 'done'), ('bring_up', 'pages=0x115')]
+        self.check_computed(begun + rows)
+
+    def test_newest_errors(self):
+        """The log keeps the newest errors. They can be read one by one, and as a log page from each place on. Section
+        "Error Information (Log Identifier 01h)"."""
+        for elpe in 0, 3, 255:
+            with self.subTest(elpe=elpe):
+                entries = [booked(300 - index) for index in range(elpe + 1)]
+                rows = [(f'log_entry 0 {index}', f'bytes={entry}') for index, entry in enumerate(entries)]
+                rows += [(f'log_entry 0 {elpe + 1}', 'refused: no such entry')]
+                # there are zeros past the log's end, and a log page begins no later than its end
+                whole, end = ''.join(entries) + 400 * '0', 64 * len(entries)
+                for place in sorted({place for step in range(0, 140, 4) for place in (step, end - 136 + step)}):
+                    if 0 <= place <= end:
+                        rows.append((get_log(1, place, 68), ACCEPTED.format(0) + whole[2 * place:2 * place + 136]))
+                self.check_over(['elpe = 3', f'elpe = {elpe}'], 300 * [REFUSED] + rows)
+
+    def test_errors_in_the_health(self):
+        """The health log counts all errors. Section "SMART / Health Information (Log Identifier 02h)", Number of Error
+        Information Log Entries."""
+        health = bytes(176) + (300).to_bytes(16, 'little') + bytes(320)
+        self.check_over([], 300 * [REFUSED] + [(get_log(2, 0, 512), ACCEPTED.format(0) + health.hex())])
+
+    def test_counts_beyond_the_command_identifiers(self):
+        """Identifiers go from 0 to FFFEh and then begin anew, so the 65,537th command has 1. The counts continue.
+        Section "Submission Queue Entry - Command Format": no command has FFFFh."""
+        self.check_over([], 65536 * [('passthrough 0 0x0a cdw10=6', ACCEPTED.format(1))] + [
+            REFUSED, ('counts 0', 'refusals=0x1 commands=0x10001'),
+            ('log_entry 0 0', 'bytes=@error_entry(count=1 cid=1 status=0x600b phase=1 location=0xffff)')])
+
+    def test_namespaces(self):
+        """Each of 1,024 NSIDs is assigned, the least free one first. Section "Namespace Management command"."""
+        create, full = 'passthrough 0 0x0d data=@id_ns(nsze=1 ncap=1)', 'status=0x6116 dword0=0x0 bytes='
+        self.check_over(['nn = 4', 'nn = 1024'], [
+            *((create, ACCEPTED.format(nsid)) for nsid in (2, *range(4, 1025))), (create, full),
+            ('passthrough 0 0x0d nsid=500 cdw10=1', ACCEPTED.format(0)), (create, ACCEPTED.format(500)),
+            (create, full)])
 
 
 class Pipes(Case):

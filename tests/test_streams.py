@@ -11,6 +11,7 @@ import re
 import select
 import socket
 import subprocess
+import tempfile
 
 from tests.modelled import ModelCase, installed, parts
 from tests.support import LIMIT, USERS, environment, until
@@ -34,12 +35,6 @@ def named_pipe(folder):
     return [os.open(folder / 'fifo', os.O_RDWR)]
 
 
-def deleted_file(folder):
-    number = os.open(folder / 'deleted', os.O_RDWR | os.O_CREAT)
-    os.unlink(folder / 'deleted')
-    return [number]
-
-
 # The kinds of streams: a function that returns the descriptor, and others to be closed with it; and why it is refused,
 # or nothing. What is `closed` has no descriptor, and `messages` are read by the test.
 KINDS = {
@@ -48,7 +43,7 @@ KINDS = {
     'named pipe': (named_pipe, ''),
     'socket': (lambda folder: [end.detach() for end in socket.socketpair()], ''),
     'file': (path_of('file', os.O_RDWR | os.O_CREAT), ''),
-    'deleted file': (deleted_file, ''),
+    'deleted file': (lambda folder: [os.dup(tempfile.TemporaryFile(dir=folder).fileno())], ''),
     'terminal': (lambda folder: pty.openpty()[::-1], ''),
     'null': (path_of('/dev/null', os.O_RDWR), ''),
     'path of a folder': (path_of('/', os.O_PATH), PATH),
@@ -72,7 +67,7 @@ KEPT = {r'(socket|pipe):\[\d+\]': False, r'/sys(/.*)?|/dev/#\d+ \(deleted\)': Tr
         'anon_inode:.*(eventfd|inotify|signalfd|seccomp notify).*': False}
 
 
-class Streams(ModelCase):
+class Streams(ModelCase, transcripts='streams'):
     def setUp(self):
         super().setUp()
         self.folder.chmod(0o777)
@@ -99,12 +94,6 @@ class Streams(ModelCase):
         command = [*user, installed(), '--subsystem', self.subsystem, 'sh', '-c', script, 'sh', self.seen]
         return subprocess.Popen(command, stdin=streams[0], stdout=streams[1], stderr=streams[2], preexec_fn=close,
                                 env=environment({'PATH': ':'.join([*map(str, path), os.environ['PATH']])}))
-
-    def launchers(self):
-        """Returns the folders in /proc of the launcher, its keeper and its helpers, of which there may be many."""
-        devices, keepers, helpers, launcher = parts()
-        self.assertEqual([len(devices), len(keepers), len(launcher), bool(helpers)], [1, 1, 1, True])
-        return [pathlib.Path(f'/proc/{number}') for number in (*keepers, *helpers, *launcher)]
 
     def check_kept(self, process, streams):
         """Checks what a process has open: of a closed stream, /dev/null of the sandbox, which can't be used."""
@@ -137,8 +126,10 @@ class Streams(ModelCase):
                 self.assertTrue(until(lambda: self.seen.exists() or process.poll() is not None))
                 try:
                     self.assertIsNone(process.poll(), kinds)
-                    for launcher in self.launchers():
-                        self.check_kept(launcher, streams)
+                    devices, keepers, helpers, launcher = parts()
+                    self.assertEqual([len(devices), len(keepers), len(launcher), bool(helpers)], [1, 1, 1, True])
+                    for number in (*keepers, *helpers, *launcher):
+                        self.check_kept(pathlib.Path(f'/proc/{number}'), streams)
                 finally:
                     self.seen.unlink(missing_ok=True)
                     self.assertEqual(process.wait(LIMIT), 0, kinds)
@@ -174,19 +165,6 @@ class Streams(ModelCase):
         for user in USERS:
             with self.subTest(user=user):
                 self.try_streams(user, ['null', 'messages', 'messages'], [tools])
-
-    def test_closed_for_the_command(self):
-        script = ('for n in 0 1 2; do test -e /proc/$$/fd/$n && echo $n; done > "$1"; '
-                  'head -c 1 /proc/1/fd/0/etc/passwd >> "$1"')
-        for user in USERS:
-            for closed, wanted in ((0,), b'1\n2\n'), ((1,), b'0\n1\n2\n'), ((0, 2), b'1\n'):
-                with self.subTest(user=user, closed=closed):
-                    by = [*user, 'sh', '-c', 'exec "$@" ' + ' '.join(f'{number}>&-' for number in closed), 'sh']
-                    found = self.folder / 'found'
-                    subprocess.run([*by, *self.command('sh', '-c', script, 'sh', found)], env=environment(),
-                                   check=False, capture_output=True)
-                    self.assertEqual(found.read_bytes(), wanted)
-                    found.unlink()
 
     def test_files_of_options(self):
         # a subsystem file or a trace is one of the same kinds

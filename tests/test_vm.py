@@ -50,7 +50,7 @@ def parts(server, *changes):
     folder = public_folder()
     guest = folder / 'vm_guest.static', CLIENT / 'vm_guest.c'
     subprocess.run(['cc', '-O1', '-static', '-pthread', *WARNINGS, '-o', *guest], check=True)
-    for name in 'vm.py', 'vm_guest.sh':
+    for name in 'vm.py', 'vm_guest.sh', 'vm_usage.txt':
         shutil.copy(CLIENT / name, folder)
     text = (folder / 'vm.py').read_text()
     for old, new in {**{KVM: "'/none'" for _ in range(isinstance(server, str))}, **dict(changes)}.items():
@@ -300,7 +300,9 @@ class Boot(Case):
         self.streams()
         self.terminal()
         self.signals()
-        self.finds()
+        # (controllers have the order of the file)
+        mounted = (TOP / 'examples/mounted.txt').read_text()
+        self.hears(b'files\n', f'udev\n0\n1\n{mounted}1\n1\n1\n1\n1\n/sys/class/net/lo\n')
         self.unread()
         self.assertEqual({path: path.stat().st_mtime_ns for path in self.here.rglob('*')}, before)
         self.assertEqual((self.here / 'kept').read_bytes(), b'as it was\n')
@@ -345,11 +347,6 @@ class Boot(Case):
                 continue  # (so is SIGHUP in the tests by `nohup`, and then in the machine)
             os.kill(number, signal.Signals[f'SIG{name}'])
             self.hears(f'{name}\n'.encode())
-
-    def finds(self):
-        # (controllers have the order of the file)
-        mounted = (TOP / 'examples/mounted.txt').read_text()
-        self.hears(b'files\n', f'udev\n0\n1\n{mounted}1\n1\n1\n1\n1\n/sys/class/net/lo\n')
 
     def unread(self):
         self.hears(b'unread\n')

@@ -140,7 +140,7 @@ class Builds(Copy, transcripts='builds'):
         self.assertEqual(build.process.wait(LIMIT), -signal.SIGINT, build.line)
 
 
-class Left(Copy):
+class Left(Copy, transcripts='wrapper_unproved wrapper_streams'):
     """Checks that runs leave nothing behind."""
 
     def setUp(self):
@@ -151,12 +151,6 @@ class Left(Copy):
     def files(self):
         return {path: path.stat().st_mtime_ns for path in self.copy.rglob('*') if path.is_file()}
 
-
-class Unproved(Left, transcripts='wrapper_unproved'):
-    pass
-
-
-class Streams(Left, transcripts='wrapper_streams'):
     def test_terminal(self):
         talk = Running(self.command, terminal=True, env=self.env)
         talk.comes(b'nvme-script: an unproved run reads its whole script first, so it takes a file or a pipe and no '

@@ -1,5 +1,5 @@
-"""Transcripts of shell scripts, in tests/shell/NAME.txt. A class that is declared with the name of a file has a test
-for each title in it, a line after `=`. Blank lines are around each script, which runs under ./nvme-model in a
+"""Transcripts of shell scripts, in tests/shell/NAME.txt. A class that is declared with names of files has a test for
+each title in them, a line after `=`. Blank lines are around each script, which runs under ./nvme-model in a
 ModelCase, and in a plain shell in another test.
 
 A script is what stands after `>`. Beside it is what it prints, also in between, and after `!` what it writes to
@@ -150,11 +150,12 @@ def transcripts_of(name):
     return found
 
 
-def tests_of(name):
-    """Returns the tests of a file, by their names."""
+def tests_of(names):
+    """Returns the tests of files, by their names."""
     def test_of(transcripts):
         def test(case):
             for transcript in transcripts:
                 case.transcribe(transcript)
         return test
-    return {f'test_{title}': test_of(transcripts) for title, transcripts in transcripts_of(name).items()}
+    return {f'test_{title}': test_of(transcripts)
+            for name in names.split() for title, transcripts in transcripts_of(name).items()}
