@@ -5,7 +5,6 @@ import os
 import random
 import select
 import struct
-import sys
 import time
 import timeit
 
@@ -17,7 +16,7 @@ from tests.driver import (
     CC, COMMAND, CSTS, HEAD, IDENTIFY, MASTER, NO_INTERRUPT, PAGE, TAIL, counter, is_raised, memory_file)
 from tests.modelled import is_there
 from tests.served import EINVAL, Served
-from tests.support import DEMO, LIMIT, left_running, until
+from tests.support import DEMO, LIMIT, left_running, table, until
 from tests.test_vfio_blocks import event, request
 
 VECTORS, VECTOR_CONTROL = 2, 0xa2  # the index of MSI-X, and its register
@@ -80,7 +79,7 @@ class Processors:
 def fill(bell):
     """Fills an event counter, so that a write to it waits."""
     os.set_blocking(bell, True)
-    os.write(bell, struct.pack('=Q', 2 ** 64 - 2))
+    os.eventfd_write(bell, 2 ** 64 - 2)
     return bell
 
 
@@ -92,15 +91,26 @@ def written(offset, value):
 class Interrupts(Served):
     def setUp(self):
         super().setUp()
-        self.driver = self.guest()
-        driver = self.driver
+        self.begin()
+
+    def begin(self):
+        """Begins with a guest, and with the steps that it takes."""
+        driver = self.driver = self.guest()
+        seen = counter()
         self.steps = {
+            'bind': lambda: self.bind(PIN),
             'put': lambda: driver.put(IDENTIFY, 2 * PAGE, dword10=1),
             'take': lambda: driver.take() == 0,
             'mask': lambda: driver.set_irqs(MASK, PIN) == 0,
             'unmask': lambda: driver.set_irqs(UNMASK, PIN) == 0,
             'disable': lambda: driver.set_config(COMMAND, MASTER | NO_INTERRUPT, 2),
             'enable': lambda: driver.set_config(COMMAND, MASTER, 2),
+            'reset': driver.enable,
+            'look': lambda: driver.register(CSTS),
+            'waiting': lambda: driver.config(STATUS, 2) == 0x18,
+            'ended': lambda: driver.config(STATUS, 2) == 0x10,
+            'tell': lambda: driver.set_irqs(BIND_UNMASK, PIN, 1, seen) == 0,
+            'seen': lambda: os.eventfd_write(seen, 1),
             'messages': lambda: driver.set_config(MESSAGE_CONTROL, 1, 2),
             # (the counter is raised, or will be; it will be, and isn't read; it isn't raised, or won't be)
             'raised': lambda: is_raised(self.bell),
@@ -135,18 +145,12 @@ class Interrupts(Served):
         self.assertFalse(is_raised(former) or is_raised(pin))
 
     def test_pin(self):
-        # raised until it is seen, again if completions wait then, and not while it is disabled
-        self.bind(PIN)
-        self.follow('put raised')
-        self.assertEqual(self.driver.config(STATUS, 2), 0x18)
-        self.follow('put low')
-        # (another counter in its place was never raised)
-        self.bind(PIN)
-        self.follow('later unmask later take take')
-        self.assertEqual(self.driver.config(STATUS, 2), 0x10)
-        self.follow('unmask low disable put low enable later')
-        # (a mask holds it back, and so do enabled messages)
-        self.follow('mask unmask later mask put idle messages unmask idle')
+        for what, steps in table('pin'):
+            with self.subTest(what):
+                self.driver.close()
+                self.restart()
+                self.begin()
+                self.follow(steps)
 
     def test_pin_that_was_lowered(self):
         # an access lowers the pin before the processor has seen it: it is raised again, but only every 10 milliseconds
@@ -154,27 +158,9 @@ class Interrupts(Served):
         for _ in range(20):
             begun_at = time.monotonic()
             self.follow('put raised' + 5 * ' put unmask' + ' unread')
-            times = int.from_bytes(os.read(self.bell, 8), sys.byteorder)
-            self.assertLessEqual(times, (time.monotonic() - begun_at) / 0.009)
+            self.assertLessEqual(os.eventfd_read(self.bell), (time.monotonic() - begun_at) / 0.009)
             # (a head frees some of the completions, and the pin is raised at once for the others)
             self.follow('unmask take raised' + 5 * ' take' + ' unmask low')
-
-    def test_raise_that_nobody_read(self):
-        # a raise is taken back if the guest takes all completions before the other process has read it
-        self.bind(PIN)
-        self.follow('put raised')
-        for take in self.driver.take, self.driver.enable:
-            self.follow('unmask unread')
-            take()
-            self.driver.register(CSTS)
-            self.follow('low put raised')
-        # (a pin that the client masked stays masked)
-        self.follow('unmask unread mask take put raised idle')
-
-    def test_idle_pin(self):
-        # completions that nobody takes raise the pin once, and nothing wakes the server while it is masked or disabled
-        self.bind(PIN)
-        self.follow('put raised' + 2 * ' idle disable unmask')
 
     def test_two_submitters(self):
         # two processes and an interrupt handler, with QEMU between them: no interrupt is lost, and there are few
@@ -205,17 +191,6 @@ class Interrupts(Served):
         self.server = self.start()
         calls = ' '.join(line.partition('(')[0] for line in trace.read_text().splitlines())
         self.assertIn(' '.join(['io_submit poll recvmsg'] * 49 + ['io_submit']), calls)
-
-    def test_unmask_counter(self):
-        # with KVM, a counter tells that the pin was seen
-        seen = counter()
-        self.follow('mask')
-        self.bind(PIN)
-        self.assertEqual(self.driver.set_irqs(BIND_UNMASK, PIN, 1, seen), 0)
-        for steps in 'unmask put raised', 'later take':
-            self.follow(steps)
-            os.write(seen, struct.pack('=Q', 1))
-        self.follow('idle')
 
     def test_many_full_counters(self):
         # fifteen of them don't slow down the commands of another client
