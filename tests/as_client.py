@@ -111,9 +111,8 @@ class Client:
         else:
             assert self.ask(REGION_WRITE, payload) == payload[:16]
 
-    def set_irqs(self, flags, index, count=1, file=None, start=0):
-        payload = struct.pack('<5I', 20, flags, index, start, count)
-        return self.refusal(SET_IRQS, payload, files=[] if file is None else [file])
+    def set_irqs(self, flags, index, count=1, *files, first=0):
+        return self.refusal(SET_IRQS, struct.pack('<5I', 20, flags, index, first, count), files)
 
     def config(self, offset, length=4):
         return int.from_bytes(self.read(CONFIG, offset, length), 'little')
@@ -243,7 +242,7 @@ class Guest(Driver, Client):
     def counters(self):
         """Binds event counters to the pin and to messages, and returns them."""
         found = counter(), counter()
-        assert self.set_irqs(BIND, PIN, file=found[0]) == self.set_irqs(BIND, MESSAGES, file=found[1]) == 0
+        assert [self.set_irqs(BIND, index, 1, bell) for index, bell in enumerate(found)] == [0, 0]
         return found
 
 

@@ -11,17 +11,13 @@ import threading
 import time
 
 INPUT, OUTPUT, ERRORS, TERMINAL, MESSAGES = PORTS = [*map(int, re.findall(r',fd=(\d+)', ' '.join(sys.argv)))]
+GIVEN, TOLD = open(INPUT, 'rb'), open(MESSAGES, 'rb')
 BEGUN, STOPPED, ENDED, UNREAD, ALIVE, SIGNAL, SIGNAL_GROUP, SIZE, CONTINUE, FINISH = range(10)
 
 
-def receive(number, count):
-    data = b''
-    while len(data) < count:
-        piece = os.read(number, count - len(data))
-        if not piece:
-            sys.exit(9)
-        data += piece
-    return data
+def receive(file, count):
+    data = file.read(count)
+    return data if len(data) == count else sys.exit(9)
 
 
 def tell(kind, value=0):
@@ -32,7 +28,7 @@ def awaits(*kinds):
     """Returns the next message of one of these kinds."""
     kind = None
     while kind not in kinds:
-        kind, value = struct.unpack('<II', receive(MESSAGES, 8))
+        kind, value = struct.unpack('<II', receive(TOLD, 8))
     return kind, value
 
 
@@ -44,8 +40,8 @@ def frame(port, data=b''):
 
 def frames():
     """Yields the frames of the input up to its end."""
-    while length := struct.unpack('<I', receive(INPUT, 4))[0]:
-        yield receive(INPUT, length)
+    while length := struct.unpack('<I', receive(GIVEN, 4))[0]:
+        yield receive(GIVEN, length)
 
 
 def ends(how, *ports):
@@ -84,24 +80,17 @@ def writes():
     os.set_blocking(MESSAGES, True)
 
 
+def by_kvm(call, *arguments):
+    if 'kvm' in sys.argv:
+        call(*arguments)
+
+
 def emulates():
-    """Is silent by KVM, and otherwise tells how it was started."""
-    how = sys.argv[sys.argv.index('-accel') + 1]
-    if how == 'kvm':
-        time.sleep(10000)
+    """Tells how it was started, and ends."""
     tell(ALIVE)
     tell(BEGUN)
-    frame(OUTPUT, f'{how}\n'.encode())
-
-
-def refuses_kvm():
-    if 'kvm' in sys.argv:
-        sys.exit(1)
-
-
-def dies_by_kvm():
-    if 'kvm' in sys.argv:
-        os.kill(os.getpid(), signal.SIGKILL)
+    frame(OUTPUT, f'{sys.argv[sys.argv.index("-accel") + 1]}\n'.encode())
+    ends(3 << 8)
 
 
 def tells_files():
@@ -129,9 +118,9 @@ MACHINES = {
     # (it fails after the command's end)
     'loses': [BEGINS, (ends, 0), (print, 'nvme-model: what was written is lost'), FAILS],
     'is_silent': [WAITS],
-    'needs_emulation': [(emulates,), (ends, 3 << 8)],
-    'refuses_kvm': [(refuses_kvm,), (emulates,), (ends, 3 << 8)],
-    'dies_by_kvm': [(dies_by_kvm,), (emulates,), (ends, 3 << 8)],
+    'needs_emulation': [(by_kvm, *WAITS), (emulates,)],
+    'refuses_kvm': [(by_kvm, sys.exit, 1), (emulates,)],
+    'dies_by_kvm': [(by_kvm, os.kill, os.getpid(), signal.SIGKILL), (emulates,)],
     'tells_files': [BEGINS, (tells_files,), (ends, 0)],
     'falls_silent': [BEGINS, WAITS],
     # (it is silent but for answers, longer than a machine may be)

@@ -78,8 +78,10 @@ class Function(Driver):
         self.config(0)
         return is_raised(self.interrupt, seconds)
 
-    def acknowledge(self):
-        os.write(self.seen, struct.pack('=Q', 1))
+
+def keeps(count, *about):
+    """Waits until the program has so many descriptors."""
+    assert until(lambda: kept(os.getppid()) == count), (kept(os.getppid()), count, *about)
 
 
 def configuration(first, second):
@@ -117,11 +119,9 @@ def commands(first, second):
     second.begin()
     for _ in range(20):
         assert first.serial() == 'S0' and second.serial() == 'S1'
-    assert first.register(CSTS) == 1
-    assert first.status_of(0x18) == 1, 'a refused opcode'
+    assert first.register(CSTS) == 1 and first.status_of(0x18) == 1, 'a refused opcode'
     first.ask(RESET)
-    assert first.register(CC) == 0 and first.register(CSTS) == 0 and first.config(COMMAND) == 0
-    assert second.serial() == 'S1'
+    assert first.register(CC) == first.register(CSTS) == first.config(COMMAND) == 0 and second.serial() == 'S1'
     first.set_config(COMMAND, MASTER, 2)
     first.enable()
     assert first.serial() == 'S0'
@@ -134,10 +134,10 @@ def interrupts(first, second):
     assert not first.is_raised()
     first.put(IDENTIFY, 2 * PAGE, dword10=1)
     assert first.is_raised() and not first.is_raised()
-    first.acknowledge()
+    os.eventfd_write(first.seen, 1)
     assert first.is_raised(LIMIT)
     first.take()
-    first.acknowledge()
+    os.eventfd_write(first.seen, 1)
     assert not first.is_raised(0.1)
     # (the pin has no vectors: Create I/O Completion Queue is refused with Invalid Interrupt Vector)
     assert first.status_of(5, 8 * PAGE, dword10=15 << 16 | 1, dword11=1 << 16 | 3) == 0x108
@@ -147,9 +147,8 @@ def interrupts(first, second):
                   [first.interrupt, pipe]):
         first.listen()
         first.say(INTERRUPT, files=files)
-        assert first.status_of(IDENTIFY, 2 * PAGE, dword10=1) == 0
-        assert not first.is_raised()
-        assert until(lambda: kept(os.getppid()) == before - 2), files
+        assert first.identify(2 * PAGE) == 0 and not first.is_raised()
+        keeps(before - 2, files)
 
 
 def sections(first, second):
@@ -168,19 +167,19 @@ def sections(first, second):
         first.sections(rows, files)
         first.put(IDENTIFY, 2 * PAGE, dword10=1)
         assert first.register(CSTS) & 2, (rows, files)
-        assert until(lambda: kept(os.getppid()) == before), (rows, kept(os.getppid()), before)
+        keeps(before, rows)
     # what lies apart is there, in any order
     first.sections([(2 << 20, 1 << 20, 0), whole], [memory_file(1 << 20), plain])
     first.ram = mmap.mmap(plain, 1 << 20)
     first.enable()
-    assert first.status_of(IDENTIFY, 2 << 20, dword10=1) == 0
+    assert first.identify(2 << 20) == 0
     # more descriptors come with the body than are allowed
     before = kept(os.getppid())
     first.say(MEMORY, files=[plain] * 5, size=192)
     for _ in range(2):
         socket.send_fds(first.socket, [bytes(96)], [plain] * 5)
     first.config(0)
-    assert until(lambda: kept(os.getppid()) == before - 2)
+    keeps(before - 2)
 
 
 def said(*words, body=b''):
@@ -214,8 +213,8 @@ def random_body(lot, kind):
         numbers = (chosen(lot) // lot.choice((1, PAGE)) * lot.choice((1, PAGE)) % 2 ** 64 for _ in range(24))
         return struct.pack('=24Q', *numbers)
     if kind in (CONFIG_READ, CONFIG_WRITE):
-        address = lot.choice((COMMAND, lot.randrange(260), chosen(lot) % 2 ** 32))
-        return struct.pack('=IIi', address, chosen(lot) % 2 ** 32, lot.choice((1, 2, 4, lot.randrange(-9, 9))))
+        address = lot.choice((COMMAND, lot.randrange(260), chosen(lot, 32)))
+        return struct.pack('=IIi', address, chosen(lot, 32), lot.choice((1, 2, 4, lot.randrange(-9, 9))))
     if kind in (BAR_READ, BAR_WRITE):
         return struct.pack('=QQII', chosen(lot), chosen(lot), lot.choice((4, 4, 8, lot.randrange(20))), 1)
     return b''

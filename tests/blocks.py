@@ -119,9 +119,9 @@ def block_entry(opcode, nsid, first=0, count=1, prp1=0, prp2=0, flags=0, identif
 
 
 class Blocks(Served):
-    def drive(self, ctrl=0, pairs=1):
+    def drive(self, ctrl=0, pairs=1, **more):
         """Returns a guest with pairs of I/O queues whose rings begin at page 4."""
-        drive = Drive(f'{self.path}{ctrl}', ctrl=ctrl)
+        drive = Drive(f'{self.path}{ctrl}', ctrl=ctrl, **more)
         self.addCleanup(drive.close)
         self.begin(drive, pairs)
         return drive

@@ -2,6 +2,7 @@
 real device nodes, otherwise with files. Whatever a command does there, the machine doesn't change."""
 
 import contextlib
+import itertools
 import os
 import pathlib
 import re
@@ -182,22 +183,6 @@ class Attacks(MachineCase):
 class Machines(MachineCase, transcripts='on_machines'):
     """Tests other properties on a machine with nodes, for root and for another user."""
 
-    def test_what_is_inherited(self):
-        # a node or a folder of nodes is refused as a standard stream, and everything else isn't handed on
-        for machine, user in self.users():
-            for redirection, said in (('< /dev', 'standard input is a folder'), ('9<> /dev/nvme0 8< /dev', ''),
-                                      ('<> /dev/nvme0n1', 'standard input is a device'),
-                                      ('>> /dev/folder/inner/node', 'standard output is a device'),
-                                      ('2<> /dev/nvme0n1', None)):
-                if machine.kind == 'files' and 'n' in redirection[12:]:
-                    continue
-                by = 'sh', '-c', f'exec {redirection}; exec "$@"', 'sh'
-                ended = machine.model('touch "$place/touched"; ls /proc/$$/fd', user, by=by)
-                self.ends(ended, 72 if said != '' else 0, b'' if said != '' else b'0\n1\n2\n')
-                self.assertIn(f'nvme-model: {said}'.encode() if said else b'', ended.err)
-                self.assertEqual((self.folder / 'touched').exists(), said == '')
-                (self.folder / 'touched').unlink(missing_ok=True)
-
     def test_working_folder(self):
         script = 'echo MODELLED | dd of=nvme0n1 conv=notrunc 2> /dev/null; head -c 8 ./nvme0n1 ../dev/nvme0n1 -q; pwd'
         for machine, user in self.users():
@@ -271,15 +256,6 @@ class Machines(MachineCase, transcripts='on_machines'):
                 self.reached_nothing(machine, ended, 5)
                 self.assertTrue(by != less or not ended.err, ended)
 
-    def test_eight_at_once(self):
-        with contextlib.closing(Machine(self, 'files')) as machine:
-            script = ('for i in 1 2 3 4 5 6 7 8; do "$model" sh -c "echo $i > /dev/nvme0n1; : > $place/wrote-$i; '
-                      'until test \\$(ls $place | grep -c wrote-) = 8; do sleep 0.1; done; '
-                      'echo \\$(head -c 1 /dev/nvme0n1)" & done; wait')
-            ended = run(*machine.enter, 'sh', '-c', script, env={'model': installed(), 'place': self.folder})
-            self.assertEqual(sorted(ended.out.split()), [b'%d' % number for number in range(1, 9)], ended)
-            machine.is_unchanged()
-
 
 # Runs a command in a place where no mount namespace can be made, or where there is no bwrap.
 WITHOUT = ('unshare', '-Ur', 'sh', '-c', 'echo 0 > /proc/sys/user/max_mnt_namespaces; exec "$@"', 'sh')
@@ -287,25 +263,20 @@ UNREADABLE = '/usr/bin/python3', '-c', (PROGRAMS / 'unreadable.py').read_text() 
 
 
 class NoSandbox(MachineCase):
-    def ways(self):
-        """Returns ways to run a command where no sandbox can be made, each with the reason that is told."""
-        tools = self.folder / 'tools'
-        tools.mkdir(exist_ok=True)
-        for name in {name for folder in os.environ['PATH'].split(':') if os.path.isdir(folder)
-                     for name in os.listdir(folder)} - {'bwrap'}:
-            with contextlib.suppress(FileExistsError):
-                (tools / name).symlink_to(shutil.which(name) or '/none')
-        return {WITHOUT: b'amespace', ('env', f'PATH={tools}'): b'install the package bubblewrap', UNREADABLE:
-                b"the memory of processes can't be read: Operation not permitted"}
-
     def test_refused(self):
         # whatever nodes the machine has, the command doesn't begin, and the reason tells what does without a sandbox
-        for kind in ('devices', 'files', 'none') if IS_ROOT else ('files', 'none'):
-            for way, reason in self.ways().items():
-                with self.subTest(kind, way=way), contextlib.closing(Machine(self, kind)) as machine:
-                    ended = machine.model('touch "$place/touched"', by=way)
-                    self.ends(ended, 72, b'')
-                    self.assertRegex(ended.err, b'^nvme-model: no sandbox can be made: .*' + reason + b'.*; ' +
-                                     BY_VM.encode() + b'\n$')
-                    self.assertFalse((self.folder / 'touched').exists())
-                    machine.is_unchanged()
+        tools = self.folder / 'tools'
+        tools.mkdir()
+        for name in {name for folder in os.environ['PATH'].split(':') if os.path.isdir(folder)
+                     for name in os.listdir(folder)} - {'bwrap'}:
+            (tools / name).symlink_to(shutil.which(name) or '/none')
+        ways = {WITHOUT: b'amespace', ('env', f'PATH={tools}'): b'install the package bubblewrap',
+                UNREADABLE: b"the memory of processes can't be read: Operation not permitted"}
+        for kind, (way, reason) in itertools.product(('devices', 'files', 'none')[not IS_ROOT:], ways.items()):
+            with self.subTest(kind, way=way), contextlib.closing(Machine(self, kind)) as machine:
+                ended = machine.model('touch "$place/touched"', by=way)
+                self.ends(ended, 72, b'')
+                self.assertRegex(ended.err, b'^nvme-model: no sandbox can be made: .*' + reason + b'.*; ' +
+                                 BY_VM.encode() + b'\n$')
+                self.assertFalse((self.folder / 'touched').exists())
+                machine.is_unchanged()

@@ -22,11 +22,9 @@ from tests.modelled import CLIENT, PARTS, ModelCase, installed, is_there, option
 from tests.support import DEMO, LIMIT, TOP, Case, Running, difference, library, process_folder, run, table
 
 SCENARIOS = 'configuration', 'registers', 'commands', 'interrupts', 'sections', 'gone'
-SEEDS = range(8)
-# The kernel of tools/kernel.
-UNPACKED = TOP / 'out/kernel'
 # What guests run: `init.sh` first, and then `guest.sh`, whose output is compared, or another script.
 GUEST = TOP / 'tests/guest'
+NO_DISPLAY = '-nodefaults', '-display', 'none'
 COUNTS = r'nvme-model: controller (\d+): commands (\d+), refused (\d+)\n'
 ERROR = r'nvme-model: error (\d+): command (\d+), status 0x([0-9a-f]+), location 0x([0-9a-f]+), NSID 0x([0-9a-f]+)\n'
 
@@ -60,31 +58,27 @@ class Messages(Case, transcripts='stand_ins'):
     def setUp(self):
         super().setUp()
         self.env = {'PATH': f'{self.folder}:{os.environ["PATH"]}', 'server': program()}
-        self.stand_in(b'exec python3 -m tests.as_qemu "$SCENARIO" "$@"')
+        self.file('qemu-system-x86_64', b'#!/bin/sh\ncase "$*" in\n'
+                  b'-device\\ help) echo "name x-pci-proxy-dev, bus PCI"; exit ;;\n'
+                  b'-version) echo "QEMU emulator version 7.2.22 (Debian 1:7.2+dfsg-7)"; exit ;;\nesac\n'
+                  b'exec python3 -m tests.as_qemu "$SCENARIO" "$@"').chmod(0o755)
 
-    def stand_in(self, script, devices='x-pci-proxy-dev'):
-        """Makes a program in QEMU's place, which has these devices and otherwise does what the script says."""
-        told = (f'#!/bin/sh\ncase "$*" in\n-device\\ help) echo "name {devices}, bus PCI"; exit ;;\n'
-                f'-version) echo "QEMU emulator version 7.2.22 (Debian 1:7.2+dfsg-7)"; exit ;;\nesac\n')
-        self.file('qemu-system-x86_64', told.encode() + script).chmod(0o755)
-
-    def said(self, scenario):
-        return run(program(*SANITIZERS), '--summary', env={**self.env, 'SCENARIO': scenario})
+    def said(self, scenario, *wanted):
+        """Returns what the program says of a scenario, at whose end it has this status, output and messages."""
+        with self.subTest(scenario):
+            ended = run(program(*SANITIZERS), '--summary', env={**self.env, 'SCENARIO': scenario})
+            self.ends(ended, *wanted)
+        return ended.err.decode()
 
     def test_scenarios(self):
-        ended = {scenario: self.said(scenario) for scenario in SCENARIOS}
-        for scenario in SCENARIOS:
-            with self.subTest(scenario):
-                self.ends(ended[scenario], 0, b'')
+        told = {scenario: self.said(scenario, 0, b'') for scenario in SCENARIOS}['commands']
         # (the reset, the refused command and the requests are those of the scenario)
-        told = ended['commands'].err.decode()
         self.assertEqual(re.findall(COUNTS, told), [('0', '22', '1'), ('1', '21', '0')])
         self.assertEqual(re.findall(ERROR, told), [('1', '104', '6001', 'ffff', '0')], told)
 
     def test_invalid_messages(self):
-        for scenario in [f'broken:{name}' for name in BROKEN] + [f'random_messages:{seed}:3000' for seed in SEEDS]:
-            with self.subTest(scenario):
-                self.ends(self.said(scenario), 72, b'', b"nvme-model: QEMU sent a message that isn't known here\n")
+        for scenario in [f'broken:{name}' for name in BROKEN] + [f'random_messages:{seed}:3000' for seed in range(8)]:
+            self.said(scenario, 72, b'', b"nvme-model: QEMU sent a message that isn't known here\n")
 
     def test_arguments(self):
         for words, said in [*table('refused_arguments_of_qemu'), ['--subsystem x ' * 17, '']]:
@@ -110,8 +104,9 @@ class Messages(Case, transcripts='stand_ins'):
 def kernel():
     """Returns the kernel and the folder of its modules: the newest ones that are installed, or that of tools/kernel, if
     none are named."""
-    kernels = sorted(glob.glob('/boot/vmlinuz-*'), key=os.path.getmtime) or glob.glob(f'{UNPACKED}/boot/vmlinuz-*')
-    found = os.environ.get('NVME_TEST_KERNEL') or (kernels[-1] if kernels else '')
+    kernels = sorted(glob.glob('/boot/vmlinuz-*'), key=os.path.getmtime) or [
+        *map(str, TOP.glob('out/kernel/boot/vmlinuz-*'))]
+    found = os.environ.get('NVME_TEST_KERNEL') or ''.join(kernels[-1:])
     place, _, release = found.partition('/boot/vmlinuz-')
     return found, os.environ.get('NVME_TEST_MODULES') or f'{place}/lib/modules/{release}'
 
@@ -153,13 +148,11 @@ def initial_files():
     root = process_folder() / 'guest'
     for name in 'bin', 'proc', 'sys', 'dev', 'modules':
         (root / name).mkdir(parents=True)
-    nvme = shutil.which('nvme')
-    libraries = re.findall(r'(/\S+) \(0x', run('ldd', nvme).out.decode())
-    for path in libraries:
+    for path in re.findall(r'(/\S+) \(0x', run('ldd', shutil.which('nvme')).out.decode()):
         (root / path[1:]).parent.mkdir(parents=True, exist_ok=True)
         shutil.copy(path, root / path[1:])
-    shutil.copy(nvme, root / 'bin/nvme')
-    shutil.copy(shutil.which('busybox'), root / 'bin/busybox')
+    for name in 'nvme', 'busybox':
+        shutil.copy(shutil.which(name), root / 'bin' / name)
     needed = modules()
     for name, data in needed.items():
         (root / 'modules' / name).write_bytes(data)
@@ -192,12 +185,6 @@ def apart_from_scans(text):
     return re.sub(rb'(?m)^refused: .*\n', b'', before + mark + errors + end + rest)
 
 
-def command_of_page(path):
-    """Returns the words with which QEMU starts over a controller's socket."""
-    text = re.search(r'(?m)^    (qemu-system-x86_64 (?:.*\\\n)+.*) \.\.$', (TOP / 'docs/QEMU.md').read_text())[1]
-    return shlex.split(text.replace('\\\n', '').replace('PATH0', path))
-
-
 def told(error):
     """Returns the fields of an error log entry that are compared, as the program reports them at its end."""
     # (nvme-cli prints an NSID as a signed number)
@@ -217,22 +204,21 @@ class Drivers(ModelCase):
         self.is_new = b'vfio-user-pci' in devices()
         self.polls = '' if self.is_new else ' irqpoll nolapic_timer'
 
-    def linux(self, more=''):
+    def linux(self, more='', results=None):
         """Returns QEMU's options for Linux, with two processors if they get interrupts."""
-        return ('-serial', f'file:{self.console}', '-serial', f'file:{self.results}', '-smp', str(1 + self.is_new),
-                '-kernel', kernel()[0], '-initrd', initial_files(), '-append',
+        return (*NO_DISPLAY, '-serial', f'file:{self.console}', '-serial', results or f'file:{self.results}',
+                '-smp', str(1 + self.is_new), '-kernel', kernel()[0], '-initrd', initial_files(), '-append',
                 f'console=ttyS0 panic=-1 no_timer_check{self.polls}{more}')
 
     def boot(self, *options, own=()):
-        """Runs a machine until it would reset itself, and returns what the program reported at its end."""
-        ended = run(program(), '--summary', '--subsystem', self.subsystem, *own, '--', '-nodefaults', '-display',
-                    'none', '-no-reboot', *options)
+        """Runs a machine to its end, and returns what the program reported then."""
+        ended = run(program(), '--summary', '--subsystem', self.subsystem, *own, '--', *options)
         self.ends(ended, 0, b'')
         return ended.err.decode()
 
     def test_seabios(self):
         # SeaBIOS's driver identifies a controller, creates I/O queues, and identifies each namespace
-        summary = self.boot('-boot', 'reboot-timeout=1')
+        summary = self.boot(*NO_DISPLAY, '-no-reboot', '-boot', 'reboot-timeout=1')
         self.assertEqual(re.findall(COUNTS, summary), [('0', '5', '0'), ('1', '5', '0')])
 
     def test_disk_image(self):
@@ -244,11 +230,11 @@ class Drivers(ModelCase):
         image[510:512] = b'\x55\xaa'
         image[2000 * 512:2000 * 512 + 12] = b'SECTOR 2000\n'
         (place / 'subsystem0.namespace1').write_bytes(image)
-        self.boot('-serial', f'file:{self.console}', own=['--data', place])
+        self.boot(*NO_DISPLAY, '-no-reboot', '-serial', f'file:{self.console}', own=['--data', place])
         self.assertEqual(self.console.read_bytes(), b'SECTOR 2000\n')
 
     def test_linux(self):
-        summary = self.boot(*self.linux())
+        summary = self.boot('-no-reboot', *self.linux())
         console = self.console.read_text(errors='replace')
         queues = f'{1 + self.is_new}/0/0 default/read/poll queues'
         self.assertEqual(len(re.findall(queues, console)), 3, console[-3000:])
@@ -270,9 +256,7 @@ class Drivers(ModelCase):
         # second processor gets its own interrupts
         place = self.folder / 'data'
         place.mkdir()
-        ended = run(program(), '--subsystem', self.subsystem, '--data', place, '--', '-nodefaults', '-display', 'none',
-                    *self.linux(' kept'))
-        self.ends(ended, 0, b'')
+        self.boot(*self.linux(' kept'), own=['--data', place])
         stored = (place / 'subsystem0.namespace1').read_bytes()
         digest = hashlib.md5(stored).hexdigest()
         self.assertEqual((len(stored), stored[:4]), (1 << 20, b'full'))
@@ -286,14 +270,12 @@ class Drivers(ModelCase):
         server = Running(program(), '--vfio-user', '--socket', self.folder / 's', '--subsystem', self.subsystem)
         self.addCleanup(server.process.kill)
         server.comes(b's1\n')
-        words = command_of_page(f'{self.folder}/s0')
+        command = re.search(r'(?m)^    (qemu-system-x86_64 (?:.*\\\n)+.*) \.\.$', (TOP / 'docs/QEMU.md').read_text())[1]
+        words = shlex.split(command.replace('\\\n', '').replace('PATH0', f'{self.folder}/s0'))
         device = json.loads(words[-1])
         for nsid in 2, 4:
-            machine = Running(
-                *words, '-nodefaults', '-display', 'none', '-no-reboot',
-                '-qmp', f'unix:{self.folder}/monitor,server=on,wait=off', '-serial', f'file:{self.console}',
-                '-serial', 'stdio', '-kernel', kernel()[0], '-initrd', initial_files(),
-                '-append', 'console=ttyS0 panic=-1 no_timer_check plugged')
+            machine = Running(*words, '-no-reboot', '-qmp', f'unix:{self.folder}/monitor,server=on,wait=off',
+                              *self.linux(' plugged', results='stdio'))
             self.addCleanup(machine.process.kill)
             machine.comes(b'PLUGGED\n')
             # (the guest no longer sees the controller before QEMU has removed it)

@@ -59,6 +59,7 @@ class Random(Served):
         self.kept = self.folder / 'kept'
         self.kept.mkdir()
         self.restart('--subsystem', self.file('four.toml', file), '--data', self.kept)
+        self.sleeps()  # (it has said where it listens before it has made the files)
 
     def test_random_entries(self):
         for seed in SEEDS:
@@ -68,9 +69,8 @@ class Random(Served):
     def random_entries(self, lot):
         self.model = Model(bytearray(PAGES * PAGE), 32 * PAGE)
         for nsid, blocks, size in NAMESPACES:
-            with open(self.kept / f'subsystem0.namespace{nsid}', 'rb') as file:
-                self.model.data[nsid] = bytearray(file.read()), size
-                self.assertEqual(len(self.model.data[nsid][0]), blocks * size)
+            self.model.data[nsid] = bytearray((self.kept / f'subsystem0.namespace{nsid}').read_bytes()), size
+            self.assertEqual(len(self.model.data[nsid][0]), blocks * size)
         with contextlib.closing(Drive(f'{self.path}0', layout=[(0, PAGES * PAGE)])) as drive:
             for step in range(STEPS):
                 if step == 0 or self.model.has_failed or lot.random() < 0.01:
@@ -103,8 +103,8 @@ class Random(Served):
 
     def step(self, drive, lot, step):
         """Puts entries into a queue, with lists and data, and rings doorbells of any queue."""
-        model, number = self.model, lot.choice(list(self.model.submissions))
-        queue = model.submissions[number]
+        model = self.model
+        number, queue = lot.choice([*model.submissions.items()])
         for _ in range(lot.randrange(4)):
             kind = lot.randrange(4)
             if kind == 0:
@@ -150,5 +150,5 @@ class Random(Served):
             self.fail((step, differing(drive.pieces[0].bytes[:], model.memory)))
         if step % 20 == 19:
             for nsid, (data, _) in model.data.items():
-                with open(self.kept / f'subsystem0.namespace{nsid}', 'rb') as file:
-                    self.assertEqual(file.read(), data, (step, nsid))
+                stored = (self.kept / f'subsystem0.namespace{nsid}').read_bytes()
+                self.assertEqual(stored, data, (step, nsid))
