@@ -39,9 +39,9 @@ class Machine:
                               os.path.commonpath([process_folder(), installed()]), kind, self.disk)
         case.addCleanup(self.close)
         self.holder.comes(b'ready\n')
-        number = self.number = self.holder.process.pid
-        self.root = pathlib.Path(f'/proc/{number}/root')
-        into = ['nsenter', '-t', str(number), '-m']
+        self.number = self.holder.process.pid
+        self.root = pathlib.Path(f'/proc/{self.number}/root')
+        into = ['nsenter', '-t', str(self.number), '-m']
         self.enter = into if kind == 'devices' else [*private[:-2], *into, '-U', '--preserve-credentials']
         self.before = self.looks()
 
@@ -50,8 +50,7 @@ class Machine:
             end_all()
             self.holder.process.wait()
         for name in 'disk.node', 'reached', 'copy', 'copied':
-            with contextlib.suppress(FileNotFoundError):
-                (self.case.folder / name).unlink()
+            (self.case.folder / name).unlink(missing_ok=True)
 
     def looks(self):
         """Returns everything that must not change."""
@@ -60,19 +59,16 @@ class Machine:
             folders[:] = [name for name in folders if name not in ('pts', 'shm')]
             for name in folders + files:
                 path = os.path.join(folder, name)
-                about = os.lstat(path)
-                target = os.readlink(path) if os.path.islink(path) else None
+                about, target = os.lstat(path), os.readlink(path) if os.path.islink(path) else ''
                 found[path] = oct(about.st_mode), about.st_uid, about.st_gid, about.st_rdev, target
         for name in ('nvme0n1', 'other') if self.kind == 'devices' else ('nvme0n1',) if self.kind == 'files' else ():
             path = self.root / 'dev' / name
             found[name + "'s bytes are the same"] = path.exists() and path.read_bytes() == BYTES
-        return found, mounts(self.number), sorted(os.listdir(self.root / 'tmp'))
+        return found.items(), mounts(self.number), os.listdir(self.root / 'tmp')
 
     def is_unchanged(self):
-        before, after = self.before, self.looks()
-        for kind, one, other in zip(('node', 'mount', 'entry of /tmp'), before, after):
-            pairs = (one.items(), other.items()) if isinstance(one, dict) else (one, other)
-            self.case.assertEqual(sorted(set(pairs[0]) ^ set(pairs[1])), [], f'a {kind} has changed')
+        for kind, before, after in zip(('node', 'mount', 'entry of /tmp'), self.before, self.looks()):
+            self.case.assertEqual(sorted({*before} ^ {*after}), [], f'a {kind} has changed')
 
     def model(self, script, user=(), options=(), where='/', by=(), **more):
         """Runs a shell script under ./nvme-model on this machine, as a user."""
