@@ -86,7 +86,7 @@ class MachineCase(ModelCase):
     def setUp(self):
         super().setUp()
         self.folder.chmod(0o1777)
-        for script in 'attack.sh', 'caller.sh':
+        for script in 'attack.sh', 'caller.sh', 'other_root.sh':
             shutil.copy(TOP / 'tests' / script, self.folder)
         shutil.copy(static_program('takes'), self.folder / 'takes')
         (self.folder / 'link').symlink_to('/dev/nvme0n1')
@@ -246,7 +246,8 @@ class Machines(MachineCase, transcripts='on_machines'):
         # root that can't make a mount namespace, and gets one through a user namespace; another root that is a mount
         # point; and one with nodes in a plain folder
         less = 'setpriv', '--bounding-set=-sys_admin', '--inh-caps=-sys_admin'
-        for by in less, *(('unshare', '-m', 'sh', TOP / 'tests/other_root.sh', kind) for kind in ('mounted', 'plain')):
+        other = 'unshare', '-m', 'sh', self.folder / 'other_root.sh'
+        for by in less, (*other, 'mounted'), (*other, 'plain'):
             with self.subTest(by), contextlib.closing(Machine(self, 'devices')) as machine:
                 ended = machine.model(ATTACK + ('attack' if by == less else 'cd ../../..; attack'), by=by)
                 self.reached_nothing(machine, ended, 5)
