@@ -23,7 +23,7 @@ if sys.argv[1] == 'hides':
 elif sys.argv[1] == 'has_no_rights':
     LIBC.capset(ctypes.byref((ctypes.c_uint * 2)(0x20080522, 0)), (ctypes.c_uint * 6)())
 if sys.argv[2:]:
-    print(word(os.open, sys.argv[2], os.O_WRONLY))
+    print(word(os.open, sys.argv[2], os.O_WRONLY | os.O_TRUNC))
 else:
     print(*(word(os.open, path, os.O_WRONLY) for path in ('/sys/block/nvme0n1/ro', '/proc/self/autogroup')),
           word(os.open, '/dev/nvme0n2', os.O_WRONLY | os.O_TRUNC),
