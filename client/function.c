@@ -73,8 +73,8 @@ static int raise_pin(struct function *function) {
 
 /* Takes bytes that were served out of the client's socket, and adds 1 to an event counter unless it is -1, by one call
    for both: the kernel does so at the end of an asynchronous read. Unlike a write to the counter, this never waits,
-   whatever the other process made of it. Returns how many bytes are left to be taken. */
-static uint32_t take_and_add(const struct function *function, uint32_t served, int counter) {
+   whatever the other process made of it. */
+static void take_and_add(const struct function *function, uint32_t served, int counter) {
     static unsigned char taken[MOST_MESSAGE];
     struct io_event ended[MOST_EVENTS];
     struct iocb reading = {.aio_lio_opcode = IOCB_CMD_PREAD, .aio_fildes = (uint32_t)function->socket,
@@ -84,7 +84,6 @@ static uint32_t take_and_add(const struct function *function, uint32_t served, i
         recv(function->socket, taken, served, 0);
     while (counter >= 0 && syscall(SYS_io_submit, events, 1L, (struct iocb *[]){&reading}) < 0 && errno == EAGAIN)
         syscall(SYS_io_getevents, events, 0L, (long)MOST_EVENTS, ended, NULL);
-    return 0;
 }
 
 /* Sends the interrupts that are due, and takes bytes that were served out of the client's socket. Returns in how many
@@ -92,8 +91,8 @@ static uint32_t take_and_add(const struct function *function, uint32_t served, i
 unsigned interrupt(struct function *function, uint32_t served) {
     int wait = raise_pin(function);
     function->seen -= served;
-    for (; function->drive.due; function->drive.due &= function->drive.due - 1)
-        served = take_and_add(function, served, function->counters[__builtin_ctzll(function->drive.due)]);
+    for (; function->drive.due; function->drive.due &= function->drive.due - 1, served = 0)
+        take_and_add(function, served, function->counters[__builtin_ctzll(function->drive.due)]);
     take_and_add(function, served, wait == 0 ? function->counters[PIN] : -1);
     return wait > 0 ? (unsigned)wait : -1u;
 }
