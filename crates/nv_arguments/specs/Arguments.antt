@@ -38,19 +38,19 @@ geometry_of rows = do
   })
 
 -- a path, and a geometry
-pub record Told : Type 0 where
+pub record Chosen : Type 0 where
   pub subsystem : Option Text
   pub geometry : Geometry
 
 -- what these arguments tell: their path as text, if there is one, and their geometry
-abbrev pub told_by : Arguments → Told
-told_by arguments = record {
+abbrev pub chosen_by : Arguments → Chosen
+chosen_by arguments = record {
   subsystem = option_map (λ path. path.now) arguments.subsystem;
   geometry = arguments.geometry;
 }
 
 -- what the words ask for; the first of them is the program's name
-abbrev pub arguments_of : List Text → Result Told ArgumentsFault
+abbrev pub arguments_of : List Text → Result Chosen ArgumentsFault
 arguments_of words = do
   rows ← rows_of_words words
   geometry ← geometry_of rows

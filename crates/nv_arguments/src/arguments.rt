@@ -2,7 +2,7 @@
 
 ghost use Rattle.std.specs.Prelude.{◌≡◌, map};
 ghost use Rattle.clap.specs.Words.{found_of, rows_of};
-ghost use Rattle.nv_arguments.specs.Arguments.{arguments_of, geometry_of, number_of, told_by};
+ghost use Rattle.nv_arguments.specs.Arguments.{arguments_of, geometry_of, number_of, chosen_by};
 ghost use Rattle.nv_layout.specs.UnlessMemory.{IsUnlessMemory};
 
 use crate::clap_rule::{clap_matches, text_of};
@@ -58,7 +58,7 @@ fn geometry_of(matches: &ArgMatches<'_>) -> Result<Geometry, ArgumentsFault>
 impl<'a> Arguments<'a> {
     /// Reads the arguments. The first word is the program's name.
     pub fn read(alloc: Global, words: &'a [&'a str]) -> Result<Arguments<'a>, ArgumentsFault>
-        ensures { IsUnlessMemory ArgumentsFault.Memory told_by result
+        ensures { IsUnlessMemory ArgumentsFault.Memory chosen_by result
             (arguments_of (map (λ w. w.now) words.now)) }
     {
         let matches = clap_matches(alloc, words)?;

@@ -3,7 +3,7 @@
 use anyhow::bail;
 use nv_command::{Command, Reply};
 use nv_controller::{Bus, Machine};
-use nv_driver::{AnswerSlot, Driver, Geometry};
+use nv_driver::{AnswerRoom, Driver, Geometry};
 use nv_host::PagedMemory;
 use nv_subsystem::{DEMO, Subsystem};
 
@@ -47,9 +47,9 @@ pub(crate) fn count_turns(rt: &HostRuntime) -> anyhow::Result<()> {
     if driver.controllers() == 0 {
         bail!("no controller");
     }
-    let mut slot = AnswerSlot::new();
+    let mut room = AnswerRoom::new();
     let command = Command::ActiveList { after: 0 };
-    let count = match driver.admin(&mut bus, 0, &command, &mut slot) {
+    let count = match driver.admin(&mut bus, 0, &command, &mut room) {
         Ok(Reply::List(list)) => list.as_slice().len(),
         Ok(_) => bail!("another reply"),
         Err(status) => bail!("status {:#x}", status.number()),

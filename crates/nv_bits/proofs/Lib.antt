@@ -1,4 +1,4 @@
 pub mod WordLaws
 pub mod BitSetLaws
-pub mod SlotsLaws
+pub mod VecMapLaws
 pub mod NumberLaws

@@ -1,6 +1,6 @@
 pub mod Words
 pub mod Numbers
 pub mod BitSet
-pub mod Slots
+pub mod VecMap
 pub mod Above
 pub mod inner

@@ -3,7 +3,7 @@
 //!
 //! ```
 //! // identifiers from 1 to 1024
-//! let mut names = Slots::new(alloc, 1, 1024)?;
+//! let mut names = VecMap::new(alloc, 1, 1024)?;
 //! if let Some(id) = names.lowest_free() {
 //!     names.insert(id, 'a');
 //! }
@@ -15,7 +15,7 @@
 #![tactic(auto)]
 
 mod bit_set;
-mod slots;
+mod vec_map;
 
 pub use bit_set::BitSet;
-pub use slots::Slots;
+pub use vec_map::VecMap;

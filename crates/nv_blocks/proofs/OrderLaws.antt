@@ -109,10 +109,10 @@ event_follows (Turn cqid terms) w q depth n keeps at =
     let x = turn_scene cqid terms w in
     taken_or_not (entry_in x) terms.sqid q depth n
     (outcome_of terms w.page_size x.stored x.bytes) x w.submissions refl at
-event_follows (Answered cqid sqid told written) w q depth n keeps at =
+event_follows (Answered cqid sqid command_result written) w q depth n keeps at =
     let x = answer_scene cqid sqid w in
     taken_or_not (entry_in x) sqid q depth n
-    (answer_of w.page_size told written x.stored x.bytes) x w.submissions refl at
+    (answer_of w.page_size command_result written x.stored x.bytes) x w.submissions refl at
 event_follows (NewData nsid size blocks) w q depth n keeps at = none_follow q depth n (w.submissions q) at
 event_follows (Between bytes submissions completions) w q depth n keeps at =
     none_follow q depth n (submissions q)

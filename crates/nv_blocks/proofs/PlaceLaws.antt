@@ -53,9 +53,9 @@ pub faulty_places : (page_size : ℕ) (bytes : List ℕ) (e : Sqe) (len : ℕ) (
     → (len == 0) ≡ false
     → first_fault (transfer page_size bytes e.prp1 e.prp2 len) ≡ Some fault → refusal ≡ prp_refusal fault
     → places_of page_size bytes e len ≡ Err refusal
-faulty_places page_size bytes e len fault refusal some is told =
+faulty_places page_size bytes e len fault refusal some is refused =
     let t = transfer page_size bytes e.prp1 e.prp2 len in
     some_places page_size bytes e len some
-    ∙ ap (λ (o : Option PrpError). places_unless o (transfer_places t)) is ∙ ap Err (sym told)
+    ∙ ap (λ (o : Option PrpError). places_unless o (transfer_places t)) is ∙ ap Err (sym refused)
 
 pub ruleset found = (none_placed, none_lie, no_places, legal_places, faulty_places)

@@ -15,7 +15,7 @@ use Rattle.nv_blocks.specs.Effect.{Effect, execution, sent}
 use Rattle.nv_blocks.specs.Runs.{EveryCompletionIsPosted, answer_scene, turn_scene}
 use Rattle.nv_blocks.specs.Turn.{Outcome, Scene, answer_of, answered_by, completion_for, entry_in, outcome_by}
 use Rattle.nv_blocks.specs.Turn.{outcome_of, scene_by, taken_as, taken_by}
-use Rattle.nv_blocks.specs.declared.answer.Told.{Told}
+use Rattle.nv_blocks.specs.declared.answer.CommandResult.{CommandResult}
 use Rattle.nv_blocks.specs.declared.refusal.Refusal.{Refusal}
 use Rattle.nv_blocks.specs.declared.terms.Terms.{Terms}
 use Rattle.nv_blocks.specs.declared.turns.Stop.{Stop}
@@ -28,11 +28,12 @@ outcome_length terms page_size stored bytes e (Ok done) is = executed_length ter
 outcome_length terms page_size stored bytes e (Err refusal) is = refl
 
 -- so does the answer of a caller
-answer_length : (page_size : ℕ) (told : Told) (written stored bytes : List ℕ) (e : Sqe)
+answer_length : (page_size : ℕ) (command_result : CommandResult) (written stored bytes : List ℕ) (e : Sqe)
     (found : Result (List ℕ) Refusal)
-    → sent page_size e written bytes ≡ found → length (answered_by found told stored bytes).bytes ≡ length bytes
-answer_length page_size told written stored bytes e (Ok new) is = sent_length page_size e written bytes new is
-answer_length page_size told written stored bytes e (Err refusal) is = refl
+    → sent page_size e written bytes ≡ found
+    → length (answered_by found command_result stored bytes).bytes ≡ length bytes
+answer_length page_size command_result written stored bytes e (Ok new) is = sent_length page_size e written bytes new is
+answer_length page_size command_result written stored bytes e (Err refusal) is = refl
 
 -- a completion that is written to the next slot is there
 completion_there : (bytes : List ℕ) (ring : PostNumbers) (completion : Cqe)
@@ -52,9 +53,9 @@ taken_there : (found : Result Sqe Stop) (sqid : ℕ) (outcome : Sqe → Outcome)
     ≡ bytes_of_cqe taken.completion) × ((scene_by found sqid outcome x).post ≡ posted_one x.post)
 taken_there (Err stop) sqid outcome x taken next size is = absurd (cc)
 taken_there (Ok e) sqid outcome x taken next size is =
-    let same : taken_as sqid x.fetch x.post e (outcome e).told ≡ taken = cc in
+    let same : taken_as sqid x.fetch x.post e (outcome e).command_result ≡ taken = cc in
     let ready = entry_ready x.fetch x.post x.bytes e next in (
-      completion_there (outcome e).bytes x.post (completion_for sqid x.fetch e (outcome e).told)
+      completion_there (outcome e).bytes x.post (completion_for sqid x.fetch e (outcome e).command_result)
           (omega (arith, ready.completion, size e))
           ∙ ap (λ (t : Taken). bytes_of_cqe t.completion) same,
       refl,
@@ -62,7 +63,7 @@ taken_there (Ok e) sqid outcome x taken next size is =
 
 -- the completion of each entry that is taken is posted
 pub every_completion : EveryCompletionIsPosted
-every_completion w cqid sqid terms told written taken =
+every_completion w cqid sqid terms command_result written taken =
     let x = turn_scene cqid terms w in
     let y = answer_scene cqid sqid w in (
       λ is. (let both = taken_there (entry_in x) terms.sqid (outcome_of terms w.page_size x.stored x.bytes) x taken refl
@@ -73,12 +74,13 @@ every_completion w cqid sqid terms told written taken =
                 (scene_by (entry_in x) terms.sqid (outcome_of terms w.page_size x.stored x.bytes) x).post
                 else w.completions cqid) (eq-eqb cqid cqid refl) ∙ both.1;
           }),
-      λ is. (let both = taken_there (entry_in y) sqid (answer_of w.page_size told written y.stored y.bytes) y taken refl
-          (λ e. answer_length w.page_size told written y.stored y.bytes e _ refl) is in
+      λ is. (let both = taken_there (entry_in y) sqid (answer_of w.page_size command_result written y.stored y.bytes) y taken
+          refl
+          (λ e. answer_length w.page_size command_result written y.stored y.bytes e _ refl) is in
           record {
             slot = both.0;
             one = ap (λ t. if t then
-                (scene_by (entry_in y) sqid (answer_of w.page_size told written y.stored y.bytes) y).post
+                (scene_by (entry_in y) sqid (answer_of w.page_size command_result written y.stored y.bytes) y).post
                 else w.completions cqid) (eq-eqb cqid cqid refl) ∙ both.1;
           }),
     )

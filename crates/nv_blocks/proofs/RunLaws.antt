@@ -261,7 +261,7 @@ event_holds : (event : Event) (older : List Change) (w : World) → HoldsNewest 
     → HoldsNewest (changes_in event w ++ older) (after event w)
 event_holds (Turn cqid terms) older w holds may =
     turn_holds (entry_in (turn_scene cqid terms w)) cqid terms older w holds may
-event_holds (Answered cqid sqid told written) older w holds may = holds
+event_holds (Answered cqid sqid command_result written) older w holds may = holds
 event_holds (NewData nsid size blocks) older w holds may = new_holds nsid size blocks older w holds
 event_holds (Between bytes submissions completions) older w holds may = holds
 

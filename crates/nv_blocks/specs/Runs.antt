@@ -13,7 +13,7 @@ use Rattle.nv_blocks.specs.Command.{block_count, first_block, opcode_by}
 use Rattle.nv_blocks.specs.Effect.{Effect, execution}
 use Rattle.nv_blocks.specs.History.{Change, Made, blocks_from, changes_of, host_places, newest}
 use Rattle.nv_blocks.specs.Turn.{Scene, after_answer, after_turn, entry_in, scene, taken_in, taken_with}
-use Rattle.nv_blocks.specs.declared.answer.Told.{Told}
+use Rattle.nv_blocks.specs.declared.answer.CommandResult.{CommandResult}
 use Rattle.nv_blocks.specs.declared.command.Action.TheVariants.{Read}
 use Rattle.nv_blocks.specs.declared.command.Opcode.TheVariants.{OnBlocks}
 use Rattle.nv_blocks.specs.declared.terms.Namespace.{Namespace}
@@ -36,7 +36,7 @@ pub record World : Type 0 where
 -- between turns to the host's memory and to the queues
 pub data Event : Type 0 where
   Turn : ℕ → Terms → Event
-  Answered : ℕ → ℕ → Told → List ℕ → Event
+  Answered : ℕ → ℕ → CommandResult → List ℕ → Event
   NewData : ℕ → ℕ → ℕ → Event
   Between : List ℕ → (ℕ → FetchNumbers) → (ℕ → PostNumbers) → Event
 
@@ -78,8 +78,8 @@ abbrev pub after : Event → World → World
 after (Turn cqid terms) w =
     let x = after_turn terms w.page_size (turn_scene cqid terms w) in
     record (with_queues cqid terms.sqid x w) { stored = given_back terms.namespace w.stored x.stored }
-after (Answered cqid sqid told written) w =
-    with_queues cqid sqid (after_answer sqid w.page_size told written (answer_scene cqid sqid w)) w
+after (Answered cqid sqid command_result written) w =
+    with_queues cqid sqid (after_answer sqid w.page_size command_result written (answer_scene cqid sqid w)) w
 after (NewData nsid size blocks) w = record w {
   stored = put w.stored nsid (replicate (blocks * size) 0);
   block_sizes = put w.block_sizes nsid size;
@@ -95,7 +95,7 @@ IsLent None block_sizes = Unit {0}
 -- an event that may happen: a turn is lent data with the size of its blocks, and new blocks have a byte or more
 abbrev pub MayHappen : Event → World → Type 0
 MayHappen (Turn cqid terms) w = IsLent terms.namespace w.block_sizes
-MayHappen (Answered cqid sqid told written) w = Unit {0}
+MayHappen (Answered cqid sqid command_result written) w = Unit {0}
 MayHappen (NewData nsid size blocks) w = 0 < size
 MayHappen (Between bytes submissions completions) w = Unit {0}
 
@@ -107,7 +107,7 @@ changes_next (Err stop) terms w = []
 -- the changes of blocks that an event makes
 abbrev pub changes_in : Event → World → List Change
 changes_in (Turn cqid terms) w = changes_next (entry_in (turn_scene cqid terms w)) terms w
-changes_in (Answered cqid sqid told written) w = []
+changes_in (Answered cqid sqid command_result written) w = []
 changes_in (NewData nsid size blocks) w = Made nsid size ∷ []
 changes_in (Between bytes submissions completions) w = []
 
@@ -173,8 +173,8 @@ as_list (Err stop) = []
 abbrev pub taken_from : ℕ → Event → World → List Taken
 taken_from q (Turn cqid terms) w =
     if terms.sqid == q then as_list (taken_in terms w.page_size (turn_scene cqid terms w)) else []
-taken_from q (Answered cqid sqid told written) w =
-    if sqid == q then as_list (taken_with sqid w.page_size told written (answer_scene cqid sqid w)) else []
+taken_from q (Answered cqid sqid command_result written) w =
+    if sqid == q then as_list (taken_with sqid w.page_size command_result written (answer_scene cqid sqid w)) else []
 taken_from q (NewData nsid size blocks) w = []
 taken_from q (Between bytes submissions completions) w = []
 
@@ -224,8 +224,8 @@ pub record IsPosted (old new : World) (cqid : ℕ) (completion : Cqe) : Type 0 w
 -- the completion of each entry that is taken is posted
 abbrev pub EveryCompletionIsPosted : Type 0
 EveryCompletionIsPosted =
-    (w : World) (cqid sqid : ℕ) (terms : Terms) (told : Told) (written : List ℕ) (taken : Taken)
+    (w : World) (cqid sqid : ℕ) (terms : Terms) (command_result : CommandResult) (written : List ℕ) (taken : Taken)
     → (taken_in terms w.page_size (turn_scene cqid terms w) ≡ Ok taken
     → IsPosted w (after (Turn cqid terms) w) cqid taken.completion)
-    × (taken_with sqid w.page_size told written (answer_scene cqid sqid w) ≡ Ok taken
-    → IsPosted w (after (Answered cqid sqid told written) w) cqid taken.completion)
+    × (taken_with sqid w.page_size command_result written (answer_scene cqid sqid w) ≡ Ok taken
+    → IsPosted w (after (Answered cqid sqid command_result written) w) cqid taken.completion)

@@ -8,7 +8,7 @@ use Rattle.nv_queue.specs.Rings.{FetchNumbers, PostNumbers, fetched_one, posted_
 use Rattle.nv_queue.specs.Slots.{completion_place, next_submission, put_as, submission_place, with_completion}
 use Rattle.nv_blocks.specs.Effect.{Effect, execution, sent}
 use Rattle.nv_blocks.specs.Refusal.{status_of_refusal}
-use Rattle.nv_blocks.specs.declared.answer.Told.{Told}
+use Rattle.nv_blocks.specs.declared.answer.CommandResult.{CommandResult}
 use Rattle.nv_blocks.specs.declared.refusal.Refusal.{Refusal}
 use Rattle.nv_blocks.specs.declared.terms.Terms.{Terms}
 use Rattle.nv_blocks.specs.declared.turns.Stop.{Stop}
@@ -34,22 +34,23 @@ next_entry fetch post bytes =
 
 -- what its completion says, and a namespace's data and the host's memory before the completion is posted
 pub record Outcome : Type 0 where
-  pub told : Told
+  pub command_result : CommandResult
   pub stored : List ℕ
   pub bytes : List ℕ
 
 -- what a completion says of success
-abbrev pub success : Told
+abbrev pub success : CommandResult
 success = record { dword0 = 0; status = record { sc = 0; sct = 0; crd = 0; more = false; dnr = false } }
 
 -- what a completion says of a refusal
-abbrev pub told_of : Refusal → Told
-told_of refusal = record { dword0 = 0; status = status_of_refusal refusal }
+abbrev pub command_result_of : Refusal → CommandResult
+command_result_of refusal = record { dword0 = 0; status = status_of_refusal refusal }
 
 -- the outcome of an entry that has this effect, or is refused and changes nothing
 abbrev pub outcome_by : Result Effect Refusal → List ℕ → List ℕ → Outcome
-outcome_by (Ok effect) stored bytes = record { told = success; stored = effect.stored; bytes = effect.bytes }
-outcome_by (Err refusal) stored bytes = record { told = told_of refusal; stored = stored; bytes = bytes }
+outcome_by (Ok effect) stored bytes = record { command_result = success; stored = effect.stored; bytes = effect.bytes }
+outcome_by (Err refusal) stored bytes =
+    record { command_result = command_result_of refusal; stored = stored; bytes = bytes }
 
 -- the outcome of an entry under the terms of a turn
 abbrev pub outcome_of : Terms → ℕ → List ℕ → List ℕ → Sqe → Outcome
@@ -57,14 +58,16 @@ outcome_of terms page_size stored bytes e =
     outcome_by (execution terms page_size stored bytes e) stored bytes
 
 -- the outcome of an entry that a caller answers, whose data could be sent or not
-abbrev pub answered_by : Result (List ℕ) Refusal → Told → List ℕ → List ℕ → Outcome
-answered_by (Ok new) told stored bytes = record { told = told; stored = stored; bytes = new }
-answered_by (Err refusal) told stored bytes = record { told = told_of refusal; stored = stored; bytes = bytes }
+abbrev pub answered_by : Result (List ℕ) Refusal → CommandResult → List ℕ → List ℕ → Outcome
+answered_by (Ok new) command_result stored bytes =
+    record { command_result = command_result; stored = stored; bytes = new }
+answered_by (Err refusal) command_result stored bytes =
+    record { command_result = command_result_of refusal; stored = stored; bytes = bytes }
 
 -- the outcome of an entry that a caller answers with this data
-abbrev pub answer_of : ℕ → Told → List ℕ → List ℕ → List ℕ → Sqe → Outcome
-answer_of page_size told written stored bytes e =
-    answered_by (sent page_size e written bytes) told stored bytes
+abbrev pub answer_of : ℕ → CommandResult → List ℕ → List ℕ → List ℕ → Sqe → Outcome
+answer_of page_size command_result written stored bytes e =
+    answered_by (sent page_size e written bytes) command_result stored bytes
 
 -- ---- one turn
 
@@ -80,20 +83,20 @@ abbrev pub scene : FetchNumbers → PostNumbers → List ℕ → List ℕ → Sc
 scene fetch post stored bytes = record { fetch = fetch; post = post; stored = stored; bytes = bytes }
 
 -- the completion of an entry, whose phase tag its number determines; the submission queue head is past the entry
-abbrev pub completion_for : ℕ → FetchNumbers → Sqe → Told → Cqe
-completion_for sqid fetch e told = record {
-  command_specific = told.dword0;
+abbrev pub completion_for : ℕ → FetchNumbers → Sqe → CommandResult → Cqe
+completion_for sqid fetch e command_result = record {
+  command_specific = command_result.dword0;
   sq_head = slot_of fetch.depth (next fetch.depth fetch.fetched);
   sq_identifier = sqid;
   cid = e.cid;
   phase = false;
-  status = told.status;
+  status = command_result.status;
 }
 
 -- the entry with its completion as it is posted
-abbrev pub taken_as : ℕ → FetchNumbers → PostNumbers → Sqe → Told → Taken
-taken_as sqid fetch post e told =
-    record { entry = e; completion = put_as post (completion_for sqid fetch e told) }
+abbrev pub taken_as : ℕ → FetchNumbers → PostNumbers → Sqe → CommandResult → Taken
+taken_as sqid fetch post e command_result =
+    record { entry = e; completion = put_as post (completion_for sqid fetch e command_result) }
 
 -- the scene after an entry with this outcome: its data is moved, and then its completion is posted
 abbrev pub finished : ℕ → Scene → Sqe → Outcome → Scene
@@ -101,7 +104,7 @@ finished sqid x e outcome = record {
   fetch = fetched_one x.fetch;
   post = posted_one x.post;
   stored = outcome.stored;
-  bytes = with_completion outcome.bytes x.post (completion_for sqid x.fetch e outcome.told);
+  bytes = with_completion outcome.bytes x.post (completion_for sqid x.fetch e outcome.command_result);
 }
 
 -- the scene after the next entry, which has the outcome that it is given; if none is taken, nothing changes
@@ -111,7 +114,7 @@ scene_by (Err stop) sqid outcome x = x
 
 -- the entry with its completion, or why none is taken
 abbrev pub taken_by : Result Sqe Stop → ℕ → (Sqe → Outcome) → Scene → Result Taken Stop
-taken_by (Ok e) sqid outcome x = Ok (taken_as sqid x.fetch x.post e (outcome e).told)
+taken_by (Ok e) sqid outcome x = Ok (taken_as sqid x.fetch x.post e (outcome e).command_result)
 taken_by (Err stop) sqid outcome x = Err stop
 
 -- the entry that is next in a scene
@@ -129,11 +132,11 @@ taken_in terms page_size x =
     taken_by (entry_in x) terms.sqid (outcome_of terms page_size x.stored x.bytes) x
 
 -- the scene after the next entry of a queue was answered by a caller
-abbrev pub after_answer : ℕ → ℕ → Told → List ℕ → Scene → Scene
-after_answer sqid page_size told written x =
-    scene_by (entry_in x) sqid (answer_of page_size told written x.stored x.bytes) x
+abbrev pub after_answer : ℕ → ℕ → CommandResult → List ℕ → Scene → Scene
+after_answer sqid page_size command_result written x =
+    scene_by (entry_in x) sqid (answer_of page_size command_result written x.stored x.bytes) x
 
 -- what a caller answers
-abbrev pub taken_with : ℕ → ℕ → Told → List ℕ → Scene → Result Taken Stop
-taken_with sqid page_size told written x =
-    taken_by (entry_in x) sqid (answer_of page_size told written x.stored x.bytes) x
+abbrev pub taken_with : ℕ → ℕ → CommandResult → List ℕ → Scene → Result Taken Stop
+taken_with sqid page_size command_result written x =
+    taken_by (entry_in x) sqid (answer_of page_size command_result written x.stored x.bytes) x

@@ -7,7 +7,7 @@ use nv_layout::Status;
 
 /// What the completion of an entry says about its outcome.
 #[derive(Clone, Copy, Debug, PartialEq, Eq)]
-pub struct Told {
+pub struct CommandResult {
     pub dword0: u32,
     pub status: Status,
 }
@@ -16,7 +16,7 @@ pub struct Told {
 #[derive(Clone, Copy)]
 pub struct Answer<'a> {
     /// What its completion says.
-    pub told: Told,
+    pub command_result: CommandResult,
     /// What is sent to the entry's data before, at most 1,048,576 bytes. There may be none.
     pub data: &'a [u8],
     ghost few: { length data.now ≤ most_bytes },

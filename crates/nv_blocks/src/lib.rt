@@ -37,7 +37,7 @@ mod tests;
 mod turns;
 mod zeroing;
 
-pub use answer::{Answer, Told};
+pub use answer::{Answer, CommandResult};
 pub use command::Extent;
 pub use execute::send;
 pub use refusal::Refusal;

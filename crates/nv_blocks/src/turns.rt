@@ -6,7 +6,7 @@ ghost use Rattle.nv_queue.specs.Slots.{completion_place, submission_place, with_
 ghost use Rattle.nv_blocks.specs.Turn.{after_answer, after_turn, answer_of, completion_for, next_entry};
 ghost use Rattle.nv_blocks.specs.Turn.{outcome_of, scene, taken_as, taken_in, taken_with};
 
-use crate::answer::{Answer, Told};
+use crate::answer::{Answer, CommandResult};
 use crate::execute::{execute, send};
 use crate::terms::Terms;
 use nv_host::PagedMemory;
@@ -52,9 +52,14 @@ pub fn next_entry<M: PagedMemory>(fetch: &Fetch, post: &Post, mem: &M) -> Result
 }
 
 /// Does what an entry asks for, and returns what its completion says.
-fn perform<M: PagedMemory>(mem: &mut M, stored: &mut [u8], terms: &Terms, entry: &Sqe) -> Told
-    ensures told { result
-        ≡ (outcome_of terms.now (M.page_len mem.old) stored.old (M.bytes mem.old) entry.now).told }
+fn perform<M: PagedMemory>(
+    mem: &mut M,
+    stored: &mut [u8],
+    terms: &Terms,
+    entry: &Sqe,
+) -> CommandResult
+    ensures command_result { result
+        ≡ (outcome_of terms.now (M.page_len mem.old) stored.old (M.bytes mem.old) entry.now).command_result }
     ensures stored { stored.new
         ≡ (outcome_of terms.now (M.page_len mem.old) stored.old (M.bytes mem.old) entry.now).stored }
     ensures bytes { M.bytes mem.new
@@ -63,11 +68,11 @@ fn perform<M: PagedMemory>(mem: &mut M, stored: &mut [u8], terms: &Terms, entry:
     ensures page { M.page_len mem.new ≡ M.page_len mem.old }
 {
     match execute(mem, stored, terms, entry) {
-        Ok(()) => Told {
+        Ok(()) => CommandResult {
             dword0: 0,
             status: Status::SUCCESS,
         },
-        Err(refusal) => Told {
+        Err(refusal) => CommandResult {
             dword0: 0,
             status: refusal.status(),
         },
@@ -75,17 +80,17 @@ fn perform<M: PagedMemory>(mem: &mut M, stored: &mut [u8], terms: &Terms, entry:
 }
 
 /// Sends the data of an answer, and returns what the completion says.
-fn reply<M: PagedMemory>(mem: &mut M, entry: &Sqe, answer: &Answer) -> Told
-    ensures told { result ≡ (answer_of (M.page_len mem.old) answer.now.told answer.now.data.now
-        [] (M.bytes mem.old) entry.now).told }
-    ensures bytes { M.bytes mem.new ≡ (answer_of (M.page_len mem.old) answer.now.told answer.now.data.now
+fn reply<M: PagedMemory>(mem: &mut M, entry: &Sqe, answer: &Answer) -> CommandResult
+    ensures command_result { result ≡ (answer_of (M.page_len mem.old) answer.now.command_result answer.now.data.now
+        [] (M.bytes mem.old) entry.now).command_result }
+    ensures bytes { M.bytes mem.new ≡ (answer_of (M.page_len mem.old) answer.now.command_result answer.now.data.now
         [] (M.bytes mem.old) entry.now).bytes }
     ensures len { length (M.bytes mem.new) ≡ length (M.bytes mem.old) }
     ensures page { M.page_len mem.new ≡ M.page_len mem.old }
 {
     match send(mem, entry, answer.data) {
-        Ok(()) => answer.told,
-        Err(refusal) => Told {
+        Ok(()) => answer.command_result,
+        Err(refusal) => CommandResult {
             dword0: 0,
             status: refusal.status(),
         },
@@ -99,7 +104,7 @@ fn finish<M: PagedMemory>(
     mem: &mut M,
     sqid: u16,
     entry: Sqe,
-    told: Told,
+    command_result: CommandResult,
 ) -> Taken
     requires waiting { fetch.old.fetched ≢ fetch.old.rung }
     requires free { ¬ IsPostFull post.old }
@@ -107,23 +112,23 @@ fn finish<M: PagedMemory>(
         ≤ length (M.bytes mem.old) }
     requires completion { completion_place post.old.base post.old.depth post.old.posted + 16
         ≤ length (M.bytes mem.old) }
-    ensures taken { result ≡ taken_as sqid fetch.old post.old entry told }
+    ensures taken { result ≡ taken_as sqid fetch.old post.old entry command_result }
     ensures fetch { fetch.new ≡ fetched_one fetch.old }
     ensures post { post.new ≡ posted_one post.old }
     ensures bytes { M.bytes mem.new
-        ≡ with_completion (M.bytes mem.old) post.old (completion_for sqid fetch.old entry told) }
+        ≡ with_completion (M.bytes mem.old) post.old (completion_for sqid fetch.old entry command_result) }
     ensures len { length (M.bytes mem.new) ≡ length (M.bytes mem.old) }
     ensures page { M.page_len mem.new ≡ M.page_len mem.old }
 {
     // The entry was read before its data was written.
     let _ = fetch.next(mem);
     let completion = Cqe {
-        command_specific: told.dword0,
+        command_specific: command_result.dword0,
         sq_head: fetch.head(),
         sq_identifier: sqid,
         cid: entry.cid,
         phase: post.phase(),
-        status: told.status,
+        status: command_result.status,
     };
     post.put(mem, completion).unwrap();
     Taken { entry, completion }
@@ -147,8 +152,8 @@ pub fn turn<M: PagedMemory>(
     ensures page { M.page_len mem.new ≡ M.page_len mem.old }
 {
     let entry = next_entry(fetch, post, mem)?;
-    let told = perform(mem, stored, terms, &entry);
-    Ok(finish(fetch, post, mem, terms.sqid, entry, told))
+    let command_result = perform(mem, stored, terms, &entry);
+    Ok(finish(fetch, post, mem, terms.sqid, entry, command_result))
 }
 
 /// Takes the next entry of a queue and answers it as the caller says: sends the data, if there is
@@ -162,14 +167,14 @@ pub fn complete<M: PagedMemory>(
     sqid: u16,
     answer: &Answer,
 ) -> Result<Taken, Stop>
-    ensures taken { result ≡ taken_with sqid (M.page_len mem.old) answer.now.told answer.now.data.now
+    ensures taken { result ≡ taken_with sqid (M.page_len mem.old) answer.now.command_result answer.now.data.now
         (scene fetch.old post.old [] (M.bytes mem.old)) }
     ensures scene { scene fetch.new post.new [] (M.bytes mem.new) ≡ after_answer sqid (M.page_len mem.old)
-        answer.now.told answer.now.data.now (scene fetch.old post.old [] (M.bytes mem.old)) }
+        answer.now.command_result answer.now.data.now (scene fetch.old post.old [] (M.bytes mem.old)) }
     ensures len { length (M.bytes mem.new) ≡ length (M.bytes mem.old) }
     ensures page { M.page_len mem.new ≡ M.page_len mem.old }
 {
     let entry = next_entry(fetch, post, mem)?;
-    let told = reply(mem, &entry, answer);
-    Ok(finish(fetch, post, mem, sqid, entry, told))
+    let command_result = reply(mem, &entry, answer);
+    Ok(finish(fetch, post, mem, sqid, entry, command_result))
 }

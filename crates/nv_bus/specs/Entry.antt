@@ -20,7 +20,7 @@ use Rattle.nv_register.specs.declared.rings.Rings.{Rings}
 use Rattle.nv_bus.specs.Call.{Call, call_of, command_in}
 use Rattle.nv_model.specs.Conditions.{limit_of}
 use Rattle.nv_bus.specs.declared.exchange.Exchange.{Exchange}
-use Rattle.nv_bus.specs.declared.told.Told.{Told}
+use Rattle.nv_bus.specs.declared.command_result.CommandResult.{CommandResult}
 
 -- what an entry reads and changes: the subsystem, its controller's rings, and the host's memory
 pub record Scene : Type 0 where
@@ -85,23 +85,23 @@ dword0_in (Ok reply) = dword0_of reply
 dword0_in (Err status) = 0
 
 -- what a completion says about an answer
-abbrev pub told_by : Result Reply Status → Told
-told_by answer = record { dword0 = dword0_in answer; status = status_in answer }
+abbrev pub command_result_of : Result Reply Status → CommandResult
+command_result_of answer = record { dword0 = dword0_in answer; status = status_in answer }
 
 -- a completion, whose phase tag its number determines
-abbrev pub completion_of : ℕ → ℕ → Told → Cqe
-completion_of cid sq_head told = record {
-  command_specific = told.dword0;
+abbrev pub completion_of : ℕ → ℕ → CommandResult → Cqe
+completion_of cid sq_head command_result = record {
+  command_specific = command_result.dword0;
   sq_head = sq_head;
   sq_identifier = 0;
   cid = cid;
   phase = false;
-  status = told.status;
+  status = command_result.status;
 }
 
 -- the completion with an answer
 abbrev pub completion_with : ℕ → ℕ → Result Reply Status → Cqe
-completion_with cid sq_head answer = completion_of cid sq_head (told_by answer)
+completion_with cid sq_head answer = completion_of cid sq_head (command_result_of answer)
 
 -- the completion of the entry: the submission queue head is past the entry
 abbrev pub completion_in : ℕ → Scene → Cqe

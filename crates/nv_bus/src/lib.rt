@@ -6,11 +6,11 @@
 #![tactic(auto)]
 
 mod bus;
+mod command_result;
 mod exchange;
 mod observer;
-mod told;
 
 pub use bus::Bus;
+pub use command_result::CommandResult;
 pub use exchange::Exchange;
 pub use observer::{Observer, Unobserved};
-pub use told::Told;

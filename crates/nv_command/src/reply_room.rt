@@ -32,7 +32,7 @@ enum StoredReply {
     Smart(Smart),
 }
 
-/// Storage for one reply, which is allocated once and then reused.
+/// Room for one reply, which is allocated once and then reused.
 #[derive(Drop)]
 pub struct ReplyRoom {
     held: StoredReply,

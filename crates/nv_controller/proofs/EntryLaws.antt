@@ -18,7 +18,8 @@ use Rattle.nv_controller.specs.Tags.{answered_unless, next_scene, settled_unless
 use Rattle.nv_controller.proofs.Words.{accepted_answer, call_in, call_of, Command, completion_in, completion_with}
 use Rattle.nv_controller.proofs.Words.{data_of, entry_in, exchange_in, FitsRecord, IsReplyTo, IsWellFormed, length-map}
 use Rattle.nv_controller.proofs.Words.{Moves, MovesBy, next_step, One, Refusal, refusal_untagged, Reply, reply_untagged}
-use Rattle.nv_controller.proofs.Words.{Scene, State, Step, step, step_by, step_unless, success, told_by, untagged}
+use Rattle.nv_controller.proofs.Words.{Scene, State, Step, command_result_of, step, step_by, step_unless, success}
+use Rattle.nv_controller.proofs.Words.{untagged}
 use Rattle.nv_controller.proofs.Words.{untagged_keeps, untagged_log}
 
 -- ---- answers
@@ -30,7 +31,7 @@ pub record IsAnswered (s : State) (c : ℕ) (k : Command) (cid : ℕ) (r : Reply
   pub is_reply : IsReplyTo k r
   pub fits : FitsRecord r
   pub answer : Ok (without_phases r) ≡ (step (untagged s) c k cid).answer
-  pub told : told_by (Ok r) ≡ told_by (step (untagged s) c k cid).answer
+  pub command_result : command_result_of (Ok r) ≡ command_result_of (step (untagged s) c k cid).answer
 
 -- the answer of a well-formed subsystem is as IsAnswered says if it is a reply
 pub answered : (s : State) (c : ℕ) (k : Command) (cid : ℕ) (r : Reply) → IsWellFormed s → answer_to s c k ≡ Ok r
@@ -49,8 +50,8 @@ answered s c k cid r w is =
       is_reply = own.0;
       fits = own.1;
       answer = answer;
-      told = ap (λ d. record { dword0 = d; status = success }) (sym (dword0_tagged (reply_of s c k)))
-          ∙ ap told_by answer;
+      command_result = ap (λ d. record { dword0 = d; status = success }) (sym (dword0_tagged (reply_of s c k)))
+          ∙ ap command_result_of answer;
     })
 
 -- the answer of a step is the status of the refusal if there is one
@@ -108,11 +109,11 @@ pub exchanged : (c : ℕ) (x : Scene) (entry : Sqe) (from to : ℕ) (completion 
       completion = record completion { phase = phase };
       completion_address = to;
     } ≡ exchange_in c x
-exchanged c x entry from to completion phase same told due at there =
+exchanged c x entry from to completion phase same command_result due at there =
     λ i. record {
       entry = same i;
       entry_address = at i;
-      completion = record (told i) { phase = due i };
+      completion = record (command_result i) { phase = due i };
       completion_address = there i;
     }
 

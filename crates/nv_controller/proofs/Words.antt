@@ -2,7 +2,7 @@
 pub use Rattle.nv_bus.specs.Bus.{bank_at, IsBus}
 pub use Rattle.nv_bus.specs.Call.{call_of, data_places, length_of}
 pub use Rattle.nv_bus.specs.Entry.{call_in, completion_in, completion_of, completion_with, entry_in, exchange_in, Moves}
-pub use Rattle.nv_bus.specs.Entry.{MovesBy, next_step, One, Scene, scene, step_unless, success, told_by}
+pub use Rattle.nv_bus.specs.Entry.{MovesBy, next_step, One, Scene, scene, step_unless, success, command_result_of}
 pub use Rattle.nv_bus.specs.Shown.{AreShown}
 pub use Rattle.nv_bus.specs.Turn.{BankTurn, ready_bank, RingsTurn, Site, site, Taken, Takes, TakesCount, TurnBy}
 pub use Rattle.nv_bus.specs.declared.exchange.Exchange.{Exchange}

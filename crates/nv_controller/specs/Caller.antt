@@ -14,7 +14,7 @@ use Rattle.nv_register.specs.declared.register_bank.RegisterBank.{RegisterBank}
 use Rattle.nv_register.specs.declared.rings.Rings.{Rings}
 use Rattle.nv_bus.specs.Bus.{bank_at}
 use Rattle.nv_bus.specs.Entry.{completion_of}
-use Rattle.nv_bus.specs.declared.told.Told.{Told}
+use Rattle.nv_bus.specs.declared.command_result.CommandResult.{CommandResult}
 use Rattle.nv_controller.specs.Machine.{MachineValue}
 
 -- ---- rings
@@ -37,10 +37,10 @@ abbrev pub rings_posted : Rings → Rings
 rings_posted rings = record rings { completion = posted_one rings.completion }
 
 -- the bytes after a completion with this command identifier was posted, which has the head of the submission queue
-abbrev pub rings_answered : Rings → ℕ → Told → List ℕ → List ℕ
-rings_answered rings cid told bytes =
+abbrev pub rings_answered : Rings → ℕ → CommandResult → List ℕ → List ℕ
+rings_answered rings cid command_result bytes =
     with_completion bytes rings.completion
-    (completion_of cid (slot_of rings.submission.depth rings.submission.fetched) told)
+    (completion_of cid (slot_of rings.submission.depth rings.submission.fetched) command_result)
 
 -- the rings after an entry was taken and completed
 abbrev pub rings_completed : Rings → Rings
@@ -63,14 +63,15 @@ can_post_by (Ready rings true) page_size size = false
 can_post_by (Ready rings false) page_size size = rings_can_post rings page_size size
 
 -- the bytes after it posted one
-abbrev pub answered_by : Readiness → ℕ → Told → List ℕ → List ℕ
-answered_by Off cid told bytes = bytes
-answered_by Failed cid told bytes = bytes
-answered_by (Ready rings fatal) cid told bytes = rings_answered rings cid told bytes
+abbrev pub answered_by : Readiness → ℕ → CommandResult → List ℕ → List ℕ
+answered_by Off cid command_result bytes = bytes
+answered_by Failed cid command_result bytes = bytes
+answered_by (Ready rings fatal) cid command_result bytes = rings_answered rings cid command_result bytes
 
 -- the bytes after it took this entry and posted its completion
-abbrev pub completed_by : Readiness → Told → List ℕ → Sqe → List ℕ
-completed_by readiness told bytes entry = answered_by (with_rings rings_fetched readiness) entry.cid told bytes
+abbrev pub completed_by : Readiness → CommandResult → List ℕ → Sqe → List ℕ
+completed_by readiness command_result bytes entry =
+    answered_by (with_rings rings_fetched readiness) entry.cid command_result bytes
 
 -- its registers after its rings changed
 abbrev pub with_rings_changed : (Rings → Rings) → RegisterBank → RegisterBank
@@ -92,9 +93,9 @@ with_rings_of c change m =
     record m { banks = slice_set m.banks c (with_rings_changed change (bank_at m.banks c)) }
 
 -- the bytes after controller c took this entry and posted its completion
-abbrev pub completed : MachineValue → ℕ → Told → List ℕ → Sqe → List ℕ
-completed m c told bytes entry = completed_by (bank_at m.banks c).readiness told bytes entry
+abbrev pub completed : MachineValue → ℕ → CommandResult → List ℕ → Sqe → List ℕ
+completed m c command_result bytes entry = completed_by (bank_at m.banks c).readiness command_result bytes entry
 
 -- the bytes after controller c posted a completion
-abbrev pub answered : MachineValue → ℕ → ℕ → Told → List ℕ → List ℕ
-answered m c cid told bytes = answered_by (bank_at m.banks c).readiness cid told bytes
+abbrev pub answered : MachineValue → ℕ → ℕ → CommandResult → List ℕ → List ℕ
+answered m c cid command_result bytes = answered_by (bank_at m.banks c).readiness cid command_result bytes

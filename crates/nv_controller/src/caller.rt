@@ -8,7 +8,7 @@ ghost use Rattle.nv_controller.specs.Caller.{rings_answered, rings_can_post, rin
 ghost use Rattle.nv_controller.specs.Caller.{rings_fetched, rings_posted, with_rings_changed};
 
 use crate::pair::{can_take, complete, next_entry, take_entry};
-use nv_bus::Told;
+use nv_bus::CommandResult;
 use nv_host::PagedMemory;
 use nv_layout::{Cqe, Sqe};
 use nv_register::{Readiness, RegisterBank, Rings};
@@ -38,26 +38,30 @@ fn fetch_from<M: PagedMemory>(rings: &mut Rings, mem: &M) -> Option<Sqe>
 }
 
 /// Returns the completion of an entry that was taken, whose phase tag is that which is due.
-fn completion(rings: &Rings, cid: u16, told: Told) -> Cqe
+fn completion(rings: &Rings, cid: u16, command_result: CommandResult) -> Cqe
     ensures { let submission = rings.now.submission in
-        result ≡ completion_of cid (slot_of submission.depth submission.fetched) told }
+        result ≡ completion_of cid (slot_of submission.depth submission.fetched) command_result }
 {
     Cqe {
-        command_specific: told.dword0,
+        command_specific: command_result.dword0,
         sq_head: rings.submission.head(),
         sq_identifier: 0,
         cid,
         phase: false,
-        status: told.status,
+        status: command_result.status,
     }
 }
 
 /// Takes the next entry and posts its completion.
-fn complete_from<M: PagedMemory>(rings: &mut Rings, mem: &mut M, told: Told) -> Option<Sqe>
+fn complete_from<M: PagedMemory>(
+    rings: &mut Rings,
+    mem: &mut M,
+    command_result: CommandResult,
+) -> Option<Sqe>
     ensures entry { result ≡ rings_entry rings.old (M.page_len mem.old) (M.bytes mem.old) }
     ensures rings { OnSome result (rings.new ≡ rings_completed rings.old) }
     ensures bytes { IfSome result (λ e. M.bytes mem.new
-        ≡ rings_answered (rings_fetched rings.old) e.cid told (M.bytes mem.old)) }
+        ≡ rings_answered (rings_fetched rings.old) e.cid command_result (M.bytes mem.old)) }
     ensures none { IfNone result (rings.new ≡ rings.old) }
     ensures none_bytes { IfNone result (M.bytes mem.new ≡ M.bytes mem.old) }
     ensures len { length (M.bytes mem.new) ≡ length (M.bytes mem.old) }
@@ -67,22 +71,27 @@ fn complete_from<M: PagedMemory>(rings: &mut Rings, mem: &mut M, told: Told) -> 
         return None;
     }
     let entry = rings.submission.next(mem).unwrap();
-    let completion = completion(rings, entry.cid, told);
+    let completion = completion(rings, entry.cid, command_result);
     rings.completion.put(mem, completion).unwrap();
     Some(entry)
 }
 
 /// Posts a completion, and returns whether that was possible.
-fn post_to<M: PagedMemory>(rings: &mut Rings, mem: &mut M, cid: u16, told: Told) -> bool
+fn post_to<M: PagedMemory>(
+    rings: &mut Rings,
+    mem: &mut M,
+    cid: u16,
+    command_result: CommandResult,
+) -> bool
     ensures can { result ≡ rings_can_post rings.old (M.page_len mem.old) (length (M.bytes mem.old)) }
     ensures rings { MatchBool result (rings.new ≡ rings_posted rings.old) (rings.new ≡ rings.old) }
     ensures bytes { MatchBool result
-        (M.bytes mem.new ≡ rings_answered rings.old cid told (M.bytes mem.old))
+        (M.bytes mem.new ≡ rings_answered rings.old cid command_result (M.bytes mem.old))
         (M.bytes mem.new ≡ M.bytes mem.old) }
     ensures len { length (M.bytes mem.new) ≡ length (M.bytes mem.old) }
     ensures page { M.page_len mem.new ≡ M.page_len mem.old }
 {
-    let completion = completion(rings, cid, told);
+    let completion = completion(rings, cid, command_result);
     mem.page_size() == rings.page_size && complete(&mut rings.completion, mem, completion)
 }
 
@@ -113,20 +122,20 @@ pub(crate) fn fetch<M: PagedMemory>(bank: &mut RegisterBank, mem: &M) -> Option<
 pub(crate) fn complete_next<M: PagedMemory>(
     bank: &mut RegisterBank,
     mem: &mut M,
-    told: Told,
+    command_result: CommandResult,
 ) -> Option<Sqe>
     ensures entry { result
         ≡ entry_by bank.old.readiness (M.page_len mem.old) (M.bytes mem.old) }
     ensures bank { OnSome result (bank.new ≡ with_rings_changed rings_completed bank.old) }
     ensures bytes { IfSome result (λ e. M.bytes mem.new
-        ≡ completed_by bank.old.readiness told (M.bytes mem.old) e) }
+        ≡ completed_by bank.old.readiness command_result (M.bytes mem.old) e) }
     ensures none { IfNone result (bank.new ≡ bank.old) }
     ensures none_bytes { IfNone result (M.bytes mem.new ≡ M.bytes mem.old) }
     ensures len { length (M.bytes mem.new) ≡ length (M.bytes mem.old) }
     ensures page { M.page_len mem.new ≡ M.page_len mem.old }
 {
     match &mut bank.readiness {
-        Readiness::Ready { rings, fatal } if !*fatal => complete_from(rings, mem, told),
+        Readiness::Ready { rings, fatal } if !*fatal => complete_from(rings, mem, command_result),
         _ => None,
     }
 }
@@ -136,20 +145,20 @@ pub(crate) fn post<M: PagedMemory>(
     bank: &mut RegisterBank,
     mem: &mut M,
     cid: u16,
-    told: Told,
+    command_result: CommandResult,
 ) -> bool
     ensures can { result
         ≡ can_post_by bank.old.readiness (M.page_len mem.old) (length (M.bytes mem.old)) }
     ensures bank { MatchBool result (bank.new ≡ with_rings_changed rings_posted bank.old)
         (bank.new ≡ bank.old) }
     ensures bytes { MatchBool result
-        (M.bytes mem.new ≡ answered_by bank.old.readiness cid told (M.bytes mem.old))
+        (M.bytes mem.new ≡ answered_by bank.old.readiness cid command_result (M.bytes mem.old))
         (M.bytes mem.new ≡ M.bytes mem.old) }
     ensures len { length (M.bytes mem.new) ≡ length (M.bytes mem.old) }
     ensures page { M.page_len mem.new ≡ M.page_len mem.old }
 {
     match &mut bank.readiness {
-        Readiness::Ready { rings, fatal } if !*fatal => post_to(rings, mem, cid, told),
+        Readiness::Ready { rings, fatal } if !*fatal => post_to(rings, mem, cid, command_result),
         _ => false,
     }
 }

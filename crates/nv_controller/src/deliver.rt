@@ -9,13 +9,13 @@ ghost use Rattle.nv_model.specs.Meaning.{refusal_of};
 ghost use Rattle.nv_model.specs.Step.{step};
 ghost use Rattle.nv_model.specs.WellFormed.{IsWellFormed};
 ghost use Rattle.nv_bus.specs.Call.{length_of};
-ghost use Rattle.nv_bus.specs.Entry.{Moves, told_by};
+ghost use Rattle.nv_bus.specs.Entry.{Moves, command_result_of};
 ghost use Rattle.nv_controller.specs.Tags.{answered_with};
 ghost use Rattle.nv_subsystem.specs.Tagged.{settled, untagged};
 
+use crate::entry_room::EntryData;
 use crate::reply_data::ReplyData;
-use crate::scratch::EntryData;
-use nv_bus::Told;
+use nv_bus::CommandResult;
 use nv_command::{Command, Reply, Transfer};
 use nv_host::PagedMemory;
 use nv_layout::Status;
@@ -55,15 +55,15 @@ pub(crate) fn execute<M: PagedMemory>(
     command: &Command,
     origin: Origin,
     entry_data: &mut EntryData,
-) -> Told
+) -> CommandResult
     requires ctrl { ctrl < length subsystem.old.controllers }
     requires well_formed { IsWellFormed subsystem.old }
     requires transfer { entry_data.old.transfer ≡ transfer_by command.now }
     requires inside { LieIn (length (M.bytes mem.old)) entry_data.old.spans }
     requires len { length (places entry_data.old.spans) ≡ length_of (transfer_by command.now) }
     requires few { length (places entry_data.old.spans) ≤ most_bytes }
-    ensures told { result
-        ≡ told_by (step (untagged subsystem.old) ctrl command.now origin.cid).answer }
+    ensures command_result { result
+        ≡ command_result_of (step (untagged subsystem.old) ctrl command.now origin.cid).answer }
     ensures state { untagged subsystem.new
         ≡ (step (untagged subsystem.old) ctrl command.now origin.cid).state }
     ensures tagged { subsystem.new ≡ settled subsystem.old ctrl command.now origin
@@ -77,19 +77,19 @@ pub(crate) fn execute<M: PagedMemory>(
     ensures len { length (M.bytes mem.new) ≡ length (M.bytes mem.old) }
     ensures page_len { M.page_len mem.new ≡ M.page_len mem.old }
 {
-    match subsystem.answer(ctrl, command, &mut entry_data.place) {
+    match subsystem.answer(ctrl, command, &mut entry_data.room) {
         Ok(reply) => {
             deliver(mem, command, &reply, entry_data.transfer, &entry_data.spans);
             let dword0 = dword0(&reply);
-            subsystem.settle(ctrl, command, origin, Ok(dword0), &mut entry_data.place);
-            Told {
+            subsystem.settle(ctrl, command, origin, Ok(dword0), &mut entry_data.room);
+            CommandResult {
                 dword0,
                 status: Status::SUCCESS,
             }
         }
         Err(refusal) => {
-            subsystem.settle(ctrl, command, origin, Err(refusal), &mut entry_data.place);
-            Told {
+            subsystem.settle(ctrl, command, origin, Err(refusal), &mut entry_data.room);
+            CommandResult {
                 dword0: 0,
                 status: refusal.status,
             }

@@ -7,15 +7,15 @@ ghost use Rattle.nv_prp.specs.Transfer.{most_bytes};
 ghost use Rattle.nv_model.specs.WellFormed.{IsWellFormed};
 ghost use Rattle.nv_bus.specs.Call.{HasRoom, call_of, data_places, length_of, prp_status};
 ghost use Rattle.nv_bus.specs.Call.{sent_from};
-ghost use Rattle.nv_bus.specs.Entry.{MovesBy, One, exchange_in, scene, step_unless, told_by};
+ghost use Rattle.nv_bus.specs.Entry.{MovesBy, One, exchange_in, scene, step_unless, command_result_of};
 ghost use Rattle.nv_model.specs.Conditions.{limit_of};
 ghost use Rattle.nv_bus.specs.Turn.{can_take, reaches};
 ghost use Rattle.nv_controller.specs.Tags.{answered_unless, next_scene, settled_unless};
 ghost use Rattle.nv_subsystem.specs.Tagged.{untagged};
 
 use crate::deliver::execute;
-use crate::scratch::{EntryData, Scratch};
-use nv_bus::{Exchange, Told};
+use crate::entry_room::{EntryData, EntryRoom};
+use nv_bus::{CommandResult, Exchange};
 use nv_command::{Command, Decoded, Refusal, StatusCode, Transfer};
 use nv_host::PagedMemory;
 use nv_layout::{Cqe, CtrlList, Sqe};
@@ -121,13 +121,13 @@ fn answer_entry<M: PagedMemory>(
     mem: &mut M,
     entry: &Sqe,
     phase: bool,
-    scratch: &mut Scratch,
-) -> Told
+    room: &mut EntryRoom,
+) -> CommandResult
     requires ctrl { ctrl < length subsystem.old.controllers }
     requires well_formed { IsWellFormed subsystem.old }
-    ensures told { let call = call_of (M.page_len mem.old)
+    ensures command_result { let call = call_of (M.page_len mem.old)
         (limit_of subsystem.old ctrl) (M.bytes mem.old) entry.now in
-        result ≡ told_by (step_unless call (untagged subsystem.old) ctrl entry.now).answer }
+        result ≡ command_result_of (step_unless call (untagged subsystem.old) ctrl entry.now).answer }
     ensures state { let call = call_of (M.page_len mem.old)
         (limit_of subsystem.old ctrl) (M.bytes mem.old) entry.now in
         untagged subsystem.new
@@ -151,13 +151,13 @@ fn answer_entry<M: PagedMemory>(
         cid: entry.cid,
         phase,
     };
-    let Scratch { entry_data, listed } = scratch;
+    let EntryRoom { entry_data, listed } = room;
     let limit = subsystem.limit(ctrl);
     match read_call(mem, entry, limit, entry_data, listed) {
         Err(code) => {
             let refusal = Refusal::from(code);
             subsystem.refuse(ctrl, origin, entry.nsid, refusal);
-            Told {
+            CommandResult {
                 dword0: 0,
                 status: refusal.status,
             }
@@ -172,7 +172,7 @@ fn answer_entry<M: PagedMemory>(
 pub(crate) fn take_one<M: PagedMemory>(
     subsystem: &mut Subsystem,
     rings: &mut Rings,
-    scratch: &mut Scratch,
+    room: &mut EntryRoom,
     ctrl: u16,
     mem: &mut M,
 ) -> Exchange
@@ -195,14 +195,14 @@ pub(crate) fn take_one<M: PagedMemory>(
     let completion_address = rings.completion.address(mem);
     let entry = rings.submission.next(mem).unwrap();
     let phase = rings.completion.phase();
-    let told = answer_entry(subsystem, ctrl, mem, &entry, phase, scratch);
+    let command_result = answer_entry(subsystem, ctrl, mem, &entry, phase, room);
     let completion = Cqe {
-        command_specific: told.dword0,
+        command_specific: command_result.dword0,
         sq_head: rings.submission.head(),
         sq_identifier: 0,
         cid: entry.cid,
         phase,
-        status: told.status,
+        status: command_result.status,
     };
     rings.completion.put(mem, completion).unwrap();
     Exchange {

@@ -49,10 +49,10 @@
 mod caller;
 mod deliver;
 mod entry;
+mod entry_room;
 mod machine;
 mod pair;
 mod reply_data;
-mod scratch;
 
 pub use machine::Machine;
 pub use nv_bus::Bus;

@@ -18,8 +18,8 @@ ghost use Rattle.nv_controller.specs.Tags.{TaggedBy, TaggedTurn, scenes_after};
 
 use crate::caller;
 use crate::entry::take_one;
-use crate::scratch::Scratch;
-use nv_bus::{Bus, Observer, Told, Unobserved};
+use crate::entry_room::EntryRoom;
+use nv_bus::{Bus, CommandResult, Observer, Unobserved};
 use nv_host::{Memory, PagedMemory};
 use nv_layout::Sqe;
 use nv_register::{Readiness, RegisterBank, Rings};
@@ -32,7 +32,7 @@ use std::marker::Model;
 pub struct Machine {
     subsystem: Subsystem,
     banks: Vec<RegisterBank>,
-    scratch: Scratch,
+    room: EntryRoom,
 }
 
 impl Model for Machine {
@@ -102,7 +102,7 @@ struct GivenTurn {
 fn take_entries<M: PagedMemory, O: Observer>(
     subsystem: &mut Subsystem,
     rings: &mut Rings,
-    scratch: &mut Scratch,
+    room: &mut EntryRoom,
     given: GivenTurn,
     mem: &mut M,
     observer: &mut O,
@@ -131,7 +131,7 @@ fn take_entries<M: PagedMemory, O: Observer>(
         {
             return (count, true);
         }
-        let exchange = take_one(subsystem, rings, scratch, given.ctrl, mem);
+        let exchange = take_one(subsystem, rings, room, given.ctrl, mem);
         observer.show(given.ctrl, &exchange);
     }
     (given.most, false)
@@ -141,7 +141,7 @@ fn take_entries<M: PagedMemory, O: Observer>(
 fn turn_bank<M: PagedMemory, O: Observer>(
     subsystem: &mut Subsystem,
     bank: &mut RegisterBank,
-    scratch: &mut Scratch,
+    room: &mut EntryRoom,
     given: GivenTurn,
     mem: &mut M,
     observer: &mut O,
@@ -165,7 +165,7 @@ fn turn_bank<M: PagedMemory, O: Observer>(
 {
     match &mut bank.readiness {
         Readiness::Ready { rings, fatal } if !*fatal => {
-            let (count, stopped) = take_entries(subsystem, rings, scratch, given, mem, observer);
+            let (count, stopped) = take_entries(subsystem, rings, room, given, mem, observer);
             *fatal = stopped;
             count
         }
@@ -187,7 +187,7 @@ impl Machine {
         Ok(Machine {
             subsystem,
             banks,
-            scratch: Scratch::new(),
+            room: EntryRoom::new(),
         })
     }
 
@@ -221,38 +221,49 @@ impl Machine {
 
     /// Takes that entry in place of the controller, and posts its completion, with the head of the
     /// submission queue past it and the phase tag that is due.
-    pub fn complete<M: PagedMemory>(&mut self, ctrl: u16, mem: &mut M, told: Told) -> Option<Sqe>
+    pub fn complete<M: PagedMemory>(
+        &mut self,
+        ctrl: u16,
+        mem: &mut M,
+        command_result: CommandResult,
+    ) -> Option<Sqe>
         requires { ctrl < length self.old.banks }
         ensures entry { result ≡ entry_of self.old ctrl (M.page_len mem.old) (M.bytes mem.old) }
         ensures machine { OnSome result (self.new ≡ with_rings_of ctrl rings_completed self.old) }
         ensures bytes { IfSome result
-            (λ e. M.bytes mem.new ≡ completed self.old ctrl told (M.bytes mem.old) e) }
+            (λ e. M.bytes mem.new ≡ completed self.old ctrl command_result (M.bytes mem.old) e) }
         ensures none { IfNone result (self.new ≡ self.old) }
         ensures none_bytes { IfNone result (M.bytes mem.new ≡ M.bytes mem.old) }
         ensures bus { IsBus (bus_of self.old) → IsBus (bus_of self.new) }
         ensures len { length (M.bytes mem.new) ≡ length (M.bytes mem.old) }
         ensures page { M.page_len mem.new ≡ M.page_len mem.old }
     {
-        caller::complete_next(&mut self.banks[ctrl as usize], mem, told)
+        caller::complete_next(&mut self.banks[ctrl as usize], mem, command_result)
     }
 
     /// Posts the completion of an entry that the caller took, with the head of the submission queue
     /// and the phase tag that is due. Returns whether the completion queue had a free slot in the
     /// memory. If it hadn't, nothing changes.
-    pub fn post<M: PagedMemory>(&mut self, ctrl: u16, mem: &mut M, cid: u16, told: Told) -> bool
+    pub fn post<M: PagedMemory>(
+        &mut self,
+        ctrl: u16,
+        mem: &mut M,
+        cid: u16,
+        command_result: CommandResult,
+    ) -> bool
         requires { ctrl < length self.old.banks }
         ensures can { result
             ≡ can_post self.old ctrl (M.page_len mem.old) (length (M.bytes mem.old)) }
         ensures machine { MatchBool result (self.new ≡ with_rings_of ctrl rings_posted self.old)
             (self.new ≡ self.old) }
         ensures bytes { MatchBool result
-            (M.bytes mem.new ≡ answered self.old ctrl cid told (M.bytes mem.old))
+            (M.bytes mem.new ≡ answered self.old ctrl cid command_result (M.bytes mem.old))
             (M.bytes mem.new ≡ M.bytes mem.old) }
         ensures bus { IsBus (bus_of self.old) → IsBus (bus_of self.new) }
         ensures len { length (M.bytes mem.new) ≡ length (M.bytes mem.old) }
         ensures page { M.page_len mem.new ≡ M.page_len mem.old }
     {
-        caller::post(&mut self.banks[ctrl as usize], mem, cid, told)
+        caller::post(&mut self.banks[ctrl as usize], mem, cid, command_result)
     }
 
     /// Does what `turn` does, and shows the observer each entry that was taken, in order. An
@@ -283,7 +294,7 @@ impl Machine {
         turn_bank(
             &mut self.subsystem,
             bank,
-            &mut self.scratch,
+            &mut self.room,
             given,
             mem,
             observer,

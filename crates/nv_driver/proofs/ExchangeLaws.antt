@@ -3,12 +3,12 @@ use Rattle.nv_driver.proofs.Words.{[], ℕ, ◌%◌, ◌*◌, ◌+◌, ◌∙◌
 use Rattle.nv_driver.proofs.Words.{BusValue, CommandPages, Delivers, Err, Geometry, HasRoom, IsBuffer, IsHeard, IsHeld}
 use Rattle.nv_driver.proofs.Words.{IsLeft, IsReady, IsReceived, IsRequest, IsRunOf, KeepsOutside, LiesInPages, List}
 use Rattle.nv_driver.proofs.Words.{NumberSet, Ok, Pages, QueuePair, QueuePairFields, Request, RequestPlace, Requests}
-use Rattle.nv_driver.proofs.Words.{Run, Sent, Sqe, SqeFits, Status, TailWrite, Told, Transfer, Write, after_some}
+use Rattle.nv_driver.proofs.Words.{Run, Sent, Sqe, SqeFits, Status, TailWrite, Transfer, Write, after_some}
 use Rattle.nv_driver.proofs.Words.{all_of, all_pages, ap, arith, asked_in, bytes_read, entry_step, get_or}
 use Rattle.nv_driver.proofs.Words.{greatest_limit, length, length-take, length_of, limit_bounds, limit_of, min}
 use Rattle.nv_driver.proofs.Words.{mul-le-mul_right, numbered, numbered_request, padded, pages_of_entry, pair_value}
 use Rattle.nv_driver.proofs.Words.{place_in, received_from, refl, request_for, requests_in, run_of, side, step_of}
-use Rattle.nv_driver.proofs.Words.{subst, sym, told_by, transfer_for}
+use Rattle.nv_driver.proofs.Words.{CommandResult, command_result_of, subst, sym, transfer_for}
 use Rattle.nv_prp.specs.Buffer.{buffer_places}
 use Rattle.nv_bus.specs.Entry.{status_in}
 use Rattle.nv_driver.specs.Alone.{Comes, IsReadIn, came_with}
@@ -128,7 +128,7 @@ module _ {g : Geometry} {bus : BusValue} {c : ℕ} {l : QueuePairFields} {now : 
 
   -- ---- the answer
 
-  module _ {places : List CommandPages} {mem : List ℕ} {last : Told} (h : IsHeard r places mem last) where
+  module _ {places : List CommandPages} {mem : List ℕ} {last : CommandResult} (h : IsHeard r places mem last) where
     -- the step of the request is that of the entry
     step_is : (step_of c bus.state (numbered h.one)).answer ≡ (entry_step bus.state c e given l.next_cid).answer
     step_is =
@@ -136,8 +136,8 @@ module _ {g : Geometry} {bus : BusValue} {c : ℕ} {l : QueuePairFields} {now : 
         ap (λ n. (step_of c bus.state n).answer) (ap numbered h.kept.sent ∙ ap (numbered_request q) cid)
 
     -- the completion tells what the answer of its step says
-    pub told_is : last ≡ told_by (entry_step bus.state c e given l.next_cid).answer
-    told_is = h.told ∙ ap told_by step_is
+    pub command_result_is : last ≡ command_result_of (entry_step bus.state c e given l.next_cid).answer
+    command_result_is = h.told ∙ ap command_result_of step_is
 
     -- it has some pages, and not too many
     pub few_pages : (other : CommandPages)
@@ -185,7 +185,7 @@ module _ {g : Geometry} {bus : BusValue} {c : ℕ} {l : QueuePairFields} {now : 
           let answer = (entry_step bus.state c e given l.next_cid).answer in
           record {
             came = came;
-            comes = comes_by q.asked answer last.status bytes (ap (λ (t : Told). t.status) told_is)
+            comes = comes_by q.asked answer last.status bytes (ap (λ (t : CommandResult). t.status) command_result_is)
                 (answer_sound q.asked bus.state c e.nsid l.next_cid a.ready.bus.state)
                 (subst (λ (p : Request). Delivers p.asked answer bytes) (request_is h.kept)
                 (subst (λ answer. Delivers x.request.asked answer bytes) step_is h.came));

@@ -9,7 +9,7 @@ use Rattle.std.proofs.Math.Seq.{map-set_same}
 use Rattle.std.proofs.lemmas.List.{length-set, replicate_more}
 use Rattle.nv_driver.specs.Driver.{after_reset, new_driver}
 use Rattle.nv_driver.specs.inner.Driver.{error_without}
-use Rattle.nv_driver.specs.Geometry.{fault_of}
+use Rattle.nv_driver.specs.Geometry.{geometry_fault}
 use Rattle.nv_driver.specs.Exchange.{after_one}
 use Rattle.nv_driver.specs.inner.Linked.{next_cids_of}
 use Rattle.nv_driver.specs.declared.error.DriverError.{DriverError}
@@ -79,17 +79,17 @@ none_by (Some f) h = absurd (h f refl)
 -- a driver was brought up, and any field outside its limits would have been reported
 pub without_fault : {D : Type 0} (g : Geometry) (d : D)
     → ((field : GeometryField)
-    → ◌≡◌ {A = Result D DriverError} (Ok d) (Err (error.Geometry field)) ↔ (fault_of g ≡ Some field))
-    → fault_of g ≡ None
-without_fault g d h = none_by (fault_of g) (λ field k. let never = (h field).1 k in absurd (cc))
+    → ◌≡◌ {A = Result D DriverError} (Ok d) (Err (error.Geometry field)) ↔ (geometry_fault g ≡ Some field))
+    → geometry_fault g ≡ None
+without_fault g d h = none_by (geometry_fault g) (λ field k. let never = (h field).1 k in absurd (cc))
 
 -- an error without a driver is the first field of the geometry outside its limits, or else lack of memory
 pub without : {D : Type 0} (g : Geometry) (e : DriverError)
     → ((field : GeometryField)
-    → ◌≡◌ {A = Result D DriverError} (Err e) (Err (error.Geometry field)) ↔ (fault_of g ≡ Some field))
-    → ◌≢◌ {A = Result D DriverError} (Err e) (Err error.NoReady) → e ≡ error_without (fault_of g)
+    → ◌≡◌ {A = Result D DriverError} (Err e) (Err (error.Geometry field)) ↔ (geometry_fault g ≡ Some field))
+    → ◌≢◌ {A = Result D DriverError} (Err e) (Err error.NoReady) → e ≡ error_without (geometry_fault g)
 without g (error.Geometry field) h ready = ap error_without (sym ((h field).0 refl))
 without g error.Memory h ready =
-    let none = none_by (fault_of g) (λ field k. let same = (h field).1 k in absurd (cc)) in
+    let none = none_by (geometry_fault g) (λ field k. let same = (h field).1 k in absurd (cc)) in
     ap error_without (sym none)
 without g error.NoReady h ready = absurd (ready refl)

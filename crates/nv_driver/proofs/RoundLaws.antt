@@ -4,7 +4,8 @@ use Rattle.nv_driver.proofs.Words.{AreReceived, AreTaken, Batch, Bell, BusTurn, 
 use Rattle.nv_driver.proofs.Words.{CommandPages, Cqe, DoesNext, Event, HasAnswers, Holds, IsAnswered, IsBuffer, IsBus}
 use Rattle.nv_driver.proofs.Words.{IsDue, IsHeard, IsHeld, IsOf, IsOnWay, IsPlaceFor, IsReadable, IsRunOf, IsSendable}
 use Rattle.nv_driver.proofs.Words.{IsTold, IsToldInTime, IsUnderWay, LiesInPages, List, Pages, QueuePairFields, Request}
-use Rattle.nv_driver.proofs.Words.{RequestPlace, Requests, Run, Sent, Status, TailWrite, Tell, Told, Turn, Write}
+use Rattle.nv_driver.proofs.Words.{RequestPlace, Requests, Run, Sent, Status, TailWrite, Tell, Turn, Write}
+use Rattle.nv_driver.proofs.Words.{CommandResult}
 use Rattle.nv_driver.proofs.Words.{add-one, all_pages, answer_to, answers_to, ap, arith, awaited_completion, bank_at}
 use Rattle.nv_driver.proofs.Words.{collected_one, completion_at, false, free_pages, from_cid, get_or, get_or_default}
 use Rattle.nv_driver.proofs.Words.{greatest_limit, held_pages, inl, inr, known_to, length, length-append, length-set}
@@ -36,12 +37,12 @@ pub record CanGive (s : Pages) (o : CommandPages) : Type 0 where
   pub distinct : AllPairs (λ p q. p ≢ q) (all_pages o)
 
 -- dword 0 and status of a completion
-abbrev pub told_with : ℕ → Status → Told
-told_with dword0 status = record { dword0 = dword0; status = status }
+abbrev pub command_result_with : ℕ → Status → CommandResult
+command_result_with dword0 status = record { dword0 = dword0; status = status }
 
 -- completions with equal parts tell the same
-same_told : {a b : ℕ} {s s' : Status} → a ≡ b → s ≡ s' → told_with a s ≡ told_with b s'
-same_told e f = cc
+same_command_result : {a b : ℕ} {s s' : Status} → a ≡ b → s ≡ s' → command_result_with a s ≡ command_result_with b s'
+same_command_result e f = cc
 
 -- ---- doorbells and turns
 
@@ -307,7 +308,7 @@ module _ {B : Type 0} {wrote : Write B} {rang : TailWrite B} {turned : BusTurn B
           (sym completion_is) held_here.answer
 
       -- what it says and the first request's pages hold the answer to that
-      pub hears : b.collected ≡ 0 → {last : Told} → last ≡ told_with p.command_specific p.status
+      pub hears : b.collected ≡ 0 → {last : CommandResult} → last ≡ command_result_with p.command_specific p.status
           → IsHeard r places bytes last
       hears first {last} is =
           let held = subst (IsAnswered r.geometry.page_size next_one bytes p)
@@ -319,7 +320,7 @@ module _ {B : Type 0} {wrote : Write B} {rang : TailWrite B} {turned : BusTurn B
                 subst (λ n. IsHeld (get_or places n e) next_one) slot (held_at e);
             buffer = subst (λ (x : Sent). IsBuffer bytes r.geometry.page_size x.pages x.offset
                 (length_of next_one.request.transfer)) (sym kept_here.sent) own_place.buffer;
-            told = is ∙ same_told held.dword0 held.status;
+            told = is ∙ same_command_result held.dword0 held.status;
             came = held.bytes;
           }
 
@@ -398,7 +399,7 @@ module _ {B : Type 0} {wrote : Write B} {rang : TailWrite B} {turned : BusTurn B
 
 -- as long as a request's answer isn't collected, nothing else of the host's side matters
 pub received_on : (what : Requests) {r : Run} {n : ℕ} (answers : List Answer) (places places' : List CommandPages)
-    (bytes bytes' : List ℕ) (last last' : Told) → IsRunOf r what → n < length r.requests
+    (bytes bytes' : List ℕ) (last last' : CommandResult) → IsRunOf r what → n < length r.requests
     → AreReceived what r n answers places bytes last → AreReceived what r n answers places' bytes' last'
 received_on (sends.Commands ks) answers places places' bytes bytes' last last' of below got = got
 received_on (sends.Entry e given) answers places places' bytes bytes' last last' of below got =

@@ -3,9 +3,9 @@ pub use Rattle.nv_bits.specs.Numbers.{NumberSet}
 pub use Rattle.nv_bus.proofs.TagLaws.{tagged}
 pub use Rattle.nv_bus.specs.Bus.{BusValue, IsBus, bank_at, enabled_in, state_written}
 pub use Rattle.nv_bus.specs.Call.{Call, HasRoom, call_of, length_of, moves_of, sent_from, within}
-pub use Rattle.nv_bus.specs.Entry.{Scene, asked_step, completion_with, scene, told_by}
+pub use Rattle.nv_bus.specs.Entry.{Scene, asked_step, completion_with, scene, command_result_of}
 pub use Rattle.nv_bus.specs.Turn.{Takes}
-pub use Rattle.nv_bus.specs.declared.told.Told.{Told}
+pub use Rattle.nv_bus.specs.declared.command_result.CommandResult.{CommandResult}
 pub use Rattle.nv_command.proofs.TravelLaws.{commands_travel}
 pub use Rattle.nv_command.specs.Command.{CommandFits, bytes_from_host, bytes_to_host, transfer_by}
 pub use Rattle.nv_command.specs.Decoding.{command_of, transfer_of}

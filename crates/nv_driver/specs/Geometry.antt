@@ -47,8 +47,8 @@ first_outside [] = None
 first_outside (r ∷ rows) = if r.keeps then first_outside rows else Some r.field
 
 -- the first field that is outside its limits
-abbrev pub fault_of : Geometry → Option GeometryField
-fault_of g = first_outside (rows_of g)
+abbrev pub geometry_fault : Geometry → Option GeometryField
+geometry_fault g = first_outside (rows_of g)
 
 -- a geometry without a fault, field by field
 pub record IsGeometry (g : Geometry) : Type 0 where

@@ -2,7 +2,7 @@
 use Rattle.std.specs.Prelude.{◌≡◌, ◌≢◌, ◌↔◌, Err, IfOk, OnErr, Result, Some}
 use Rattle.nv_bus.specs.Bus.{BusValue, IsBus, enabled_in}
 use Rattle.nv_model.specs.Step.{reset_where}
-use Rattle.nv_driver.specs.Geometry.{fault_of}
+use Rattle.nv_driver.specs.Geometry.{geometry_fault}
 use Rattle.nv_driver.specs.Registers.{banks_of}
 use Rattle.nv_driver.specs.Settled.{DriverValue}
 use Rattle.nv_driver.specs.declared.error.DriverError.{DriverError}
@@ -24,6 +24,6 @@ pub record IsBroughtUp (g : Geometry) (made : DriverValue) (before after : BusVa
   pub state : IfOk result
       (λ _. after.state ≡ reset_where (enabled_in before.banks) before.state)
   pub geometry : (field : GeometryField)
-      → (result ≡ Err (error.Geometry field)) ↔ (fault_of g ≡ Some field)
+      → (result ≡ Err (error.Geometry field)) ↔ (geometry_fault g ≡ Some field)
   pub ready : result ≢ Err error.NoReady
   pub untouched : OnErr result (after ≡ before)

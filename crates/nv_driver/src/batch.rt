@@ -11,13 +11,13 @@ ghost use Rattle.nv_driver.specs.UnderWay.{IsUnderWay, RunOn, numbered_of, run_o
 ghost use Rattle.nv_driver.specs.inner.Pace.{IsPaced, IsToldByPace, IsToldInTime, taken_by_turn};
 ghost use Rattle.nv_model.specs.Conditions.{limit_of};
 
-use crate::answer_slot::AnswerSlot;
+use crate::answer_room::AnswerRoom;
 use crate::host_side::{HostSide, MOST_OUTSTANDING};
 use crate::queue_pair::QueuePair;
 use crate::requests::Requests;
 use crate::ringing::Ringing;
 use crate::submitting::submit;
-use nv_bus::{Bus, Told};
+use nv_bus::{Bus, CommandResult};
 use nv_host::HostMemory;
 
 /// The progress of a list of requests of one controller: how many were sent, how many answers were
@@ -63,7 +63,7 @@ impl Batch {
             let slot = number % MOST_OUTSTANDING;
             host.taken[slot].take(&mut pair.pages, count);
             let place = host.taken[slot].place(geometry);
-            let spans = &mut host.buffers.spans;
+            let spans = &mut host.data_room.spans;
             let next = submit(&mut host.mem, pair, &place, &request, spans);
             self.sent += 1;
             tail = Some(next);
@@ -82,7 +82,7 @@ impl Batch {
         host: &mut HostSide<M>,
         pair: &mut QueuePair,
         requests: Requests,
-        answers: &mut [AnswerSlot],
+        answers: &mut [AnswerRoom],
     )
         ghost begun: { RunOn B }
         requires requests { IsRunOf begun.run requests }
@@ -123,13 +123,13 @@ impl Batch {
             match requests {
                 Requests::Commands(commands) => {
                     let place = pages.place(geometry);
-                    let buffers = &mut host.buffers;
+                    let data_room = &mut host.data_room;
                     let command = &commands[number];
-                    answers[number].receive(&host.mem, buffers, &place, command, &completion);
+                    answers[number].receive(&host.mem, data_room, &place, command, &completion);
                 }
                 Requests::Entry { .. } => {}
             }
-            host.last = Told {
+            host.last = CommandResult {
                 dword0: completion.command_specific,
                 status: completion.status,
             };
@@ -150,7 +150,7 @@ pub(crate) fn exchange_all<B: Bus + Ringing, M: HostMemory>(
     host: &mut HostSide<M>,
     pair: &mut QueuePair,
     requests: Requests,
-    answers: &mut [AnswerSlot],
+    answers: &mut [AnswerRoom],
 )
     ghost begun: { RunOn B }
     requires run { begun

@@ -1,7 +1,7 @@
 //! A geometry that was checked.
 
 ghost use Rattle.std.specs.Prelude.{◌≡◌, MatchResult, None, Some};
-ghost use Rattle.nv_driver.specs.Geometry.{fault_of};
+ghost use Rattle.nv_driver.specs.Geometry.{geometry_fault};
 
 use crate::geometry::Geometry;
 use crate::geometry_field::GeometryField;
@@ -44,8 +44,8 @@ impl CheckedGeometry {
     /// Returns the checked geometry, or the first field that is outside its limits.
     pub(crate) fn new(geometry: Geometry) -> Result<CheckedGeometry, GeometryField>
         ensures { MatchResult result
-            (λ checked. (checked ≡ geometry) × (fault_of geometry ≡ None))
-            (λ field. fault_of geometry ≡ Some field) }
+            (λ checked. (checked ≡ geometry) × (geometry_fault geometry ≡ None))
+            (λ field. geometry_fault geometry ≡ Some field) }
     {
         geometry.check()?;
         Ok(CheckedGeometry {

@@ -6,7 +6,7 @@ ghost use Rattle.nv_command.specs.Command.{CommandFits};
 ghost use Rattle.nv_command.specs.Logs.{IsSendable};
 ghost use Rattle.nv_command.specs.Received.{answer_received};
 ghost use Rattle.nv_model.specs.Step.{reset, step};
-ghost use Rattle.nv_bus.specs.Entry.{told_by};
+ghost use Rattle.nv_bus.specs.Entry.{command_result_of};
 ghost use Rattle.nv_layout.specs.Sqe.{SqeFits};
 ghost use Rattle.nv_driver.specs.Alone.{IsReceived, asked_in, entry_step};
 ghost use Rattle.nv_driver.specs.Batch.{answers_of, state_after};
@@ -17,21 +17,21 @@ ghost use Rattle.nv_driver.specs.Layout.{pages_of_entry};
 ghost use Rattle.nv_driver.specs.Linked.{IsBroughtUp, IsLinked};
 ghost use Rattle.nv_driver.specs.Sending.{Passes, Sends};
 
-use crate::answer_slot::{Answer, AnswerSlot};
+use crate::answer_room::{Answer, AnswerRoom};
 use crate::batch::exchange_all;
 use crate::checked_geometry::CheckedGeometry;
 use crate::command_pages::CommandPages;
 use crate::enabling::{enable_all, reset};
 use crate::error::DriverError;
 use crate::geometry::Geometry;
-use crate::host_side::{Buffers, HostSide, MOST_OUTSTANDING};
+use crate::host_side::{DataRoom, HostSide, MOST_OUTSTANDING};
 use crate::passthrough::receive;
 use crate::queue_pair::{QueuePair, new_pairs};
 use crate::requests::Requests;
 use crate::ringing::Ringing;
 use crate::submitting::transfer_for;
 use crate::zeroing::Zeroing;
-use nv_bus::{Bus, Told};
+use nv_bus::{Bus, CommandResult};
 use nv_command::Command;
 use nv_host::{FlatMemory, PageSet, PagedMemory};
 use nv_layout::{Sqe, Status};
@@ -131,12 +131,12 @@ impl Driver {
         let mem = FlatMemory::new(alloc, geometry.page_size, first + more)?;
         let side = HostSide {
             mem,
-            buffers: Buffers {
+            data_room: DataRoom {
                 spans: Spans::new(),
                 data: [0; 16384],
             },
             taken: [CommandPages::NONE; MOST_OUTSTANDING],
-            last: Told {
+            last: CommandResult {
                 dword0: 0,
                 status: Status::from_number(0),
             },
@@ -175,7 +175,7 @@ impl Driver {
     }
 
     /// Sends a command to a controller and waits for its answer: the reply, or the status of the
-    /// refusal. The answer is stored in the slot, and no memory is allocated. The bus must be as
+    /// refusal. The answer is stored in the room, and no memory is allocated. The bus must be as
     /// this driver left it, each field of the command must fit its bits, and it must be possible to
     /// read its reply from its data. Section "Command Processing".
     pub fn admin<'a, B: Bus + Ringing>(
@@ -183,7 +183,7 @@ impl Driver {
         bus: &mut B,
         ctrl: u16,
         command: &Command,
-        slot: &'a mut AnswerSlot,
+        room: &'a mut AnswerRoom,
     ) -> Answer<'a>
         requires ctrl { ctrl < length self.old.pairs }
         requires linked { IsLinked (B.meaning bus.old) self.old }
@@ -198,8 +198,8 @@ impl Driver {
         ensures steps { Sends B.was_written B.was_rung B.was_turned self.old ctrl (command.now ∷ [])
             (B.meaning bus.old) bus.old bus.new }
     {
-        self.admin_all(bus, ctrl, from_ref(command), from_mut(slot));
-        slot.answer()
+        self.admin_all(bus, ctrl, from_ref(command), from_mut(room));
+        room.answer()
     }
 
     /// Sends commands to a controller and waits for their answers, one for each. At a time as many
@@ -213,7 +213,7 @@ impl Driver {
         bus: &mut B,
         ctrl: u16,
         commands: &[Command],
-        answers: &mut [AnswerSlot],
+        answers: &mut [AnswerRoom],
     )
         requires ctrl { ctrl < length self.old.pairs }
         requires linked { IsLinked (B.meaning bus.old) self.old }
@@ -248,12 +248,12 @@ impl Driver {
         entry: &Sqe,
         bytes: &[u8],
         out: &mut [u8],
-    ) -> Told
+    ) -> CommandResult
         requires ctrl { ctrl < length self.old.pairs }
         requires linked { IsLinked (B.meaning bus.old) self.old }
         requires room { HasEntryPages self.old }
         requires fits { SqeFits entry.now }
-        ensures answer { result ≡ told_by (entry_step (B.meaning bus.old).state ctrl
+        ensures answer { result ≡ command_result_of (entry_step (B.meaning bus.old).state ctrl
             entry.now bytes.now (pair_at self.old.pairs ctrl).next_cid).answer }
         ensures out { IsReceived (asked_in (B.meaning bus.old).state ctrl entry.now bytes.now)
             (entry_step (B.meaning bus.old).state ctrl
@@ -275,13 +275,13 @@ impl Driver {
         swap(&mut pair.pages, &mut self.more_pages);
         let HostSide {
             mem,
-            buffers,
+            data_room,
             taken,
             last,
         } = host;
         let place = taken[0].place(self.geometry);
         let transfer = transfer_for(entry);
-        let spans = &mut buffers.spans;
+        let spans = &mut data_room.spans;
         receive(mem, &place.buffer, transfer, last.status, spans, out);
         *last
     }

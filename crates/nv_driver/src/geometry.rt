@@ -1,7 +1,7 @@
 //! How many commands a driver has outstanding, and where their entries and data are placed.
 
 ghost use Rattle.std.specs.Prelude.{◌≡◌, ◌%◌, ◌<◌, ◌≤◌, ◌↔◌, IfOk, IsTrue, MatchResult, None, Some};
-ghost use Rattle.nv_driver.specs.Geometry.{IsGeometry, fault_of, is_between, is_offset};
+ghost use Rattle.nv_driver.specs.Geometry.{IsGeometry, geometry_fault, is_between, is_offset};
 ghost use Rattle.nv_driver.specs.Geometry.{is_window};
 
 use crate::geometry_field::GeometryField;
@@ -84,8 +84,8 @@ impl Geometry {
     /// limits, if there is one.
     pub fn check(&self) -> Result<(), GeometryField>
         ensures first { MatchResult result
-            (λ _. fault_of self.now ≡ None)
-            (λ field. fault_of self.now ≡ Some field) }
+            (λ _. geometry_fault self.now ≡ None)
+            (λ field. geometry_fault self.now ≡ Some field) }
         ensures sound { IfOk result (λ _. IsGeometry self.now) }
     {
         if !is_between(2, 4096, self.depth) {

@@ -12,11 +12,11 @@
 //!
 //! [`Driver::admin`] sends a command through a controller's rings, with its data in the driver's
 //! pages, which PRP entries name. It returns the answer: the reply, or the status of the refusal.
-//! The answer is stored in an [`AnswerSlot`], which is allocated once.
+//! The answer is stored in an [`AnswerRoom`], which is allocated once.
 //!
 //! ```
-//! let mut slot = AnswerSlot::new();
-//! match driver.admin(&mut machine, 0, &Command::ActiveList { after: 0 }, &mut slot) {
+//! let mut room = AnswerRoom::new();
+//! match driver.admin(&mut machine, 0, &Command::ActiveList { after: 0 }, &mut room) {
 //!     Ok(reply) => show(reply),
 //!     Err(status) => refused(status),
 //! }
@@ -46,7 +46,7 @@
 //! Sections are named as in the NVM Express Base Specification, revision 1.4.
 #![tactic(auto)]
 
-mod answer_slot;
+mod answer_room;
 mod any_bus;
 mod batch;
 mod checked_geometry;
@@ -66,12 +66,12 @@ mod ringing;
 mod submitting;
 mod zeroing;
 
-pub use answer_slot::{Answer, AnswerSlot};
+pub use answer_room::{Answer, AnswerRoom};
 pub use driver::Driver;
 pub use error::DriverError;
 pub use geometry::Geometry;
 pub use geometry_field::GeometryField;
 pub use law::{any_command, any_entry, any_schedule};
-pub use nv_bus::Told;
+pub use nv_bus::CommandResult;
 pub use ringing::Ringing;
 pub use zeroing::Zeroing;

@@ -2,7 +2,7 @@
 
 use nv_controller::Machine;
 use nv_layout::ThreeBits;
-use nv_subsystem::{Command, FeatureQuery, ReplyPlace, Subsystem, dword0};
+use nv_subsystem::{Command, FeatureQuery, RecordRoom, Subsystem, dword0};
 
 /// How many refusals and commands the controller has counted, and the current value of its write
 /// cache, if there is one.
@@ -23,8 +23,8 @@ fn cache_of(subsystem: &Subsystem) -> Option<u32> {
     if subsystem.controllers() == 0 {
         return None;
     }
-    let mut place = ReplyPlace::new();
-    match subsystem.answer(0, &get, &mut place) {
+    let mut room = RecordRoom::new();
+    match subsystem.answer(0, &get, &mut room) {
         Ok(reply) => Some(dword0(&reply)),
         Err(_) => None,
     }
@@ -37,7 +37,8 @@ impl Kept {
         let counts = if subsystem.controllers() == 0 {
             (0, 0)
         } else {
-            subsystem.counts(0)
+            let counts = subsystem.counts(0);
+            (counts.refusals, counts.commands)
         };
         Kept {
             counts,

@@ -3,7 +3,7 @@ use Rattle.std.proofs.Common.{◌≡◌, ◌∙◌, inl, inr, Bool, true, false,
 use Rattle.std.proofs.Common.{None, IfSome, Result, Ok, Err, refl, subst, sym, ap}
 use Rattle.nv_file.specs.Check.{Check, check, checked, first_error}
 use Rattle.nv_layout.specs.UnlessMemory.{IsUnlessMemory}
-use Rattle.nv_file.proofs.Words.{IsCheckedUnlessMemory, IsToldFirst, Memory, option_map_or, SubsystemError}
+use Rattle.nv_file.proofs.Words.{IsCheckedUnlessMemory, IsFirstFault, Memory, option_map_or, SubsystemError}
 
 -- the first of two faults, or else the second
 abbrev pub or_else : Option SubsystemError → Option SubsystemError → Option SubsystemError
@@ -47,17 +47,17 @@ pub ruleset faults = (faults_append, faults_none, fault_of)
 -- if a value was returned, no check failed whose fault is returned regardless of memory
 none_by : {X : Type 0} (o : Option SubsystemError) (r : Result X SubsystemError) (x : X) → r ≡ Ok x
     → IfSome o (λ e. r ≡ Err e) → o ≡ None
-none_by None r x is told = refl
-none_by (Some e) r x is told = absurd (cc)
+none_by None r x is fault = refl
+none_by (Some e) r x is fault = absurd (cc)
 
-pub none_told : {X : Type 0} (checks : List Check) (r : Result X SubsystemError) (x : X) → r ≡ Ok x
-    → IsToldFirst checks r → first_error checks ≡ None
-none_told checks r x is told = none_by (first_error checks) r x is told
+pub no_fault : {X : Type 0} (checks : List Check) (r : Result X SubsystemError) (x : X) → r ≡ Ok x
+    → IsFirstFault checks r → first_error checks ≡ None
+no_fault checks r x is fault = none_by (first_error checks) r x is fault
 
 -- there is no error if no check fails
-pub told_none : {X : Type 0} (checks : List Check) (r : Result X SubsystemError) → first_error checks ≡ None
-    → IsToldFirst checks r
-told_none checks r none = subst (λ o. IfSome o (λ e. r ≡ Err e)) (sym none) tt
+pub fault_none : {X : Type 0} (checks : List Check) (r : Result X SubsystemError) → first_error checks ≡ None
+    → IsFirstFault checks r
+fault_none checks r none = subst (λ o. IfSome o (λ e. r ≡ Err e)) (sym none) tt
 
 -- ---- the same as a result
 

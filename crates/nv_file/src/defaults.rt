@@ -8,7 +8,7 @@ ghost use Rattle.nv_file.specs.TableChecks.{default_over, defaults_checks, defau
 ghost use Rattle.nv_file.specs.TableChecks.{nine, thresholds, thresholds_at};
 ghost use Rattle.nv_file.specs.inner.FirstChecks.{first_defaults_checks};
 ghost use Rattle.nv_file.specs.KeyChecks.{number_at, of_kind};
-ghost use Rattle.nv_file.specs.inner.Reading.{IsCheckedUnlessMemory, IsToldFirst};
+ghost use Rattle.nv_file.specs.inner.Reading.{IsCheckedUnlessMemory, IsFirstFault};
 
 use crate::error::SubsystemError;
 use crate::key::Key;
@@ -49,7 +49,7 @@ fn thresholds_or(
     requires default { AreThresholds default }
     ensures exact { IsCheckedUnlessMemory (λ n. n) (thresholds key (table_view table.now))
         (thresholds_at key default (table_view table.now)) result }
-    ensures told { IsToldFirst
+    ensures fault { IsFirstFault
         (of_kind TableName.Feature key as_array (table_view table.now)) result }
     ensures sound { IfOk result AreThresholds }
 {
@@ -90,7 +90,7 @@ pub(crate) fn defaults_of(
     requires in_version { not ((version == 1) && (fid == 0x04)) ≡ true }
     ensures exact { IsCheckedUnlessMemory (λ d. d) (defaults_checks version (table_view table.now))
         (defaults_value wctemp (table_view table.now)) result }
-    ensures told { IsToldFirst (first_defaults_checks version (table_view table.now)) result }
+    ensures fault { IsFirstFault (first_defaults_checks version (table_view table.now)) result }
     ensures sound { IfOk result AreDefaults }
     ensures lists { IfOk result (λ d. are_lists d ≡ (fid == 0x04)) }
     ensures values { IfOk result (λ d. IsSomeAnd (feature_of fid)

@@ -10,7 +10,7 @@ ghost use Rattle.nv_model.specs.Ranges.{IsFormat};
 ghost use Rattle.nv_file.specs.KeyChecks.{each, in_limits, is_among, of_kind};
 ghost use Rattle.nv_file.specs.TableChecks.{first_namespace_checks, namespace_checks};
 ghost use Rattle.nv_file.specs.TableChecks.{namespace_value, nsid_of};
-ghost use Rattle.nv_file.specs.inner.Reading.{IsChecked, IsCheckedUnlessMemory, IsToldFirst};
+ghost use Rattle.nv_file.specs.inner.Reading.{IsChecked, IsCheckedUnlessMemory, IsFirstFault};
 ghost use Rattle.nv_file.specs.IsFile.{IsNamespaceEntry};
 
 use crate::error::{SubsystemError, ensure};
@@ -92,7 +92,7 @@ fn namespace_entry_of(
     ensures exact { IsCheckedUnlessMemory namespace_entry_view
         (namespace_checks nn mc formats.now (map (λ n. n.nsid) before.now) (table_view table.now))
         (namespace_value (table_view table.now)) result }
-    ensures told { IsToldFirst
+    ensures fault { IsFirstFault
         (first_namespace_checks nn mc formats.now (map (λ n. n.nsid) before.now)
         (table_view table.now)
         ++ of_kind TableName.Namespace Key.Controllers as_array (table_view table.now)) result }

@@ -12,7 +12,7 @@ ghost use Rattle.nv_file.specs.KeyChecks as row;
 ghost use Rattle.nv_file.specs.KeyChecks.{has_key, has_only, is_within, number};
 ghost use Rattle.nv_file.specs.Names.{key_text, keys_of};
 ghost use Rattle.nv_file.specs.inner.Reading.{IsChecked, IsCheckedUnlessMemory, IsPassed};
-ghost use Rattle.nv_file.specs.inner.Reading.{IsToldFirst};
+ghost use Rattle.nv_file.specs.inner.Reading.{IsFirstFault};
 ghost use Rattle.nv_file.specs.inner.SectionView.{tables_view};
 ghost use Rattle.nv_model.specs.Ranges.{is_text};
 
@@ -178,7 +178,7 @@ impl<'a> Section<'a> {
         ensures exact { IsCheckedUnlessMemory string_bytes
             (row.text self.now.name key most (table_view self.now.table.now))
             (row.text_at key (table_view self.now.table.now)) result }
-        ensures told { IsToldFirst
+        ensures fault { IsFirstFault
             (row.text self.now.name key most (table_view self.now.table.now)) result }
         ensures sound { IfOk result (λ s. is_text most (string_bytes s) ≡ true) }
     {
@@ -202,7 +202,7 @@ impl<'a> Section<'a> {
         ensures exact { IsCheckedUnlessMemory (λ v. tables_view v.items)
             (check (is_some (row.as_tables (view value.now))) (SubsystemError.Kind self.now.name key))
             (unwrap_or (row.as_tables (view value.now)) []) result }
-        ensures told { IsToldFirst
+        ensures fault { IsFirstFault
             (check (is_some (as_array (view value.now))) (SubsystemError.Kind self.now.name key))
             result }
     {
@@ -281,7 +281,7 @@ impl<'a> Section<'a> {
         ensures exact { IsCheckedUnlessMemory (λ v. v.items)
             (check (is_some (row.as_integers (view value.now))) (SubsystemError.Kind self.now.name key))
             (unwrap_or (row.as_integers (view value.now)) []) result }
-        ensures told { IsToldFirst
+        ensures fault { IsFirstFault
             (check (is_some (as_array (view value.now))) (SubsystemError.Kind self.now.name key))
             result }
     {
@@ -303,7 +303,7 @@ impl<'a> Section<'a> {
         ensures exact { IsCheckedUnlessMemory (λ v. v.items)
             (row.of_kind self.now.name key row.as_integers (table_view self.now.table.now))
             (row.integers_at key (table_view self.now.table.now)) result }
-        ensures told { IsToldFirst
+        ensures fault { IsFirstFault
             (row.of_kind self.now.name key as_array (table_view self.now.table.now)) result }
     {
         let Some(value) = self.find(key) else {
@@ -355,7 +355,7 @@ impl<'a> Section<'a> {
         ensures exact { IsCheckedUnlessMemory (λ v. v.items)
             (row.optional_list self.now.name key most high (table_view self.now.table.now))
             (map number (row.integers_at key (table_view self.now.table.now))) result }
-        ensures told { IsToldFirst
+        ensures fault { IsFirstFault
             (row.of_kind self.now.name key as_array (table_view self.now.table.now)) result }
     {
         let integers = self.integers_or_none(alloc, key)?;

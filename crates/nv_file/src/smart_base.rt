@@ -5,7 +5,7 @@ ghost use Rattle.nv_file.specs.KeyChecks.{of_kind};
 ghost use Rattle.nv_file.specs.TableChecks.{counters_checks, counters_value, eight, first_smart_checks};
 ghost use Rattle.nv_file.specs.TableChecks.{smart_checks, smart_value};
 ghost use Rattle.toml.specs.Data.{as_array, no_members};
-ghost use Rattle.nv_file.specs.inner.Reading.{IsChecked, IsCheckedUnlessMemory, IsToldFirst};
+ghost use Rattle.nv_file.specs.inner.Reading.{IsChecked, IsCheckedUnlessMemory, IsFirstFault};
 ghost use Rattle.nv_model.specs.Logs.{zero_smart};
 ghost use Rattle.nv_model.specs.Ranges.{IsCounters, IsSmart};
 
@@ -76,7 +76,7 @@ fn eight(numbers: &[u16]) -> [u16; 8]
 fn smart_of(alloc: Global, table: &Table) -> Result<SmartBase, SubsystemError>
     ensures exact { IsCheckedUnlessMemory (λ s. s) (smart_checks (table_view table.now))
         (smart_value (table_view table.now)) result }
-    ensures told { IsToldFirst (first_smart_checks (table_view table.now)
+    ensures fault { IsFirstFault (first_smart_checks (table_view table.now)
         ++ of_kind TableName.Smart Key.Sensors as_array (table_view table.now)) result }
     ensures sound { IfOk result IsSmart }
 {

@@ -3,7 +3,7 @@ ghost use Rattle.std.specs.Prelude.{◌≡◌, IfOk};
 ghost use Rattle.toml.specs.Data.{no_members};
 ghost use Rattle.toml.specs.View.{table_view};
 ghost use Rattle.nv_file.specs.File.{first_top_checks, no_version, top_checks};
-ghost use Rattle.nv_file.specs.inner.Reading.{IsCheckedUnlessMemory, IsToldFirst};
+ghost use Rattle.nv_file.specs.inner.Reading.{IsCheckedUnlessMemory, IsFirstFault};
 ghost use Rattle.nv_file.specs.inner.TopView.{top_value, top_view};
 ghost use Rattle.nv_file.specs.inner.IsFile.{IsTop};
 
@@ -33,7 +33,7 @@ pub struct Top<'a> {
 pub(crate) fn top_of<'a>(alloc: Global, table: &'a Table) -> Result<Top<'a>, SubsystemError>
     ensures exact { IsCheckedUnlessMemory top_view (top_checks (table_view table.now))
         (top_value (table_view table.now)) result }
-    ensures told { IsToldFirst (first_top_checks (table_view table.now)) result }
+    ensures fault { IsFirstFault (first_top_checks (table_view table.now)) result }
     ensures empty { table_view table.now ≡ no_members → result ≡ Err no_version }
     ensures sound { IfOk result (λ t. IsTop (top_view t)) }
 {

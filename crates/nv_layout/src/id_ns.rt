@@ -64,7 +64,7 @@ impl Lbaf {
     }
 
     // (a loop takes half the instructions of an array's `map`, which keeps a mark for each element)
-    fn numbers(lbafs: &[Lbaf; 16]) -> [u32; 16]
+    fn all_numbers(lbafs: &[Lbaf; 16]) -> [u32; 16]
         ensures { result ≡ map number_of_lbaf lbafs.now }
     {
         let mut numbers = [0; 16];
@@ -74,7 +74,7 @@ impl Lbaf {
         numbers
     }
 
-    fn from_numbers(numbers: &[u32; 16]) -> [Lbaf; 16]
+    fn all_from_numbers(numbers: &[u32; 16]) -> [Lbaf; 16]
         ensures { result ≡ map lbaf_of_number numbers.now }
     {
         let mut lbafs = [NO_LBAF; 16];
@@ -136,7 +136,7 @@ impl IdNs {
         put_u8(out, 29, self.dps);
         put_u8(out, 30, self.nmic);
         put_u128(out, 48, self.nvmcap);
-        put_u32s(out, 128, &Lbaf::numbers(&self.lbafs));
+        put_u32s(out, 128, &Lbaf::all_numbers(&self.lbafs));
     }
 
     /// Reads the data from its bytes.
@@ -156,7 +156,7 @@ impl IdNs {
             dps: u8_at(bytes, 29),
             nmic: u8_at(bytes, 30),
             nvmcap: u128_at(bytes, 48),
-            lbafs: Lbaf::from_numbers(&u32s_at(bytes, 128)),
+            lbafs: Lbaf::all_from_numbers(&u32s_at(bytes, 128)),
         }
     }
 }

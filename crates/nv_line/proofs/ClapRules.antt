@@ -135,8 +135,8 @@ pub refused : (v : Verb) (ws : List Text) (a : App) (k : ErrorKind) → IsAppOf 
 unfolding is_taken
 refused v ws a k e (inl m) n = absurd (n m)
 refused v ws a k e (inr among) n =
-    let told = subst (IsAmong k) ((answers_as v a e).faults ws) among in
-    refused_rows v ws (with_fault (app_for v) (app_for v) ws k refl told)
+    let is_fault = subst (IsAmong k) ((answers_as v a e).faults ws) among in
+    refused_rows v ws (with_fault (app_for v) (app_for v) ws k refl is_fault)
 
 -- commands that were made, and one more that was made, are all made
 pub made_more : (xs : List MadeCommand) (x : MadeCommand) → All IsMade xs → IsMade x → All IsMade (xs ++ x ∷ [])

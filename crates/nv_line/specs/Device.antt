@@ -4,18 +4,18 @@ use Rattle.std.specs.Prelude.{Option, Some, None, option_map, option_and_then}
 use Rattle.std.specs.List.{after_first, before_first, position_or_len}
 use Rattle.std.specs.Str.{bytes_eq}
 use Rattle.clap.specs.Words.{Text}
-use Rattle.nv_line.specs.Values.{plain_number, within}
+use Rattle.nv_line.specs.Values.{decimal_number, within}
 use Rattle.nv_line.specs.declared.device.Device.{Device}
 use Rattle.nv_line.specs.Word.{nsid_limit}
 
 -- X, the place of a controller in the subsystem's file
 abbrev pub controller_index : ℕ → Text → Option ℕ
 controller_index controllers text =
-    option_and_then (λ x. if nat_lt x controllers then Some x else None) (plain_number text)
+    option_and_then (λ x. if nat_lt x controllers then Some x else None) (decimal_number text)
 
 -- Y, an NSID
 abbrev pub nsid_of : Text → Option ℕ
-nsid_of text = option_and_then (within 1 nsid_limit) (plain_number text)
+nsid_of text = option_and_then (within 1 nsid_limit) (decimal_number text)
 
 -- the letter n
 abbrev pub is_n : ℕ → Bool

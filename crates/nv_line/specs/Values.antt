@@ -60,8 +60,8 @@ list_in text =
     if nat_le (length pieces) most_cntlids then identifiers_in pieces else None
 
 -- decimal digits without leading zeros
-abbrev pub plain_number : Text → Option ℕ
-plain_number text =
+abbrev pub decimal_number : Text → Option ℕ
+decimal_number text =
     if slice_index text 0 == 48 && nat_lt 1 (length text) then None else digits_of 10 text
 
 -- the number that is given, or its default; if there is none, it is a usage fault

@@ -3,7 +3,7 @@
 ghost use Rattle.std.specs.Prelude.{◌≡◌, ◌<◌, IfSome};
 ghost use Rattle.nv_line.specs.Device.{controller_index, device_of};
 
-use crate::value::plain;
+use crate::value::decimal;
 
 /// The greatest NSID.
 pub const NSID_LIMIT: u64 = 0xffff_ffff;
@@ -21,7 +21,7 @@ fn controller_index(text: &str, controllers: u16) -> Option<u16>
     ensures value { result ≡ controller_index controllers text.now }
     ensures known { IfSome result (λ x. x < controllers) }
 {
-    let value = plain(text, 0, u16::MAX as u64)? as u16;
+    let value = decimal(text, 0, u16::MAX as u64)? as u16;
     if value < controllers {
         Some(value)
     } else {
@@ -36,7 +36,7 @@ pub(crate) fn read_device(text: &str, controllers: u16) -> Option<Device>
 {
     let address = text.strip_prefix("/dev/nvme")?;
     let (x, nsid) = match address.split_once('n') {
-        Some((x, y)) => (x, Some(plain(y, 1, NSID_LIMIT)? as u32)),
+        Some((x, y)) => (x, Some(decimal(y, 1, NSID_LIMIT)? as u32)),
         None => (address, None),
     };
     let controller = controller_index(x, controllers)?;

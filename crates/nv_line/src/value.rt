@@ -4,7 +4,7 @@ ghost use Rattle.std.specs.Prelude.{◌≡◌, ◌≤◌, IfOk, option_and_then}
 ghost use Rattle.clap.specs.Words.{found_of, rows_of};
 ghost use Rattle.nv_line.specs.inner.OptionName.{IsSound};
 ghost use Rattle.nv_line.specs.Values.{digits_of, flag_in, format_in, list_in, list_option_in};
-ghost use Rattle.nv_line.specs.Values.{number_in, number_option_in, plain_number, within};
+ghost use Rattle.nv_line.specs.Values.{number_in, number_option_in, decimal_number, within};
 
 use crate::clap_rule::text_of;
 use crate::device::Device;
@@ -45,8 +45,8 @@ pub fn parse_number(text: &str, least: u64, most: u64) -> Option<u64>
 }
 
 /// Returns a number from `least` to `most`, which is written in decimal and without leading zeros.
-pub(crate) fn plain(text: &str, least: u64, most: u64) -> Option<u64>
-    ensures { result ≡ option_and_then (within least most) (plain_number text.now) }
+pub(crate) fn decimal(text: &str, least: u64, most: u64) -> Option<u64>
+    ensures { result ≡ option_and_then (within least most) (decimal_number text.now) }
 {
     let bytes = text.as_bytes();
     if bytes.len() > 1 && bytes[0] == b'0' {

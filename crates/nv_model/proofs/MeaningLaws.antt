@@ -82,11 +82,11 @@ pub record IsSound (kind : ReplyKind) (m : Meaning) : Type 0 where
   pub controllers : (s : State) (c : ℕ) → length (m.effect s c).controllers ≡ length s.controllers
 
 -- a meaning that tells something is sound if its rows refuse, and its replies are of this kind and fit their records
-tells : (kind : ReplyKind) (rows : State → ℕ → List Row) (told : State → ℕ → Reply)
+tells : (kind : ReplyKind) (rows : State → ℕ → List Row) (reply : State → ℕ → Reply)
     → ((s : State) (c : ℕ) → AllRefuse (rows s c))
-    → ((s : State) (c : ℕ) → kind_of (told s c) ≡ kind)
-    → ((s : State) (c : ℕ) → IsWellFormed s → FitsRecord (told s c)) → IsSound kind (telling rows told)
-tells kind rows told refuse is fits = assumption
+    → ((s : State) (c : ℕ) → kind_of (reply s c) ≡ kind)
+    → ((s : State) (c : ℕ) → IsWellFormed s → FitsRecord (reply s c)) → IsSound kind (telling rows reply)
+tells kind rows reply refuse is fits = assumption
 
 -- the meaning of each command is sound
 pub sound : (k : Command) → IsSound (form_of k).reply (meaning_of k)

@@ -8,7 +8,7 @@ use Rattle.nv_command.specs.declared.features.FeatureSetting.{FeatureSetting}
 use Rattle.nv_model.specs.Change.{changed_at}
 use Rattle.nv_model.specs.Values.{FeatureRules, rule_of, default_of, written, FeatureValues, key_of}
 use Rattle.nv_model.specs.Features.{feature_number, get_feature_rows, is_set, selected, set_feature_rows}
-use Rattle.nv_model.specs.Features.{set_rows, told, with_feature, with_value, write}
+use Rattle.nv_model.specs.Features.{asked_value, set_rows, with_feature, with_value, write}
 use Rattle.nv_model.proofs.Words.{and_parts, AreValues, changed, changed_nsids, Controller, controller_at, Feature}
 use Rattle.nv_model.proofs.Words.{feature_of, FeatureRule, FeatureValue, first_refusal, fold, if◌then◌else◌}
 use Rattle.nv_model.proofs.Words.{InvalidFieldInCommand, is_accepted, is_get_selector}
@@ -154,9 +154,9 @@ selected_fits rule f sel selector x default is =
     grind (arith, common_steps, and_parts, is_value, option_map_or, value_fits, chosen_fits, row_of, unwrap_or)
 
 -- what a Get names for a controller's feature is a number of 32 bits
-told_fits : (s : State) (x : Controller) → IsController s.namespaces x
-    → (q : FeatureQuery) (f : Feature) → told q f x < 2 ^ 32
-told_fits s x is q f = chosen_fits (λ m. m < 2 ^ 32) (is_get_selector f q.cdw11) _ 0
+asked_value_fits : (s : State) (x : Controller) → IsController s.namespaces x
+    → (q : FeatureQuery) (f : Feature) → asked_value q f x < 2 ^ 32
+asked_value_fits s x is q f = chosen_fits (λ m. m < 2 ^ 32) (is_get_selector f q.cdw11) _ 0
     (by (selector_in f q.cdw11)
     (map_of.get x.values (key_of f q.nsid (selector_in f q.cdw11))) refl)
     (lit< tt)
@@ -174,11 +174,11 @@ pub feature_number_fits : (s : State) (c : ℕ) (q : FeatureQuery) → IsWellFor
 feature_number_fits s c q w = by_feature (feature_of q.fid)
   where
     by_controller : (f : Feature) (o : Option Controller) → controller_at s c ≡ o
-        → option_map_or (told q f) o 0 < 2 ^ 32
+        → option_map_or (asked_value q f) o 0 < 2 ^ 32
     by_controller f None e = lit< tt
-    by_controller f (Some x) e = told_fits s x (is_controller s c w x e) q f
+    by_controller f (Some x) e = asked_value_fits s x (is_controller s c w x e) q f
 
     by_feature : (o : Option Feature)
-        → option_map_or (λ f. option_map_or (told q f) (controller_at s c) 0) o 0 < 2 ^ 32
+        → option_map_or (λ f. option_map_or (asked_value q f) (controller_at s c) 0) o 0 < 2 ^ 32
     by_feature None = lit< tt
     by_feature (Some f) = by_controller f (controller_at s c) refl

@@ -89,19 +89,19 @@ selected rule f sel selector x =
     else capabilities rule f
 
 -- what a select names for a controller's feature, under a selector
-abbrev pub told_under : ℕ → Feature → ℕ → ℕ → Controller → ℕ
-told_under selector f sel n x = option_map_or (selected (rule_of x.rules f) f sel selector)
+abbrev pub value_under : ℕ → Feature → ℕ → ℕ → Controller → ℕ
+value_under selector f sel n x = option_map_or (selected (rule_of x.rules f) f sel selector)
     (map_of.get x.values (key_of f n selector)) 0
 
 -- what a select names for a controller's feature, under the selector in CDW11
-abbrev pub told : FeatureQuery → Feature → Controller → ℕ
-told q f x =
-    if is_get_selector f q.cdw11 then told_under (selector_in f q.cdw11) f q.sel q.nsid x else 0
+abbrev pub asked_value : FeatureQuery → Feature → Controller → ℕ
+asked_value q f x =
+    if is_get_selector f q.cdw11 then value_under (selector_in f q.cdw11) f q.sel q.nsid x else 0
 
 -- the number that a Get Features returns
 abbrev pub feature_number : State → ℕ → FeatureQuery → ℕ
 feature_number s c q =
-    option_map_or (λ f. option_map_or (told q f) (controller_at s c) 0) (feature_of q.fid) 0
+    option_map_or (λ f. option_map_or (asked_value q f) (controller_at s c) 0) (feature_of q.fid) 0
 
 -- ---- effects
 

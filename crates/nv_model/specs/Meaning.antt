@@ -30,7 +30,7 @@ pub record Meaning : Type 0 where
 
 -- it returns something, and changes nothing
 abbrev pub telling : (State → ℕ → List Row) → (State → ℕ → Reply) → Meaning
-telling rows told = record { rows = rows; reply = told; effect = λ s c. s }
+telling rows reply = record { rows = rows; reply = reply; effect = λ s c. s }
 
 -- it changes something, and returns success
 abbrev pub changing : (State → ℕ → List Row) → (State → ℕ → State) → Meaning

@@ -7,6 +7,7 @@ ghost use Rattle.std.specs.Prelude.{◌≡◌, ◌-◌, ◌^◌};
 ghost use Rattle.nv_model.specs.declared.integer.TheConstants.{GREATEST_INTEGER};
 ghost use Rattle.nv_model.specs.declared.origin.TheConstants.{CID_COUNT};
 
+mod command_counts;
 mod defaults;
 mod feature_rule;
 mod feature_value;
@@ -17,6 +18,7 @@ mod namespace;
 mod origin;
 mod smart_base;
 
+pub use command_counts::CommandCounts;
 pub use defaults::Defaults;
 pub use feature_rule::FeatureRule;
 pub use feature_value::FeatureValue;

@@ -20,12 +20,12 @@ use Rattle.nv_subsystem.specs.FromFile.{subsystem}
 
 -- these are the first bytes of a file, if its bytes are known, and all of them if they are fewer than `most`
 abbrev pub AreFirst : ℕ → Option (List ℕ) → List ℕ → Type 0
-AreFirst most told bytes =
-    (rest : List ℕ) × IfSome told (λ known. known ≡ bytes ++ rest) × (length bytes < most → rest ≡ [])
+AreFirst most chosen bytes =
+    (rest : List ℕ) × IfSome chosen (λ known. known ≡ bytes ++ rest) × (length bytes < most → rest ≡ [])
 
 -- the bytes that came when at most `most` were asked for are the first ones
-first_came : (most : ℕ) (told : Option (List ℕ)) (start bytes : List ℕ) → start ≡ []
-    → IfSome (option_map (take most) told) (λ came. bytes ≡ start ++ came) → AreFirst most told bytes
+first_came : (most : ℕ) (chosen : Option (List ℕ)) (start bytes : List ℕ) → start ≡ []
+    → IfSome (option_map (take most) chosen) (λ came. bytes ≡ start ++ came) → AreFirst most chosen bytes
 first_came most None start bytes none came = ([], tt, λ few. refl)
 first_came most (Some all) start bytes none came =
     let is : bytes ≡ take most all = came ∙ ap (λ s. s ++ take most all) none in (

@@ -3,7 +3,7 @@ use Rattle.std.specs.Prelude.{◌≡◌, ◌≢◌, ◌<◌, ◌≤◌, ◌⊎�
 use Rattle.std.specs.Prelude.{Result, Ok, Err}
 use Rattle.std.specs.declared.io.ErrorKind.{ErrorKind}
 use Rattle.std.specs.declared.io.ErrorKind.TheVariants.{OutOfMemory}
-use Rattle.nv_arguments.specs.Arguments.{Told}
+use Rattle.nv_arguments.specs.Arguments.{Chosen}
 use Rattle.nv_arguments.specs.declared.fault.ArgumentsFault.{ArgumentsFault}
 use Rattle.nv_driver.specs.declared.geometry.Geometry.{Geometry}
 use Rattle.nv_file.specs.Demo.{demo_text}
@@ -50,15 +50,15 @@ IsSubsystemAt had failed None (Err why) = IsBuiltInStop why
 IsSubsystemAt had failed (Some path) r = IsSubsystemOf (had path) (failed path) r
 
 -- for valid arguments: the subsystem that they name and their geometry, or a stop because of the subsystem
-abbrev pub IsAskedBy : (List ℕ → List ℕ → Type 0) → (List ℕ → ErrorKind → Type 0) → Told
+abbrev pub IsAskedBy : (List ℕ → List ℕ → Type 0) → (List ℕ → ErrorKind → Type 0) → Chosen
     → Result (State × Geometry) Stop → Type 0
-IsAskedBy had failed told (Ok asked) =
-    IsSubsystemAt had failed told.subsystem (Ok asked.0) × (asked.1 ≡ told.geometry)
-IsAskedBy had failed told (Err why) = IsSubsystemAt had failed told.subsystem (Err why)
+IsAskedBy had failed chosen (Ok asked) =
+    IsSubsystemAt had failed chosen.subsystem (Ok asked.0) × (asked.1 ≡ chosen.geometry)
+IsAskedBy had failed chosen (Err why) = IsSubsystemAt had failed chosen.subsystem (Err why)
 
 -- for valid arguments, the subsystem and the geometry, or a fault of the file; for others their
 -- fault, unless there was no memory. `had` and `failed` are what the files say of a name
 abbrev pub IsAsked : (List ℕ → List ℕ → Type 0) → (List ℕ → ErrorKind → Type 0)
-    → Result Told ArgumentsFault → Result (State × Geometry) Stop → Type 0
-IsAsked had failed (Ok told) r = IsAskedBy had failed told r
+    → Result Chosen ArgumentsFault → Result (State × Geometry) Stop → Type 0
+IsAsked had failed (Ok chosen) r = IsAskedBy had failed chosen r
 IsAsked had failed (Err fault) r = (r ≡ Err stop.Memory) ⊎ (r ≡ Err (of_arguments fault))

@@ -137,14 +137,14 @@ module _ (w : Standing) (c : ℕ) (s : State) (d : DriverValue) (listing : Listi
       grind (arith, common_steps, length_answers, many, take-append_seam, is_due, answers, known)
 
   -- a batch leaves the standing after the commands for its namespaces, or a right stop
-  pub batch_leaves : {A : Type 0} (r : Result A NoText) (now : State) (after : DriverValue) (told : Listing)
+  pub batch_leaves : {A : Type 0} (r : Result A NoText) (now : State) (after : DriverValue) (kept : Listing)
       (given : List Answer) (went : List Batch → Type 0)
       → 0 < length ns → now ≡ state_after c s now_due ks → after ≡ after_commands d c (length ks)
       → given ≡ answers_to w (namespace_orders c ns) → went (asking_for c ns ∷ [])
-      → OnOk r (told ≡ listing_of listing (map (order_of c) ks) given) → IfErr r (λ stop. IsHandedOn stop given)
-      → ListLeaves r w (asking_for c ns ∷ []) now (next_cids_of after) told went
-  batch_leaves (Ok x) now after told given went some state driver a gone e refused = (
-    subst (λ os. IsListed (asked_all w os) now (next_cids_of after) told) (sym (batch_orders c ns)) (record {
+      → OnOk r (kept ≡ listing_of listing (map (order_of c) ks) given) → IfErr r (λ stop. IsHandedOn stop given)
+      → ListLeaves r w (asking_for c ns ∷ []) now (next_cids_of after) kept went
+  batch_leaves (Ok x) now after kept given went some state driver a gone e refused = (
+    subst (λ os. IsListed (asked_all w os) now (next_cids_of after) kept) (sym (batch_orders c ns)) (record {
       subsystem = batch_state now state;
       next = batch_cids after some driver;
       listed = e
@@ -155,10 +155,10 @@ module _ (w : Standing) (c : ℕ) (s : State) (d : DriverValue) (listing : Listi
     }),
     gone,
   )
-  batch_leaves (Err (stop.Refused status)) now after told given went some state driver a gone e refused =
+  batch_leaves (Err (stop.Refused status)) now after kept given went some state driver a gone e refused =
       subst (λ xs. Contains xs (Err status)) (a ∙ ap (answers_to w) (sym (batch_orders c ns))) refused
-  batch_leaves (Err stop.Memory) now after told given went some state driver a gone e refused =
+  batch_leaves (Err stop.Memory) now after kept given went some state driver a gone e refused =
       begun_all w (asking_for c ns ∷ []) now (next_cids_of after) went
       (batch_state now state ∙ ap (λ os. (asked_all w os).state) (sym (batch_orders c ns)))
       (batch_cids after some driver ∙ ap (λ os. (asked_all w os).next_cids) (sym (batch_orders c ns))) gone
-  batch_leaves (Err stop.NoReady) now after told given went some state driver a gone e refused = absurd refused
+  batch_leaves (Err stop.NoReady) now after kept given went some state driver a gone e refused = absurd refused

@@ -3,7 +3,7 @@ use Rattle.nv_script.proofs.Words.{[], ℕ, ◌++◌, ◌+◌, ◌<◌, ◌∙�
 use Rattle.nv_script.proofs.Words.{Contains-append_left, Err, IsListed, List, ListLeaves, Listing, NoText, Ok, Order}
 use Rattle.nv_script.proofs.Words.{Result, Send, Standing, State, answers_to, ap, append-nil, append_assoc, arith}
 use Rattle.nv_script.proofs.Words.{asked, asked_all, common_steps, drop, exchange_of, fold-append, get_or, length}
-use Rattle.nv_script.proofs.Words.{listing_of, listing_told, map, no_listing, order_of, orders_in, orders_in_all, refl}
+use Rattle.nv_script.proofs.Words.{listing_of, listing_after, map, no_listing, order_of, orders_in, orders_in_all, refl}
 use Rattle.nv_script.proofs.Words.{subst, sym}
 use Rattle.std.proofs.lemmas.List.{at_drop_more}
 use Rattle.std.proofs.lemmas.List.Concat.{flat_map-append}
@@ -41,12 +41,12 @@ listing_asked w [] = refl
 listing_asked w (o ∷ os) = listing_asked (asked w o) os
 
 -- listing the rest of some answers lists the first of them and then the others
-pub told_more : (c : ℕ) (l : Listing) (ks : List Command) (xs : List Answer) (i : ℕ) (dk : Command) (da : Answer)
+pub listing_more : (c : ℕ) (l : Listing) (ks : List Command) (xs : List Answer) (i : ℕ) (dk : Command) (da : Answer)
     → i < length ks → i < length xs
     → listing_of l (map (order_of c) (drop i ks)) (drop i xs)
-    ≡ listing_of (listing_told c l (Send (get_or ks i dk)) (get_or xs i da)) (map (order_of c) (drop (i + 1) ks))
+    ≡ listing_of (listing_after c l (Send (get_or ks i dk)) (get_or xs i da)) (map (order_of c) (drop (i + 1) ks))
     (drop (i + 1) xs)
-told_more c l ks xs i dk da some answered = grind (arith, common_steps, at_drop_more)
+listing_more c l ks xs i dk da some answered = grind (arith, common_steps, at_drop_more)
 
 module _ (w : Standing) (done all : List Batch) where
   -- the standing after the first batches

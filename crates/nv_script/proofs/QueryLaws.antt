@@ -28,11 +28,11 @@ reply_or_done (Ok r) = r
 reply_or_done (Err status) = reply.Done
 
 -- Identify Controller says how many errors a controller keeps
-kept_told : (s : State) (o : Option Controller)
+identity_of_kept : (s : State) (o : Option Controller)
     → (option_map_or (id_ctrl_of s) o no_controller).elpe + 1 ≡ option_map_or (λ x. x.identity.numbers.elpe + 1) o 1
 unfolding id_ctrl_of_bytes number_at
-kept_told s None = refl
-kept_told s (Some x) = refl
+identity_of_kept s None = refl
+identity_of_kept s (Some x) = refl
 
 module _ (s : State) (next_cids : List ℕ) (c entries : ℕ) where
   -- the log command by the reply to Identify Controller is the one for as many entries as the controller keeps
@@ -40,7 +40,7 @@ module _ (s : State) (next_cids : List ℕ) (c entries : ℕ) where
       → Ok r ≡ answer_received IdentifyController (step_by refusal s c IdentifyController (get_or next_cids c 0)).answer
       → log_command entries r ≡ errors_command entries (entry_count s c)
   unfolding reply_or_done
-  log_next None r e = grind (arith, common_steps, reply_or_done, kept_told)
+  log_next None r e = grind (arith, common_steps, reply_or_done, identity_of_kept)
   log_next (Some refusal) r e = absurd (cc)
 
   -- the same if the reply is the answer in the exchange of that order
@@ -127,20 +127,20 @@ module _ (s now : State) (next_cids next : List ℕ) (c entries : ℕ) where
   abbrev later : List Order
   later = order_of c (errors_command entries (entry_count s c)) ∷ []
 
-  module _ (last : State) (end : List ℕ) (told : Reply)
-      (e : exchange_with (Ok told) now next ≡ exchange_of s next_cids first) (k : Command)
-      (is : k ≡ log_command entries told) (went : List Batch → Type 0)
+  module _ (last : State) (end : List ℕ) (identity : Reply)
+      (e : exchange_with (Ok identity) now next ≡ exchange_of s next_cids first) (k : Command)
+      (is : k ≡ log_command entries identity) (went : List Batch → Type 0)
       (gone : went (alone c IdentifyController ∷ alone c k ∷ [])) where
     -- the log command is the one for as many entries as the controller keeps
     log_is : k ≡ errors_command entries (entry_count s c)
-    log_is = is ∙ log_is_next s next_cids c entries told (ap (λ (x : Exchange). x.answer) e)
+    log_is = is ∙ log_is_next s next_cids c entries identity (ap (λ (x : Exchange). x.answer) e)
 
     -- the outcome of both orders is the first reply and then the outcome of the second order
     begun : outcome_of s next_cids (orders_of s (One c log))
-        ≡ outcome_after (Ok told) now next (outcome_of now next (order_of c k ∷ []))
+        ≡ outcome_after (Ok identity) now next (outcome_of now next (order_of c k ∷ []))
     begun =
-        accepted_first s now next_cids next first later told e
-        ∙ ap (λ x. outcome_after (Ok told) now next (outcome_of now next (order_of c x ∷ []))) (sym log_is)
+        accepted_first s now next_cids next first later identity e
+        ∙ ap (λ x. outcome_after (Ok identity) now next (outcome_of now next (order_of c x ∷ []))) (sym log_is)
 
     -- both batches went
     both_gone : went (batches_of s (One c log))
@@ -151,16 +151,18 @@ module _ (s now : State) (next_cids next : List ℕ) (c entries : ℕ) where
         → exchange_with (Err status) last end ≡ exchange_of now next (order_of c k)
         → NoTextLeaves (stop.Refused status) (One c log) s next_cids last end went
     second_refused status e2 =
-        left_refused s last next_cids end (One c log) went both_gone (told ∷ []) status
-        (begun ∙ ap (outcome_after (Ok told) now next) (refused_at_once now last next end (order_of c k) [] status e2))
+        left_refused s last next_cids end (One c log) went both_gone (identity ∷ []) status
+        (begun
+        ∙ ap (outcome_after (Ok identity) now next) (refused_at_once now last next end (order_of c k) [] status e2))
         refl
 
     -- if both orders are accepted, the reply to the second one is right
     pub both_accepted : (reply : Reply) → exchange_with (Ok reply) last end ≡ exchange_of now next (order_of c k)
         → AskLeaves (Ok reply) c log s next_cids last end went
     both_accepted reply e2 =
-        left_shown s last next_cids end (One c log) went both_gone (shown_by log reply) (told ∷ reply ∷ [])
-        (begun ∙ ap (outcome_after (Ok told) now next) (accepted_first now last next end (order_of c k) [] reply e2))
+        left_shown s last next_cids end (One c log) went both_gone (shown_by log reply) (identity ∷ reply ∷ [])
+        (begun
+        ∙ ap (outcome_after (Ok identity) now next) (accepted_first now last next end (order_of c k) [] reply e2))
         refl
 
 -- ---- a request

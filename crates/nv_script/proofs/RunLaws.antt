@@ -2,7 +2,7 @@
 use Rattle.nv_script.proofs.Words.{[], ℕ, ◌++◌, ◌+◌, ◌<◌, ◌∙◌, ◌∷◌, ◌≡◌, ◌≤◌, Bool, DriverValue, Err, GoesAll, Going}
 use Rattle.nv_script.proofs.Words.{Left, List, None, OutWrite, Progress, RunEnd, RunState, Session, Stands, State}
 use Rattle.nv_script.proofs.Words.{WasRead, ap, append-nil, arith}
-use Rattle.nv_script.proofs.Words.{as_line, common_steps, false, fault_of, inl, inr, joined_lines, length}
+use Rattle.nv_script.proofs.Words.{as_line, common_steps, false, geometry_fault, inl, inr, joined_lines, length}
 use Rattle.nv_script.proofs.Words.{length-append, length-take-le, nat_tests, next_cids_of, pieces, read_size, replicate}
 use Rattle.nv_script.proofs.Words.{subst, sym, take, whole}
 use Rattle.std.proofs.Common.{◌==◌, ◌||◌, ◌↔◌, Option, Some}
@@ -170,7 +170,7 @@ without None e end same gives = gives.1 same
 -- a run from the bus and the driver that bringing it up leaves is a run
 pub with_driver : {B : Type 0} (brings_up : BringingUp B) (goes : Going B) (g : DriverGeometry) (reads : ℕ)
     (end : RunEnd) (before up after : B) (first last : DriverValue) (old new : RunState) (s : State)
-    (enabled : List Bool) → fault_of g ≡ None → s ≡ begun old
+    (enabled : List Bool) → geometry_fault g ≡ None → s ≡ begun old
     → brings_up g (length old.subsystem.controllers) before up
     → first ≡ new_driver g (length old.subsystem.controllers)
     → RunsFrom s reads end (GoesAll goes first up last after) (record old { subsystem = s; enabled = enabled }) new
@@ -208,7 +208,7 @@ runs_headline : {B : Type 0} (brings_up : BringingUp B) (goes : Going B) (g : Dr
     (end : RunEnd) (before after : B) (old new : RunState)
     → Runs brings_up goes g reads end before after old new → Headline brings_up goes g end before after old new
 runs_headline brings_up goes g reads end before after old new (inl h) status e =
-    absurd (no_status (fault_of g) status (sym h.0 ∙ e))
+    absurd (no_status (geometry_fault g) status (sym h.0 ∙ e))
 runs_headline brings_up goes g reads end before after old new (inr h) status e =
     headline_with brings_up goes g reads end before after old new h.2 status e
 
@@ -224,9 +224,9 @@ geometry_without (Some f) field =
 -- a run ends with a field of the geometry if and only if that is the first one outside its limits
 runs_geometry : {B : Type 0} (brings_up : BringingUp B) (goes : Going B) (g : DriverGeometry) (reads : ℕ)
     (end : RunEnd) (before after : B) (old new : RunState) (field : GeometryField)
-    → Runs brings_up goes g reads end before after old new → (end ≡ Geometry field) ↔ (fault_of g ≡ Some field)
+    → Runs brings_up goes g reads end before after old new → (end ≡ Geometry field) ↔ (geometry_fault g ≡ Some field)
 runs_geometry brings_up goes g reads end before after old new field (inl h) =
-    subst (λ x. (x ≡ Geometry field) ↔ (fault_of g ≡ Some field)) (sym h.0) (geometry_without (fault_of g) field)
+    subst (λ x. (x ≡ Geometry field) ↔ (geometry_fault g ≡ Some field)) (sym h.0) (geometry_without (geometry_fault g) field)
 runs_geometry brings_up goes g reads end before after old new field (inr h) =
     let is = h.0 in
     let ended = h.2.3.end_of in grind (arith, common_steps, is, ended)

@@ -3,7 +3,8 @@ use Rattle.nv_script.proofs.Words.{[], ℕ, ◌++◌, ◌∙◌, ◌∷◌, ◌�
 use Rattle.nv_script.proofs.Words.{List, Listing, None, Ok, Order, Outcome, Query, Refusal, Reply, Result, Send, Shown}
 use Rattle.nv_script.proofs.Words.{State, Status, above, active_nsids, answer_received, ap, append-nil, append_assoc}
 use Rattle.nv_script.proofs.Words.{arith, common_steps, exchange_by, exchange_of, false, flat_map, get_or}
-use Rattle.nv_script.proofs.Words.{if◌then◌else◌, length, listing_of, listing_told, map, map-append, nat_lt, no_listing}
+use Rattle.nv_script.proofs.Words.{if◌then◌else◌, length, listing_of, listing_after, map, map-append, nat_lt}
+use Rattle.nv_script.proofs.Words.{no_listing}
 use Rattle.nv_script.proofs.Words.{nat_tests, option_map_or, order_of, orders_of, outcome_after, outcome_of}
 use Rattle.nv_script.proofs.Words.{range_with_len, refl, refusal_of, reply_of, step_by, suc, sym, true}
 use Rattle.std.proofs.Common.{◌/◌, Option, Some, zero}
@@ -162,28 +163,28 @@ places_in l = map device_numbers l.devices
 
 module _ (s : State) (next_cids : List ℕ) (c : ℕ) (l : Listing) where
   -- an answer to this act lists the namespace that the act asks for, and no other
-  abbrev Tells : Act → Reply → Type 0
-  Tells a reply = places_in (listing_told c l a (Ok reply)) ≡ places_in l ++ asked_place c a
+  abbrev Keeps : Act → Reply → Type 0
+  Keeps a reply = places_in (listing_after c l a (Ok reply)) ≡ places_in l ++ asked_place c a
 
   -- the answer to Identify Controller lists no namespace
-  identity_told : (reply : Reply) → Tells (Send command.IdentifyController) reply
-  identity_told (reply.Controller identity) = sym (append-nil (places_in l))
-  identity_told r = sym (append-nil (places_in l))
+  identity_kept : (reply : Reply) → Keeps (Send command.IdentifyController) reply
+  identity_kept (reply.Controller identity) = sym (append-nil (places_in l))
+  identity_kept r = sym (append-nil (places_in l))
 
   -- the answer to an accepted Identify Namespace lists that namespace
-  namespace_told : (n : ℕ) (refusal : Option Refusal) (reply : Reply)
+  namespace_kept : (n : ℕ) (refusal : Option Refusal) (reply : Reply)
       → answer_received (command.IdentifyNamespace n)
       (step_by refusal s c (command.IdentifyNamespace n) (get_or next_cids c 0)).answer ≡ Ok reply
-      → Tells (Send (command.IdentifyNamespace n)) reply
-  namespace_told n None reply e = grind (arith, common_steps, map-append)
-  namespace_told n (Some r) reply e = absurd (cc e)
+      → Keeps (Send (command.IdentifyNamespace n)) reply
+  namespace_kept n None reply e = grind (arith, common_steps, map-append)
+  namespace_kept n (Some r) reply e = absurd (cc e)
 
   -- the answer to any accepted act lists the namespace that it asks for
-  told : (a : Act) (reply : Reply) → (exchange_by a s next_cids c).answer ≡ Ok reply → Tells a reply
-  told (Send command.IdentifyController) reply e = identity_told reply
-  told (Send (command.IdentifyNamespace n)) reply e =
-      namespace_told n (refusal_of s c (command.IdentifyNamespace n)) reply e
-  told a reply e = sym (append-nil (places_in l))
+  kept : (a : Act) (reply : Reply) → (exchange_by a s next_cids c).answer ≡ Ok reply → Keeps a reply
+  kept (Send command.IdentifyController) reply e = identity_kept reply
+  kept (Send (command.IdentifyNamespace n)) reply e =
+      namespace_kept n (refusal_of s c (command.IdentifyNamespace n)) reply e
+  kept a reply e = sym (append-nil (places_in l))
 
 -- if none of the orders is refused, the listing has the namespaces that they ask for, in order
 abbrev AreListed : List Order → State → List ℕ → Listing → Type 0
@@ -205,7 +206,7 @@ module _ (s : State) (next_cids : List ℕ) (o : Order) (os : List Order) (l : L
       → (after answer).refusal ≡ None
       → places_in (listing_of l (o ∷ os) (map Ok (after answer).replies)) ≡ places_in l ++ flat_map order_place (o ∷ os)
   one_more later (Err status) is e = absurd (cc e)
-  one_more later (Ok reply) is e = grind (arith, common_steps, told, append_assoc)
+  one_more later (Ok reply) is e = grind (arith, common_steps, kept, append_assoc)
 
 -- accepted orders are listed in order, whatever was listed before
 all_listed : (orders : List Order) (s : State) (next_cids : List ℕ) (l : Listing) → AreListed orders s next_cids l

@@ -10,7 +10,7 @@ pub use Rattle.nv_command.specs.declared.reply.Reply.{Reply}
 pub use Rattle.nv_command.specs.declared.reply.Reply.TheVariants.{Done}
 pub use Rattle.nv_driver.specs.Answer.{Answer}
 pub use Rattle.nv_driver.specs.Driver.{after_command, pair_at}
-pub use Rattle.nv_driver.specs.Geometry.{fault_of}
+pub use Rattle.nv_driver.specs.Geometry.{geometry_fault}
 pub use Rattle.nv_driver.specs.Linked.{IsLinked}
 pub use Rattle.nv_driver.specs.QueuePair.{QueuePair}
 pub use Rattle.nv_driver.specs.Settled.{DriverValue}
@@ -36,7 +36,7 @@ pub use Rattle.nv_script.specs.Outcomes.{Act, Exchange, Order, Outcome, Reset, S
 pub use Rattle.nv_script.specs.Outcomes.{exchange_with, order_of, outcome_after, outcome_of}
 pub use Rattle.nv_script.specs.Results.{LineResult, Progress, after, whole}
 pub use Rattle.nv_script.specs.ScriptLines.{as_line, pieces}
-pub use Rattle.nv_script.specs.Shown.{listing_of, listing_told, no_listing}
+pub use Rattle.nv_script.specs.Shown.{listing_of, listing_after, no_listing}
 pub use Rattle.nv_script.specs.declared.ends.RunEnd.{RunEnd}
 pub use Rattle.nv_script.specs.declared.ends.RunEnd.TheVariants.{OutWrite}
 pub use Rattle.nv_script.specs.declared.listing.Listing.{Listing}

@@ -6,7 +6,7 @@ use Rattle.nv_model.specs.Step.{reset_where}
 use Rattle.nv_model.specs.State.{State}
 use Rattle.nv_bus.specs.Bus.{BusValue, enabled_in}
 use Rattle.nv_driver.specs.Driver.{new_driver}
-use Rattle.nv_driver.specs.Geometry.{fault_of}
+use Rattle.nv_driver.specs.Geometry.{geometry_fault}
 use Rattle.nv_driver.specs.Settled.{DriverValue}
 use Rattle.nv_driver.specs.declared.geometry.Geometry.{Geometry as DriverGeometry}
 use Rattle.nv_driver.specs.declared.geometry_field.GeometryField.{GeometryField}
@@ -115,8 +115,8 @@ WithDriver {B} brings_up goes g before after old holds =
 abbrev pub Runs : {B : Type 0} → BringingUp B → Going B → DriverGeometry → ℕ → RunEnd → B → B
     → RunState → RunState → Type 0
 Runs brings_up goes g reads end before after old new =
-    ((end ≡ end_without (fault_of g)) × (after ≡ before) × (new ≡ old))
-    ⊎ ((fault_of g ≡ None) × AllEnabled new
+    ((end ≡ end_without (geometry_fault g)) × (after ≡ before) × (new ≡ old))
+    ⊎ ((geometry_fault g ≡ None) × AllEnabled new
     × WithDriver brings_up goes g before after old (λ went. RunsFrom (begun old) reads end went old new))
 
 -- the headline: a script whose bytes are known and that was read to its end leaves what the fold
@@ -146,5 +146,5 @@ pub record IsRun {B : Type 0} (brings_up : BringingUp B) (goes : Going B) (g : D
   -- what each end leaves, and how many reads there were
   pub ends : Runs brings_up goes g reads end before after old new
   -- when each fault occurs
-  pub geometry : (field : GeometryField) → (end ≡ Geometry field) ↔ (fault_of g ≡ Some field)
+  pub geometry : (field : GeometryField) → (end ≡ Geometry field) ↔ (geometry_fault g ≡ Some field)
   pub faults : AreFaults reads end new

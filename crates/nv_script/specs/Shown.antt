@@ -78,17 +78,17 @@ abbrev pub no_listing : Listing
 no_listing = record { identity = no_controller; devices = [] }
 
 -- the listing with the answer to an act at controller c; a refusal adds nothing
-abbrev pub listing_told : ℕ → Listing → Act → Result Reply Status → Listing
-listing_told c l (Send IdentifyController) (Ok (reply.Controller identity)) =
+abbrev pub listing_after : ℕ → Listing → Act → Result Reply Status → Listing
+listing_after c l (Send IdentifyController) (Ok (reply.Controller identity)) =
     record l { identity = identity }
-listing_told c l (Send (IdentifyNamespace n)) (Ok (reply.Namespace namespace)) =
+listing_after c l (Send (IdentifyNamespace n)) (Ok (reply.Namespace namespace)) =
     record l { devices = l.devices ++ device_of c n l.identity namespace ∷ [] }
-listing_told c l _ _ = l
+listing_after c l _ _ = l
 
 -- the listing with the answers to some orders
 abbrev pub listing_of : Listing → List Order → List (Result Reply Status) → Listing
 listing_of l (order ∷ orders) (answer ∷ answers) =
-    listing_of (listing_told order.controller l order.act answer) orders answers
+    listing_of (listing_after order.controller l order.act answer) orders answers
 listing_of l _ _ = l
 
 -- ---- what is shown, and how it is printed

@@ -16,7 +16,8 @@ pub use nv_line::{
     Request, parse_number, read_line,
 };
 pub use nv_stream::{
-    Held, OverHeld, OverRead, OverWrite, READ_SIZE, Retrying, Sink, SinkAfter, Source, SourceAfter,
+    OverRead, OverShared, OverWrite, READ_SIZE, Retrying, SharedWriter, Sink, SinkAfter, Source,
+    SourceAfter,
 };
 pub use performing::each_is_shown;
 pub use running::{READ_LIMIT, run, run_within};

@@ -10,17 +10,17 @@ ghost use Rattle.nv_driver.specs.BringingUp.{Still};
 ghost use Rattle.nv_driver.specs.Linked.{IsLinked};
 ghost use Rattle.nv_driver.specs.inner.Linked.{next_cids_of};
 ghost use Rattle.nv_script.specs.inner.Listing.{IsHandedOn, IsListed, ListLeaves, Standing};
-ghost use Rattle.nv_script.specs.inner.Listing.{nsids_told};
+ghost use Rattle.nv_script.specs.inner.Listing.{nsids_listed};
 ghost use Rattle.nv_script.specs.Going.{Goes, GoesAll};
 ghost use Rattle.nv_script.specs.Orders.{asking_for, batches_of_controller, namespace_batches};
 ghost use Rattle.nv_script.specs.inner.Performing.{ListedAll};
-ghost use Rattle.nv_script.specs.Shown.{listing_of, listing_told, no_listing};
+ghost use Rattle.nv_script.specs.Shown.{listing_of, listing_after, no_listing};
 
 use crate::performing::NoText;
 use crate::session::{Answers, BATCH};
 use nv_bus::Bus;
 use nv_command::{Command, Reply};
-use nv_driver::{Answer, AnswerSlot, Driver, Ringing, Zeroing};
+use nv_driver::{Answer, AnswerRoom, Driver, Ringing, Zeroing};
 use nv_layout::IdCtrl;
 use nv_print::{DeviceList, ListedDevice};
 use std::alloc::Global;
@@ -52,10 +52,10 @@ impl Listing {
     }
 
     /// Keeps the answer to a command of a controller. A refusal is returned.
-    fn tell(&mut self, ctrl: u16, command: &Command, answer: Answer) -> Result<(), NoText>
+    fn keep(&mut self, ctrl: u16, command: &Command, answer: Answer) -> Result<(), NoText>
         ensures accepted { OnOk result (IsOk answer.entry) }
-        ensures told { OnOk result
-            (self.new ≡ listing_told ctrl self.old (Send command.now) answer.entry) }
+        ensures kept { OnOk result
+            (self.new ≡ listing_after ctrl self.old (Send command.now) answer.entry) }
         ensures refused { IfErr result (λ stop. IsHandedOn stop (answer.entry ∷ [])) }
     {
         let reply = answer?;
@@ -72,20 +72,20 @@ impl Listing {
     }
 
     /// Keeps the answers to some commands of a controller. A refusal is returned.
-    fn tell_all(
+    fn keep_all(
         &mut self,
         ctrl: u16,
         commands: &[Command],
-        answers: &[AnswerSlot],
+        answers: &[AnswerRoom],
     ) -> Result<(), NoText>
         requires len { length answers.now ≡ length commands.now }
         ensures accepted { OnOk result (All IsOk answers.now) }
-        ensures told { OnOk result
+        ensures kept { OnOk result
             (self.new ≡ listing_of self.old (map (order_of ctrl) commands.now) answers.now) }
         ensures refused { IfErr result (λ stop. IsHandedOn stop answers.now) }
     {
         for i in 0..commands.len() {
-            self.tell(ctrl, &commands[i], answers[i].answer())?;
+            self.keep(ctrl, &commands[i], answers[i].answer())?;
         }
         Ok(())
     }
@@ -93,7 +93,7 @@ impl Listing {
 
 /// Returns the NSIDs in a reply.
 fn nsids_in<'a>(reply: &'a Reply) -> &'a [u32]
-    ensures { result.now ≡ nsids_told reply.now }
+    ensures { result.now ≡ nsids_listed reply.now }
 {
     match reply {
         Reply::List(nsids) => nsids.as_slice(),
@@ -117,7 +117,7 @@ fn commands_for(nsids: &[u32]) -> [Command<'static>; BATCH]
 fn list_batch<B: Bus + Ringing + Zeroing>(
     bus: &mut B,
     driver: &mut Driver,
-    batch: &mut [AnswerSlot; BATCH],
+    batch: &mut [AnswerRoom; BATCH],
     ctrl: u16,
     nsids: &[u32],
     listing: &mut Listing,
@@ -138,14 +138,14 @@ fn list_batch<B: Bus + Ringing + Zeroing>(
     let count = nsids.len();
     let commands = commands_for(nsids);
     driver.admin_all(bus, ctrl, &commands[..count], &mut batch[..count]);
-    listing.tell_all(ctrl, &commands[..count], &batch[..count])
+    listing.keep_all(ctrl, &commands[..count], &batch[..count])
 }
 
 /// Asks a controller for its namespaces, at most sixteen at a time.
 fn list_namespaces<B: Bus + Ringing + Zeroing>(
     bus: &mut B,
     driver: &mut Driver,
-    batch: &mut [AnswerSlot; BATCH],
+    batch: &mut [AnswerRoom; BATCH],
     ctrl: u16,
     nsids: &[u32],
     listing: &mut Listing,
@@ -196,7 +196,7 @@ fn list_controller<B: Bus + Ringing + Zeroing>(
         batch,
     } = answers;
     let identify = Command::IdentifyController;
-    listing.tell(ctrl, &identify, driver.admin(bus, ctrl, &identify, first))?;
+    listing.keep(ctrl, &identify, driver.admin(bus, ctrl, &identify, first))?;
     let attached = driver.admin(bus, ctrl, &Command::ActiveList { after: 0 }, second)?;
     list_namespaces(bus, driver, batch, ctrl, nsids_in(&attached), listing)
 }

@@ -105,8 +105,8 @@ fn last_reply<'a, B: Bus + Ringing + Zeroing>(
             Ok(driver.admin(bus, ctrl, command, first)?)
         }
         Ask::ErrorLog { entries } => {
-            let told = driver.admin(bus, ctrl, &Command::IdentifyController, first)?;
-            let command = log_command(*entries, &told);
+            let identity = driver.admin(bus, ctrl, &Command::IdentifyController, first)?;
+            let command = log_command(*entries, &identity);
             command.fits();
             Ok(driver.admin(bus, ctrl, &command, second)?)
         }

@@ -2,7 +2,7 @@
 
 use crate::ends::RunEnd;
 use nv_bus::Bus;
-use nv_driver::{AnswerSlot, Driver, Geometry, Zeroing};
+use nv_driver::{AnswerRoom, Driver, Geometry, Zeroing};
 use nv_line::CtrlList;
 use std::alloc::Global;
 use std::array;
@@ -13,9 +13,9 @@ pub const BATCH: usize = 16;
 /// Storage for the answers to the commands of one request. It is allocated once for a run.
 #[derive(Drop)]
 pub struct Answers {
-    pub first: AnswerSlot,
-    pub second: AnswerSlot,
-    pub batch: Box<[AnswerSlot; BATCH]>,
+    pub first: AnswerRoom,
+    pub second: AnswerRoom,
+    pub batch: Box<[AnswerRoom; BATCH]>,
 }
 
 /// The state of a run between two lines: where it gets memory, the driver of its bus, storage for
@@ -36,7 +36,7 @@ impl Session {
     ghost use Rattle.nv_bus.specs.Bus.{IsBus, enabled_in};
     ghost use Rattle.nv_driver.specs.BringingUp.{BringsUp, Still};
     ghost use Rattle.nv_driver.specs.Driver.{new_driver};
-    ghost use Rattle.nv_driver.specs.Geometry.{fault_of};
+    ghost use Rattle.nv_driver.specs.Geometry.{geometry_fault};
     ghost use Rattle.nv_model.specs.Step.{reset_where};
     ghost use Rattle.nv_script.specs.Ends.{end_without};
     ghost use Rattle.nv_driver.specs.Linked.{IsLinked};
@@ -57,8 +57,8 @@ impl Session {
         ensures up { IfOk result (λ _. BringsUp B.was_written (Still B.was_read) B.was_zeroed geometry
             (length (B.meaning bus.old).banks) bus.old bus.new) }
         ensures bus { IsBus (B.meaning bus.new) }
-        ensures fault { MatchResult result (λ _. fault_of geometry ≡ None)
-            (λ end. end ≡ end_without (fault_of geometry)) }
+        ensures fault { MatchResult result (λ _. geometry_fault geometry ≡ None)
+            (λ end. end ≡ end_without (geometry_fault geometry)) }
         ensures first { IfOk result (λ s. IsFirst (B.meaning bus.new).state s) }
         ensures driver { IfOk result (λ s. s.driver ≡ new_driver geometry (length (B.meaning bus.old).banks)) }
         ensures linked { IfOk result (λ s. IsLinked (B.meaning bus.new) s.driver) }
@@ -66,7 +66,7 @@ impl Session {
         if let Err(field) = geometry.check() {
             return Err(RunEnd::Geometry(field));
         }
-        let Ok(batch) = Box::new(alloc, array::from_fn(|_| AnswerSlot::new())) else {
+        let Ok(batch) = Box::new(alloc, array::from_fn(|_| AnswerRoom::new())) else {
             return Err(RunEnd::Memory);
         };
         let driver = Driver::bring_up(alloc, bus, geometry)?;
@@ -74,8 +74,8 @@ impl Session {
             alloc,
             driver,
             answers: Answers {
-                first: AnswerSlot::new(),
-                second: AnswerSlot::new(),
+                first: AnswerRoom::new(),
+                second: AnswerRoom::new(),
                 batch,
             },
             listed: CtrlList::new(),

@@ -5,8 +5,8 @@ use Rattle.nv_layout.specs.declared.cqe.Status.{Status}
 use Rattle.nv_layout.specs.declared.sqe.Sqe.{Sqe}
 use Rattle.nv_model.specs.Step.{reset}
 use Rattle.nv_bus.specs.Bus.{BusValue}
-use Rattle.nv_bus.specs.Entry.{told_by}
-use Rattle.nv_bus.specs.declared.told.Told.{Told}
+use Rattle.nv_bus.specs.Entry.{command_result_of}
+use Rattle.nv_bus.specs.declared.command_result.CommandResult.{CommandResult}
 use Rattle.nv_driver.specs.Alone.{IsReceived, asked_in, entry_step}
 use Rattle.nv_driver.specs.Driver.{after_command, after_reset as driver_reset, pair_at}
 use Rattle.nv_driver.specs.Settled.{DriverValue}
@@ -59,15 +59,16 @@ answered_by b d h bytes a below is =
     subst (λ x. IsAnswerIf x (point_of b d) h bytes a) (sym (there b d h below)) is
 
 -- what the driver returned for an entry is the completion and the data of its step
-pub returned_by : (b : BusValue) (d : DriverValue) (c : ℕ) (e : Sqe) (bytes : List ℕ) {told : Told} {out : List ℕ}
+pub returned_by : (b : BusValue) (d : DriverValue) (c : ℕ) (e : Sqe) (bytes : List ℕ)
+    {command_result : CommandResult} {out : List ℕ}
     {n : ℕ} → c < length d.pairs
-    → told ≡ told_by (entry_step b.state c e bytes (pair_at d.pairs c).next_cid).answer
+    → command_result ≡ command_result_of (entry_step b.state c e bytes (pair_at d.pairs c).next_cid).answer
     → IsReceived (asked_in b.state c e bytes) (entry_step b.state c e bytes (pair_at d.pairs c).next_cid).answer out
-    → length out ≡ n → IsReturned (point_of b d) c e bytes n told out
+    → length out ≡ n → IsReturned (point_of b d) c e bytes n command_result out
 returned_by b d c e bytes {out = out} below answer received full =
     let at = next_cid_is d c below in
     record {
-      told_is = answer ∙ ap (λ n. told_by (entry_step b.state c e bytes n).answer) at;
+      command_result_is = answer ∙ ap (λ n. command_result_of (entry_step b.state c e bytes n).answer) at;
       received =
           subst (λ n. IsReceived (asked_in b.state c e bytes) (entry_step b.state c e bytes n).answer out) at received;
       room = full;

@@ -6,7 +6,7 @@ use Rattle.std.specs.Io.KnownBytes.{Appends, Consumes}
 use Rattle.nv_model.specs.Step.{reset_where}
 use Rattle.nv_model.specs.State.{State}
 use Rattle.nv_bus.specs.Bus.{BusValue, enabled_in}
-use Rattle.nv_driver.specs.Geometry.{fault_of}
+use Rattle.nv_driver.specs.Geometry.{geometry_fault}
 use Rattle.nv_driver.specs.declared.geometry.Geometry.{Geometry as DriverGeometry}
 use Rattle.nv_driver.specs.declared.geometry_field.GeometryField.{GeometryField}
 use Rattle.nv_stream.specs.Streams.{IsBeginning, SinkState, SourceState}
@@ -118,7 +118,7 @@ begun b = point (reset_where (enabled_in b.banks) b.state) (replicate (length b.
 abbrev pub Serves : {B : Type 0} → Calls B → DriverGeometry → ServeEnd → B → B
     → BusValue → BusValue → Streams → Streams → Type 0
 Serves k g end before after b b' old new =
-    ((end ≡ end_without (fault_of g)) × (after ≡ before) × (b' ≡ b) × (new ≡ old))
-    ⊎ ((fault_of g ≡ None)
+    ((end ≡ end_without (geometry_fault g)) × (after ≡ before) × (b' ≡ b) × (new ≡ old))
+    ⊎ ((geometry_fault g ≡ None)
     × ((e : RequestsEnd) × (end ≡ Requests e)
     × IsServed (begun b) (Handles k g (length b.banks) before after) e b'.state old new))

@@ -7,8 +7,8 @@ use Rattle.nv_command.specs.Entry.{entry_of}
 use Rattle.nv_command.specs.declared.command.Command.TheVariants.{ActiveList}
 use Rattle.nv_model.specs.Step.{reset, Step, cid_after}
 use Rattle.nv_model.specs.State.{State}
-use Rattle.nv_bus.specs.Entry.{told_by}
-use Rattle.nv_bus.specs.declared.told.Told.{Told}
+use Rattle.nv_bus.specs.Entry.{command_result_of}
+use Rattle.nv_bus.specs.declared.command_result.CommandResult.{CommandResult}
 use Rattle.nv_driver.specs.Alone.{IsReceived, asked_in, entry_step}
 use Rattle.nv_serve.specs.Answer.{Answer, bare}
 use Rattle.nv_serve.specs.Header.{IsWhole, Request, header_of, wanted_length}
@@ -81,9 +81,9 @@ after_all p requests = fold after_one p requests
 -- ---- the answer to a request
 
 -- a completion, and as much of the data that came back as was wanted
-pub record IsReturned (p : Point) (c : ℕ) (e : Sqe) (bytes : List ℕ) (n : ℕ) (told : Told)
+pub record IsReturned (p : Point) (c : ℕ) (e : Sqe) (bytes : List ℕ) (n : ℕ) (command_result : CommandResult)
     (payload : List ℕ) : Type 0 where
-  pub told_is : told ≡ told_by (step_at p c e bytes).answer
+  pub command_result_is : command_result ≡ command_result_of (step_at p c e bytes).answer
   pub received : IsReceived (asked_in p.subsystem c e bytes) (step_at p c e bytes).answer payload
   pub room : length payload ≡ n
 
@@ -99,13 +99,15 @@ IsBare a header = (a.header ≡ header) × (a.payload ≡ [])
 -- the answer to a request of this kind, whose controller exists
 abbrev pub IsAnswerByKind : Kind → Point → Header → List ℕ → Answer → Type 0
 IsAnswerByKind Entry p h bytes a =
-    (told : Told) × IsReturned p h.controller h.entry bytes (wanted_length h) told a.payload
-    × (a.header ≡ returned told.dword0 told.status (wanted_length h))
+    (command_result : CommandResult)
+    × IsReturned p h.controller h.entry bytes (wanted_length h) command_result a.payload
+    × (a.header ≡ returned command_result.dword0 command_result.status (wanted_length h))
 IsAnswerByKind Reset p h bytes a = IsBare a (bare Answered)
 -- a list says how many controllers there are
 IsAnswerByKind ListKind p h bytes a =
-    (told : Told) × IsReturned p h.controller list_entry [] (wanted_length h) told a.payload
-    × (a.header ≡ returned (length p.next_cids) told.status (wanted_length h))
+    (command_result : CommandResult)
+    × IsReturned p h.controller list_entry [] (wanted_length h) command_result a.payload
+    × (a.header ≡ returned (length p.next_cids) command_result.status (wanted_length h))
 IsAnswerByKind Unknown p h bytes a = IsBare a (bare NoKind)
 
 -- if the controller of a request doesn't exist, the answer says so and has no data

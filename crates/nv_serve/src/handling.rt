@@ -6,7 +6,7 @@ ghost use Rattle.nv_driver.specs.BringingUp.{Still};
 ghost use Rattle.nv_driver.specs.Driver.{HasEntryPages, after_command};
 ghost use Rattle.nv_driver.specs.Linked.{IsLinked};
 ghost use Rattle.nv_driver.specs.Sending.{Passes};
-ghost use Rattle.nv_bus.specs.declared.told.Told.{Told};
+ghost use Rattle.nv_bus.specs.declared.command_result.CommandResult.{CommandResult};
 ghost use Rattle.nv_serve.specs.Handling.{Does, DoesKind, calls};
 ghost use Rattle.nv_serve.specs.Header.{most_data, wanted_length};
 ghost use Rattle.nv_serve.specs.Serving.{IsAnswerByKind, IsAnswerToHeader, IsReturned, after_entry, after_header};
@@ -44,10 +44,10 @@ fn pass<B: Bus + Ringing>(
     requires fits { SqeFits entry.now }
     requires few { header.now.length ≤ most_data }
     requires long { length received.old ≡ most_data }
-    ensures answer { (told : Told) × IsReturned (point_of (B.meaning bus.old) driver.old)
-        header.now.controller entry.now sent.now (wanted_length header.now) told
+    ensures answer { (command_result : CommandResult) × IsReturned (point_of (B.meaning bus.old) driver.old)
+        header.now.controller entry.now sent.now (wanted_length header.now) command_result
         (take result.length received.new)
-        × (result ≡ returned told.dword0 told.status (wanted_length header.now)) }
+        × (result ≡ returned command_result.dword0 command_result.status (wanted_length header.now)) }
     ensures reached { point_of (B.meaning bus.new) driver.new ≡ after_entry
         (point_of (B.meaning bus.old) driver.old) header.now.controller entry.now sent.now }
     ensures linked { IsLinked (B.meaning bus.new) driver.new }
@@ -61,8 +61,8 @@ fn pass<B: Bus + Ringing>(
 {
     let wanted = header.wanted_length();
     let out = &mut received[..wanted as usize];
-    let told = driver.passthrough(bus, header.controller, entry, sent, out);
-    AnswerHeader::returned(told.dword0, told.status, wanted)
+    let command_result = driver.passthrough(bus, header.controller, entry, sent, out);
+    AnswerHeader::returned(command_result.dword0, command_result.status, wanted)
 }
 
 /// Does what a request's header says, whose controller exists, with the data that the host sent. The

@@ -33,14 +33,14 @@ impl<W: Write + Drop> Buffered for BufWriter<W> {
 
 /// A buffered writer, and whether a write or a flush of it has failed. Several streams share it.
 #[derive(Drop)]
-pub struct Held<W> {
+pub struct SharedWriter<W> {
     writer: RefCell<W>,
     failed: Cell<bool>,
 }
 
-impl<W: Buffered> Held<W> {
-    pub fn new(writer: W) -> Held<W> {
-        Held {
+impl<W: Buffered> SharedWriter<W> {
+    pub fn new(writer: W) -> SharedWriter<W> {
+        SharedWriter {
             writer: RefCell::new(writer),
             failed: Cell::new(false),
         }
@@ -78,24 +78,24 @@ impl<W: Buffered> Held<W> {
 
 /// A sink over a buffered writer. Its contract doesn't say what it took.
 #[derive(Drop)]
-pub struct OverHeld<'a, W> {
-    held: &'a Held<W>,
+pub struct OverShared<'a, W> {
+    shared: &'a SharedWriter<W>,
     failed: bool,
 }
 
-impl<'a, W: Buffered> OverHeld<'a, W> {
-    pub fn new(held: &'a Held<W>) -> OverHeld<'a, W>
-        ensures taken { (⟦<OverHeld<'a, W> as Sink>⟧.state result).taken ≡ None }
-        ensures fresh { (⟦<OverHeld<'a, W> as Sink>⟧.state result).has_failed ≡ false }
+impl<'a, W: Buffered> OverShared<'a, W> {
+    pub fn new(shared: &'a SharedWriter<W>) -> OverShared<'a, W>
+        ensures taken { (⟦<OverShared<'a, W> as Sink>⟧.state result).taken ≡ None }
+        ensures fresh { (⟦<OverShared<'a, W> as Sink>⟧.state result).has_failed ≡ false }
     {
-        OverHeld {
-            held,
+        OverShared {
+            shared,
             failed: false,
         }
     }
 }
 
-impl<'a, W: Buffered> Sink for OverHeld<'a, W> {
+impl<'a, W: Buffered> Sink for OverShared<'a, W> {
     ghost use Rattle.std.specs.Prelude.{None};
 
     ghost state = { λ s. record { taken = None; has_failed = s.failed } };
@@ -106,7 +106,7 @@ impl<'a, W: Buffered> Sink for OverHeld<'a, W> {
         ensures failure { self.new.failed ≡ is_failure result }
         ensures written { IsWritten W.contents result bytes.now }
     {
-        let taken = self.held.write(bytes);
+        let taken = self.shared.write(bytes);
         self.failed = matches!(taken, None | Some(0));
         taken
     }
@@ -116,14 +116,14 @@ impl<'a, W: Buffered> Sink for OverHeld<'a, W> {
 #[derive(Drop)]
 pub struct SourceAfter<'a, R, W> {
     source: R,
-    held: &'a Held<W>,
+    shared: &'a SharedWriter<W>,
 }
 
 impl<'a, R: Source, W: Buffered> SourceAfter<'a, R, W> {
-    pub fn new(source: R, held: &'a Held<W>) -> SourceAfter<'a, R, W>
+    pub fn new(source: R, shared: &'a SharedWriter<W>) -> SourceAfter<'a, R, W>
         ensures { ⟦<SourceAfter<'a, R, W> as Source>⟧.state result ≡ R.state source }
     {
-        SourceAfter { source, held }
+        SourceAfter { source, shared }
     }
 }
 
@@ -131,7 +131,7 @@ impl<'a, R: Source, W: Buffered> Source for SourceAfter<'a, R, W> {
     ghost state = { λ s. R.state s.source };
 
     fn read(&mut self, buf: &mut [u8]) -> Option<usize> {
-        let _ = self.held.flush();
+        let _ = self.shared.flush();
         self.source.read(buf)
     }
 }
@@ -140,14 +140,14 @@ impl<'a, R: Source, W: Buffered> Source for SourceAfter<'a, R, W> {
 #[derive(Drop)]
 pub struct SinkAfter<'a, S, W> {
     sink: S,
-    held: &'a Held<W>,
+    shared: &'a SharedWriter<W>,
 }
 
 impl<'a, S: Sink, W: Buffered> SinkAfter<'a, S, W> {
-    pub fn new(sink: S, held: &'a Held<W>) -> SinkAfter<'a, S, W>
+    pub fn new(sink: S, shared: &'a SharedWriter<W>) -> SinkAfter<'a, S, W>
         ensures { ⟦<SinkAfter<'a, S, W> as Sink>⟧.state result ≡ S.state sink }
     {
-        SinkAfter { sink, held }
+        SinkAfter { sink, shared }
     }
 }
 
@@ -155,7 +155,7 @@ impl<'a, S: Sink, W: Buffered> Sink for SinkAfter<'a, S, W> {
     ghost state = { λ s. S.state s.sink };
 
     fn write(&mut self, bytes: &[u8]) -> Option<usize> {
-        let _ = self.held.flush();
+        let _ = self.shared.flush();
         self.sink.write(bytes)
     }
 }

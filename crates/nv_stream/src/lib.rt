@@ -6,7 +6,7 @@ mod retrying;
 mod streams;
 mod writing;
 
-pub use in_order::{Buffered, Held, OverHeld, SinkAfter, SourceAfter};
+pub use in_order::{Buffered, OverShared, SharedWriter, SinkAfter, SourceAfter};
 pub use retrying::Retrying;
 pub use streams::{OverRead, OverWrite, READ_SIZE, Sink, Source};
 pub use writing::write_all;

@@ -1,7 +1,7 @@
 -- The words and the lemmas that several proofs share.
 pub use Rattle.nv_bits.proofs.NumberLaws.{get_of_insert, get_of_remove, remove_absent}
 pub use Rattle.nv_bits.specs.Numbers.{IsOf, NumberMap}
-pub use Rattle.nv_bits.specs.Slots.{IsLowestFree, RangeMap}
+pub use Rattle.nv_bits.specs.VecMap.{IsLowestFree, RangeMap}
 pub use Rattle.nv_command.specs.declared.refusal.Refusal.{Refusal}
 pub use Rattle.nv_command.specs.declared.reply.Reply.{Reply}
 pub use Rattle.nv_file.specs.FileValue.{controller_entry_view, ControllerValue, file_view, FileValue, is_attached_to}

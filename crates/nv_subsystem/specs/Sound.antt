@@ -1,7 +1,7 @@
 -- What holds for the parts of every subsystem in memory, so that its calls are safe.
 use Rattle.std.specs.Prelude.{◌≡◌, ℕ, ◌+◌, ◌<◌, ◌≤◌, List, length, Some, All}
 use Rattle.std.specs.FinMap as map_of
-use Rattle.nv_bits.specs.Slots.{RangeMap}
+use Rattle.nv_bits.specs.VecMap.{RangeMap}
 use Rattle.nv_subsystem.specs.declared.controller.Controller.{Controller}
 use Rattle.nv_model.specs.declared.format.Format.{Format}
 use Rattle.nv_model.specs.declared.namespace.Namespace.{Namespace}

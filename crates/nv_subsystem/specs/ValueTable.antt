@@ -2,7 +2,7 @@
 use Rattle.std.specs.Prelude.{◌≡◌, ℕ, ◌*◌, ◌/◌, ◌%◌, List, map, ◌++◌, true, None}
 use Rattle.std.specs.FinMap as map_of
 use Rattle.nv_bits.specs.Numbers.{IsOf, NumberMap}
-use Rattle.nv_bits.specs.Slots.{RangeMap}
+use Rattle.nv_bits.specs.VecMap.{RangeMap}
 use Rattle.nv_layout.specs.Feature.{row_of}
 use Rattle.nv_layout.specs.declared.feature.Feature.TheVariants.{ErrorRecovery}
 use Rattle.nv_model.specs.Values.{FeatureValues, ValueKey, recovery_key}

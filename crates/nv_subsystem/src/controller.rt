@@ -12,7 +12,7 @@ ghost use Rattle.nv_subsystem.specs.Tagged.{with_booked};
 use crate::error_log::ErrorLog;
 use crate::feature_value::default_rule;
 use crate::feature_values::FeatureValues;
-use nv_bits::{BitSet, Slots};
+use nv_bits::{BitSet, VecMap};
 use nv_command::Refusal;
 use nv_layout::Feature;
 use nv_model::{FeatureRule, FeatureValue, Identity, Origin, SmartBase};
@@ -22,7 +22,7 @@ use nv_model::{FeatureRule, FeatureValue, Identity, Origin, SmartBase};
 pub struct Controller {
     pub identity: Identity,
     /// How it treats features, by feature identifier.
-    pub rules: Slots<FeatureRule>,
+    pub rules: VecMap<FeatureRule>,
     pub smart: SmartBase,
     pub log: ErrorLog,
     pub refusals: u64,
@@ -34,7 +34,7 @@ pub struct Controller {
 
 /// Returns how a controller treats the feature with an identifier: its rule, or the default rule if
 /// it has none.
-pub(crate) fn rule_for(rules: &Slots<FeatureRule>, fid: u8) -> FeatureRule
+pub(crate) fn rule_for(rules: &VecMap<FeatureRule>, fid: u8) -> FeatureRule
     ensures { result ≡ rule_for rules.now.values fid }
 {
     match rules.get(u32::from(fid)) {
@@ -44,7 +44,7 @@ pub(crate) fn rule_for(rules: &Slots<FeatureRule>, fid: u8) -> FeatureRule
 }
 
 /// Returns how a controller treats a feature.
-pub(crate) fn rule_of(rules: &Slots<FeatureRule>, feature: Feature) -> FeatureRule
+pub(crate) fn rule_of(rules: &VecMap<FeatureRule>, feature: Feature) -> FeatureRule
     ensures { result ≡ rule_of rules.now.values feature }
 {
     rule_for(rules, feature.fid())

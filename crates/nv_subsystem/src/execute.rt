@@ -10,7 +10,7 @@ ghost use Rattle.nv_subsystem.specs.Tagged.{settled, untagged};
 
 use crate::identify::check_list;
 use crate::nsid_lists::list_above;
-use crate::reply_place::ReplyPlace;
+use crate::record_room::RecordRoom;
 use crate::subsystem::Subsystem;
 use nv_command::{Command, LogPage, Refusal, Reply, ReplyRoom};
 use nv_model::Origin;
@@ -26,36 +26,36 @@ pub fn dword0(reply: &Reply) -> u32
 }
 
 impl Subsystem {
-    /// Answers a command of a controller: returns its reply, or the first refusal. `place` receives
+    /// Answers a command of a controller: returns its reply, or the first refusal. `room` receives
     /// what the reply borrows.
     pub fn answer<'a>(
         &'a self,
         ctrl: u16,
         command: &Command,
-        place: &'a mut ReplyPlace,
+        room: &'a mut RecordRoom,
     ) -> Result<Reply<'a>, Refusal>
         requires { ctrl < length self.now.controllers }
         ensures { result ≡ answer_to self.now ctrl command.now }
     {
         match command {
-            Command::IdentifyController => Ok(self.controller_reply(ctrl, place)),
+            Command::IdentifyController => Ok(self.controller_reply(ctrl, room)),
             Command::IdentifyNamespace { nsid } => {
                 self.check_active(*nsid)?;
-                Ok(self.active_reply(ctrl, *nsid, place))
+                Ok(self.active_reply(ctrl, *nsid, room))
             }
             Command::AllocatedNamespace { nsid } => {
                 self.check_allocated(*nsid)?;
-                Ok(self.allocated_reply(*nsid, place))
+                Ok(self.allocated_reply(*nsid, room))
             }
             Command::ActiveList { after } => {
                 check_list(*after)?;
-                self.list_active(ctrl, *after, &mut place.list);
-                Ok(Reply::List(place.list.ids()))
+                self.list_active(ctrl, *after, &mut room.list);
+                Ok(Reply::List(room.list.ids()))
             }
             Command::AllocatedList { after } => {
                 check_list(*after)?;
-                list_above(&self.slots, *after, &mut place.list);
-                Ok(Reply::List(place.list.ids()))
+                list_above(&self.slots, *after, &mut room.list);
+                Ok(Reply::List(room.list.ids()))
             }
             Command::Create(wanted) => Ok(Reply::Number(self.check_create(wanted)?)),
             Command::Delete { nsid } => {
@@ -67,7 +67,7 @@ impl Subsystem {
                 Ok(Reply::Done)
             }
             Command::Format(asked) => {
-                self.check_format(ctrl, asked, &mut place.list)?;
+                self.check_format(ctrl, asked, &mut room.list)?;
                 Ok(Reply::Done)
             }
             Command::GetFeature(asked) => {
@@ -80,7 +80,7 @@ impl Subsystem {
             }
             Command::GetLog(asked) => {
                 self.check_log(ctrl, *asked)?;
-                Ok(self.log_reply(ctrl, LogPage::asked(asked.lid), place))
+                Ok(self.log_reply(ctrl, LogPage::asked(asked.lid), room))
             }
         }
     }
@@ -105,16 +105,16 @@ impl Subsystem {
             ≡ (step (untagged self.old) ctrl command.now origin.cid).state }
         ensures well_formed { IsWellFormed self.old → IsWellFormed self.new }
     {
-        let mut place = ReplyPlace::new();
-        match self.answer(ctrl, command, &mut place) {
+        let mut records = RecordRoom::new();
+        match self.answer(ctrl, command, &mut records) {
             Ok(reply) => {
                 room.keep(&reply);
                 let number = dword0(&reply);
-                self.settle(ctrl, command, origin, Ok(number), &mut place);
+                self.settle(ctrl, command, origin, Ok(number), &mut records);
                 Ok(room.reply())
             }
             Err(refusal) => {
-                self.settle(ctrl, command, origin, Err(refusal), &mut place);
+                self.settle(ctrl, command, origin, Err(refusal), &mut records);
                 Err(refusal)
             }
         }

@@ -4,7 +4,7 @@ ghost use Rattle.std.specs.Prelude.{◌≡◌};
 ghost use Rattle.nv_model.specs.Values.{default_of, default_rule};
 ghost use Rattle.nv_model.specs.WellFormed.{is_supported};
 
-use nv_bits::Slots;
+use nv_bits::VecMap;
 use nv_layout::Feature;
 use nv_model::{Defaults, FeatureRule};
 
@@ -28,7 +28,7 @@ pub(crate) fn default_rule(fid: u8) -> FeatureRule
 }
 
 /// Returns whether a controller with these rules and this Volatile Write Cache field has a feature.
-pub(crate) fn is_supported(rules: &Slots<FeatureRule>, vwc: u8, feature: Feature) -> bool
+pub(crate) fn is_supported(rules: &VecMap<FeatureRule>, vwc: u8, feature: Feature) -> bool
     ensures { result ≡ is_supported rules.now.values vwc feature }
 {
     match feature {

@@ -14,7 +14,7 @@ ghost use Rattle.nv_subsystem.specs.inner.ValueTable.{AreRestored, restored_at};
 
 use crate::controller::{rule_for, rule_of};
 use crate::feature_value::default_of;
-use nv_bits::Slots;
+use nv_bits::VecMap;
 use nv_command::FeatureSetting;
 use nv_layout::Feature;
 use nv_model::{FeatureRule, FeatureValue};
@@ -31,9 +31,9 @@ const SELECTOR_LIMIT: u32 = 32;
 #[derive(Drop)]
 pub struct FeatureValues {
     /// Those of Error Recovery, which each namespace has for itself, by NSID.
-    by_nsid: Slots<FeatureValue>,
+    by_nsid: VecMap<FeatureValue>,
     /// All others, by feature and selector.
-    by_feature: Slots<FeatureValue>,
+    by_feature: VecMap<FeatureValue>,
 }
 
 impl Model for FeatureValues {
@@ -63,7 +63,7 @@ fn place(feature: Feature, selector: u8) -> u32
 }
 
 /// The default of the value at a place.
-fn default_at(rules: &Slots<FeatureRule>, place: u32) -> u32
+fn default_at(rules: &VecMap<FeatureRule>, place: u32) -> u32
     requires { place < 12 * 32 }
     ensures { result ≡ (first_value rules.now.values (key_at place)).current }
 {
@@ -72,7 +72,7 @@ fn default_at(rules: &Slots<FeatureRule>, place: u32) -> u32
 }
 
 /// Makes the saved value of a number current, or the default where nothing was saved.
-fn restore_one(table: &mut Slots<FeatureValue>, number: u32, default: u32)
+fn restore_one(table: &mut VecMap<FeatureValue>, number: u32, default: u32)
     ensures { table.new ≡ record table.old {
       values = restored_at default table.old.values number;
     } }
@@ -83,7 +83,7 @@ fn restore_one(table: &mut Slots<FeatureValue>, number: u32, default: u32)
 }
 
 /// Restores the value of each NSID.
-fn restore_recoveries(table: &mut Slots<FeatureValue>, default: u32)
+fn restore_recoveries(table: &mut VecMap<FeatureValue>, default: u32)
     ensures { AreRestored (λ _. default) table.old.count table.old table.new }
 {
     for k in 0..table.count() {
@@ -93,7 +93,7 @@ fn restore_recoveries(table: &mut Slots<FeatureValue>, default: u32)
 }
 
 /// Restores the value at each place.
-fn restore_features(table: &mut Slots<FeatureValue>, rules: &Slots<FeatureRule>)
+fn restore_features(table: &mut VecMap<FeatureValue>, rules: &VecMap<FeatureRule>)
     requires { (table.old.first ≡ 0) × (table.old.count ≡ 12 * 32) }
     ensures { AreRestored (λ place. (first_value rules.now.values (key_at place)).current)
         table.old.count table.old table.new }
@@ -109,8 +109,8 @@ impl FeatureValues {
         requires { nn ≤ most_nsids }
         ensures { IfOk result (λ s. s ≡ record { nn = nn; values = map_of.empty }) }
     {
-        let by_nsid = Slots::new(alloc, 1, nn)?;
-        let by_feature = Slots::new(alloc, 0, FEATURE_LIMIT * SELECTOR_LIMIT)?;
+        let by_nsid = VecMap::new(alloc, 1, nn)?;
+        let by_feature = VecMap::new(alloc, 0, FEATURE_LIMIT * SELECTOR_LIMIT)?;
         Ok(FeatureValues {
             by_nsid,
             by_feature,
@@ -185,7 +185,7 @@ impl FeatureValues {
     }
 
     /// Makes each saved value current, or the default where nothing was saved.
-    pub(crate) fn restore(&mut self, rules: &Slots<FeatureRule>)
+    pub(crate) fn restore(&mut self, rules: &VecMap<FeatureRule>)
         ensures { self.new ≡ record self.old {
           values = all_restored rules.now.values self.old.values;
         } }

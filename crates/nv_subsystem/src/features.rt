@@ -8,7 +8,7 @@ ghost use Rattle.nv_model.specs.Change.{changed};
 ghost use Rattle.nv_subsystem.specs.inner.ControllerView.{Becomes, controller_view};
 ghost use Rattle.nv_model.specs.Features.{capabilities, feature_number, get_feature_rows, get_rows};
 ghost use Rattle.nv_model.specs.Features.{rule_at, selected};
-ghost use Rattle.nv_model.specs.Features.{set_feature_rows, set_rows, supported_at, told};
+ghost use Rattle.nv_model.specs.Features.{asked_value, set_feature_rows, set_rows, supported_at};
 ghost use Rattle.nv_model.specs.Features.{with_feature, with_value};
 ghost use Rattle.nv_model.specs.Features.{with_values, write};
 ghost use Rattle.nv_model.specs.inner.Conditions.{Checks};
@@ -85,8 +85,8 @@ fn write_each(values: &mut FeatureValues, feature: Feature, asked: FeatureSettin
 
 impl Controller {
     /// Returns the result of a Get Features.
-    fn told(&self, asked: FeatureQuery, feature: Feature) -> u32
-        ensures { result ≡ told asked feature (controller_view self.now) }
+    fn asked_value(&self, asked: FeatureQuery, feature: Feature) -> u32
+        ensures { result ≡ asked_value asked feature (controller_view self.now) }
     {
         let selector = feature.selector_in(asked.cdw11);
         if !feature.has_selector(selector) {
@@ -204,7 +204,7 @@ impl Subsystem {
         ensures { result ≡ feature_number self.now ctrl asked }
     {
         match Feature::of(asked.fid) {
-            Some(feature) => self.controllers[ctrl as usize].told(asked, feature),
+            Some(feature) => self.controllers[ctrl as usize].asked_value(asked, feature),
             None => 0,
         }
     }

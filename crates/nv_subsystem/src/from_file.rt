@@ -21,7 +21,7 @@ use crate::controller::{Controller, rule_of};
 use crate::error_log::ErrorLog;
 use crate::feature_value::is_supported;
 use crate::feature_values::{FEATURE_LIMIT, FeatureValues};
-use nv_bits::{BitSet, Slots};
+use nv_bits::{BitSet, VecMap};
 use nv_file::{ControllerEntry, NamespaceEntry, SubsystemError};
 use nv_layout::Feature;
 use nv_model::{FeatureRule, FeatureValue, Identity, Namespace};
@@ -37,7 +37,7 @@ pub(crate) fn unallocated(tnvmcap: u64, entries: &[NamespaceEntry]) -> u64
 }
 
 /// Inserts each namespace into its slot.
-fn fill(slots: &mut Slots<Namespace>, entries: &[NamespaceEntry])
+fn fill(slots: &mut VecMap<Namespace>, entries: &[NamespaceEntry])
     requires { All (λ n. IsOf slots.old.first slots.old.count n.nsid) entries.now }
     ensures { slots.new ≡ record slots.old {
       values = fold with_namespace slots.old.values (map namespace_entry_view entries.now);
@@ -53,7 +53,7 @@ pub(crate) fn slots(
     alloc: Global,
     nn: u32,
     entries: &[NamespaceEntry],
-) -> Result<Slots<Namespace>, SubsystemError>
+) -> Result<VecMap<Namespace>, SubsystemError>
     requires count { nn ≤ most_nsids }
     requires nsids { All (λ n. IsOf 1 nn n.nsid) entries.now }
     ensures value { IfOk result (λ slots. slots ≡ record {
@@ -63,7 +63,7 @@ pub(crate) fn slots(
     }) }
     ensures memory { IfErr result (λ e. e ≡ SubsystemError.Memory) }
 {
-    let mut slots = Slots::new(alloc, 1, nn)?;
+    let mut slots = VecMap::new(alloc, 1, nn)?;
     fill(&mut slots, entries);
     Ok(slots)
 }
@@ -84,7 +84,7 @@ fn attach_all(attached: &mut BitSet, cntlid: u16, entries: &[NamespaceEntry])
 }
 
 /// Inserts the rule of each feature that has a table into its slot.
-fn fill_rules(slots: &mut Slots<FeatureRule>, rules: &[FeatureRule])
+fn fill_rules(slots: &mut VecMap<FeatureRule>, rules: &[FeatureRule])
     requires { All (λ r. IsOf slots.old.first slots.old.count r.fid) rules.now }
     ensures { slots.new ≡ record slots.old { values = fold with_rule slots.old.values rules.now } }
 {
@@ -94,12 +94,12 @@ fn fill_rules(slots: &mut Slots<FeatureRule>, rules: &[FeatureRule])
 }
 
 /// Returns the rules of the features that have a table, in their slots.
-fn rule_slots(alloc: Global, rules: &[FeatureRule]) -> Result<Slots<FeatureRule>, SubsystemError>
+fn rule_slots(alloc: Global, rules: &[FeatureRule]) -> Result<VecMap<FeatureRule>, SubsystemError>
     requires { All IsFeatureRule rules.now }
     ensures value { IfOk result (λ slots. slots.values ≡ rules_of rules.now) }
     ensures memory { IfErr result (λ e. e ≡ SubsystemError.Memory) }
 {
-    let mut slots = Slots::new(alloc, 0, FEATURE_LIMIT)?;
+    let mut slots = VecMap::new(alloc, 0, FEATURE_LIMIT)?;
     fill_rules(&mut slots, rules);
     Ok(slots)
 }
@@ -108,7 +108,7 @@ fn rule_slots(alloc: Global, rules: &[FeatureRule]) -> Result<Slots<FeatureRule>
 /// namespace.
 fn fill_selectors(
     values: &mut FeatureValues,
-    rules: &Slots<FeatureRule>,
+    rules: &VecMap<FeatureRule>,
     feature: Feature,
     selectors: &[u8],
 )
@@ -131,7 +131,7 @@ fn fill_selectors(
 }
 
 /// Sets the defaults of a feature if it is supported and has no value for each namespace.
-fn fill_default(values: &mut FeatureValues, rules: &Slots<FeatureRule>, vwc: u8, feature: Feature)
+fn fill_default(values: &mut FeatureValues, rules: &VecMap<FeatureRule>, vwc: u8, feature: Feature)
     ensures { values.new ≡ record values.old {
       values = with_default rules.now.values vwc values.old.values feature;
     } }
@@ -144,7 +144,7 @@ fn fill_default(values: &mut FeatureValues, rules: &Slots<FeatureRule>, vwc: u8,
 /// Sets the default of each of some features.
 fn fill_defaults(
     values: &mut FeatureValues,
-    rules: &Slots<FeatureRule>,
+    rules: &VecMap<FeatureRule>,
     vwc: u8,
     features: &[Feature],
 )
@@ -161,7 +161,7 @@ fn fill_defaults(
 /// this identifier.
 fn fill_recoveries(
     values: &mut FeatureValues,
-    rules: &Slots<FeatureRule>,
+    rules: &VecMap<FeatureRule>,
     cntlid: u16,
     entries: &[NamespaceEntry],
 )
@@ -183,7 +183,7 @@ fn fill_recoveries(
 fn feature_values(
     alloc: Global,
     nn: u32,
-    rules: &Slots<FeatureRule>,
+    rules: &VecMap<FeatureRule>,
     identity: &Identity,
     namespaces: &[NamespaceEntry],
 ) -> Result<FeatureValues, SubsystemError>

@@ -12,7 +12,7 @@ ghost use Rattle.nv_model.specs.Conditions.{is_active, row};
 ghost use Rattle.nv_command.specs.declared.status_code.StatusCode.TheVariants.{InvalidNamespaceOrFormat};
 ghost use Rattle.nv_model.specs.inner.Conditions.{Checks};
 
-use crate::reply_place::ReplyPlace;
+use crate::record_room::RecordRoom;
 use crate::subsystem::Subsystem;
 use nv_command::{BROADCAST_NSID, Borrowed, Refusal, Reply, StatusCode};
 use nv_layout::{IdNs, Lbaf};
@@ -103,21 +103,21 @@ impl Subsystem {
         &self,
         ctrl: u16,
         nsid: u32,
-        place: &'a mut ReplyPlace,
+        room: &'a mut RecordRoom,
     ) -> Reply<'a>
         requires { ctrl < length self.now.controllers }
         ensures { result ≡ active_reply self.now ctrl nsid }
     {
-        let data = place.namespace.insert(self.active_data(ctrl, nsid));
+        let data = room.namespace.insert(self.active_data(ctrl, nsid));
         Reply::Namespace(Borrowed::new(data))
     }
 
     /// Returns the reply with the data of an allocated namespace.
     #[inline(never)]
-    pub(crate) fn allocated_reply<'a>(&self, nsid: u32, place: &'a mut ReplyPlace) -> Reply<'a>
+    pub(crate) fn allocated_reply<'a>(&self, nsid: u32, room: &'a mut RecordRoom) -> Reply<'a>
         ensures { result ≡ allocated_reply self.now nsid }
     {
-        let data = place.namespace.insert(self.allocated(nsid));
+        let data = room.namespace.insert(self.allocated(nsid));
         Reply::Namespace(Borrowed::new(data))
     }
 }

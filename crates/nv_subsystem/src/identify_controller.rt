@@ -6,7 +6,7 @@ ghost use Rattle.nv_model.specs.IdentifyController.{cmic_of, fna_of, controller_
 ghost use Rattle.nv_model.specs.IdentifyController.{padded};
 
 use crate::controller::Controller;
-use crate::reply_place::ReplyPlace;
+use crate::record_room::RecordRoom;
 use crate::subsystem::Subsystem;
 use nv_command::{Borrowed, Reply};
 use nv_layout::IdCtrl;
@@ -81,12 +81,12 @@ impl Subsystem {
     /// Returns the reply with the data of a controller. It isn't inlined, so that only this reply
     /// needs room for it.
     #[inline(never)]
-    pub(crate) fn controller_reply<'a>(&self, ctrl: u16, place: &'a mut ReplyPlace) -> Reply<'a>
+    pub(crate) fn controller_reply<'a>(&self, ctrl: u16, room: &'a mut RecordRoom) -> Reply<'a>
         requires { ctrl < length self.now.controllers }
         ensures { result ≡ controller_reply self.now ctrl }
     {
         let controller = &self.controllers[ctrl as usize];
-        let data = place.controller.insert(self.id_ctrl(controller));
+        let data = room.controller.insert(self.id_ctrl(controller));
         Reply::Controller(Borrowed::new(data))
     }
 }

@@ -35,7 +35,7 @@ mod identify_controller;
 mod logs;
 mod management;
 mod nsid_lists;
-mod reply_place;
+mod record_room;
 mod reset;
 mod subsystem;
 
@@ -47,8 +47,8 @@ pub use nv_command::{
 pub use nv_file::{DEMO, Key, SubsystemError, TableName};
 pub use nv_layout::{ControllerIds, FourBits, NsList, ThreeBits};
 pub use nv_model::{
-    CID_COUNT, Counters, Defaults, FeatureRule, Format, Identity, IdentityNumbers, Namespace,
-    Origin, SmartBase,
+    CID_COUNT, CommandCounts, Counters, Defaults, FeatureRule, Format, Identity, IdentityNumbers,
+    Namespace, Origin, SmartBase,
 };
-pub use reply_place::ReplyPlace;
+pub use record_room::RecordRoom;
 pub use subsystem::Subsystem;

@@ -9,7 +9,7 @@ ghost use Rattle.nv_model.specs.Logs.{smart_of};
 ghost use Rattle.nv_model.specs.inner.Conditions.{Checks};
 
 use crate::controller::Controller;
-use crate::reply_place::ReplyPlace;
+use crate::record_room::RecordRoom;
 use crate::subsystem::Subsystem;
 use nv_command::{BROADCAST_NSID, Borrowed, LogPage, LogQuery, Refusal, Reply, StatusCode};
 use nv_layout::{ErrorEntries, Smart};
@@ -55,10 +55,10 @@ impl Controller {
     /// Returns the reply with the health log. It isn't inlined, so that only this reply needs room
     /// for it.
     #[inline(never)]
-    fn health_reply<'a>(&self, place: &'a mut ReplyPlace) -> Reply<'a>
+    fn health_reply<'a>(&self, room: &'a mut RecordRoom) -> Reply<'a>
         ensures { result ≡ reply.Smart (smart_of (controller_view self.now)) }
     {
-        let data = place.smart.insert(self.health());
+        let data = room.smart.insert(self.health());
         Reply::Smart(Borrowed::new(data))
     }
 }
@@ -109,7 +109,7 @@ impl Subsystem {
         &'a self,
         ctrl: u16,
         page: LogPage,
-        place: &'a mut ReplyPlace,
+        room: &'a mut RecordRoom,
     ) -> Reply<'a>
         requires { ctrl < length self.now.controllers }
         ensures { result ≡ log_reply self.now ctrl page }
@@ -117,7 +117,7 @@ impl Subsystem {
         let controller = &self.controllers[ctrl as usize];
         match page {
             LogPage::ErrorInformation => Reply::Errors(controller.errors()),
-            LogPage::Health => controller.health_reply(place),
+            LogPage::Health => controller.health_reply(room),
         }
     }
 }

@@ -8,7 +8,7 @@ ghost use Rattle.nv_model.specs.State.{ascending};
 ghost use Rattle.nv_layout.specs.Limits.{most_nsids};
 
 use crate::subsystem::Subsystem;
-use nv_bits::{BitSet, Slots};
+use nv_bits::{BitSet, VecMap};
 use nv_command::BROADCAST_NSID;
 use nv_layout::NsList;
 use nv_model::Namespace;
@@ -46,17 +46,17 @@ impl Ascending for BitSet {
     }
 }
 
-impl Ascending for Slots<Namespace> {
+impl Ascending for VecMap<Namespace> {
     ghost listed = { λ s. map_of.keys s.values };
 
     ghost most = { λ s. s.count };
 
     fn len(&self) -> u32 {
-        Slots::len(self)
+        VecMap::len(self)
     }
 
     fn next_above(&self, last: u32) -> Option<u32> {
-        Slots::next_above(self, last)
+        VecMap::next_above(self, last)
     }
 }
 

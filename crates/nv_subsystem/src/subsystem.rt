@@ -21,12 +21,12 @@ ghost use Rattle.nv_command.specs.Refusal.{IsRefusal};
 
 use crate::controller::Controller;
 use crate::from_file::{controllers, slots, unallocated};
-use crate::reply_place::ReplyPlace;
-use nv_bits::Slots;
+use crate::record_room::RecordRoom;
+use nv_bits::VecMap;
 use nv_command::{Command, Refusal};
 use nv_file::{File, SubsystemError};
 use nv_layout::{ErrorEntry, NsList};
-use nv_model::{Format, Namespace, Origin};
+use nv_model::{CommandCounts, Format, Namespace, Origin};
 use std::alloc::Global;
 use std::marker::Model;
 
@@ -41,7 +41,7 @@ pub struct Subsystem {
     pub(crate) formats: Vec<Format>,
     pub(crate) controllers: Vec<Controller>,
     /// The namespaces by NSID, from 1 to NN.
-    pub(crate) slots: Slots<Namespace>,
+    pub(crate) slots: VecMap<Namespace>,
 }
 
 impl Model for Subsystem {
@@ -117,12 +117,15 @@ impl Subsystem {
     }
 
     /// Returns how many commands a controller refused, and how many it took.
-    pub fn counts(&self, ctrl: u16) -> (u64, u64)
+    pub fn counts(&self, ctrl: u16) -> CommandCounts
         requires { ctrl < length self.now.controllers }
         ensures { result ≡ counts_of self.now ctrl }
     {
         let controller = &self.controllers[ctrl as usize];
-        (controller.refusals, controller.commands)
+        CommandCounts {
+            refusals: controller.refusals,
+            commands: controller.commands,
+        }
     }
 
     /// Returns the MDTS of a controller: the greatest number of 4,096-byte pages that a command
@@ -223,27 +226,27 @@ impl Subsystem {
     }
 
     /// Completes a command that was answered: makes its changes, or records its refusal in the
-    /// error log of the controller. The controller counts the command in both cases. `told` is what
-    /// `answer` returned, with dword 0 in place of the reply. `place` is used on the way.
+    /// error log of the controller. The controller counts the command in both cases. `answer` is what
+    /// `answer` returned, with dword 0 in place of the reply. `room` is used on the way.
     pub fn settle(
         &mut self,
         ctrl: u16,
         command: &Command,
         origin: Origin,
-        told: Result<u32, Refusal>,
-        place: &mut ReplyPlace,
+        answer: Result<u32, Refusal>,
+        room: &mut RecordRoom,
     )
         requires ctrl { ctrl < length self.old.controllers }
-        requires answered { told ≡ dword0_in (answer_to self.old ctrl command.now) }
+        requires answered { answer ≡ dword0_in (answer_to self.old ctrl command.now) }
         ensures state { self.new
             ≡ settled self.old ctrl command.now origin (refusal_of self.old ctrl command.now) }
         ensures without_tags { untagged self.new
             ≡ (step (untagged self.old) ctrl command.now origin.cid).state }
         ensures well_formed { IsWellFormed self.old → IsWellFormed self.new }
     {
-        match told {
+        match answer {
             Ok(number) => {
-                self.apply(ctrl, command, number, &mut place.list);
+                self.apply(ctrl, command, number, &mut room.list);
                 self.count(ctrl);
             }
             Err(refusal) => self.refuse(ctrl, origin, command.nsid(), refusal),

@@ -22,7 +22,7 @@ fn lowest_numbers(rt: HostRuntime) {
 }
 
 /// Inserts a value at the lowest free number, as in the crate page's example.
-fn insert_lowest(names: &mut Slots<char>, value: char) {
+fn insert_lowest(names: &mut VecMap<char>, value: char) {
     if let Some(id) = names.lowest_free() {
         names.insert(id, value);
     }
@@ -31,7 +31,7 @@ fn insert_lowest(names: &mut Slots<char>, value: char) {
 /// Runs the crate page's example.
 #[test]
 fn lowest_free_identifier(rt: HostRuntime) {
-    let Ok(mut names) = Slots::new(rt.alloc(), 1, 1024) else {
+    let Ok(mut names) = VecMap::new(rt.alloc(), 1, 1024) else {
         assert!(rt; false, "out of memory");
         return;
     };

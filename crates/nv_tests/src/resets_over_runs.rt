@@ -6,7 +6,7 @@ ghost use Rattle.nv_controller.specs.Machine.{bus_of};
 use nv_controller::Machine;
 use nv_layout::ThreeBits;
 use nv_script::{Geometry, GeometryField, OverRead, OverWrite, RunEnd, run};
-use nv_subsystem::{Command, DEMO, FeatureQuery, ReplyPlace, Subsystem, dword0};
+use nv_subsystem::{Command, DEMO, FeatureQuery, RecordRoom, Subsystem, dword0};
 use std::alloc::Global;
 use std::process::Abort;
 use std::test::Fail;
@@ -94,8 +94,8 @@ fn expect_cache_off(rt: &impl Abort, machine: &Machine) {
     });
     let subsystem = machine.subsystem();
     assert!(rt; subsystem.controllers() == 2);
-    let mut place = ReplyPlace::new();
-    match subsystem.answer(0, &get, &mut place) {
+    let mut room = RecordRoom::new();
+    match subsystem.answer(0, &get, &mut room) {
         Ok(reply) => assert!(rt; dword0(&reply) == 0),
         Err(_) => panic!(rt; "no value"),
     }

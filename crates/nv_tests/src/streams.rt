@@ -6,7 +6,7 @@ ghost use Rattle.std.specs.Prelude.{◌≤◌, length};
 
 use crate::harness::{geometries, run_over};
 use nv_script::{Geometry, OverRead, OverWrite, Retrying, RunEnd};
-use nv_stream::{Held, OverHeld, write_all};
+use nv_stream::{OverShared, SharedWriter, write_all};
 use nv_subsystem::DEMO;
 use std::alloc::Global;
 use std::cmp;
@@ -229,8 +229,8 @@ struct Writes<'a> {
     end: RunEnd,
     written: &'a str,
     writes: usize,
-    told: &'a str,
-    tells: usize,
+    said: &'a str,
+    message_writes: usize,
 }
 
 fn expect_writes(
@@ -246,14 +246,16 @@ fn expect_writes(
     let end = run_over(alloc, file, geometry, &mut script, &mut out, &mut messages)?;
     assert!(rt; end == row.end);
     out.into_inner().check(rt, (row.written, row.writes));
-    messages.into_inner().check(rt, (row.told, row.tells));
+    messages
+        .into_inner()
+        .check(rt, (row.said, row.message_writes));
     Ok(())
 }
 
 /// The output of the two lines, and the message for the second.
 const LISTED: &str = "[   0]:0x1\n[   1]:0x3\n";
 
-const TOLD: &str = "line 2: usage error\n";
+const MESSAGES: &str = "line 2: usage error\n";
 
 /// A call that takes one byte.
 const ONE: Turn<'static> = Turn::Takes(1);
@@ -277,8 +279,8 @@ fn leaves_a_beginning_of_the_output(rt: HostRuntime) -> Result<(), Fail> {
             end: RunEnd::OutWrite,
             written: "[   0]:",
             writes: 8,
-            told: "",
-            tells: 0,
+            said: "",
+            message_writes: 0,
         },
         Writes {
             out: &[ONE, ONE, ONE, ONE, ONE, ONE, ONE, Turn::Takes(0)],
@@ -286,8 +288,8 @@ fn leaves_a_beginning_of_the_output(rt: HostRuntime) -> Result<(), Fail> {
             end: RunEnd::OutWrite,
             written: "[   0]:",
             writes: 8,
-            told: "",
-            tells: 0,
+            said: "",
+            message_writes: 0,
         },
     ] {
         for geometry in &geometries(rt.alloc())? {
@@ -307,8 +309,8 @@ fn writes_the_rest_and_tries_no_failing_write_again(rt: HostRuntime) -> Result<(
             end: RunEnd::Status(1),
             written: "[   0]:0x1\n[   1]:0x3\n",
             writes: 3,
-            told: "line 2: usage error\n",
-            tells: 2,
+            said: "line 2: usage error\n",
+            message_writes: 2,
         },
         Writes {
             out: &[Turn::Takes(7), INTERRUPTED],
@@ -316,8 +318,8 @@ fn writes_the_rest_and_tries_no_failing_write_again(rt: HostRuntime) -> Result<(
             end: RunEnd::OutWrite,
             written: "[   0]:",
             writes: 2,
-            told: "",
-            tells: 0,
+            said: "",
+            message_writes: 0,
         },
         Writes {
             out: &[Turn::Takes(7), Turn::Takes(0)],
@@ -325,8 +327,8 @@ fn writes_the_rest_and_tries_no_failing_write_again(rt: HostRuntime) -> Result<(
             end: RunEnd::OutWrite,
             written: "[   0]:",
             writes: 2,
-            told: "",
-            tells: 0,
+            said: "",
+            message_writes: 0,
         },
         Writes {
             out: &[],
@@ -334,8 +336,8 @@ fn writes_the_rest_and_tries_no_failing_write_again(rt: HostRuntime) -> Result<(
             end: RunEnd::MessageWrite,
             written: "[   0]:0x1\n[   1]:0x3\n",
             writes: 1,
-            told: "line 2:",
-            tells: 2,
+            said: "line 2:",
+            message_writes: 2,
         },
         Writes {
             out: &[],
@@ -343,8 +345,8 @@ fn writes_the_rest_and_tries_no_failing_write_again(rt: HostRuntime) -> Result<(
             end: RunEnd::MessageWrite,
             written: "[   0]:0x1\n[   1]:0x3\n",
             writes: 1,
-            told: "line 2:",
-            tells: 2,
+            said: "line 2:",
+            message_writes: 2,
         },
     ] {
         expect_writes(&rt, rt.alloc(), DEMO, Geometry::default(), &row)?;
@@ -408,15 +410,15 @@ fn writes_again_after_interrupted_writes(rt: HostRuntime) -> Result<(), Fail> {
         Turn::Takes(64),
     ];
     let mut output = TurnWriter::new(&turns);
-    let mut told = TurnWriter::new(&turns);
+    let mut taken = TurnWriter::new(&turns);
     let mut script = OverRead::new(b"list-ns /dev/nvme0\nbogus\n".as_slice());
     let mut out = OverWrite::new(Retrying::new(&mut output));
-    let mut messages = OverWrite::new(Retrying::new(&mut told));
+    let mut messages = OverWrite::new(Retrying::new(&mut taken));
     let plain = Geometry::default();
     let end = run_over(alloc, DEMO, plain, &mut script, &mut out, &mut messages)?;
     assert!(rt; end == RunEnd::Status(1));
     output.check(&rt, (LISTED, 5));
-    told.check(&rt, (TOLD, 5));
+    taken.check(&rt, (MESSAGES, 5));
     Ok(())
 }
 
@@ -456,12 +458,12 @@ fn writes_what_it_takes_to_a_shared_writer(rt: HostRuntime) -> Result<(), Fail> 
     let turns = [Turn::Takes(2), Turn::Takes(64), Turn::Takes(1)];
     let mut inner = TurnWriter::new(&turns);
     {
-        let held = Held::new(BufWriter::with_capacity(rt.alloc(), 0, &mut inner)?);
-        let mut first = OverHeld::new(&held);
-        let mut second = OverHeld::new(&held);
+        let shared = SharedWriter::new(BufWriter::with_capacity(rt.alloc(), 0, &mut inner)?);
+        let mut first = OverShared::new(&shared);
+        let mut second = OverShared::new(&shared);
         assert!(rt; write_all(&mut first, b"abc"));
         assert!(rt; write_all(&mut second, b"de"));
-        assert!(rt; held.flush());
+        assert!(rt; shared.flush());
     }
     inner.check(&rt, ("abcde", 4));
     assert_eq!(rt; inner.flushes, 1);
@@ -473,12 +475,12 @@ fn takes_nothing_after_a_failing_flush_of_a_shared_writer(rt: HostRuntime) -> Re
     let turns = [Turn::Takes(64), INTERRUPTED];
     let mut inner = TurnWriter::new(&turns);
     {
-        let held = Held::new(BufWriter::with_capacity(rt.alloc(), 0, &mut inner)?);
-        let mut out = OverHeld::new(&held);
+        let shared = SharedWriter::new(BufWriter::with_capacity(rt.alloc(), 0, &mut inner)?);
+        let mut out = OverShared::new(&shared);
         let is_written = write_all(&mut out, b"abc");
-        assert!(rt; !held.flush());
+        assert!(rt; !shared.flush());
         assert!(rt; is_written && !write_all(&mut out, b"de"));
-        assert!(rt; !held.flush());
+        assert!(rt; !shared.flush());
     }
     inner.check(&rt, ("abc", 1));
     Ok(())

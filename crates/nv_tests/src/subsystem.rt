@@ -83,6 +83,7 @@ fn executes_commands_without_a_bus(rt: HostRuntime) -> Result<(), Fail> {
     check_refused(&rt, &mut subsystem, origin);
     check_logged(&rt, &mut subsystem, origin);
     assert!(rt; subsystem.controllers() == 2);
-    assert!(rt; subsystem.counts(0) == (1, 5));
+    let counts = subsystem.counts(0);
+    assert!(rt; (counts.refusals, counts.commands) == (1, 5));
     Ok(())
 }

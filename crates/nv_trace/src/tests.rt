@@ -74,10 +74,10 @@ fn is_line<E: Event>(event: &E, text: &str) -> bool {
 }
 
 /// An event with any text.
-struct Told(&'static str);
+struct Text(&'static str);
 
-impl Event for Told {
-    ghost text = { λ told. told.0.now };
+impl Event for Text {
+    ghost text = { λ text. text.0.now };
 
     fn put(&self, line: &mut LineText) {
         line.add(self.0);
@@ -196,12 +196,12 @@ fn marks_each_line(rt: HostRuntime) {
 #[test]
 fn tries_no_failed_sink_again(rt: HostRuntime) {
     let mut voice = Voice::new(Small::new(20));
-    voice.say(&Told("a line of 22 bytes .."));
+    voice.say(&Text("a line of 22 bytes .."));
     assert!(rt; !voice.is_silent());
-    voice.say(&Told("is cut short"));
+    voice.say(&Text("is cut short"));
     assert!(rt; voice.is_silent());
     let calls = voice.sink.calls;
-    voice.say(&Told("is not said"));
+    voice.say(&Text("is not said"));
     assert!(rt; voice.sink.calls == calls);
     assert!(rt; voice.sink.has(b"a line of 22 bytes ..\nis cut sho"));
 }

@@ -15,7 +15,7 @@ use nv_stream::{Sink, write_all};
 pub(crate) struct Voice<S: Sink> {
     pub(crate) sink: S,
     is_silent: bool,
-    ghost told: { (S.state sink).has_failed ≡ is_silent },
+    ghost failed: { (S.state sink).has_failed ≡ is_silent },
 }
 
 impl<S: Sink> Voice<S> {

@@ -87,10 +87,10 @@ impl Bench {
 
     pub(crate) fn counts(&mut self, alloc: Global, words: &[&str]) -> Answered {
         let given = OperationArguments::read(alloc, words, &[Row::word("ctrl")])?;
-        let (refusals, commands) = self.device()?.counts(given.word("ctrl"))?;
+        let counts = self.device()?.counts(given.word("ctrl"))?;
         let answer = Answer::new(alloc)
-            .number("refusals", refusals)?
-            .number("commands", commands)?;
+            .number("refusals", counts.refusals)?
+            .number("commands", counts.commands)?;
         Ok(answer)
     }
 

@@ -14,10 +14,10 @@ use crate::sending::{read_command, read_commands};
 use crate::watched::Watched;
 use nv_command::Command;
 use nv_controller::{Bus, Machine};
-use nv_driver::{AnswerSlot, Driver, Geometry};
+use nv_driver::{AnswerRoom, Driver, Geometry};
 use nv_host::FlatMemory;
 use nv_layout::{CtrlList, ErrorEntry, Sqe};
-use nv_subsystem::Subsystem;
+use nv_subsystem::{CommandCounts, Subsystem};
 use std::alloc::Global;
 use std::marker::Model;
 
@@ -70,10 +70,10 @@ fn pass_through(
 {
     let mut came = vec![in alloc; 0u8; given.qword("room") as usize]?;
     let data = given.bytes("data");
-    let told = driver.passthrough(bus, ctrl, &entry_in(given), data, came.as_mut_slice());
+    let command_result = driver.passthrough(bus, ctrl, &entry_in(given), data, came.as_mut_slice());
     let answer = Answer::new(alloc)
-        .number("status", u64::from(told.status.number()))?
-        .number("dword0", u64::from(told.dword0))?
+        .number("status", u64::from(command_result.status.number()))?
+        .number("dword0", u64::from(command_result.dword0))?
         .bytes("bytes", came.as_slice())?;
     Ok(answer)
 }
@@ -93,9 +93,9 @@ fn send_command(
     requires fits { CommandFits command.now }
     ensures { IsDevice bus.new.machine (Some driver.new) }
 {
-    let mut slot = AnswerSlot::new();
-    let told = driver.admin(bus, ctrl, command, &mut slot);
-    Ok(add_reply(alloc, Answer::new(alloc), &told)?)
+    let mut room = AnswerRoom::new();
+    let answer = driver.admin(bus, ctrl, command, &mut room);
+    Ok(add_reply(alloc, Answer::new(alloc), &answer)?)
 }
 
 /// Sends commands to a controller, and returns their replies, each after its number.
@@ -113,13 +113,13 @@ fn send_commands(
     requires fits { All CommandFits commands.now }
     ensures { IsDevice bus.new.machine (Some driver.new) }
 {
-    let mut slots = Vec::new(alloc);
-    slots.resize_with(commands.len(), AnswerSlot::new)?;
-    driver.admin_all(bus, ctrl, commands, slots.as_mut_slice());
+    let mut rooms = Vec::new(alloc);
+    rooms.resize_with(commands.len(), AnswerRoom::new)?;
+    driver.admin_all(bus, ctrl, commands, rooms.as_mut_slice());
     let mut answer = Answer::new(alloc);
-    for (index, slot) in slots.iter().enumerate() {
+    for (index, room) in rooms.iter().enumerate() {
         answer = answer.number("command", index as u64)?;
-        answer = add_reply(alloc, answer, &slot.answer())?;
+        answer = add_reply(alloc, answer, &room.answer())?;
     }
     Ok(answer)
 }
@@ -191,7 +191,7 @@ impl DrivenDevice {
 
     /// Returns how many commands a controller refused, and how many it took.
     #[tactic(auto, using(crate::proofs::DeviceLaws::controller_within))]
-    pub(crate) fn counts(&self, ctrl: u16) -> Result<(u64, u64), OperationError> {
+    pub(crate) fn counts(&self, ctrl: u16) -> Result<CommandCounts, OperationError> {
         if ctrl >= self.bus.controllers() {
             return Err(OperationError::NoController);
         }

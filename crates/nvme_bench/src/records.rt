@@ -13,7 +13,7 @@ fn given<const N: usize>(alloc: Global, words: &[&str]) -> Result<[u8; N], Opera
 }
 
 /// Answers the bytes of a record.
-fn told(alloc: Global, bytes: &[u8]) -> Answered {
+fn shown(alloc: Global, bytes: &[u8]) -> Answered {
     Ok(Answer::new(alloc).bytes("bytes", bytes)?)
 }
 
@@ -23,12 +23,12 @@ pub(crate) fn rewrite_entry(alloc: Global, name: &str, words: &[&str]) -> Answer
         "sqe" => {
             let mut bytes = [0xff; 64];
             Sqe::get(&given(alloc, words)?).put(&mut bytes);
-            told(alloc, &bytes)
+            shown(alloc, &bytes)
         }
         "cqe" => {
             let mut bytes = [0xff; 16];
             Cqe::get(&given(alloc, words)?).put(&mut bytes);
-            told(alloc, &bytes)
+            shown(alloc, &bytes)
         }
         "status" => {
             let given = OperationArguments::read(alloc, words, &[Row::word("status")])?;
@@ -38,12 +38,12 @@ pub(crate) fn rewrite_entry(alloc: Global, name: &str, words: &[&str]) -> Answer
         "error_entry" => {
             let mut bytes = [0xff; 64];
             ErrorEntry::get(&given(alloc, words)?).put(&mut bytes);
-            told(alloc, &bytes)
+            shown(alloc, &bytes)
         }
         "smart" => {
             let mut bytes = [0xff; 512];
             Smart::get(&given(alloc, words)?).put(&mut bytes);
-            told(alloc, &bytes)
+            shown(alloc, &bytes)
         }
         _ => rewrite_identity(alloc, name, words),
     }
@@ -56,7 +56,7 @@ fn rewrite_identity(alloc: Global, name: &str, words: &[&str]) -> Answered {
         "lbaf" => {
             let mut bytes = [0xff; 4];
             Lbaf::get(&given(alloc, words)?).put(&mut bytes);
-            return told(alloc, &bytes);
+            return shown(alloc, &bytes);
         }
         "id_ns" => IdNs::get(&given(alloc, words)?).put(&mut page),
         "id_ctrl" => IdCtrl::get(&given(alloc, words)?).put(&mut page),
@@ -64,5 +64,5 @@ fn rewrite_identity(alloc: Global, name: &str, words: &[&str]) -> Answered {
         "ctrl_list" => CtrlList::get(&given(alloc, words)?)?.put(&mut page),
         _ => return Err(OperationError::NoOperation),
     }
-    told(alloc, &page)
+    shown(alloc, &page)
 }

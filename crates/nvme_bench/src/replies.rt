@@ -18,10 +18,10 @@ fn add_errors(alloc: Global, answer: Answer, entries: &ErrorEntries) -> Result<A
 pub(crate) fn add_reply(
     alloc: Global,
     answer: Answer,
-    told: &DriverAnswer,
+    given: &DriverAnswer,
 ) -> Result<Answer, AllocError> {
     let mut page = [0xff; 4096];
-    match told {
+    match given {
         Ok(Reply::Controller(controller)) => controller.get().put(&mut page),
         Ok(Reply::Namespace(namespace)) => namespace.get().put(&mut page),
         Ok(Reply::List(list)) => list.put(&mut page),

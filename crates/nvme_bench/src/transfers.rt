@@ -15,7 +15,7 @@ use nv_prp::{Buffer, ListPlace, Spans, build, copy_in, copy_out, walk};
 use std::alloc::{AllocError, Global};
 
 /// Answers the addresses and the lengths of spans.
-fn told(alloc: Global, spans: &Spans) -> Answered {
+fn shown(alloc: Global, spans: &Spans) -> Answered {
     let spans = spans.as_slice();
     let addresses: Vec<u64> = spans.iter().map(|span| span.address).collect(alloc)?;
     let lengths: Vec<u64> = spans.iter().map(|span| u64::from(span.len)).collect(alloc)?;
@@ -126,7 +126,7 @@ impl Bench {
         }
         let (prp1, prp2) = (given.qword("prp1"), given.qword("prp2"));
         walk(&self.memory, prp1, prp2, len, &mut self.spans)?;
-        told(alloc, &self.spans)
+        shown(alloc, &self.spans)
     }
 
     pub(crate) fn spread(&mut self, alloc: Global, words: &[&str]) -> Answered {
@@ -146,7 +146,7 @@ impl Bench {
             given.dword("length"),
             &mut self.spans,
         )?;
-        told(alloc, &self.spans)
+        shown(alloc, &self.spans)
     }
 
     pub(crate) fn copy_out(&mut self, alloc: Global, words: &[&str]) -> Answered {

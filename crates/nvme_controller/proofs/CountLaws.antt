@@ -2,11 +2,11 @@
 use Rattle.std.proofs.Common.{◌≡◌, ◌<◌, ◌≤◌, ℕ, ap, arith, length, sym}
 use Rattle.std.proofs.lemmas.List.{length-map}
 use Rattle.std.proofs.lemmas.Option.{slice_get_past}
-use Rattle.std.specs.Option.{option_map_or}
 use Rattle.nv_bus.specs.Bus.{IsBus}
 use Rattle.nv_controller.specs.Machine.{MachineValue, bus_of}
 use Rattle.nv_model.specs.LogEntry.{counts_of}
-use Rattle.nv_model.specs.State.{Controller, State}
+use Rattle.nv_model.specs.declared.command_counts.CommandCounts.{CommandCounts}
+use Rattle.nv_model.specs.State.{State}
 use Rattle.nv_subsystem.specs.Tagged.{untagged_log}
 
 -- a machine that is a lawful bus has registers for each controller of its subsystem
@@ -21,10 +21,9 @@ controller_within s m c is bus within =
 
 -- a controller that doesn't exist has the counts 0 and 0
 pub no_counts : (m : MachineValue) (c : ℕ) → IsBus (bus_of m) → length m.banks ≤ c
-    → ◌≡◌ {A = ℕ × ℕ} (0, 0) (counts_of m.state c)
+    → ◌≡◌ {A = CommandCounts} (record { refusals = 0; commands = 0 }) (counts_of m.state c)
 no_counts m c bus past =
     let more : length m.state.controllers ≤ c = omega (arith, controllers_of m bus) in
-    sym (ap (λ x. option_map_or (λ (x : Controller). (x.refusals, x.commands)) x (0, 0))
-    (slice_get_past m.state.controllers c more))
+    rw (slice_get_past m.state.controllers c more) refl
 
 pub ruleset counted = (controller_within, no_counts)

@@ -9,7 +9,7 @@ use Rattle.nv_prp.specs.Transfer.{most_bytes}
 use Rattle.nv_queue.specs.Rings.{IsFetchRing, IsPostRing}
 use Rattle.nv_blocks.specs.Refusal.{status_of_refusal}
 use Rattle.nv_blocks.specs.Turn.{Scene, after_answer, after_turn, next_entry, scene, taken_in, taken_with}
-use Rattle.nv_blocks.specs.declared.answer.Told.{Told}
+use Rattle.nv_blocks.specs.declared.answer.CommandResult.{CommandResult}
 use Rattle.nv_blocks.specs.declared.refusal.Refusal.{Refusal}
 use Rattle.nv_blocks.specs.declared.refusal.Refusal.TheVariants.{DataTransferError}
 use Rattle.nv_blocks.specs.declared.terms.Namespace.{Namespace}
@@ -36,8 +36,8 @@ abbrev pub scene_of : SubmissionQueue → CompletionQueue → List ℕ → List 
 scene_of s c stored memory = scene (fetch_of s) (post_of c) stored memory
 
 -- what a completion says, as a program in C passes it
-abbrev pub answer_told : Answer → Told
-answer_told a = record { dword0 = a.dword0; status = status_of_number a.status }
+abbrev pub answer_result : Answer → CommandResult
+answer_result a = record { dword0 = a.dword0; status = status_of_number a.status }
 
 -- ---- the next entry
 

@@ -4,7 +4,7 @@ use Rattle.nv_layout.specs.Sqe.{bytes_of_sqe}
 use Rattle.nv_layout.specs.Status.{status_of_number}
 use Rattle.nv_layout.specs.declared.sqe.Sqe.{Sqe}
 use Rattle.nv_host.specs.Pages.{are_pages}
-use Rattle.nv_bus.specs.declared.told.Told.{Told}
+use Rattle.nv_bus.specs.declared.command_result.CommandResult.{CommandResult}
 use Rattle.nv_controller.specs.Caller.{answered, can_post, completed, entry_of, rings_completed, rings_fetched}
 use Rattle.nv_controller.specs.Caller.{rings_posted, with_rings_of}
 use Rattle.nv_controller.specs.Machine.{MachineValue}
@@ -41,14 +41,14 @@ abbrev pub machine_after : Option Sqe → Handling → ℕ → MachineValue → 
 machine_after None act c m = m
 machine_after (Some e) Look c m = m
 machine_after (Some e) Take c m = with_rings_of c rings_fetched m
-machine_after (Some e) (Complete told) c m = with_rings_of c rings_completed m
+machine_after (Some e) (Complete command_result) c m = with_rings_of c rings_completed m
 
 -- the bytes after it
 abbrev pub bytes_after : Option Sqe → Handling → ℕ → MachineValue → List ℕ → List ℕ
 bytes_after None act c m bytes = bytes
 bytes_after (Some e) Look c m bytes = bytes
 bytes_after (Some e) Take c m bytes = bytes
-bytes_after (Some e) (Complete told) c m bytes = completed m c told bytes e
+bytes_after (Some e) (Complete command_result) c m bytes = completed m c command_result bytes e
 
 -- ---- a completion that is owed
 
@@ -62,9 +62,9 @@ machine_posted false c m = m
 machine_posted true c m = with_rings_of c rings_posted m
 
 -- the bytes after it
-abbrev pub bytes_posted : Bool → ℕ → MachineValue → ℕ → Told → List ℕ → List ℕ
-bytes_posted false c m cid told bytes = bytes
-bytes_posted true c m cid told bytes = answered m c cid told bytes
+abbrev pub bytes_posted : Bool → ℕ → MachineValue → ℕ → CommandResult → List ℕ → List ℕ
+bytes_posted false c m cid command_result bytes = bytes
+bytes_posted true c m cid command_result bytes = answered m c cid command_result bytes
 
 -- the number of a truth
 abbrev pub done_number : Bool → ℤ
@@ -72,5 +72,5 @@ done_number false = pos 0
 done_number true = pos 1
 
 -- what a completion says of the command, as a program in C passes it
-abbrev pub told_of : Answer → Told
-told_of a = record { dword0 = a.dword0; status = status_of_number a.status }
+abbrev pub command_result_of : Answer → CommandResult
+command_result_of a = record { dword0 = a.dword0; status = status_of_number a.status }

@@ -5,7 +5,7 @@ ghost use Rattle.std.specs.Prelude.{◌≡◌, ◌↔◌, [], IfSome, IsSome, Is
 ghost use Rattle.nv_host.specs.Pages.{are_pages};
 ghost use Rattle.nv_blocks.specs.Turn.{after_answer, after_turn, next_entry, scene, taken_in, taken_with};
 ghost use Rattle.nv_blocks.specs.declared.terms.Terms.{Terms};
-ghost use Rattle.nvme_controller.specs.Blocks.{AreTerms, CanServe, IsLent, Leaves, answer_told};
+ghost use Rattle.nvme_controller.specs.Blocks.{AreTerms, CanServe, IsLent, Leaves, answer_result};
 ghost use Rattle.nvme_controller.specs.Blocks.{next_bytes};
 ghost use Rattle.nvme_controller.specs.Blocks.{next_number, scene_of, status_number, taken_number};
 ghost use Rattle.nvme_controller.specs.Queues.{fetch_of, post_of};
@@ -13,7 +13,7 @@ ghost use Rattle.nvme_controller.specs.Queues.{fetch_of, post_of};
 use crate::caller::Answer;
 use crate::lent::Lent;
 use crate::queues::{CompletionQueue, SubmissionQueue};
-use nv_blocks::{Namespace, Stop, Taken, Terms, Told, complete, next_entry, turn};
+use nv_blocks::{CommandResult, Namespace, Stop, Taken, Terms, complete, next_entry, turn};
 use nv_host::{LentBytes, LentMemory, Loan, are_pages};
 use nv_layout::{Sqe, Status};
 use nv_queue::{Fetch, Post};
@@ -160,18 +160,21 @@ fn answer<'a, L: Loan>(
     memory: &'a mut [u8],
     page_size: u32,
     sqid: u16,
-    told: Told,
+    command_result: CommandResult,
 ) -> Lent<'a, Result<Taken, Stop>>
     requires pages { IsTrue (are_pages page_size (length memory.old)) }
     requires loan { memory.ghost_name ≡ L.reference }
     ensures same_reference { result.memory.ghost_name ≡ memory.entry.ghost_name }
-    ensures taken { result.value ≡ taken_with sqid page_size told []
+    ensures taken { result.value ≡ taken_with sqid page_size command_result []
         (scene pair.old.fetch pair.old.post [] memory.old) }
     ensures scene { scene pair.new.fetch pair.new.post [] result.memory.now ≡ after_answer sqid
-        page_size told [] (scene pair.old.fetch pair.old.post [] memory.old) }
+        page_size command_result [] (scene pair.old.fetch pair.old.post [] memory.old) }
 {
     let mut lent: LentMemory<'a, L> = LentMemory::new(memory, page_size);
-    let answer = nv_blocks::Answer { told, data: &[] };
+    let answer = nv_blocks::Answer {
+        command_result,
+        data: &[],
+    };
     let value = complete(&mut pair.fetch, &mut pair.post, &mut lent, sqid, &answer);
     let LentBytes { bytes: memory } = lent.into_bytes();
     Lent { value, memory }
@@ -199,10 +202,10 @@ pub extern "C" fn nvme_lent_complete(
     given: &Answer,
 ) -> i32
     ensures number { CanServe submissions.old completions.old page_size (length memory.old)
-        → result ≡ taken_number (taken_with submissions.old.sqid page_size (answer_told given.now) []
+        → result ≡ taken_number (taken_with submissions.old.sqid page_size (answer_result given.now) []
         (scene_of submissions.old completions.old [] memory.old)) }
     ensures scene { CanServe submissions.old completions.old page_size (length memory.old)
-        → Leaves (after_answer submissions.old.sqid page_size (answer_told given.now) []
+        → Leaves (after_answer submissions.old.sqid page_size (answer_result given.now) []
         (scene_of submissions.old completions.old [] memory.old)) submissions.old completions.old
         [] memory.new submissions.new completions.new }
     ensures cannot { ¬ CanServe submissions.old completions.old page_size (length memory.old)
@@ -212,11 +215,17 @@ pub extern "C" fn nvme_lent_complete(
     let Some(mut pair) = rings(submissions, completions, page_size, memory.len()) else {
         return -1;
     };
-    let told = Told {
+    let command_result = CommandResult {
         dword0: given.dword0,
         status: Status::from_number(given.status),
     };
-    let served = answer::<Brand>(&mut pair, memory, page_size, submissions.sqid, told);
+    let served = answer::<Brand>(
+        &mut pair,
+        memory,
+        page_size,
+        submissions.sqid,
+        command_result,
+    );
     submissions.keep(&pair.fetch);
     completions.keep(&pair.post);
     number(served.value)

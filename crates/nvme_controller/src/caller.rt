@@ -8,12 +8,12 @@ ghost use Rattle.nv_host.specs.Pages.{are_pages};
 ghost use Rattle.nvme_controller.specs.Caller.{bytes_after, bytes_posted, done_number};
 ghost use Rattle.nvme_controller.specs.Caller.{found_number, machine_after};
 ghost use Rattle.nvme_controller.specs.Caller.{machine_posted, next_over, posts_over, shown_bytes};
-ghost use Rattle.nvme_controller.specs.Caller.{told_of};
+ghost use Rattle.nvme_controller.specs.Caller.{command_result_of};
 ghost use Rattle.nvme_controller.specs.Open.{Goes, IsOpen};
 
 use crate::handle::Handle;
 use crate::lent::Lent;
-use nv_bus::Told;
+use nv_bus::CommandResult;
 use nv_controller::{Bus, Machine};
 use nv_host::{LentBytes, LentMemory, Loan, PagedMemory, are_pages};
 use nv_layout::{Sqe, Status};
@@ -28,7 +28,7 @@ enum Handling {
     /// It takes the entry, and owes it a completion.
     Take,
     /// It takes the entry, and posts its completion.
-    Complete(Told),
+    Complete(CommandResult),
 }
 
 /// What a completion says, as a program in C passes it.
@@ -44,10 +44,10 @@ pub struct Answer {
 
 impl Answer {
     /// Returns what the completion says of the command.
-    pub(crate) fn told(&self) -> Told
-        ensures { result ≡ told_of self.now }
+    pub(crate) fn command_result(&self) -> CommandResult
+        ensures { result ≡ command_result_of self.now }
     {
-        Told {
+        CommandResult {
             dword0: self.dword0,
             status: Status::from_number(self.status),
         }
@@ -73,7 +73,7 @@ fn act_on<M: PagedMemory>(
     match handling {
         Handling::Look => machine.next_entry(ctrl, mem),
         Handling::Take => machine.fetch(ctrl, mem),
-        Handling::Complete(told) => machine.complete(ctrl, mem, told),
+        Handling::Complete(command_result) => machine.complete(ctrl, mem, command_result),
     }
 }
 
@@ -190,14 +190,14 @@ pub extern "C" fn nvme_handle_complete(
         (λ m. result ≡ found_number (next_over m ctrl page_size memory.old)) }
     ensures taken { Goes handle.old.machine handle.new.machine
         (λ m m'. m' ≡ machine_after (next_over m ctrl page_size memory.old)
-        (Handling.Complete (told_of answer.now)) ctrl m) }
+        (Handling.Complete (command_result_of answer.now)) ctrl m) }
     ensures memory { IfSome handle.old.machine
         (λ m. memory.new ≡ bytes_after (next_over m ctrl page_size memory.old)
-        (Handling.Complete (told_of answer.now)) ctrl m memory.old) }
+        (Handling.Complete (command_result_of answer.now)) ctrl m memory.old) }
     ensures open { IsOpen handle.new.machine }
 {
     let mut machine = handle.take(alloc);
-    let handling = Handling::Complete(answer.told());
+    let handling = Handling::Complete(answer.command_result());
     let found = act::<Brand>(&mut machine, ctrl, memory, page_size, handling).value;
     handle.put(machine);
     show(found, &mut [0; 64])
@@ -219,7 +219,7 @@ fn post<'a, L: Loan>(
     ensures posted { result.value ≡ posts_over machine.old ctrl page_size (length memory.old) }
     ensures machine { machine.new ≡ machine_posted result.value ctrl machine.old }
     ensures bytes { result.memory.now ≡ bytes_posted result.value ctrl machine.old
-        answer.now.cid (told_of answer.now) memory.old }
+        answer.now.cid (command_result_of answer.now) memory.old }
     ensures bus { IsBus (bus_of machine.new) }
 {
     if ctrl >= machine.controllers() || !are_pages(page_size, memory.len()) {
@@ -229,7 +229,7 @@ fn post<'a, L: Loan>(
         };
     }
     let mut lent: LentMemory<'a, L> = LentMemory::new(memory, page_size);
-    let value = machine.post(ctrl, &mut lent, answer.cid, answer.told());
+    let value = machine.post(ctrl, &mut lent, answer.cid, answer.command_result());
     let LentBytes { bytes: memory } = lent.into_bytes();
     Lent { value, memory }
 }
@@ -251,7 +251,7 @@ pub extern "C" fn nvme_handle_post(
         (λ m m'. m' ≡ machine_posted (posts_over m ctrl page_size (length memory.old)) ctrl m) }
     ensures memory { IfSome handle.old.machine
         (λ m. memory.new ≡ bytes_posted (posts_over m ctrl page_size (length memory.old)) ctrl m
-        answer.now.cid (told_of answer.now) memory.old) }
+        answer.now.cid (command_result_of answer.now) memory.old) }
     ensures open { IsOpen handle.new.machine }
 {
     let mut machine = handle.take(alloc);

@@ -20,7 +20,7 @@ use crate::handle::Handle;
 use crate::lent::Lent;
 use nv_controller::{Bus, Machine};
 use nv_host::{LentBytes, LentMemory, Loan, are_pages};
-use nv_subsystem::{DEMO, Subsystem, SubsystemError};
+use nv_subsystem::{CommandCounts, DEMO, Subsystem, SubsystemError};
 use std::alloc::Global;
 use std::marker::Brand;
 
@@ -220,14 +220,17 @@ pub extern "C" fn nvme_handle_turn(
 /// Returns how many commands a controller has refused, and how many it has taken: 0 and 0 if there
 /// is no such controller.
 #[tactic(auto, using(crate::proofs::CountLaws::counted))]
-fn counts(machine: &Machine, ctrl: u16) -> (u64, u64)
+fn counts(machine: &Machine, ctrl: u16) -> CommandCounts
     requires { IsBus (bus_of machine.now) }
     ensures { result ≡ counts_of machine.now.state ctrl }
 {
     if ctrl < machine.controllers() {
         machine.subsystem().counts(ctrl)
     } else {
-        (0, 0)
+        CommandCounts {
+            refusals: 0,
+            commands: 0,
+        }
     }
 }
 
@@ -242,15 +245,15 @@ pub extern "C" fn nvme_handle_counts(
 )
     requires open { IsOpen handle.old.machine }
     ensures refusals { IfSome handle.old.machine
-        (λ m. refusals.new ≡ (counts_of m.state ctrl).0) }
+        (λ m. refusals.new ≡ (counts_of m.state ctrl).refusals) }
     ensures commands { IfSome handle.old.machine
-        (λ m. commands.new ≡ (counts_of m.state ctrl).1) }
+        (λ m. commands.new ≡ (counts_of m.state ctrl).commands) }
     ensures stays { handle.new.machine ≡ handle.old.machine }
 {
     let machine = handle.take(alloc);
-    let (refused, taken) = counts(&machine, ctrl);
-    *refusals = refused;
-    *commands = taken;
+    let counts = counts(&machine, ctrl);
+    *refusals = counts.refusals;
+    *commands = counts.commands;
     handle.put(machine);
 }
 

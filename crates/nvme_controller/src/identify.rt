@@ -9,7 +9,7 @@ ghost use Rattle.nvme_controller.specs.Open.{IsOpen};
 use crate::handle::Handle;
 use nv_command::{Command, Reply};
 use nv_controller::{Bus, Machine};
-use nv_subsystem::ReplyPlace;
+use nv_subsystem::RecordRoom;
 use std::alloc::Global;
 
 /// Copies the data of a controller or of a namespace that a command would return, and returns 1, or
@@ -23,8 +23,8 @@ fn put_record(machine: &Machine, ctrl: u16, command: &Command, page: &mut [u8; 4
     if ctrl >= machine.controllers() {
         return 0;
     }
-    let mut place = ReplyPlace::new();
-    match machine.subsystem().answer(ctrl, command, &mut place) {
+    let mut room = RecordRoom::new();
+    match machine.subsystem().answer(ctrl, command, &mut room) {
         Ok(Reply::Controller(data)) => {
             data.get().put(page);
             1

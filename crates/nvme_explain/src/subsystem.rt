@@ -53,7 +53,7 @@ impl File<'_> {
     }
 
     /// Returns the first fault of a document that was made from the file's.
-    fn fault_of(&self, document: &Table) -> Result<Option<SubsystemError>, AllocError> {
+    fn first_fault_in(&self, document: &Table) -> Result<Option<SubsystemError>, AllocError> {
         let text = toml::table_to_string(self.alloc, document).map_err(|_| AllocError)?;
         match Subsystem::from_toml(self.alloc, text.as_bytes()) {
             Ok(_) => Ok(None),
@@ -69,7 +69,7 @@ impl File<'_> {
         for place in places {
             let mut document = self.document()?;
             place.cut(&mut document);
-            if self.fault_of(&document)? == Some(self.fault) {
+            if self.first_fault_in(&document)? == Some(self.fault) {
                 return Ok(place);
             }
         }
@@ -92,7 +92,7 @@ impl File<'_> {
             else {
                 continue;
             };
-            let fault = self.fault_of(&document)?;
+            let fault = self.first_fault_in(&document)?;
             if fault == Some(self.fault) {
                 continue;
             }

@@ -6,7 +6,7 @@ ghost use Rattle.nv_model.specs.WellFormed.{IsWellFormed};
 use nv_controller::Machine;
 use nv_program::{Stop, asked, exit_code, status_of, words_given};
 use nv_script::{
-    Geometry, Held, OverHeld, OverRead, OverWrite, Retrying, SinkAfter, SourceAfter, run,
+    Geometry, OverRead, OverShared, OverWrite, Retrying, SharedWriter, SinkAfter, SourceAfter, run,
 };
 use nv_subsystem::Subsystem;
 use std::io::{self, BufWriter};
@@ -24,10 +24,10 @@ fn run_script(rt: &HostRuntime, subsystem: Subsystem, geometry: Geometry) -> Res
     let Ok(mut machine) = Machine::new(alloc, subsystem) else {
         return Err(Stop::Memory);
     };
-    let held = Held::new(buffered);
-    let mut script = SourceAfter::new(OverRead::new(rt.reader()), &held);
-    let mut out = OverHeld::new(&held);
-    let mut messages = SinkAfter::new(OverWrite::new(Retrying::new(rt.stderr())), &held);
+    let shared = SharedWriter::new(buffered);
+    let mut script = SourceAfter::new(OverRead::new(rt.reader()), &shared);
+    let mut out = OverShared::new(&shared);
+    let mut messages = SinkAfter::new(OverWrite::new(Retrying::new(rt.stderr())), &shared);
     let end = run(
         alloc,
         &mut machine,
@@ -36,7 +36,7 @@ fn run_script(rt: &HostRuntime, subsystem: Subsystem, geometry: Geometry) -> Res
         &mut out,
         &mut messages,
     );
-    let is_out = held.flush();
+    let is_out = shared.flush();
     let status = status_of(end)?;
     if is_out { Ok(status) } else { Err(Stop::Write) }
 }

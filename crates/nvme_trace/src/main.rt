@@ -8,7 +8,7 @@ ghost use Rattle.nv_model.specs.WellFormed.{IsWellFormed};
 
 use nv_controller::Machine;
 use nv_program::{Stop, asked, exit_code, status_of, words_given};
-use nv_script::{Geometry, Held, OverHeld, OverRead, Retrying, SourceAfter, run};
+use nv_script::{Geometry, OverRead, OverShared, Retrying, SharedWriter, SourceAfter, run};
 use nv_subsystem::Subsystem;
 use nv_trace::{Marked, Traced};
 use std::io::{self, BufWriter};
@@ -26,11 +26,11 @@ fn run_script(rt: &HostRuntime, subsystem: Subsystem, geometry: Geometry) -> Res
     let Ok(machine) = Machine::new(alloc, subsystem) else {
         return Err(Stop::Memory);
     };
-    let held = Held::new(buffered);
-    let mut script = SourceAfter::new(OverRead::new(rt.reader()), &held);
-    let mut bus = Traced::new(machine, OverHeld::new(&held));
-    let mut out = Marked::new(OverHeld::new(&held));
-    let mut messages = Marked::new(OverHeld::new(&held));
+    let shared = SharedWriter::new(buffered);
+    let mut script = SourceAfter::new(OverRead::new(rt.reader()), &shared);
+    let mut bus = Traced::new(machine, OverShared::new(&shared));
+    let mut out = Marked::new(OverShared::new(&shared));
+    let mut messages = Marked::new(OverShared::new(&shared));
     let end = run(
         alloc,
         &mut bus,
@@ -39,7 +39,7 @@ fn run_script(rt: &HostRuntime, subsystem: Subsystem, geometry: Geometry) -> Res
         &mut out,
         &mut messages,
     );
-    let is_out = held.flush();
+    let is_out = shared.flush();
     let status = status_of(end)?;
     if is_out && !bus.is_silent() {
         Ok(status)

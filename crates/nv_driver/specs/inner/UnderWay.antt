@@ -3,8 +3,8 @@
 use Rattle.std.specs.Prelude.{◌≡◌, ℕ, ◌+◌, ◌-◌, ◌*◌, ◌<◌, List, length, min, slice_index_or}
 use Rattle.std.specs.Prelude.{take}
 use Rattle.nv_prp.specs.Buffer.{IsBuffer}
-use Rattle.nv_bus.specs.Entry.{told_by}
-use Rattle.nv_bus.specs.declared.told.Told.{Told}
+use Rattle.nv_bus.specs.Entry.{command_result_of}
+use Rattle.nv_bus.specs.declared.command_result.CommandResult.{CommandResult}
 use Rattle.nv_driver.specs.Answer.{Answer}
 use Rattle.nv_driver.specs.Schedule.{Delivers, Sent, answers_of_all, bytes_read, data_length, numbered, step_of}
 use Rattle.nv_driver.specs.UnderWay.{IsHeld, LiesInPages, Run, numbered_of}
@@ -20,17 +20,17 @@ pub record HasAnswers (r : Run) (collected : ℕ) (answers : List Answer) : Type
       ≡ take collected (answers_of_all r.controller r.bus.state (numbered_of r))
 
 -- what was told last and its pages hold the answer to the first request
-pub record IsHeard (r : Run) (places : List CommandPages) (bytes : List ℕ) (last : Told) : Type 0 where
+pub record IsHeard (r : Run) (places : List CommandPages) (bytes : List ℕ) (last : CommandResult) : Type 0 where
   pub one : Sent
   pub kept : LiesInPages r 0 one
   pub held : (p : CommandPages) → IsHeld (slice_index_or places 0 p) one
   pub buffer : IsBuffer bytes r.geometry.page_size one.pages one.offset (data_length one)
-  pub told : last ≡ told_by (step_of r.controller r.bus.state (numbered one)).answer
+  pub told : last ≡ command_result_of (step_of r.controller r.bus.state (numbered one)).answer
   pub came : Delivers one.request.asked (step_of r.controller r.bus.state (numbered one)).answer
       (bytes_read r.geometry.page_size one bytes)
 
 -- the first answers are in their slots, or that to an entry is in its pages
-abbrev pub AreReceived : Requests → Run → ℕ → List Answer → List CommandPages → List ℕ → Told → Type 0
+abbrev pub AreReceived : Requests → Run → ℕ → List Answer → List CommandPages → List ℕ → CommandResult → Type 0
 AreReceived (sends.Commands ks) r collected answers places bytes last = HasAnswers r collected answers
 AreReceived (sends.Entry e given) r collected answers places bytes last =
     0 < collected → IsHeard r places bytes last

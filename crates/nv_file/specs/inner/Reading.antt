@@ -27,5 +27,5 @@ IsCheckedUnlessMemory view checks value (Ok x) = (first_error checks ≡ None) �
 IsCheckedUnlessMemory view checks value (Err e) = (e ≡ Memory) ⊎ (first_error checks ≡ Some e)
 
 -- if one of these checks fails, the first one's fault is returned, regardless of memory
-abbrev pub IsToldFirst : {X : Type 0} → List Check → Result X SubsystemError → Type 0
-IsToldFirst checks result = IfSome (first_error checks) (λ e. result ≡ Err e)
+abbrev pub IsFirstFault : {X : Type 0} → List Check → Result X SubsystemError → Type 0
+IsFirstFault checks result = IfSome (first_error checks) (λ e. result ≡ Err e)

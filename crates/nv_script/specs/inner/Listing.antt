@@ -6,7 +6,7 @@ use Rattle.nv_command.specs.declared.reply.Reply.TheVariants as reply
 use Rattle.nv_driver.specs.Answer.{Answer}
 use Rattle.nv_script.specs.Orders.{Batch, orders_in_all}
 use Rattle.nv_script.specs.Outcomes.{Order, exchange_of}
-use Rattle.nv_script.specs.Shown.{listing_told}
+use Rattle.nv_script.specs.Shown.{listing_after}
 use Rattle.nv_script.specs.declared.listing.Listing.{Listing}
 use Rattle.nv_script.specs.declared.performing.NoText.{NoText}
 use Rattle.nv_script.specs.declared.performing.NoText.TheVariants as stop
@@ -24,7 +24,7 @@ asked w o =
     record {
       state = e.state;
       next_cids = e.next_cids;
-      listing = listing_told o.controller w.listing o.act e.answer;
+      listing = listing_after o.controller w.listing o.act e.answer;
     }
 
 -- the standing after several orders
@@ -37,9 +37,9 @@ answers_to w [] = []
 answers_to w (o ∷ os) = (exchange_of w.state w.next_cids o).answer ∷ answers_to (asked w o) os
 
 -- the NSIDs in a reply
-abbrev pub nsids_told : Reply → List ℕ
-nsids_told (reply.List nsids) = nsids
-nsids_told _ = []
+abbrev pub nsids_listed : Reply → List ℕ
+nsids_listed (reply.List nsids) = nsids
+nsids_listed _ = []
 
 -- these are the subsystem, the next command identifiers and the listing of a standing
 pub record IsListed (w : Standing) (state : State) (next_cids : List ℕ)

@@ -3,7 +3,7 @@ use Rattle.std.specs.Prelude.{◌≡◌, ℕ, ◌+◌, ◌&&◌, not, nat_lt, if
 use Rattle.std.specs.Option.{option_map_or}
 use Rattle.std.specs.FinMap as map_of
 use Rattle.nv_bits.specs.Numbers.{NumberMap}
-use Rattle.nv_bits.specs.Slots.{RangeMap}
+use Rattle.nv_bits.specs.VecMap.{RangeMap}
 use Rattle.nv_model.specs.Values.{restored}
 use Rattle.nv_model.specs.declared.feature_value.FeatureValue.{FeatureValue}
 

@@ -1,7 +1,7 @@
 use Rattle.std.proofs.Common.{◌∙◌, Option, ap, refl, sym}
 use Rattle.nv_prp.specs.Place.{written_at}
 use Rattle.nv_controller.specs.Tags.{answered_with}
-use Rattle.nv_controller.proofs.Words.{data_of, places, Refusal, refused_answer, Reply, success, told_by}
+use Rattle.nv_controller.proofs.Words.{data_of, places, Refusal, refused_answer, Reply, success, command_result_of}
 use Rattle.nv_controller.proofs.EntryLaws.{answered, moved_none, moved_reply, refused_by}
 use Rattle.nv_controller.proofs.deliver.execute.Goals as goal
 
@@ -15,11 +15,11 @@ deliver-requires-clause-fits g c =
     (answered c.args.subsystem.now c.args.ctrl c.args.command.now c.args.origin.cid _ c.requires.well_formed
     (sym c.in-Ok.ensures)).fits
 
-pub returns-in-Ok-clause-told : goal.returns-in-Ok-clause-told
-returns-in-Ok-clause-told g c =
+pub returns-in-Ok-clause-command_result : goal.returns-in-Ok-clause-command_result
+returns-in-Ok-clause-command_result g c =
     ap (λ d. record { dword0 = d; status = success }) c.dword0-dword0.ensures
     ∙ (answered c.args.subsystem.now c.args.ctrl c.args.command.now c.args.origin.cid _ c.requires.well_formed
-    (sym c.in-Ok.ensures)).told
+    (sym c.in-Ok.ensures)).command_result
 
 pub returns-in-Ok-clause-bytes : goal.returns-in-Ok-clause-bytes
 returns-in-Ok-clause-bytes g c =
@@ -40,9 +40,9 @@ returns-in-Ok-clause-moved g c =
     (sym c.in-Ok.ensures)).answer
     c.deliver.ensures.bytes
 
-pub returns-in-Err-clause-told : goal.returns-in-Err-clause-told
-returns-in-Err-clause-told g c =
-    ap told_by (refused_by c.args.subsystem.now c.args.ctrl c.args.command.now c.args.origin.cid _
+pub returns-in-Err-clause-command_result : goal.returns-in-Err-clause-command_result
+returns-in-Err-clause-command_result g c =
+    ap command_result_of (refused_by c.args.subsystem.now c.args.ctrl c.args.command.now c.args.origin.cid _
     (refused_answer _ _ _ (sym c.in-Err.ensures)))
 
 pub returns-in-Err-clause-bytes : goal.returns-in-Err-clause-bytes

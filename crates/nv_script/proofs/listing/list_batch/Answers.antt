@@ -21,6 +21,6 @@ returns-clause-left g c w is =
     let went = GoesAll goes driver c.args.bus.now c.admin_all.new.self c.admin_all.new.bus in
     let gone =
     subst (λ ks. went (Commands ctrl ks ∷ [])) are (c.admin_all.new.bus, done.steps, (done.driver, refl)) in
-    batch_leaves w ctrl s driver listing is there ns _ are c.tell_all.result _ _ _ _ went c.requires.some done.state
+    batch_leaves w ctrl s driver listing is there ns _ are c.keep_all.result _ _ _ _ went c.requires.some done.state
     done.driver answers gone
-    c.tell_all.ensures.told c.tell_all.ensures.refused
+    c.keep_all.ensures.kept c.keep_all.ensures.refused

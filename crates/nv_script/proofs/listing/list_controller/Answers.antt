@@ -7,8 +7,8 @@ use Rattle.nv_script.proofs.GreetingLaws.{greeted_listed, greeted_batches, stopp
 use Rattle.nv_script.proofs.ListLaws.{leaves_after}
 use Rattle.nv_script.proofs.listing.list_controller.Goals as goal
 
-pub returns-in_err-tell-clause-left : goal.returns-in_err-tell-clause-left
-returns-in_err-tell-clause-left g c w is =
+pub returns-in_err-keep-clause-left : goal.returns-in_err-keep-clause-left
+returns-in_err-keep-clause-left g c w is =
     let ctrl = c.args.ctrl in
     let driver = c.args.driver.now in
     let mid = g.B.Bus.meaning c.admin.new.bus in
@@ -19,11 +19,11 @@ returns-in_err-tell-clause-left g c w is =
     rw (e.1, e.2)
     (stopped_there w (g.B.Bus.meaning c.args.bus.now)
     mid driver c.admin.new.self c.args.listing.now ctrl IdentifyController c.admin.result is
-    c.requires.controller first.answer first.state first.driver (Unit {0}) c.in_err-tell.field-0.0
-    (alone ctrl (ActiveList 0) ∷ namespace_batches ctrl (above 0 (active_nsids w.state ctrl))) c.tell.new.self
+    c.requires.controller first.answer first.state first.driver (Unit {0}) c.in_err-keep.field-0.0
+    (alone ctrl (ActiveList 0) ∷ namespace_batches ctrl (above 0 (active_nsids w.state ctrl))) c.keep.new.self
     _
     (went_alone goes driver c.admin.new.self ctrl IdentifyController c.args.bus.now c.admin.new.bus first.steps
-    first.driver) c.in_err-tell.ensures.refused)
+    first.driver) c.in_err-keep.ensures.refused)
 
 pub returns-clause-left : goal.returns-clause-left
 returns-clause-left g c w is =
@@ -35,13 +35,13 @@ returns-clause-left g c w is =
     let second = c.admin.new.self in
     let after = c.admin-2.new.self in
     let listing = c.args.listing.now in
-    let told = c.tell.new.self in
+    let kept = c.keep.new.self in
     let ns = c.nsids_in.result.now in
     let first = c.admin.ensures in
     let then = c.in_ok-attached.ensures in
     let reply = c.admin.result in
     let there = c.requires.controller in
-    let shown = c.in_ok-tell.ensures.told in
+    let shown = c.in_ok-keep.ensures.kept in
     let goes = Goes g.B.Bus.meaning g.B.Bus.was_written (Still g.B.Bus.was_read) g.B.Zeroing.was_zeroed
     g.B.Ringing.was_rung g.B.Bus.was_turned in
     let old = c.args.bus.now in
@@ -54,8 +54,8 @@ returns-clause-left g c w is =
     c.list_namespaces.result (namespace_batches ctrl ns)
     (g.B.Bus.meaning c.list_namespaces.new.bus).state
     (next_cids_of c.list_namespaces.new.driver) c.list_namespaces.new.listing
-    (greeted_batches w ctrl b mid last d second after listing told reply _ is there first.answer first.state
+    (greeted_batches w ctrl b mid last d second after listing kept reply _ is there first.answer first.state
     first.driver shown then.answer then.state then.driver _ ns refl c.nsids_in.ensures)
     (c.list_namespaces.ensures.left _
-    (greeted_listed w ctrl b mid last d second after listing told reply _ is there first.answer first.state
+    (greeted_listed w ctrl b mid last d second after listing kept reply _ is there first.answer first.state
     first.driver shown then.answer then.state then.driver))

@@ -54,8 +54,8 @@ returns-in_err-admin-in-ErrorLog-clause-left g c =
     let after = c.admin-in-ErrorLog-2.new.self in
     let ctrl = c.args.ctrl in
     let known = c.requires.known.controller in
-    let told = c.in_ok-told-in-ErrorLog.told in
-    let first = c.in_ok-told-in-ErrorLog.ensures in
+    let identity = c.in_ok-identity-in-ErrorLog.identity in
+    let first = c.in_ok-identity-in-ErrorLog.ensures in
     let k = c.log_command-command.result in
     let done = c.in_err-admin-in-ErrorLog.ensures in
     let status = c.in_err-admin-in-ErrorLog.field-0.0 in
@@ -67,8 +67,8 @@ returns-in_err-admin-in-ErrorLog-clause-left g c =
     let e = err_from_is_err_and r.result r.ensures.1 in
     rw (e.1, e.2, c.in-ErrorLog.is)
     (second_refused b.state mid.state (next_cids_of d) (next_cids_of second) ctrl c.in-ErrorLog.entries last.state
-    (next_cids_of after) told
-    (sent b mid d second ctrl IdentifyController (Ok told) known first.answer first.state first.driver) k
+    (next_cids_of after) identity
+    (sent b mid d second ctrl IdentifyController (Ok identity) known first.answer first.state first.driver) k
     c.log_command-command.ensures.command _ gone status
     (sent mid last second after ctrl k (Err status) (still_known d second ctrl first.driver known) done.answer
     done.state done.driver))
@@ -83,8 +83,8 @@ returns-in_ok-admin-in-ErrorLog-clause-left g c =
     let after = c.admin-in-ErrorLog-2.new.self in
     let ctrl = c.args.ctrl in
     let known = c.requires.known.controller in
-    let told = c.in_ok-told-in-ErrorLog.told in
-    let first = c.in_ok-told-in-ErrorLog.ensures in
+    let identity = c.in_ok-identity-in-ErrorLog.identity in
+    let first = c.in_ok-identity-in-ErrorLog.ensures in
     let k = c.log_command-command.result in
     let done = c.in_ok-admin-in-ErrorLog.ensures in
     let reply = c.in_ok-admin-in-ErrorLog.field-0 in
@@ -94,8 +94,8 @@ returns-in_ok-admin-in-ErrorLog-clause-left g c =
     c.admin-in-ErrorLog-2.new.bus first.steps first.driver done.steps done.driver in
     rw c.in-ErrorLog.is
     (both_accepted b.state mid.state (next_cids_of d) (next_cids_of second) ctrl c.in-ErrorLog.entries last.state
-    (next_cids_of after) told
-    (sent b mid d second ctrl IdentifyController (Ok told) known first.answer first.state first.driver) k
+    (next_cids_of after) identity
+    (sent b mid d second ctrl IdentifyController (Ok identity) known first.answer first.state first.driver) k
     c.log_command-command.ensures.command _ gone reply
     (sent mid last second after ctrl k (Ok reply) (still_known d second ctrl first.driver known) done.answer
     done.state done.driver))

@@ -1,6 +1,6 @@
 use Rattle.std.proofs.Common.{inl, inr, length, refl, subst}
 use Rattle.nv_driver.specs.BringingUp.{Still}
-use Rattle.nv_driver.specs.Geometry.{fault_of}
+use Rattle.nv_driver.specs.Geometry.{geometry_fault}
 use Rattle.nv_driver.specs.Layout.{pages_of_entry}
 use Rattle.nv_driver.proofs.LinkedLaws.{without, without_fault}
 use Rattle.nv_serve.specs.Handling.{DoesAll, Handles, calls}
@@ -46,7 +46,7 @@ returns-clause-serves g c =
     let why = without c.args.geometry error e.geometry e.ready in
     let here = streams (g.R.Source.state c.args.source.now) (g.O.Sink.state c.args.out.now) in
     inl (
-      end_is (fault_of c.args.geometry) error c.from.result why c.from.ensures,
+      end_is (geometry_fault c.args.geometry) error c.from.result why c.from.ensures,
       c.in-Err-bring_up_for_entries.ensures.steps,
       e.untouched,
       refl {a = here},

@@ -5,7 +5,8 @@ use Rattle.nv_driver.proofs.Words.{get_or_default, inl, length, length-map, leng
 use Rattle.nv_driver.proofs.Words.{place_in, refl, request_of, requests_in, set, set-get_or, subst, sym}
 use Rattle.nv_driver.proofs.OnWayLaws.{can_collect}
 use Rattle.nv_driver.proofs.RoundLaws.{answer_buffer, answers_more, awaits, can_give, collects, count_few, hears}
-use Rattle.nv_driver.proofs.RoundLaws.{held_one, number_inside, received_on, takes, tells_on, told_with, turns_idly}
+use Rattle.nv_driver.proofs.RoundLaws.{command_result_with, held_one, number_inside, received_on, takes, tells_on}
+use Rattle.nv_driver.proofs.RoundLaws.{turns_idly}
 use Rattle.nv_driver.proofs.RoundLaws.{turns_on}
 use Rattle.nv_driver.proofs.UnderWayLaws.{geometry_is}
 use Rattle.nv_driver.proofs.batch.Batch.turn.Given.{Over}
@@ -166,7 +167,7 @@ receive-requires g c =
 received_more : (g : Over) (c : goal.Joined-self-pace g)
     → (c.match-requests.host.mem ≡ c.loop.host.mem) × (c.match-requests.host.taken ≡ c.loop.host.taken)
     × AreReceived c.args.requests g.begun.run (c.loop.self.collected + 1) c.match-requests.answers c.loop.host.taken
-    (g.M.PagedMemory.bytes c.loop.host.mem) (told_with c.next_completion-completion.result.command_specific
+    (g.M.PagedMemory.bytes c.loop.host.mem) (command_result_with c.next_completion-completion.result.command_specific
     c.next_completion-completion.result.status)
 received_more g c =
     let i = c.loop.invariant in
@@ -182,7 +183,7 @@ received_more g c =
     let mine = slot_is c.loop.host.taken n no_pages u.room in
     let places = c.loop.host.taken in
     let bytes = g.M.PagedMemory.bytes c.loop.host.mem in
-    let last = told_with c.next_completion-completion.result.command_specific
+    let last = command_result_with c.next_completion-completion.result.command_specific
     c.next_completion-completion.result.status in
     elim c.match-requests.branch [
       | in-Commands w ↦

@@ -1,12 +1,12 @@
 use Rattle.nv_driver.proofs.Words.{[], ℕ, ◌∙◌, ◌∷◌, CommandPages, Geometry, GoesOver, HasEntryPages, IsReceived, List}
 use Rattle.nv_driver.proofs.Words.{Pages, QueuePairFields, SendsAll, after_some, all_pages, ap, arith, asked_in}
 use Rattle.nv_driver.proofs.Words.{entry_step, get_or, length, limit_of, place_in, refl, request_for, rules, run_of}
-use Rattle.nv_driver.proofs.Words.{World, subst, sym, told_by}
+use Rattle.nv_driver.proofs.Words.{World, subst, sym, command_result_of}
 use Rattle.nv_driver.specs.Alone.{IsReadIn}
 use Rattle.nv_driver.proofs.AdminLaws.{HasPair, after_first, cid_is, driver_after, goes_over, left_at, linked_after}
 use Rattle.nv_driver.proofs.AdminLaws.{ready_by, shape_at, value_after}
 use Rattle.nv_driver.proofs.ExchangeLaws.{CanPass, few_pages, its_buffer, left_with, of_entry, own_ready, pages_back}
-use Rattle.nv_driver.proofs.ExchangeLaws.{read_by, received_by, told_is}
+use Rattle.nv_driver.proofs.ExchangeLaws.{read_by, received_by, command_result_is}
 use Rattle.nv_driver.proofs.PassthroughLaws.{can_pass, ends_before, more_is, room_stays}
 use Rattle.nv_driver.proofs.driver.Driver.passthrough.Given.{Over}
 use Rattle.nv_driver.proofs.driver.Driver.passthrough.Goals.{After-deref_mut-host}
@@ -96,8 +96,8 @@ returns-clause-answer g c =
     let past = (goal.at.returns-clause-answer g c).After-deref_mut-host in
     let pair = its_pair g past in
     let can = passes g past in
-    told_is c.args.bytes.now can (c.exchange_all.ensures.received (omega arith))
-    ∙ ap (λ n. told_by (entry_step (g.B.Bus.meaning c.args.bus.now).state c.args.ctrl c.args.entry.now
+    command_result_is c.args.bytes.now can (c.exchange_all.ensures.received (omega arith))
+    ∙ ap (λ n. command_result_of (entry_step (g.B.Bus.meaning c.args.bus.now).state c.args.ctrl c.args.entry.now
     c.args.bytes.now n).answer) (sym (cid_is pair))
 
 pub returns-clause-state : goal.returns-clause-state

@@ -1,4 +1,4 @@
-use Rattle.nv_script.proofs.Words.{err_from_is_err_and, fault_of, refl}
+use Rattle.nv_script.proofs.Words.{err_from_is_err_and, geometry_fault, refl}
 use Rattle.nv_script.proofs.LinkLaws.{first_session}
 use Rattle.nv_script.proofs.RunLaws.{without}
 use Rattle.nv_driver.proofs.LinkedLaws as W
@@ -9,7 +9,7 @@ returns-in_err-driver-clause-fault g c =
     let e = err_from_is_err_and c.from_residual.result c.from_residual.ensures.1 in
     let why = W.without c.args.geometry c.in_err-driver.field-0.0 c.in_err-driver.ensures.brought.geometry
     c.in_err-driver.ensures.brought.ready in
-    rw e.1 (without (fault_of c.args.geometry) c.in_err-driver.field-0.0 _ why e.2)
+    rw e.1 (without (geometry_fault c.args.geometry) c.in_err-driver.field-0.0 _ why e.2)
 
 pub returns-clause-fault : goal.returns-clause-fault
 returns-clause-fault g c = W.without_fault c.args.geometry _ c.in_ok-driver.ensures.brought.geometry
