@@ -1,4 +1,4 @@
-//! Storage for one reply, with what it borrows.
+//! Room for one reply, with what it borrows.
 
 ghost use Rattle.std.specs.Prelude.{◌≡◌, ◌-◌, ◌≤◌, List, drop, length, map, replicate};
 ghost use Rattle.std.specs.Simd.{first_chunks};

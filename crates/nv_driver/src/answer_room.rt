@@ -1,4 +1,4 @@
-//! Storage for the answer to a command, and how the answer is read.
+//! Room for the answer to a command, and how the answer is read.
 
 ghost use Rattle.std.specs.Prelude.{◌≡◌, ◌≤◌, Ok, length};
 ghost use Rattle.nv_command.specs.Command.{transfer_by};

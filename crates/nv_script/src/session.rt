@@ -10,7 +10,7 @@ use std::array;
 /// How many namespaces a controller is asked for at a time.
 pub const BATCH: usize = 16;
 
-/// Storage for the answers to the commands of one request. It is allocated once for a run.
+/// Room for the answers to the commands of one request. It is allocated once for a run.
 #[derive(Drop)]
 pub struct Answers {
     pub first: AnswerRoom,
@@ -18,7 +18,7 @@ pub struct Answers {
     pub batch: Box<[AnswerRoom; BATCH]>,
 }
 
-/// The state of a run between two lines: where it gets memory, the driver of its bus, storage for
+/// The state of a run between two lines: where it gets memory, the driver of its bus, room for
 /// answers and for the controllers that a line lists, how many lines there were, and the status of
 /// the last one that has one.
 #[derive(Drop)]
@@ -42,7 +42,7 @@ impl Session {
     ghost use Rattle.nv_driver.specs.Linked.{IsLinked};
     ghost use Rattle.nv_script.specs.inner.Link.{IsFirst};
 
-    /// Creates the state before the first line: allocates storage for answers, and brings up a
+    /// Creates the state before the first line: allocates room for answers, and brings up a
     /// driver of this geometry, which resets each controller that was enabled. If it fails, the bus
     /// is untouched.
     pub(crate) fn begin<B: Bus + Zeroing>(

@@ -24,6 +24,6 @@ pub no_counts : (m : MachineValue) (c : ℕ) → IsBus (bus_of m) → length m.b
     → ◌≡◌ {A = CommandCounts} (record { refusals = 0; commands = 0 }) (counts_of m.state c)
 no_counts m c bus past =
     let more : length m.state.controllers ≤ c = omega (arith, controllers_of m bus) in
-    rw (slice_get_past m.state.controllers c more) refl
+    grind (arith, slice_get_past)
 
 pub ruleset counted = (controller_within, no_counts)
