@@ -76,13 +76,8 @@ asked_limit (Err code) s c nsid cid d = refused_limit s c nsid cid d (refusal_by
 
 -- dword 0 of a reply that fits its record has 32 bits
 dword0_fits : (r : Reply) → FitsRecord r → dword0_of r < 2 ^ 32
-dword0_fits (reply.Controller r) fits = lit< tt
-dword0_fits (reply.Namespace r) fits = lit< tt
-dword0_fits (reply.List ids) fits = lit< tt
 dword0_fits (reply.Number n) fits = fits
-dword0_fits reply.Done fits = lit< tt
-dword0_fits (reply.Errors es) fits = lit< tt
-dword0_fits (reply.Smart r) fits = lit< tt
+dword0_fits r fits = lit< tt
 
 -- a reply that answers what was asked for fits its record
 record_fits : (asked : Asked) (r : Reply) → IsAnswerTo asked (Ok r) → FitsRecord r
@@ -92,20 +87,8 @@ record_fits (Err code) r is = absurd is
 -- the completion with such an answer fits its bits
 pub completion_fits : (asked : Asked) (cid head : ℕ) (a : Answer) → cid < 2 ^ 16 → head < 2 ^ 16
     → IsAnswerTo asked a → CqeFits (completion_with cid head a)
-completion_fits asked cid head (Ok r) low below is = record {
-  command_specific = dword0_fits r (record_fits asked r is);
-  sq_head = below;
-  sq_identifier = lit< tt;
-  cid = low;
-  status = record { sc = lit< tt; sct = lit< tt; crd = lit< tt };
-}
-completion_fits asked cid head (Err status) low below is = record {
-  command_specific = lit< tt;
-  sq_head = below;
-  sq_identifier = lit< tt;
-  cid = low;
-  status = is.0;
-}
+completion_fits asked cid head (Ok r) low below is = omega (arith, dword0_fits r (record_fits asked r is))
+completion_fits asked cid head (Err status) low below is = omega (arith, is.0)
 
 -- ---- what its completion and its data say
 

@@ -7,6 +7,10 @@ use Rattle.std.specs.Prelude.{slice_index}
 use Rattle.nv_host.specs.Pages.{HasPage}
 use Rattle.nv_driver.proofs.ShareLaws.{data_fits}
 
+-- pages that stand for those of a slot outside the window
+abbrev pub no_pages : CommandPages
+no_pages = record { numbers = []; count = 0 }
+
 -- how many pages a command has
 pub all_count : (o : CommandPages) → o.count ≤ length o.numbers → length (all_pages o) ≡ o.count
 all_count o few = let h = length-take o.count o.numbers in omega (arith, h, few)

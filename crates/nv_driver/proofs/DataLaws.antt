@@ -73,9 +73,8 @@ none_written bytes at xs none = sym (ap (written_at bytes at) (nothing xs none) 
 
 -- data of at most a page has at most 4,096 bytes from the host
 few_from_host : (m : Transfer) → at_most_a_page m ≡ true → bytes_from_host m ≤ 4096
-few_from_host NoData is = lit≤ tt
-few_from_host (ToHost n) is = lit≤ tt
 few_from_host (FromHost n) is = omega (arith, a_page n is)
+few_from_host m is = lit≤ tt
 
 -- every command has at most a page of data from the host
 few_sent : (k : Command) → bytes_from_host (transfer_by k) ≤ 4096
@@ -111,16 +110,14 @@ data_whole k page at n fits size whole inside =
 -- if the bytes that are read don't change, neither does what is sent or received
 pub sent_same : (m : Transfer) (old new at : List ℕ) → read_at new at ≡ read_at old at
     → sent_from m new at ≡ sent_from m old at
-sent_same NoData old new at same = refl
-sent_same (ToHost n) old new at same = refl
 sent_same (FromHost n) old new at same = same
+sent_same m old new at same = refl
 
 -- if the bytes that are read don't change, what is received doesn't
 pub received_same : (m : Transfer) (old new at : List ℕ) → read_at new at ≡ read_at old at
     → received_from m new at ≡ received_from m old at
-received_same NoData old new at same = refl
 received_same (ToHost n) old new at same = same
-received_same (FromHost n) old new at same = refl
+received_same m old new at same = refl
 
 -- distinct places in a memory of this size for the data of a transfer
 pub record ArePlaces (m : Transfer) (memory : ℕ) (at : List ℕ) : Type 0 where
@@ -131,15 +128,11 @@ pub record ArePlaces (m : Transfer) (memory : ℕ) (at : List ℕ) : Type 0 wher
 -- what the host writes to the places of a transfer is what the controller reads there
 pub sent_back : (m : Transfer) (bytes at xs : List ℕ) → ArePlaces m (length bytes) at
     → length xs ≡ bytes_from_host m → sent_from m (written_at bytes at xs) at ≡ xs
-sent_back NoData bytes at xs p len = sym (nothing xs len)
-sent_back (ToHost n) bytes at xs p len = sym (nothing xs len)
-sent_back (FromHost n) bytes at xs p len =
-    read_written bytes at xs (p.size ∙ sym len) p.inside p.distinct
+sent_back (FromHost n) bytes at xs p len = read_written bytes at xs (p.size ∙ sym len) p.inside p.distinct
+sent_back m bytes at xs p len = sym (nothing xs len)
 
 -- what the controller writes to the places of a transfer is received there
 pub received_back : (m : Transfer) (bytes at xs : List ℕ) → ArePlaces m (length bytes) at
     → length xs ≡ bytes_to_host m → received_from m (written_at bytes at xs) at ≡ xs
-received_back NoData bytes at xs p len = sym (nothing xs len)
-received_back (ToHost n) bytes at xs p len =
-    read_written bytes at xs (p.size ∙ sym len) p.inside p.distinct
-received_back (FromHost n) bytes at xs p len = sym (nothing xs len)
+received_back (ToHost n) bytes at xs p len = read_written bytes at xs (p.size ∙ sym len) p.inside p.distinct
+received_back m bytes at xs p len = sym (nothing xs len)

@@ -104,8 +104,7 @@ is_done t s w y d k below one =
 moves_there : (asked : Asked) (at : List ℕ) (a : Answer) (old moved : List ℕ) → MovesBy (call_at at asked) a old moved
     → (xs : List ℕ) × (moved ≡ written_at old at xs)
 moves_there (Ok k) at (Ok reply) old moved moves = (data_of k moves.0, moves.2)
-moves_there (Ok k) at (Err status) old moved moves = ([], moves ∙ sym (written-nothing old at))
-moves_there (Err code) at a old moved moves = ([], moves ∙ sym (written-nothing old at))
+moves_there asked at a old moved moves = ([], moves ∙ sym (written-nothing old at))
 
 -- a command's places are those of its data
 are_places : (t : Setting) (x : Sent) (old : List ℕ) → IsOwn t (length old) x
@@ -127,8 +126,7 @@ delivered_by (Ok k) (Ok reply) m at old moved new is goes moves are same =
           ∙ received_back m old at (data_of k r) are
           (replies_fit k r with_tags.0 with_tags.1 ∙ ap bytes_to_host goes.0),
     )
-delivered_by (Ok k) (Err status) m at old moved new is goes moves are same = tt
-delivered_by (Err code) a m at old moved new is goes moves are same = tt
+delivered_by asked a m at old moved new is goes moves are same = tt
 
 -- ---- what the entry keeps
 
@@ -223,8 +221,7 @@ module _ (t : Setting) (s : State) (w : World) (y : Scene) (d : Sent) (k : Keeps
   -- its own list doesn't change
   own_list : KeepsList (pointed t.page_size x w.mem) x.first x.second y.bytes
   own_list =
-      let moved = subst (KeepsList (pointed t.page_size x w.mem) x.first x.second) (sym put.1)
-      (written_list t.page_size x w.mem put.0 some own.enough own.pages) in
+      let moved = rw (← put.1) at (written_list t.page_size x w.mem put.0 some own.enough own.pages) in
       let rest = own_stays.list in
       record {
         len = rest.len ∙ moved.len;

@@ -93,27 +93,20 @@ posted t w d k some low tags there =
           phase_of t.depth (number t n)) same there))
     ]
 
--- in that case it is there
-awaited_there : (t : Setting) (s : State) (w : World) → Keeps t s w → length w.answers < w.done
-    → IsAwaitedThere w.mem (awaited t w)
-awaited_there t s w k more =
+-- the awaited completion is found if and only if a command was executed whose answer wasn't collected
+pub is_found : (t : Setting) (s : State) (w : World) → Keeps t s w
+    → IsAwaitedThere w.mem (awaited t w) ↔ (length w.answers < w.done)
+is_found t s w k =
     let c = k.counts in
     let deep = k.placed.deep in
     let some : 0 < t.depth = omega (arith, deep.0) in
     let n = length w.answers in
-    let far = number_above t n w.done some c.collected (omega (arith, c.done, c.rung, c.few)) in
-    k.tags (slot t n) (slot_inside t n some)
-    ∙ tag_there t.depth (number t w.done) (number t n) (number_below t w.done some) (number_below t n some)
-    (omega (arith, far, c.done, c.rung, c.few))
-    (λ same. numbers_differ t n w.done more (omega (arith, c.done, c.rung, c.few)) (sym same))
-
--- the awaited completion is found if and only if a command was executed whose answer wasn't collected
-pub is_found : (t : Setting) (s : State) (w : World) → Keeps t s w
-    → IsAwaitedThere w.mem (awaited t w) ↔ (length w.answers < w.done)
-is_found t s w k = (
-  posted t w w.done (length w.answers) (let deep = k.placed.deep in omega (arith, deep.0)) k.counts.collected k.tags,
-  awaited_there t s w k,
-)
+    let far = number_above t n w.done some c.collected (omega (arith, c.done, c.rung, c.few)) in (
+      posted t w w.done n some c.collected k.tags,
+      λ more. k.tags (slot t n) (slot_inside t n some) ∙ tag_there t.depth (number t w.done) (number t n)
+          (number_below t w.done some) (number_below t n some) (omega (arith, far, c.done, c.rung, c.few))
+          (λ same. numbers_differ t n w.done more (omega (arith, c.done, c.rung, c.few)) (sym same)),
+    )
 
 -- collecting the answer of a command that was executed keeps what holds for the schedule
 collected_one : (t : Setting) (s : State) (w : World) (d : Sent) → Keeps t s w → length w.answers < w.done

@@ -55,23 +55,6 @@ pair_ends g i j h =
     let pages : i * pair_pages g + submission_pages g + completion_pages g + set_pages g ≤ j * pair_pages g =
     omega (arith, mul-le-mul_right (pair_pages g) h) in mul-le-mul_right g.page_size pages
 
--- the queue pair of a controller lies in a memory with the pages of n controllers
-pair_laid : (g : Geometry) (n i size : ℕ) → IsGeometry g → i < n → pages_of g n * g.page_size ≤ size
-    → IsLaid g.page_size size (pair_of g i)
-pair_laid g n i size is h e =
-    let page = page_size_bounds g.page_size is.page_size in
-    let fit = rings_fit g (omega arith) in
-    let deep = is.depth in
-    let first = i * pair_pages g in
-    record {
-      deep = deep;
-      number = omega arith;
-      next_cid = omega arith;
-      rings = after first (submission_pages g) g.page_size (64 * g.depth) fit.0;
-      pages = after (first + submission_pages g) (completion_pages g) g.page_size (16 * g.depth) fit.1;
-      inside = omega (arith, pair_ends g i n h, e);
-    }
-
 -- queue pair i of n controllers belongs to controller i
 pair_at : (g : Geometry) (n i : ℕ) (d : QueuePair) → i < n → slice_index_or (pairs_of g n) i d ≡ pair_of g i
 pair_at g n i d h = get_or-map-range_with_len (pair_of g) 0 n i i d h (zero-add i)
@@ -95,7 +78,19 @@ pub all_laid : (g : Geometry) (n size : ℕ) → IsGeometry g → pages_of g n *
     → All (IsLaid g.page_size size) (pairs_of g n)
 all_laid g n size is e i d h =
     let many = length-map-range_with_len (pair_of g) 0 n in
-    rw (pair_at g n i d (omega arith)) (pair_laid g n i size is (omega arith) e)
+    let below : i < n = omega arith in
+    let page = page_size_bounds g.page_size is.page_size in
+    let fit = rings_fit g (omega arith) in
+    let deep = is.depth in
+    let first = i * pair_pages g in
+    rw (pair_at g n i d below) (record {
+      deep = deep;
+      number = omega arith;
+      next_cid = omega arith;
+      rings = after first (submission_pages g) g.page_size (64 * g.depth) fit.0;
+      pages = after (first + submission_pages g) (completion_pages g) g.page_size (16 * g.depth) fit.1;
+      inside = omega (arith, pair_ends g i n below, e);
+    })
 
 -- if all queue pairs lie in a memory, so does the queue pair of controller i
 pub laid_in : (g : Geometry) (n i size : ℕ) → All (IsLaid g.page_size size) (pairs_of g n) → i < n

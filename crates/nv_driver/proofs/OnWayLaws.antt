@@ -201,10 +201,7 @@ module _ {B : Type 0} {doing : Doing B} {start on : B} {w : Way} {bus : BusValue
       ≡ with_register_at (bank_at bus.banks w.run.controller) offset new)
       × (bus'.banks ≡ slice_set w.run.bus.banks w.run.controller (bank_at bus'.banks w.run.controller))
   bank_is bus' {c} {value} {new} offset same put banks =
-      let own = subst (λ v. bus'.banks ≡ slice_set bus.banks w.run.controller
-      (with_register_at (bank_at bus.banks w.run.controller) offset v)) put
-      (subst (λ i. bus'.banks ≡ slice_set bus.banks i (with_register_at (bank_at bus.banks i) offset value)) same
-      banks) in (
+      let own = rw (put, same) at banks in (
         ap (λ ps. bank_at ps w.run.controller) own ∙ bank_set bus.banks w.run.controller _ has_bank,
         set_again w.run.bus.banks bus.banks bus'.banks w.run.controller _ _ u.begun.controller u.banks own,
       )
@@ -285,8 +282,7 @@ module _ {B : Type 0} {doing : Doing B} {start on : B} {w : Way} {bus : BusValue
       × (count ≡ min most (min (w.rung - w.done) (w.run.pair.submission.depth - 1 - (w.done - w.told))))
   turned {bus'} {on'} {now'} {asked} {most} {count} {c} {mem} same pace turn lawful size page its_time =
       let v = turned_way most count in
-      let own = subst (λ k. T.Turn now w.run.controller k count bus bytes bus' mem) pace
-      (subst (λ i. T.Turn now i asked count bus bytes bus' mem) same turn) in
+      let own = rw (pace, same) at turn in
       let happens : Happens t (Turn most) world (world_of v bus' mem) =
       (count, rw u.page_size at own.own, refl) in
       let ran : Follows doing t (Turn most ∷ w.course.events) (first_world w.run) start (world_of v bus' mem) on' =

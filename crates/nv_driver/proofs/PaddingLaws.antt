@@ -134,6 +134,5 @@ pub came_as : (m : Transfer) (done : Bool) (mem : List ℕ) (page_size : ℕ) (p
     → read_at mem (buffer_places page_size pages offset (if done then bytes_to_host m else 0))
     ≡ (if done then received_from m mem (buffer_places page_size pages offset (length_of m)) else [])
 came_as m false mem page_size pages offset = nothing _ (length-read mem page_size pages offset 0)
-came_as NoData true mem page_size pages offset = nothing _ (length-read mem page_size pages offset 0)
 came_as (ToHost n) true mem page_size pages offset = refl
-came_as (FromHost n) true mem page_size pages offset = nothing _ (length-read mem page_size pages offset 0)
+came_as m true mem page_size pages offset = nothing _ (length-read mem page_size pages offset 0)

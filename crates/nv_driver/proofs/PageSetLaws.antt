@@ -66,8 +66,7 @@ same_pages s a b each =
     one_value : (x y : Option (Unit {0})) → is_some x ≡ is_some y → x ≡ y
     one_value None None e = refl
     one_value (Some u) (Some v) e = refl
-    one_value None (Some v) e = absurd (cc e)
-    one_value (Some u) None e = absurd (cc e)
+    one_value x y e = absurd (cc e)
 
 -- ---- taking
 

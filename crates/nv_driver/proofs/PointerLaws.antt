@@ -87,8 +87,7 @@ places_by : (m : Transfer) (page_size : ℕ) (mem : List ℕ) (e : Sqe) (at : Li
     → data_places page_size mem e m ≡ Ok at
 places_by NoData page_size mem e at is size found =
     no_places page_size mem e NoData at refl (nothing at size)
-places_by (ToHost n) page_size mem e at is size found = found is.0
-places_by (FromHost n) page_size mem e at is size found = found is.0
+places_by m page_size mem e at is size found = found is.0
 
 -- the rules after those that come before the data pointer
 abbrev call_with : ℕ → List ℕ → Sqe → Transfer → Result Call StatusCode

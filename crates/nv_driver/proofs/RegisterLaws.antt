@@ -42,12 +42,8 @@ enabled_at banks c h = get_or-map (λ (p : RegisterBank). is_enabled p.readiness
 -- the dword that is written to CC sets EN, the page size, and the sizes of the entries
 pub cc_written : (m : ℕ) → m ≤ 4
     → cc_of_dword (0x00460001 + m * 128) ≡ record { en = true; sizes = record { mps = m; iosqes = 6; iocqes = 4 } }
-cc_written zero h = refl
-cc_written (suc zero) h = refl
-cc_written (suc (suc zero)) h = refl
-cc_written (suc (suc (suc zero))) h = refl
-cc_written (suc (suc (suc (suc zero)))) h = refl
 cc_written (suc (suc (suc (suc (suc n))))) h = absurd (omega arith)
+cc_written m h = refl
 
 -- MPS of a page size gives back the page size, and is at most 4
 pub page_size_of_mps : (size : ℕ) → IsPageSize size → (2 ^ (12 + mps_of size) ≡ size) × (mps_of size ≤ 4)

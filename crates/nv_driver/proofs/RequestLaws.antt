@@ -70,13 +70,7 @@ elsewhere e cid prp1 prp2 = record e { cid = cid; prp1 = prp1; prp2 = prp2 }
 same_decoding : (r : Result Opcode StatusCode) (e : Sqe) (cid p q : ℕ)
     → (r >>= (λ o. decoded_as o (elsewhere e cid p q))) ≡ (r >>= (λ o. decoded_as o e))
 same_decoding (Ok Identify) e cid p q = refl
-same_decoding (Ok NamespaceManagement) e cid p q = refl
-same_decoding (Ok NamespaceAttachment) e cid p q = refl
-same_decoding (Ok FormatNvm) e cid p q = refl
-same_decoding (Ok GetFeatures) e cid p q = refl
-same_decoding (Ok SetFeatures) e cid p q = refl
-same_decoding (Ok GetLogPage) e cid p q = refl
-same_decoding (Err code) e cid p q = refl
+same_decoding r e cid p q = refl
 
 -- the data transfer of what an entry asks for, within a limit
 abbrev moves_as : ℕ → Result Decoded StatusCode → Result Transfer StatusCode

@@ -85,11 +85,9 @@ module _ {B : Type 0} {wrote : Write B} {rang : TailWrite B} {turned : BusTurn B
         omega (arith, more, u.sent),
       ) in
       let put = sent ∙ ap (slot (setting_of r)) (sym u.sent) in
-      let its_call = subst (λ n. wrote on r.controller 0x1000 n on') put
-      (subst (λ c. wrote on c 0x1000 value on') u.controller its_write) in
-      goes_on (Bell ∷ u.course.events) refl (subst (λ n. IsOnWay (DoesNext wrote rang turned r) start
-      (way r (W.more_events u.on_way Bell) n turns b.told) bus' on' l now bytes) u.sent
-      (W.rings u.on_way {on' = on'} u.controller put state banks lawful (its_time, (its_call, its_ring)))) (λ h. h)
+      let its_call = rw (put, u.controller) at its_write in
+      goes_on (Bell ∷ u.course.events) refl (rw u.sent at (W.rings u.on_way {on' = on'} u.controller put state banks
+      lawful (its_time, (its_call, its_ring)))) (λ h. h)
 
   -- the head doorbell was rung for all collected answers
   pub tells_on : {bus' : BusValue} {on' : B} {l' : QueuePairFields} → IsTold b.ctrl l bus l' bus'
@@ -99,13 +97,9 @@ module _ {B : Type 0} {wrote : Write B} {rang : TailWrite B} {turned : BusTurn B
       → IsUnderWay wrote rang turned start r bells turns (record b { told = b.collected }) bus' on' l' now bytes places
   tells_on {bus'} {on'} {l'} t its_write some to_report =
       let more : b.told < length u.course.answers = omega (arith, some, u.collected) in
-      let its_call = subst (λ n. wrote on r.controller 0x1004 n on') (W.head_at u.on_way)
-      (subst (λ c. wrote on c 0x1004 (slot_of l.completion.depth l.completion.collected) on') u.controller
-      (its_write (W.untold_is u.on_way more))) in
+      let its_call = rw (W.head_at u.on_way, u.controller) at (its_write (W.untold_is u.on_way more)) in
       goes_on (Tell ∷ u.course.events) (ap (λ (o : QueuePairFields). o.pages) t.pair)
-      (subst (λ n. IsOnWay (DoesNext wrote rang turned r) start (way r (W.more_events u.on_way Tell) bells turns n)
-      bus' on' l' now bytes) u.collected
-      (W.tells_on u.on_way {on' = on'} u.controller more t ((more, to_report), its_call))) (λ h. h)
+      (rw u.collected at (W.tells_on u.on_way {on' = on'} u.controller more t ((more, to_report), its_call))) (λ h. h)
 
   -- the controller had a turn
   module _ {bus' : BusValue} {on' : B} {now' asked most count : ℕ} {mem : List ℕ}
@@ -126,8 +120,7 @@ module _ {B : Type 0} {wrote : Write B} {rang : TailWrite B} {turned : BusTurn B
           its_pace,
           u.awake,
         ) in
-        let its_call = subst (λ n. turned on bytes r.controller n count on' mem) pace
-        (subst (λ c. turned on bytes c asked count on' mem) u.controller its_turn) in
+        let its_call = rw (pace, u.controller) at its_turn in
         W.turned u.on_way {on' = on'} u.controller pace turn lawful size page (its_time, (count, refl, its_call))
 
     -- it took as many requests as the counts allow
@@ -147,17 +140,11 @@ module _ {B : Type 0} {wrote : Write B} {rang : TailWrite B} {turned : BusTurn B
         → b.told < b.collected
         → IsUnderWay wrote rang turned start r bells turns (record b { told = b.collected }) bus2 on2 l2 now' mem places
     turns_idly {bus2} {on2} {l2} none t its_write more_told =
-        let v = subst (λ n. IsOnWay (DoesNext wrote rang turned r) start
-        (way r (W.more_events u.on_way (Turn most)) bells n b.told) bus' on' l now' mem)
-        (let same : turns + count ≡ turns = omega (arith, none) in same) turn_on.0 in
+        let same : turns + count ≡ turns = omega (arith, none) in
+        let v = rw same at turn_on.0 in
         let more : b.told < length u.course.answers = omega (arith, more_told, u.collected) in
-        let its_call = subst (λ n. wrote on' r.controller 0x1004 n on2) (W.head_at v)
-        (subst (λ c. wrote on' c 0x1004 (slot_of l.completion.depth l.completion.collected) on2) u.controller
-        (its_write (W.untold_is v more))) in
-        goes_on (Tell ∷ Turn most ∷ u.course.events) (ap (λ (o : QueuePairFields). o.pages) t.pair)
-        (subst (λ n. IsOnWay (DoesNext wrote rang turned r) start
-        (way r (record u.course { events = Tell ∷ Turn most ∷ u.course.events }) bells turns n) bus2 on2 l2 now' mem)
-        u.collected
+        let its_call = rw (W.head_at v, u.controller) at (its_write (W.untold_is v more)) in
+        goes_on (Tell ∷ Turn most ∷ u.course.events) (ap (λ (o : QueuePairFields). o.pages) t.pair) (rw u.collected at
         (W.tells_on v {on' = on2} u.controller more t ((more, inr (inl (u.collected ∙ sym all))), its_call))) (λ h. h)
 
   -- the state is the one after the requests that turns took

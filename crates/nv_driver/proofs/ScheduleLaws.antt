@@ -18,26 +18,17 @@ use Rattle.nv_driver.proofs.KeptLaws.{bell_keeps, collect_keeps, idle_keeps, is_
 pub others_now : (t : Setting) (w : World) → OthersStay t (length w.answers) w.mem w
 others_now t w = record { since = omega arith; same = λ from n apart. refl }
 
--- what is in no page of the commands from one on is in no page of those from a later one on
-later_others : (t : Setting) (first later : ℕ) (sent : List Sent) (from n : ℕ) → first ≤ later
-    → AreOthers t first sent from n → AreOthers t later sent from n
-later_others t first later sent from n order apart = record {
-  submissions = apart.submissions;
-  completions = apart.completions;
-  pages = λ i d low high. apart.pages i d (omega (arith, order, low)) high;
-}
-
 -- ringing the tail doorbell changes no other bytes
 pub bell_others : (t : Setting) (first : ℕ) (old : List ℕ) (w w' : World) → OthersStay t first old w
     → Happens t Bell w w' → OthersStay t first old w'
 bell_others t first old w w' stay happens =
-    subst (OthersStay t first old) (sym happens) (record { since = stay.since; same = stay.same })
+    rw happens (assumption stay)
 
 -- ringing the head doorbell changes no other bytes
 pub tell_others : (t : Setting) (first : ℕ) (old : List ℕ) (w w' : World) → OthersStay t first old w
     → Happens t Tell w w' → OthersStay t first old w'
 tell_others t first old w w' stay happens =
-    subst (OthersStay t first old) (sym happens) (record { since = stay.since; same = stay.same })
+    rw happens (assumption stay)
 
 -- collecting changes no other bytes
 pub collect_others : (t : Setting) (first : ℕ) (old : List ℕ) (w w' : World) → OthersStay t first old w
@@ -54,10 +45,11 @@ pub turn_others : (t : Setting) (s : State) (first : ℕ) (old : List ℕ) (most
 turn_others t s first old most w w' keeps stay happens =
     subst (OthersStay t first old) (sym happens.2) (record {
       since = stay.since;
-      same = λ from n apart.
-          turn_leaves t s most w w' keeps happens from n
-          (later_others t first (length w.answers) w.sent from n stay.since apart)
-          ∙ stay.same from n apart;
+      same = λ from n apart. turn_leaves t s most w w' keeps happens from n (record {
+        submissions = apart.submissions;
+        completions = apart.completions;
+        pages = λ i d low high. apart.pages i d (omega (arith, stay.since, low)) high;
+      }) ∙ stay.same from n apart;
     })
 
 -- ---- the host writes elsewhere
@@ -137,21 +129,19 @@ runs_stay t s (e ∷ events) w w' k runs =
           (one.1 first old (other 0 e (omega arith)) stay),
     )
 
--- what holds for a schedule says that it is serial
-is_serial : (t : Setting) (s : State) (w : World) → Keeps t s w → IsSerial t s w
-is_serial t s w keeps = record {
-  answers = keeps.answers;
-  state = keeps.state;
-  collected = keeps.counts.collected;
-  done = omega (arith, keeps.counts.done, keeps.counts.rung);
-  held = keeps.held;
-  found = is_found t s w keeps;
-  turns = λ most next happens. turn_takes t s most w next keeps happens;
-  others = λ events next from n other runs apart.
-      ((runs_stay t s events w next keeps runs).1 (length w.answers) w.mem other (others_now t w)).same from n apart;
-}
-
 -- every schedule from an idle controller is serial
 pub every_schedule : EveryScheduleIsSerial
-every_schedule t events old new idle runs = is_serial t old.state new
-    (runs_stay t old.state events old new (idle_keeps t old idle) runs).0
+every_schedule t before old w idle ran =
+    let s = old.state in
+    let keeps = (runs_stay t s before old w (idle_keeps t old idle) ran).0 in
+    record {
+      answers = keeps.answers;
+      state = keeps.state;
+      collected = keeps.counts.collected;
+      done = omega (arith, keeps.counts.done, keeps.counts.rung);
+      held = keeps.held;
+      found = is_found t s w keeps;
+      turns = λ most next happens. turn_takes t s most w next keeps happens;
+      others = λ events next from n other runs apart. ((runs_stay t s events w next keeps runs).1 (length w.answers)
+          w.mem other (others_now t w)).same from n apart;
+    }

@@ -35,23 +35,19 @@ each_more P low xs x each last n d from below =
     ]
 
 -- requests of which no two have a page in common, and one more that has none in common with them, have none in common
-apart_more : (t : Setting) (low : ℕ) (xs : List Sent) (x : Sent)
+apart_more : (low : ℕ) (xs : List Sent) (x : Sent)
     → ((n m : ℕ) (d : Sent) → low ≤ n → n < m → m < length xs → AreApart (get_or xs n d) (get_or xs m d))
     → ((n : ℕ) (d : Sent) → low ≤ n → n < length xs → AreApart (get_or xs n d) x)
     → (n m : ℕ) (d : Sent) → low ≤ n → n < m → m < length (xs ++ x ∷ [])
     → AreApart (get_or (xs ++ x ∷ []) n d) (get_or (xs ++ x ∷ []) m d)
-apart_more t low xs x each last n m d from later below =
+apart_more low xs x each last n m d from later below =
     let more : length (xs ++ x ∷ []) ≡ length xs + 1 = length-append xs (x ∷ []) in
     let early : n < length xs = omega arith in
-    let one = sym (get_or_append_left xs (x ∷ []) d n early) in
-    elim (cases_lt m (length xs)) [
-      | inl l ↦
-          subst (λ y. AreApart y (get_or (xs ++ x ∷ []) m d)) one
-          (subst (AreApart (get_or xs n d)) (sym (get_or_append_left xs (x ∷ []) d m l)) (each n m d from later l))
-      | inr g ↦
-          subst (λ y. AreApart y (get_or (xs ++ x ∷ []) m d)) one
-          (subst (AreApart (get_or xs n d)) (sym (get_or_push xs x d m (omega arith))) (last n d from early))
-    ]
+    subst (λ y. AreApart y (get_or (xs ++ x ∷ []) m d)) (sym (get_or_append_left xs (x ∷ []) d n early))
+    (elim (cases_lt m (length xs)) [
+      | inl l ↦ subst (AreApart (get_or xs n d)) (sym (get_or_append_left xs (x ∷ []) d m l)) (each n m d from later l)
+      | inr g ↦ subst (AreApart (get_or xs n d)) (sym (get_or_push xs x d m (omega arith))) (last n d from early)
+    ])
 
 module _ (t : Setting) (s : State) (x : Sent) (w : World) (ready : List ℕ) (k : Keeps t s w) (may : MaySubmit t w x)
     (prepared : IsPrepared t.page_size x w.mem ready) where
@@ -164,8 +160,7 @@ module _ (t : Setting) (s : State) (x : Sent) (w : World) (ready : List ℕ) (k 
         controller = k.controller;
         limit = k.limit;
         own = rw len (each_more (λ _ y. IsOwn t (length w.mem) y) (length w.answers) w.sent x k.own own);
-        apart = λ n j d from later below. apart_more t (length w.answers) w.sent x k.apart may.apart n
-            j d from later below;
+        apart = apart_more (length w.answers) w.sent x k.apart may.apart;
         named = each_more (λ n y. StaysNamed t.page_size y next.mem) (length w.answers) w.sent x
             (λ n d from below. stays_in t.page_size (get_or w.sent n d) w.mem next.mem (other_stays n d from below).list
             (k.named n d from below))

@@ -143,7 +143,4 @@ on_ok {P = P} r x is all = subst (λ q. OnOk q P) is all
 pub submitted_as : {size size' : ℕ} {at at' : RequestPlace} {q q' : Request} {old new : QueuePairFields}
     {before after : List ℕ} {now end : ℕ} → size ≡ size' → at ≡ at' → q ≡ q'
     → IsSubmittedAt size at q old new before after now end → IsSubmittedAt size' at' q' old new before after now end
-submitted_as {size' = size'} {at = at} {at'} {q = q} {old = old} {new} {before} {after} {now} {end} e f g is =
-    subst (λ x. IsSubmittedAt size' at' x old new before after now end) g
-    (subst (λ x. IsSubmittedAt size' x q old new before after now end) f
-    (subst (λ x. IsSubmittedAt x at q old new before after now end) e is))
+submitted_as e f g is = rw (← e, ← f, ← g) is

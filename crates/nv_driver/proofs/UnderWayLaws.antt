@@ -124,11 +124,6 @@ module _ {B : Type 0} {wrote : Write B} {rang : TailWrite B} {turned : BusTurn B
 
 -- ---- a submission
 
--- the pages of the outstanding commands and of one more
-held_more : (xs : List Sent) (x : Sent) (n : ℕ) → n ≤ length xs
-    → held_pages n (xs ++ x ∷ []) ≡ held_pages n xs ++ own_pages x
-held_more xs x n low = ap pages_of_all (drop-append-le n xs (x ∷ []) low) ∙ pages-append (drop n xs) x
-
 -- commands that are fewer than sixteen apart have different slots in the window
 two_places : (n m : ℕ) → n < m → m < n + 16 → n % 16 ≢ m % 16
 unfolding slot_of
@@ -176,10 +171,6 @@ module _ {B : Type 0} {wrote : Write B} {rang : TailWrite B} {turned : BusTurn B
     points = record { list = λ m. sub.one.list; one = λ m. sub.one.one; none = sub.one.pointer };
   }
 
-  -- its pages are of the queue pair's set
-  own_of_set : All (λ p. IsOf r.pair.pages.first r.pair.pages.count p) (own_pages new_one)
-  own_of_set = taken_new.own
-
   -- the requests and the answers with this request and its submission
   abbrev course_more : Course
   course_more =
@@ -208,15 +199,18 @@ module _ {B : Type 0} {wrote : Write B} {rang : TailWrite B} {turned : BusTurn B
       (subst (λ p. IsRequest (limit_of r.bus.state r.controller) p) (sym is) (u.can b.sent q below))
       (place_of_set r.geometry l.pages (all_pages o) bytes now (length_of q.transfer) u.begun.geometry u.page_size
       (still_inside u) sub.taken.own sub.taken.distinct (all_long ∙ sub.many))
-      (λ i d h. (own_of_set i d h).0)
+      (λ i d h. (taken_new.own i d h).0)
       (omega arith)
       (omega (arith, more, u.sent, u.collected, u.begun.geometry.window.2, u.begun.depth)) apart_new
       (its_time, refl)
 
   -- the pages of the outstanding commands, and those that are free then
   all_held : held_pages b.collected (u.course.sent ++ new_one ∷ []) ≡ held u ++ own_pages new_one
-  all_held = let c = counts u in held_more u.course.sent new_one b.collected
-      (omega (arith, c.collected, c.done, c.rung, u.sent))
+  all_held =
+      let c = counts u in
+      let xs = u.course.sent in
+      ap pages_of_all (drop-append-le b.collected xs (new_one ∷ []) (omega (arith, c.collected, c.done, c.rung, u.sent)))
+      ∙ pages-append (drop b.collected xs) new_one
 
   pages_new : l'.pages ≡ free_pages r b.collected (u.course.sent ++ new_one ∷ [])
   pages_new =
@@ -226,18 +220,18 @@ module _ {B : Type 0} {wrote : Write B} {rang : TailWrite B} {turned : BusTurn B
       ∙ ap (without r.pair.pages) (sym all_held)
 
   -- the window keeps the slots of the others, and has one more
-  slots_more : (n : ℕ) (p : CommandPages) (d : Sent) → b.sent + 1 ≤ n + 16 → n < b.sent + 1
-      → IsHeld (get_or (set places (b.sent % 16) o) (n % 16) p) (get_or (u.course.sent ++ new_one ∷ []) n d)
-  slots_more n p d from below =
-      let qs = set places (b.sent % 16) o in
+  slots_more : {k : ℕ} → b.sent ≡ k → (n : ℕ) (p : CommandPages) (d : Sent) → b.sent + 1 ≤ n + 16 → n < b.sent + 1
+      → IsHeld (get_or (set places (k % 16) o) (n % 16) p) (get_or (u.course.sent ++ new_one ∷ []) n d)
+  slots_more {k} reached n p d from below =
+      let qs = set places (k % 16) o in
       each_more (λ i y. IsHeld (get_or qs (i % 16) p) y) n u.course.sent new_one
       (λ i e above low. subst (λ p. IsHeld p (get_or u.course.sent i e))
-      (sym (get_or-set_other places (b.sent % 16) (i % 16) o p
-      (two_places i b.sent (omega (arith, u.sent)) (omega (arith, above, from)))))
+      (sym (get_or-set_other places (k % 16) (i % 16) o p
+      (two_places i k (omega (arith, u.sent)) (omega (arith, above, from)))))
       (u.slots i p e (omega (arith, above, from)) (omega (arith, u.sent))))
       (subst (λ p. IsHeld p new_one)
-      (sym (ap (λ i. get_or qs (i % 16) p) u.sent
-      ∙ get_or-set_same places (b.sent % 16) o p (omega (arith, u.room, mod_below b.sent 16 (omega arith)))))
+      (sym (ap (λ i. get_or qs (i % 16) p) (u.sent ∙ reached)
+      ∙ get_or-set_same places (k % 16) o p (omega (arith, u.room, mod_below k 16 (omega arith)))))
       (record { few = sub.long; pages = sym own_new }))
       n d (omega arith) (omega (arith, below, u.sent, length-append u.course.sent (new_one ∷ [])))
 
@@ -260,11 +254,11 @@ module _ {B : Type 0} {wrote : Write B} {rang : TailWrite B} {turned : BusTurn B
     },
   )
 
-  -- the list goes on with this request sent
-  pub submits : turns ≡ b.collected → IsToldInTime r b
+  -- the list goes on with this request sent, by the number that a loop has reached
+  pub submits : {k : ℕ} → b.sent ≡ k → turns ≡ b.collected → IsToldInTime r b
       → IsUnderWay wrote rang turned start r bells turns (record b { sent = b.sent + 1 }) bus on l' now' mem
-      (set places (b.sent % 16) o)
-  submits all near =
+      (set places (k % 16) o)
+  submits {k} reached all near =
       let xs = u.course.sent in
       let more_sent = length-append xs (new_one ∷ []) in
       record {
@@ -286,28 +280,13 @@ module _ {B : Type 0} {wrote : Write B} {rang : TailWrite B} {turned : BusTurn B
               (subst (λ i. LiesInPages r i new_one) (sym u.sent) kept_new) n d (omega arith)
               (omega (arith, h, u.sent, more_sent));
           own = λ n d h. each_more (λ i y. All (λ p. IsOf r.pair.pages.first r.pair.pages.count p) (own_pages y)) 0 xs
-              new_one (λ i e from low. u.own i e (omega (arith, u.sent))) own_of_set n d (omega arith)
+              new_one (λ i e from low. u.own i e (omega (arith, u.sent))) taken_new.own n d (omega arith)
               (omega (arith, h, u.sent, more_sent));
           taken = subst (AreTaken r.pair.pages) (sym all_held)
               (taken_also r.pair.pages (held u) (own_pages new_one) u.taken taken_new);
         };
         collected = u.collected;
         left = pages_new;
-        room = length-set places (b.sent % 16) o ∙ u.room;
-        slots = slots_more;
+        room = length-set places (k % 16) o ∙ u.room;
+        slots = slots_more reached;
       }
-
--- the next submission, by the number that a loop has reached
-pub submits_at : {B : Type 0} {wrote : Write B} {rang : TailWrite B} {turned : BusTurn B} {start on : B} {r : Run}
-    {bells turns : ℕ} {b : Batch} {bus : BusValue} {l l' : QueuePairFields} {now now' n tail : ℕ} {bytes mem : List ℕ}
-    {places : List CommandPages} {o : CommandPages} {q : Request}
-    (u : IsUnderWay wrote rang turned start r bells turns b bus on l now bytes places) → b.sent ≡ n
-    → b.sent < b.collected + r.geometry.window → turns ≡ b.collected → IsToldInTime r b → n < length r.requests
-    → q ≡ get_or r.requests n q → IsSentIn r.geometry q o l l' bytes mem now' tail
-    → IsUnderWay wrote rang turned start r bells turns (record b { sent = b.sent + 1 }) bus on l' now' mem
-    (set places (n % 16) o)
-submits_at {wrote = wrote} {rang} {turned} {start} {on} {r} {bells} {turns} {b} {bus} {l' = l'} {now' = now'}
-    {mem = mem} {places} {o} {q} u at more all near below is sub =
-    subst (λ i. IsUnderWay wrote rang turned start r bells turns (record b { sent = b.sent + 1 }) bus on l' now' mem
-    (set places (i % 16) o)) at
-    (submits u more (omega (arith, at, below)) (is ∙ ap (λ i. get_or r.requests i q) (sym at)) sub all near)

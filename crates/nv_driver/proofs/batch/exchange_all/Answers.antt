@@ -80,38 +80,22 @@ enough g c = omega (
   ap (λ (qs : List Request). length qs) c.requires.1.1.1.1.0.requests,
 )
 
--- the run has ended
-ended : (g : Over) (c : goal.After-tell g) → HasEnded g.B.Bus.was_written g.B.Ringing.was_rung g.B.Bus.was_turned
-    g.begun.start g.begun.run (g.M.PagedMemory.page_len c.args.host.now.mem) (g.B.Bus.meaning c.tell.new.bus)
-    c.tell.new.bus c.tell.new.self (g.M.PagedMemory.page_len c.loop-batch.host.mem)
-    (g.M.PagedMemory.bytes c.loop-batch.host.mem) c.loop-batch.host.taken
-ended g c = ends_all g.B.Bus.meaning refl c.loop-batch.invariant.under_way (enough g c) c.tell.ensures.told
-    c.tell.ensures.written c.tell.ensures.silent (c.requires.1.1.1.0.page_size
-    ∙ ap (λ (r : Run). r.geometry.page_size) (sym (run_is c.requires.1.1.0)))
-
-pub returns-clause-received : goal.returns-clause-received
-returns-clause-received g c =
+pub returns : goal.returns
+returns g c =
     let i = c.loop-batch.invariant in
-    subst (λ n. AreReceived c.args.requests g.begun.run n c.loop-batch.answers c.loop-batch.host.taken
-    (g.M.PagedMemory.bytes c.loop-batch.host.mem) c.loop-batch.host.last)
-    (all_collected refl i.under_way (enough g c)).1 i.received
-
-pub returns-clause-state : goal.returns-clause-state
-returns-clause-state g c = (ended g c).state ∙ ap (λ (r : Run). state_after_all r.controller r.bus.state
-    (numbered_of g.begun.run)) (run_is c.requires.1.1.0)
-
-pub returns-clause-paced : goal.returns-clause-paced
-returns-clause-paced g c = (ended g c).paced
-
-pub returns-clause-others : goal.returns-clause-others
-returns-clause-others g c =
-    subst (λ (r : Run). KeepsOutside r.geometry.page_size (pair_value r.pair) r.bytes
-    (g.M.PagedMemory.bytes c.loop-batch.host.mem)) (run_is c.requires.1.1.0) (ended g c).others
-
-pub returns-clause-left : goal.returns-clause-left
-returns-clause-left g c =
-    let size = g.M.PagedMemory.page_len c.args.host.now.mem in
-    subst (λ (r : Run). IsLeft r.geometry r.controller (length r.bytes) (after_some (length g.begun.run.requests)
-    (pair_value r.pair)) (side r.bus r.pair size r.bytes) (side (g.B.Bus.meaning c.tell.new.bus) c.tell.new.self
-    (g.M.PagedMemory.page_len c.loop-batch.host.mem) (g.M.PagedMemory.bytes c.loop-batch.host.mem)))
-    (run_is c.requires.1.1.0) (ended g c).left
+    let is = run_is c.requires.1.1.0 in
+    let all = enough g c in
+    let end = ends_all g.B.Bus.meaning i.under_way all c.tell.ensures.told c.tell.ensures.written c.tell.ensures.silent
+    (c.requires.1.1.1.0.page_size ∙ ap (λ (r : Run). r.geometry.page_size) (sym is)) in
+    record {
+      received = subst (λ n. AreReceived c.args.requests g.begun.run n c.loop-batch.answers c.loop-batch.host.taken
+          (g.M.PagedMemory.bytes c.loop-batch.host.mem) c.loop-batch.host.last)
+          (all_collected i.under_way all).1 i.received;
+      state = end.state ∙ ap (λ (r : Run). state_after_all r.controller r.bus.state (numbered_of g.begun.run)) is;
+      paced = end.paced;
+      others = rw is at end.others;
+      left = subst (λ (r : Run). IsLeft r.geometry r.controller (length r.bytes) (after_some
+          (length g.begun.run.requests) (pair_value r.pair)) (side r.bus r.pair (g.M.PagedMemory.page_len
+          c.args.host.now.mem) r.bytes) (side (g.B.Bus.meaning c.tell.new.bus) c.tell.new.self
+          (g.M.PagedMemory.page_len c.loop-batch.host.mem) (g.M.PagedMemory.bytes c.loop-batch.host.mem))) is end.left;
+    }

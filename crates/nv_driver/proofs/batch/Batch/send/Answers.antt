@@ -3,12 +3,12 @@ use Rattle.nv_driver.proofs.Words.{IsRequest, IsSubmittedAt, List, Request, all_
 use Rattle.nv_driver.proofs.Words.{data_count, get_or, get_or-set_same, get_or_default, length, length_of, limit_of}
 use Rattle.nv_driver.proofs.Words.{mod_below, place_in, request_as, set, set-get_or, setting_of, slot, subst, sym}
 use Rattle.nv_driver.proofs.ShareLaws.{data_fits}
-use Rattle.nv_driver.proofs.CommandPageLaws.{all_count, place_of_set}
+use Rattle.nv_driver.proofs.CommandPageLaws.{all_count, no_pages, place_of_set}
 use Rattle.nv_driver.proofs.OnWayLaws.{has_bank}
 use Rattle.nv_driver.proofs.RoundLaws.{rings}
 use Rattle.nv_driver.proofs.SubmittingLaws.{submitted_as}
 use Rattle.nv_driver.proofs.TurnLaws.{no_command}
-use Rattle.nv_driver.proofs.UnderWayLaws.{IsSentIn, free_slot, geometry_is, room_few, set_has, still_inside, submits_at}
+use Rattle.nv_driver.proofs.UnderWayLaws.{IsSentIn, free_slot, geometry_is, room_few, set_has, still_inside, submits}
 use Rattle.nv_driver.proofs.UnderWayLaws.{tail_after}
 use Rattle.nv_driver.proofs.batch.Batch.send.Goals.{After-outgoing-request}
 use Rattle.nv_driver.proofs.batch.Batch.send.Given as given
@@ -83,10 +83,6 @@ take-requires g c =
         set_has i.under_way of (has_room g past) (omega (arith, sent, one.0)),
       );
     }
-
--- pages that stand for those of a slot outside the window
-abbrev no_pages : CommandPages
-no_pages = record { numbers = []; count = 0 }
 
 -- the pages that were taken are in their slot
 in_slot : (places : List CommandPages) (n : ℕ) (o e : CommandPages) → length places ≡ 16
@@ -165,9 +161,9 @@ loop-number-preserved g c =
     } in
     let there = set-get_or (set c.loop-number.host.taken (n % 16) o) (n % 16) no_pages in
     record {
-      under_way = rw there (submits_at u sent (has_room g past) (sym collected)
-          (omega (arith, c.requires.1.1.1.1, sent, collected, told)) one.0
-          (get_or_default g.begun.run.requests n no_command.request q one.0) sub);
+      under_way = rw there (submits u (has_room g past) (omega (arith, sent, one.0))
+          (rw sent (get_or_default g.begun.run.requests n no_command.request q one.0)) sub sent (sym collected)
+          (omega (arith, c.requires.1.1.1.1, sent, collected, told)));
       batch = ap (λ (b : Batch). record b { sent = b.sent + 1 }) i.batch;
       from = omega arith;
       tail = (tail_after u sent next.tail, omega (arith, i.from));

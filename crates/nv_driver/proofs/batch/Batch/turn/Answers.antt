@@ -3,6 +3,7 @@ use Rattle.nv_driver.proofs.Words.{Batch, Command, CommandPages, Geometry, IsHel
 use Rattle.nv_driver.proofs.Words.{Pages, QueuePairFields, Request, Sent, all_pages, ap, arith, get_or, get_or-map}
 use Rattle.nv_driver.proofs.Words.{get_or_default, inl, length, length-map, length-take, limit_of, map, min, mod_below}
 use Rattle.nv_driver.proofs.Words.{place_in, refl, request_of, requests_in, set, set-get_or, subst, sym}
+use Rattle.nv_driver.proofs.CommandPageLaws.{no_pages}
 use Rattle.nv_driver.proofs.OnWayLaws.{can_collect}
 use Rattle.nv_driver.proofs.RoundLaws.{answer_buffer, answers_more, awaits, can_give, collects, count_few, hears}
 use Rattle.nv_driver.proofs.RoundLaws.{command_result_with, held_one, number_inside, received_on, takes, tells_on}
@@ -38,10 +39,6 @@ none_free most waiting depth done told count is none some waits deep =
     no_slot : (free : ℕ) → 0 ≡ min most (min waiting free) → free ≡ 0
     no_slot free e = omega arith
 
--- pages that stand for those of a slot outside the window
-abbrev no_pages : CommandPages
-no_pages = record { numbers = []; count = 0 }
-
 -- the slot of a number in the window, whatever stands outside the window
 slot_is : (places : List CommandPages) (n : ℕ) (e : CommandPages) → length places ≡ 16
     → get_or places (n % 16) e ≡ get_or places (n % 16) (get_or places (n % 16) e)
@@ -57,18 +54,6 @@ told_once : {pace limit old new : ℕ} (times before : ℕ) → old ≡ before +
     → 1 ≤ pace → IsToldByPace pace before new
 told_once {pace} {limit} {old} {new} times before h e f some =
     let more : new ≡ old + pace = omega arith in (times + 1, grind arith)
-
--- the head doorbell isn't rung before as many answers as the pace were collected
-not_yet : (n told : ℕ) {limit pace : ℕ} → n + 1 - told ≢ limit → limit ≡ pace → n < told + pace → n + 1 < told + pace
-not_yet n told far is near = omega arith
-
--- one more was collected
-further : (n first counter : ℕ) → n ≡ first + counter → n + 1 ≡ first + (counter + 1)
-further n first counter is = omega arith
-
--- nothing is to be reported once all is reported
-all_near : {pace : ℕ} (n : ℕ) → 1 ≤ pace → n < n + pace
-all_near n some = omega arith
 
 pub returns-then-posted-eq0 : goal.returns-then-posted-eq0
 returns-then-posted-eq0 g c =
@@ -244,8 +229,8 @@ loop-preserved g c =
             under_way = told;
             received = received;
             batch = ap (λ (b : Batch). record b { collected = n + 1; told = n + 1 }) i.batch;
-            collected = further n _ _ i.collected;
-            near = all_near (n + 1) some.0;
+            collected = omega (arith, i.collected);
+            near = omega (arith, some);
             paced = told_once _ _ i.paced.1 w.if-self-pace.true limit (omega (arith, some));
             count = i.count;
           })
@@ -254,8 +239,8 @@ loop-preserved g c =
             under_way = next;
             received = received;
             batch = ap (λ (b : Batch). record b { collected = n + 1 }) i.batch;
-            collected = further n _ _ i.collected;
-            near = not_yet n _ w.if-self-pace.false limit i.near;
+            collected = omega (arith, i.collected);
+            near = omega (arith, w.if-self-pace.false, limit, i.near);
             paced = i.paced;
             count = i.count;
           })

@@ -73,33 +73,19 @@ invariant_of-self g c =
     let pair = its_pair g (goal.at.invariant_of-self g c).After-deref_mut in
     driver_after pair (left_at pair c.exchange_all.ensures.left) (ends_inside pair)
 
-pub returns-clause-answers : goal.returns-clause-answers
-returns-clause-answers g c =
-    answers_all refl c.exchange_all.ensures.received refl
-    ∙ ap (λ n. answers_of c.args.ctrl (g.B.Bus.meaning c.args.bus.now).state n c.args.commands.now)
-    (sym (cid_is (its_pair g (goal.at.returns-clause-answers g c).After-deref_mut)))
-
-pub returns-clause-state : goal.returns-clause-state
-returns-clause-state g c =
-    c.exchange_all.ensures.state
-    ∙ ap (λ n. state_after c.args.ctrl (g.B.Bus.meaning c.args.bus.now).state n c.args.commands.now)
-    (sym (cid_is (its_pair g (goal.at.returns-clause-state g c).After-deref_mut)))
-
-pub returns-clause-driver : goal.returns-clause-driver
-returns-clause-driver g c =
-    let pair = its_pair g (goal.at.returns-clause-driver g c).After-deref_mut in
-    value_after pair (left_at pair (rw (length-map c.args.commands.now request_of) at c.exchange_all.ensures.left))
-    (after_some (length c.args.commands.now)) refl
-
-pub returns-clause-linked : goal.returns-clause-linked
-returns-clause-linked g c =
-    let pair = its_pair g (goal.at.returns-clause-linked g c).After-deref_mut in
-    linked_after pair (left_at pair c.exchange_all.ensures.left) c.requires.linked
-
-pub returns-clause-steps : goal.returns-clause-steps
-returns-clause-steps g c =
-    let pair = its_pair g (goal.at.returns-clause-steps g c).After-deref_mut in
-    goes_over pair (λ q l bytes. SendsAll g.B.Bus.was_written g.B.Ringing.was_rung g.B.Bus.was_turned
-    (run_of q c.args.ctrl (g.B.Bus.meaning c.args.bus.now) l bytes (map request_of c.args.commands.now)) c.args.bus.now
-    c.exchange_all.new.bus)
-    (ready_by pair c.requires.linked).quiet c.exchange_all.ensures.paced.steps
+pub returns : goal.returns
+returns g c =
+    let pair = its_pair g (goal.at.returns g c).After-deref_mut in
+    let e = c.exchange_all.ensures in
+    let b = g.B.Bus.meaning c.args.bus.now in
+    let ks = c.args.commands.now in
+    let cid = sym (cid_is pair) in
+    record {
+      answers = answers_all e.received ∙ ap (λ n. answers_of c.args.ctrl b.state n ks) cid;
+      state = e.state ∙ ap (λ n. state_after c.args.ctrl b.state n ks) cid;
+      driver = value_after pair (left_at pair (rw (length-map ks request_of) at e.left)) (after_some (length ks)) refl;
+      linked = linked_after pair (left_at pair e.left) c.requires.linked;
+      steps = goes_over pair (λ q l bytes. SendsAll g.B.Bus.was_written g.B.Ringing.was_rung g.B.Bus.was_turned
+          (run_of q c.args.ctrl b l bytes (map request_of ks)) c.args.bus.now c.exchange_all.new.bus)
+          (ready_by pair c.requires.linked).quiet e.paced.steps;
+    }
