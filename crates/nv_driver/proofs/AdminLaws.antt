@@ -200,8 +200,7 @@ module _ {g : Geometry} {mem new : PagedBytes} {ls : List QueuePairFields} {more
             (let longer = length-set ls c l' in let values = length-set vs c (pair_value l') in omega arith));
         more = h.is.more ∙ ap (λ n. pages_behind g n (page_count mem)) (sym (length-set ls c l'))
             ∙ rw (left.len, left.page) refl;
-        settled = subst (IsSettled new.page_size new.bytes) (sym change)
-            (settled_after end new.page_size mem.bytes new.bytes vs c (pair_value l) (pair_value l')
+        settled = rw change (settled_after end new.page_size mem.bytes new.bytes vs c (pair_value l) (pair_value l')
             (rw (left.page) h.is.settled) (omega arith) own left.len (rw page left.others)
             (rw page (λ i e low. ends i e (omega arith))) (rw (left.ready.page_size) left.ready.laid) left.ready.tags
             (ap (λ (v : QueuePair). v.sq) left.pair) (ap (λ (v : QueuePair). v.first_page) left.pair)

@@ -98,8 +98,7 @@ module _ {B : Type 0} {wrote : Write B} {rang : TailWrite B} {turned : BusTurn B
         | inr none ↦
             let told : b.told ≡ b.collected = let c = counts u in omega (arith, c.told) in
             let quiet = W.silent_is u.on_way (told ∙ sym u.collected) in
-            rw (t.pair ∙ quiet.1, silent quiet.0) (subst (λ n. IsUnderWay wrote rang turned start r b.collected
-            b.collected (record b { told = n }) (meaning on) on l now mem places) told u)
+            rw (t.pair ∙ quiet.1, silent quiet.0) (rw told at u)
       ]
 
   -- the last doorbell ends the list

@@ -255,8 +255,7 @@ module _ (t : Setting) (s : State) (w : World) (y : Scene) (d : Sent) (k : Keeps
   named_on i e from high =
       stays_in t.page_size (get_or w.sent i e) w.mem y.bytes
       (elim (cases_eq i w.done) [
-        | inl same ↦ subst (λ q. KeepsList (pointed t.page_size q w.mem) q.first q.second y.bytes)
-            (sym (ap (λ j. get_or w.sent j e) same ∙ get_or_default w.sent w.done e d below)) own_list
+        | inl same ↦ rw (ap (λ j. get_or w.sent j e) same ∙ get_or_default w.sent w.done e d below) own_list
         | inr differ ↦ (other_stays i e from high differ).list
       ])
       (k.named i e from high)
@@ -264,10 +263,8 @@ module _ (t : Setting) (s : State) (w : World) (y : Scene) (d : Sent) (k : Keeps
   -- its answer is held, and so are those that were held before
   held_now : Holds t s (world_after t w y) w.done x
   held_now = record {
-    answer = subst (λ (q : State). IsAnswered t.page_size x y.bytes (completion_at y.bytes t.cq (slot t w.done))
-        (step_of t.controller q (numbered x)).answer) k.state
-        (answered t.page_size x y.bytes (completion_at y.bytes t.cq (slot t w.done)) t.depth (number t w.done) x.cid
-        (slot t (w.done + 1)) answer written.here sound
+    answer = rw (← k.state) (answered t.page_size x y.bytes (completion_at y.bytes t.cq (slot t w.done)) t.depth
+        (number t w.done) x.cid (slot t (w.done + 1)) answer written.here sound
         (delivered_by x.request.asked answer x.request.transfer (places t.page_size x) w.mem one.moved y.bytes sound
         own.can.command one.moves (are_places t x w.mem own) own_stays.read));
     cid = ap (λ (q : Cqe). q.cid) written.here;
@@ -294,8 +291,7 @@ module _ (t : Setting) (s : State) (w : World) (y : Scene) (d : Sent) (k : Keeps
         | inr later ↦
             let is : i ≡ w.done = omega arith in
             let same = ap (λ j. get_or w.sent j e) is ∙ get_or_default w.sent w.done e d below in
-            subst (Holds t s (world_after t w y) i) (sym same)
-            (subst (λ j. Holds t s (world_after t w y) j x) (sym is) held_now)
+            rw (same, is) held_now
       ]
 
   -- what holds for the schedule holds after this entry too
@@ -309,9 +305,8 @@ module _ (t : Setting) (s : State) (w : World) (y : Scene) (d : Sent) (k : Keeps
         bank = refl;
         state = one.state ∙ ap (λ (q : State). (step_of t.controller q (numbered x)).state) k.state
             ∙ sym (after_more t.controller s w.sent w.done d below);
-        well_formed = subst IsWellFormed (sym one.state)
-            (asked_keeps x.request.asked x.request.transfer w.state t.controller x.request.entry.nsid x.cid
-            own.can.command own.can.fits.nsid own.cid k.well_formed);
+        well_formed = rw one.state (asked_keeps x.request.asked x.request.transfer w.state t.controller
+            x.request.entry.nsid x.cid own.can.command own.can.fits.nsid own.cid k.well_formed);
         controller = rw (one.state, asked_controllers x.request.asked w.state t.controller x.request.entry.nsid x.cid)
             (k.controller);
         limit = ap (λ (q : State). limit_of q t.controller) one.state
@@ -328,10 +323,9 @@ module _ (t : Setting) (s : State) (w : World) (y : Scene) (d : Sent) (k : Keeps
             (other_stays i e (omega (arith, c.collected)) high (λ same. absurd (omega arith))).read
             (k.to_send i e (omega arith) high);
         held = held_on;
-        tags = subst (HoldsTags y.bytes t.cq t.depth) (number_next t w.done)
-            (tags_after one.moved y.bytes t.cq t.depth (number t w.done) posted
-            (number_below t w.done some_slots.0) written
-            (λ j low. ap (λ (q : Cqe). q.phase) (slots_keep j low) ∙ k.tags j low));
+        tags = rw (← number_next t w.done) (tags_after one.moved y.bytes t.cq t.depth (number t w.done) posted
+            (number_below t w.done some_slots.0) written (λ j low. ap (λ (q : Cqe). q.phase) (slots_keep j low) ∙ k.tags
+            j low));
         answers = k.answers;
       }
 

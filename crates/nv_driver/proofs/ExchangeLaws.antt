@@ -146,8 +146,7 @@ module _ {g : Geometry} {bus : BusValue} {c : ℕ} {l : QueuePairFields} {now : 
         let o = get_or places 0 other in
         let held = h.held other in
         let many = ap (λ (ps : List ℕ). length ps) (held.pages ∙ own_is h.kept) ∙ h.kept.many in
-        let few = room_few h.one.request.transfer (subst (λ (p : Request). HasRoom p.transfer) (sym (request_is h.kept))
-        can.room) in
+        let few = room_few h.one.request.transfer (rw (request_is h.kept) can.room) in
         let most = (few_of_entry g (length_of h.one.request.transfer) a.ready.geometry few) in (
           omega (arith, many, most, held.few, length-take o.count o.numbers),
           omega (arith, many, held.few, length-take o.count o.numbers),
@@ -169,8 +168,7 @@ module _ {g : Geometry} {bus : BusValue} {c : ℕ} {l : QueuePairFields} {now : 
 
       -- its data lies there
       pub its_buffer : IsBuffer mem size at.pages at.offset (length_of m)
-      its_buffer = rw (page, at_is h.kept (h.held other), moves) (subst (λ (y : Sent). IsBuffer mem g.page_size y.pages
-          y.offset (length_of y.request.transfer)) h.kept.sent h.buffer)
+      its_buffer = rw (page, at_is h.kept (h.held other), moves) (rw h.kept.sent at h.buffer)
 
       -- the bytes that are read by the status, with zeros after them, are what the host receives
       pub received_by : (n : ℕ) {out : List ℕ} → out ≡ padded n (came_with last.status (received_from m mem

@@ -89,8 +89,7 @@ posted t w d k some low tags there =
           let same : k ≡ d = omega arith in
           let here = tags (slot t d) (slot_inside t d some)
           ∙ tag_below_here t.depth (number t d) (number_below t d some) in
-          absurd (not_own _ _ here (subst (λ n. (completion_at w.mem t.cq (slot t n)).phase ≡
-          phase_of t.depth (number t n)) same there))
+          absurd (not_own _ _ here (rw (← same) there))
     ]
 
 -- the awaited completion is found if and only if a command was executed whose answer wasn't collected

@@ -58,5 +58,4 @@ room_stays d c l room =
 -- a driver that was brought up with the pages of an entry has them
 pub has_pages : (g : Geometry) (n : ℕ) → HasEntryPages (driver_with g n (pages_of_entry g.page_size))
 has_pages g n =
-    subst (λ m. pages_of g m + pages_of_entry g.page_size ≤ pages_of g n + pages_of_entry g.page_size)
-    (sym (length-map-range_with_len (pair_of g) 0 n)) (search arith)
+    rw (length-map-range_with_len (pair_of g) 0 n) (search arith)

@@ -176,8 +176,7 @@ module _ (t : Setting) (s : State) (x : Sent) (w : World) (ready : List ℕ) (k 
         answers = λ n below d e can.
             let all = answers_to t.controller s w.sent in
             let early : n < length w.sent = omega (arith, c.collected, c.done, c.rung) in
-            k.answers n below d e (subst (λ (y : Sent). IsReadable y.request.asked)
-            (get_or_append_left w.sent (x ∷ []) d n early) can)
+            k.answers n below d e (rw (← get_or_append_left w.sent (x ∷ []) d n early) can)
             ∙ sym (ap (λ as_one. get_or as_one n e) (answers-append t.controller s w.sent (x ∷ []))
             ∙ get_or_append_left all _ e n (omega (arith, length-answers t.controller s w.sent)));
       }

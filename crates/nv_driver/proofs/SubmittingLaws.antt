@@ -52,8 +52,7 @@ changes_list page_size x old new some no_list at kept = (
   no_list,
   λ many.
       let data_too = some_of page_size x.prp1 (data_length x) some many in
-      subst (λ start. KeepsOutsideList ((page_size - start % page_size) / 8) start (x.second * page_size)
-      (data_pages (pointed page_size x new)) old new) (at data_too many) (kept data_too many),
+      rw (← at data_too many) (kept data_too many),
 )
 
 -- bytes outside the pages of a prepared command don't change
@@ -107,8 +106,7 @@ prepared_by page_size x old built new is sends buffer distinct few first second 
       prp2 = second;
       sent = ap (λ q. sent_from m q at) put ∙ sent_back m built at xs theirs sends;
       stays = stays_in page_size x built new
-          (subst (KeepsList (pointed page_size x built) x.first x.second) (sym put)
-          (written_list page_size x built xs some buffer.enough distinct)) stays;
+          (rw put (written_list page_size x built xs some buffer.enough distinct)) stays;
     }
 
 -- ---- what ends before all pages of a request is outside them

@@ -48,8 +48,7 @@ pub taken_keep : (t : Setting) (s : State) (count : ℕ) (w : World) (y : Scene)
 taken_keep t s zero w y k taken =
     let zero_more : w.done ≡ w.done + 0 = omega arith in
     subst (Reaches t s w 0) (sym taken) (record {
-      keeps = subst (λ n. Keeps t s (world_done t w n (scene w.state (now t w) w.mem))) zero_more
-          (subst (λ p. Keeps t s (record w { bank = p })) k.bank k);
+      keeps = rw (← zero_more, ← k.bank) k;
       rings = ap (λ n. device_rings t w.rung n w.told) zero_more;
       others = λ from n apart. refl;
     })

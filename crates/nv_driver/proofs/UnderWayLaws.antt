@@ -82,8 +82,7 @@ module _ {B : Type 0} {wrote : Write B} {rang : TailWrite B} {turned : BusTurn B
       → n < b.sent → length (own_pages x) ≤ pages_for most r.geometry.page_size
   few_of {n} {x} most brief k below =
       let few : length_of x.request.transfer ≤ most =
-      subst (λ (q : Request). length_of q.transfer ≤ most) (sym (request_is k))
-      (brief n x.request (omega (arith, below, u.some))) in
+      rw (request_is k) (brief n x.request (omega (arith, below, u.some))) in
       omega (
         arith,
         ap (λ (ps : List ℕ). length ps) (own_is k),
@@ -183,8 +182,7 @@ module _ {B : Type 0} {wrote : Write B} {rang : TailWrite B} {turned : BusTurn B
       let xs = u.course.sent in
       let p = get_or (own_pages (get_or xs n d)) i e in
       let at : b.collected + (n - b.collected) ≡ n = omega (arith, from, u.collected) in
-      let one = subst (λ (y : Sent). is_in (own_pages y) p ≡ true)
-      (ap (λ m. get_or xs m d) (sym at) ∙ sym (get_or-drop b.collected xs (n - b.collected) d))
+      let one = rw (ap (λ m. get_or xs m d) (sym at) ∙ sym (get_or-drop b.collected xs (n - b.collected) d)) at
       (in_of (own_pages (get_or xs n d)) i e p h refl) in
       let there = page_of_one (drop b.collected xs) (n - b.collected) d p
       (omega (arith, length-drop b.collected xs, from, below, u.collected)) one in
@@ -225,14 +223,11 @@ module _ {B : Type 0} {wrote : Write B} {rang : TailWrite B} {turned : BusTurn B
   slots_more {k} reached n p d from below =
       let qs = set places (k % 16) o in
       each_more (λ i y. IsHeld (get_or qs (i % 16) p) y) n u.course.sent new_one
-      (λ i e above low. subst (λ p. IsHeld p (get_or u.course.sent i e))
-      (sym (get_or-set_other places (k % 16) (i % 16) o p
-      (two_places i k (omega (arith, u.sent)) (omega (arith, above, from)))))
+      (λ i e above low. rw (get_or-set_other places (k % 16) (i % 16) o p
+      (two_places i k (omega (arith, u.sent)) (omega (arith, above, from))))
       (u.slots i p e (omega (arith, above, from)) (omega (arith, u.sent))))
-      (subst (λ p. IsHeld p new_one)
-      (sym (ap (λ i. get_or qs (i % 16) p) (u.sent ∙ reached)
-      ∙ get_or-set_same places (k % 16) o p (omega (arith, u.room, mod_below k 16 (omega arith)))))
-      (record { few = sub.long; pages = sym own_new }))
+      (rw (ap (λ i. get_or qs (i % 16) p) (u.sent ∙ reached) ∙ get_or-set_same places (k % 16) o p
+      (omega (arith, u.room, mod_below k 16 (omega arith)))) (record { few = sub.long; pages = sym own_new }))
       n d (omega arith) (omega (arith, below, u.sent, length-append u.course.sent (new_one ∷ [])))
 
   -- it is the next of the run's requests
@@ -248,9 +243,7 @@ module _ {B : Type 0} {wrote : Write B} {rang : TailWrite B} {turned : BusTurn B
     record {
       kept = subst (λ n. LiesInPages r n new_one) (sym u.sent) kept_new;
       taken = subst (λ c. AreTaken (free_pages r c u.course.sent) (own_pages new_one)) (sym u.collected) taken_new;
-      lowest = subst (λ c. AreLowest (free_pages r c u.course.sent) (own_pages new_one)) (sym u.collected)
-          (subst (AreLowest (free_pages r b.collected u.course.sent)) (sym own_new)
-          (subst (λ s. AreLowest s (all_pages o)) u.left sub.lowest));
+      lowest = rw (u.collected, own_new, ← u.left) sub.lowest;
     },
   )
 
@@ -282,8 +275,7 @@ module _ {B : Type 0} {wrote : Write B} {rang : TailWrite B} {turned : BusTurn B
           own = λ n d h. each_more (λ i y. All (λ p. IsOf r.pair.pages.first r.pair.pages.count p) (own_pages y)) 0 xs
               new_one (λ i e from low. u.own i e (omega (arith, u.sent))) taken_new.own n d (omega arith)
               (omega (arith, h, u.sent, more_sent));
-          taken = subst (AreTaken r.pair.pages) (sym all_held)
-              (taken_also r.pair.pages (held u) (own_pages new_one) u.taken taken_new);
+          taken = rw all_held (taken_also r.pair.pages (held u) (own_pages new_one) u.taken taken_new);
         };
         collected = u.collected;
         left = pages_new;

@@ -37,11 +37,10 @@ turn-requires g c κs within =
           (
             s.under_way,
             (
-              subst (λ n. AreReceived c.args.requests g.begun.run n c.loop-batch.answers c.send.new.host.taken
-                  (g.M.PagedMemory.bytes c.send.new.host.mem) c.send.new.host.last) (sym collected)
-                  (received_on c.args.requests c.loop-batch.answers c.loop-batch.host.taken c.send.new.host.taken
-                  (g.M.PagedMemory.bytes c.loop-batch.host.mem) (g.M.PagedMemory.bytes c.send.new.host.mem)
-                  c.loop-batch.host.last c.send.new.host.last of more i.received),
+              rw collected (received_on c.args.requests c.loop-batch.answers c.loop-batch.host.taken
+                  c.send.new.host.taken (g.M.PagedMemory.bytes c.loop-batch.host.mem)
+                  (g.M.PagedMemory.bytes c.send.new.host.mem) c.loop-batch.host.last c.send.new.host.last of more
+                  i.received),
               (
                 omega (arith, more, collected),
                 (
@@ -88,9 +87,7 @@ returns g c =
     let end = ends_all g.B.Bus.meaning i.under_way all c.tell.ensures.told c.tell.ensures.written c.tell.ensures.silent
     (c.requires.1.1.1.0.page_size ∙ ap (λ (r : Run). r.geometry.page_size) (sym is)) in
     record {
-      received = subst (λ n. AreReceived c.args.requests g.begun.run n c.loop-batch.answers c.loop-batch.host.taken
-          (g.M.PagedMemory.bytes c.loop-batch.host.mem) c.loop-batch.host.last)
-          (all_collected i.under_way all).1 i.received;
+      received = rw (← (all_collected i.under_way all).1) i.received;
       state = end.state ∙ ap (λ (r : Run). state_after_all r.controller r.bus.state (numbered_of g.begun.run)) is;
       paced = end.paced;
       others = rw is at end.others;

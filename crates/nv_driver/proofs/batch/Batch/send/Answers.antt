@@ -38,8 +38,7 @@ sent_as g c =
       c.loop-number.auto.number,
     ) in (
       below,
-      subst (λ (qs : List Request). request_as c.outgoing-request.result (get_or qs n no_command.request).asked
-          ≡ get_or qs n no_command.request) of.requests (c.outgoing-request.ensures limit no_command.request),
+      rw (← of.requests) (c.outgoing-request.ensures limit no_command.request),
       of.can n no_command.request below,
     )
 
@@ -120,10 +119,8 @@ submit-next-requires g c =
       few = omega (arith, ap (λ (q : Request). length_of q.transfer) one.1, room_few _ one.2.room);
       sent = ap (λ (q : Request). length q.sends) one.1 ∙ one.2.sends
           ∙ ap (λ (q : Request). bytes_from_host q.transfer) (sym one.1);
-      place = subst (λ p. IsPlaceFor (g.M.PagedMemory.bytes c.loop-number.host.mem)
-          (g.M.PagedMemory.page_len c.loop-number.host.mem) p len)
-          (sym (rw (in_slot c.loop-number.host.taken c.loop-number.number o no_pages u.room) at
-          c.place-place.ensures.place ∙ ap (λ (q : Geometry). place_in q (all_pages o)) same)) place;
+      place = rw (rw (in_slot c.loop-number.host.taken c.loop-number.number o no_pages u.room) at
+          c.place-place.ensures.place ∙ ap (λ (q : Geometry). place_in q (all_pages o)) same) place;
       slot = record { next_cid = slot.next_cid; ring = slot.ring; free = slot.free };
     }
 
@@ -154,10 +151,7 @@ loop-number-preserved g c =
       long = omega (arith, e.count, e.long, c.page_count-count.ensures.most);
       taken = e.taken;
       lowest = e.lowest;
-      one = subst (λ s. IsSubmittedAt g.begun.run.geometry.page_size (place_in g.begun.run.geometry (all_pages o)) q
-          (record l { pages = s }) c.submit-next.new.pair (g.M.PagedMemory.bytes c.loop-number.host.mem)
-          (g.M.PagedMemory.bytes c.submit-next.new.mem) (g.M.PagedMemory.page_len c.submit-next.new.mem)
-          c.submit-next.result) e.set next;
+      one = rw (← e.set) next;
     } in
     let there = set-get_or (set c.loop-number.host.taken (n % 16) o) (n % 16) no_pages in
     record {

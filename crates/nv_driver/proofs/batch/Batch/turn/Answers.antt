@@ -105,8 +105,7 @@ bounds-answers-number g c =
     let i = c.loop.invariant in
     let more : c.loop.self.collected < c.args.self.now.collected + c.turn-posted.result =
     omega (arith, i.collected, c.loop-test.true) in
-    let has = subst (λ q. AreReceived q g.begun.run c.loop.self.collected c.loop.answers c.loop.host.taken
-    (g.M.PagedMemory.bytes c.loop.host.mem) c.loop.host.last) c.in-Commands.is i.received in
+    let has = rw c.in-Commands.is at i.received in
     omega (arith, number_inside i.under_way more, has.len)
 
 pub give-requires : goal.give-requires
@@ -175,16 +174,14 @@ received_more g c =
           let are = ap (requests_in limit) (sym w.in-Commands.is) ∙ of.requests in
           let below : n < length w.in-Commands.commands.now = as_many _ are (number_inside u more) in
           let its = w.place-place.ensures.place ∙ ap (λ (q : Geometry). place_in q (all_pages o)) same in
-          let has = subst (λ q. AreReceived q r n c.loop.answers places bytes c.loop.host.last) w.in-Commands.is
-          i.received in
+          let has = rw w.in-Commands.is at i.received in
           let all = answers_more u more first.value (request_at_command _ are w.index-commands-number.is below)
           (sendable_at _ (subst AreSendable w.in-Commands.is of.sends) w.index-commands-number.is below) mine its
           u.page_size has w.receive.ensures.answer in
           rw (w.host-is, w.answers-is) (
             refl,
             set-get_or places (n % 16) no_pages,
-            subst (λ q. AreReceived q r (n + 1) (set c.loop.answers n w.receive.new.self) places bytes last)
-                (sym w.in-Commands.is) all,
+            rw w.in-Commands.is all,
           )
       | in-Entry w ↦
           let zero : n ≡ 0 = omega (
@@ -196,8 +193,7 @@ received_more g c =
           rw (w.host-is, w.answers-is) (
             refl,
             set-get_or places (n % 16) no_pages,
-            subst (λ q. AreReceived q r (n + 1) c.loop.answers places bytes last)
-                (sym w.in-Entry.is) (λ some. hears u more first.value zero refl),
+            rw w.in-Entry.is (λ some. hears u more first.value zero refl),
           )
     ]
 

@@ -98,16 +98,14 @@ returns g c =
     (length c.args.out.now) c.receive.ensures in
     record {
       answer = command_result_is given can heard ∙ ap (λ n. command_result_of (step n).answer) cid;
-      out = subst (λ n. IsReceived (asked_in b.state c.args.ctrl c.args.entry.now given) (step n).answer c.receive.new.out)
-          cid (received_by given can heard no_pages its e.left.ready.page_size c.transfer_for-transfer.ensures.value
-          (length c.args.out.now) c.receive.ensures);
+      out = rw (← cid) (received_by given can heard no_pages its e.left.ready.page_size
+          c.transfer_for-transfer.ensures.value (length c.args.out.now) c.receive.ensures);
       room = search rules;
       state = e.state ∙ ap (λ n. (step n).state) cid;
       driver = rw back driver;
       entries = rw back (subst HasEntryPages (sym driver)
           (room_stays c.args.self.now c.args.ctrl _ c.requires.room));
       linked = rw back (linked_after pair left c.requires.linked);
-      steps = subst (λ s. GoesOver c.args.self.now c.args.ctrl (goes s c.args.self.now.geometry))
-          (c.swap.ensures.x_after ∙ more_is pair)
+      steps = rw (← c.swap.ensures.x_after ∙ more_is pair)
           (goes_over pair (goes c.swap.new.x) (ready_by pair c.requires.linked).quiet (e.paced.steps, read));
     }
