@@ -121,21 +121,6 @@ answered page_size x mem c depth n cid head a here is delivered = record {
 
 -- ---- answers that are held while the memory and the schedule change
 
--- an answer is held as long as its completion and its data don't change
-answered_on : (page_size : ℕ) (x : Sent) (old new : List ℕ) (c e : Cqe) (a : Answer) → e ≡ c
-    → read_at new (places page_size x) ≡ read_at old (places page_size x)
-    → IsAnswered page_size x old c a → IsAnswered page_size x new e a
-answered_on page_size x old new c e a same bytes is =
-    let came : bytes_read page_size x new ≡ bytes_read page_size x old =
-    received_same x.request.transfer old new (places page_size x) bytes in
-    record {
-      dword0 = ap (λ (q : Cqe). q.command_specific) same ∙ is.dword0;
-      status = ap (λ (q : Cqe). q.status) same ∙ is.status;
-      bytes = subst (Delivers x.request.asked a) (sym came) is.bytes;
-      reads = λ can. ap (λ q. answer_to x.request.asked q (bytes_read page_size x new)) same
-          ∙ ap (answer_to x.request.asked c) came ∙ is.reads can;
-    }
-
 -- an answer that is held stays so if its completion, its data and the requests up to it don't change
 pub holds_on : (t : Setting) (s : State) (w v : World) (n : ℕ) (x : Sent)
     → completion_at v.mem t.cq (slot t n) ≡ completion_at w.mem t.cq (slot t n)
@@ -143,10 +128,17 @@ pub holds_on : (t : Setting) (s : State) (w v : World) (n : ℕ) (x : Sent)
     → take n v.sent ≡ take n w.sent
     → Holds t s w n x → Holds t s v n x
 holds_on t s w v n x completion bytes before h =
-    let stays = answered_on t.page_size x w.mem v.mem _ _ (step_after t.controller s w.sent n x).answer completion bytes
-    h.answer in
+    let answer = h.answer in
+    let came : bytes_read t.page_size x v.mem ≡ bytes_read t.page_size x w.mem =
+    received_same x.request.transfer w.mem v.mem (places t.page_size x) bytes in
     record {
-      answer = rw before stays;
+      answer = rw before (record {
+        dword0 = ap (λ (q : Cqe). q.command_specific) completion ∙ answer.dword0;
+        status = ap (λ (q : Cqe). q.status) completion ∙ answer.status;
+        bytes = subst (Delivers x.request.asked (step_after t.controller s w.sent n x).answer) (sym came) answer.bytes;
+        reads = λ can. ap (λ q. answer_to x.request.asked q (bytes_read t.page_size x v.mem)) completion
+            ∙ ap (answer_to x.request.asked (completion_at w.mem t.cq (slot t n))) came ∙ answer.reads can;
+      });
       cid = ap (λ (c : Cqe). c.cid) completion ∙ h.cid;
       head = ap (λ (c : Cqe). c.sq_head) completion ∙ h.head;
     }

@@ -72,18 +72,16 @@ length-from_cid next_cid (q ∷ qs) = ap suc (length-from_cid (cid_after next_ci
 
 -- the first n numbered requests are the first n requests, numbered
 take-from_cid : (n next_cid : ℕ) (qs : List Request) → take n (from_cid next_cid qs) ≡ from_cid next_cid (take n qs)
-take-from_cid zero next_cid qs = refl
-take-from_cid (suc n) next_cid [] = refl
 take-from_cid (suc n) next_cid (q ∷ qs) =
     ap (λ xs. numbered_request q next_cid ∷ xs) (take-from_cid n (cid_after next_cid) qs)
+take-from_cid n next_cid qs = refl
 
 -- the first n answers are the answers to the first n requests
 take-answers : (n c : ℕ) (s : State) (xs : List Numbered)
     → take n (answers_of_all c s xs) ≡ answers_of_all c s (take n xs)
-take-answers zero c s xs = refl
-take-answers (suc n) c s [] = refl
 take-answers (suc n) c s (x ∷ xs) =
     ap (λ ys. received_as x.asked (step_of c s x).answer ∷ ys) (take-answers n c (step_of c s x).state xs)
+take-answers n c s xs = refl
 
 -- the requests that were sent are the first m of a list
 module _ (next_cid : ℕ) (qs : List Request) (xs : List Sent) (m : ℕ)

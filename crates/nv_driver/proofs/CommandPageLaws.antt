@@ -5,7 +5,7 @@ use Rattle.nv_driver.proofs.Words.{arith, data_count, drop, get_or, length, leng
 use Rattle.nv_driver.proofs.Words.{own_pages, place_in, refl, subst, suc, sym}
 use Rattle.std.specs.Prelude.{slice_index}
 use Rattle.nv_host.specs.Pages.{HasPage}
-use Rattle.nv_driver.proofs.ShareLaws.{data_fits}
+use Rattle.nv_driver.proofs.PointerLaws.{data_fits}
 
 -- pages that stand for those of a slot outside the window
 abbrev pub no_pages : CommandPages
@@ -18,20 +18,12 @@ all_count o few = let h = length-take o.count o.numbers in omega (arith, h, few)
 -- the first two, and the rest
 pub first_two : (pages : List ℕ) → 2 ≤ length pages
     → slice_index pages 0 ∷ slice_index pages 1 ∷ drop 2 pages ≡ pages
-first_two [] h = absurd (omega arith)
-first_two (a ∷ []) h = absurd (omega arith)
 first_two (a ∷ b ∷ rest) h = refl
+first_two pages h = absurd (omega arith)
 
 -- the pages of a command that was sent
 pub own_is : {r : Run} {n : ℕ} {x : Sent} (k : LiesInPages r n x) → own_pages x ≡ k.pages
 own_is k = ap own_pages k.sent ∙ first_two k.pages (omega (arith, k.many))
-
--- a page of a set lies in a memory that has all pages of the set
-pub of_set : (s : Pages) (bytes : List ℕ) (page_size page : ℕ)
-    → (s.first + s.count) * page_size ≤ length bytes → IsOf s.first s.count page
-    → HasPage bytes page_size page
-of_set s bytes page_size page inside own =
-    let most : page + 1 ≤ s.first + s.count = omega (arith, own.1) in omega (arith, mul-le-mul_right page_size most)
 
 -- data and a list fit in pages of a set that lies in the memory
 pub place_of_set : (g : Geometry) (s : Pages) (pages bytes : List ℕ) (page_size len : ℕ) → IsGeometry g
@@ -41,7 +33,8 @@ pub place_of_set : (g : Geometry) (s : Pages) (pages bytes : List ℕ) (page_siz
 place_of_set g s pages bytes page_size len is page inside own distinct many =
     let two = sym (first_two pages (omega (arith, many))) in
     let all : All (λ p. HasPage bytes g.page_size p) pages =
-    λ i d h. of_set s bytes g.page_size (get_or pages i d) inside (own i d h) in
+    λ i d h. let most : get_or pages i d + 1 ≤ s.first + s.count = omega (arith, (own i d h).1) in
+    omega (arith, mul-le-mul_right g.page_size most) in
     let has = subst (All (λ p. HasPage bytes g.page_size p)) two all in
     let few : length (drop 2 pages) ≡ data_count g len = omega (arith, length-drop 2 pages, many) in
     rw page (record {

@@ -83,25 +83,7 @@ module _ {B : Type 0} {wrote : Write B} {rang : TailWrite B} {turned : BusTurn B
       → length r.requests ≤ b.collected → (b.sent ≡ b.collected) × (b.collected ≡ length r.requests)
   all_collected u enough = let order = no_more u in (omega (arith, order, u.some), omega (arith, order, u.some))
 
-  -- all answers of the list are reported after the last head doorbell, which is written if one wasn't
-  all_told : (meaning : B → BusValue) {on' : B} {l' : QueuePairFields}
-      → (u : IsUnderWay wrote rang turned start r b.collected b.collected b (meaning on) on l now mem places)
-      → b.collected ≡ length r.requests → IsTold b.ctrl l (meaning on) l' (meaning on')
-      → (l.completion.untold ≡ true
-      → wrote on b.ctrl 0x1004 (slot_of l.completion.depth l.completion.collected) on')
-      → (l.completion.untold ≡ false → on' ≡ on)
-      → IsUnderWay wrote rang turned start r b.collected b.collected (record b { told = b.collected }) (meaning on')
-      on' l' now mem places
-  all_told meaning {on'} u many t its_write silent =
-      elim (cases_lt b.told b.collected) [
-        | inl some ↦ tells_on u t its_write some (inr (inr (u.collected ∙ many)))
-        | inr none ↦
-            let told : b.told ≡ b.collected = let c = counts u in omega (arith, c.told) in
-            let quiet = W.silent_is u.on_way (told ∙ sym u.collected) in
-            rw (t.pair ∙ quiet.1, silent quiet.0) (rw told at u)
-      ]
-
-  -- the last doorbell ends the list
+  -- the last doorbell, which is rung if an answer isn't reported, ends the list
   pub ends_all : (meaning : B → BusValue) {on' : B} {l' : QueuePairFields} {before : ℕ}
       → IsUnderWay wrote rang turned start r b.sent b.collected b (meaning on) on l now mem places
       → length r.requests ≤ b.collected → IsTold b.ctrl l (meaning on) l' (meaning on')
@@ -109,11 +91,19 @@ module _ {B : Type 0} {wrote : Write B} {rang : TailWrite B} {turned : BusTurn B
       → wrote on b.ctrl 0x1004 (slot_of l.completion.depth l.completion.collected) on')
       → (l.completion.untold ≡ false → on' ≡ on) → before ≡ r.geometry.page_size
       → HasEnded wrote rang turned start r before (meaning on') on' l' now mem places
-  ends_all meaning u enough t its_write silent page =
+  ends_all meaning {on'} {l'} u enough t its_write silent page =
       let all = all_collected u enough in
       let sent = subst (λ n. IsUnderWay wrote rang turned start r n b.collected b (meaning on) on l now mem places)
       all.0 u in
-      let v = all_told meaning sent all.1 t its_write silent in
+      let v : IsUnderWay wrote rang turned start r b.collected b.collected (record b { told = b.collected })
+      (meaning on') on' l' now mem places = elim (cases_lt b.told b.collected) [
+        | inl some ↦ tells_on sent t its_write some (inr (inr (sent.collected ∙ all.1)))
+        | inr none ↦
+            let told : b.told ≡ b.collected = let c = counts sent in omega (arith, c.told) in
+            let quiet = W.silent_is sent.on_way (told ∙ sym sent.collected) in
+            rw (t.pair ∙ quiet.1, silent quiet.0) (subst (λ n. IsUnderWay wrote rang turned start r b.collected
+            b.collected (record b { told = n }) (meaning on) on l now mem places) told sent)
+      ] in
       let none : drop b.collected v.course.sent ≡ [] =
       ap (λ i. drop i v.course.sent) (sym (v.sent ∙ all.0)) ∙ drop-length v.course.sent in
       let others = outside_kept r.geometry r.pair v.others (λ i d h. v.own i d (omega (arith, v.sent))) in

@@ -106,13 +106,6 @@ moves_there : (asked : Asked) (at : List ℕ) (a : Answer) (old moved : List ℕ
 moves_there (Ok k) at (Ok reply) old moved moves = (data_of k moves.0, moves.2)
 moves_there asked at a old moved moves = ([], moves ∙ sym (written-nothing old at))
 
--- a command's places are those of its data
-are_places : (t : Setting) (x : Sent) (old : List ℕ) → IsOwn t (length old) x
-    → ArePlaces x.request.transfer (length old) (places t.page_size x)
-are_places t x old own =
-    let size = length-places t.page_size x in
-    record { size = size; inside = λ i below. own.inside i (omega arith); distinct = own.distinct }
-
 -- the data of a reply is received, even after its completion was posted
 delivered_by : (asked : Asked) (a : Answer) (m : Transfer) (at old moved new : List ℕ)
     → IsAnswerTo asked a → GoesBy asked m → MovesBy (call_at at asked) a old moved
@@ -229,25 +222,18 @@ module _ (t : Setting) (s : State) (w : World) (y : Scene) (d : Sent) (k : Keeps
         in_second = λ many. rest.in_second many ∙ moved.in_second many;
       }
 
-  -- its pages are none of another outstanding request
-  apart_from : (i : ℕ) (e : Sent) → length w.answers ≤ i → i < length w.sent → i ≢ w.done
-      → AreApart (get_or w.sent i e) x
-  apart_from i e from high differ =
-      let z = get_or w.sent i e in
-      let is = get_or_default w.sent w.done e d below in
-      elim (cases_lt i w.done) [
-        | inl before ↦ subst (AreApart z) is (k.apart i w.done e from before below)
-        | inr behind ↦ apart-sym x z (subst (λ q. AreApart q z) is
-            (k.apart w.done i e k.counts.collected (omega (arith, differ)) high))
-      ]
-
   -- the lists and the data of other outstanding requests don't change
   other_stays : (i : ℕ) (e : Sent) → length w.answers ≤ i → i < length w.sent → i ≢ w.done
       → Stays t (get_or w.sent i e) w.mem y.bytes
   other_stays i e from high differ =
       let other = k.own i e from high in
-      stays_apart t x (get_or w.sent i e) t.cq (16 * t.depth) w.mem y.bytes some len only other.enough
-      (apart_from i e from high differ) other.completions
+      let z = get_or w.sent i e in
+      let is = get_or_default w.sent w.done e d below in
+      stays_apart t x z t.cq (16 * t.depth) w.mem y.bytes some len only other.enough (elim (cases_lt i w.done) [
+        | inl before ↦ subst (AreApart z) is (k.apart i w.done e from before below)
+        | inr behind ↦ apart-sym x z (subst (λ q. AreApart q z) is
+            (k.apart w.done i e k.counts.collected (omega (arith, differ)) high))
+      ]) other.completions
 
   -- the data pointers of all outstanding requests still name their data
   named_on : (i : ℕ) (e : Sent) → length w.answers ≤ i → i < length w.sent
@@ -266,7 +252,8 @@ module _ (t : Setting) (s : State) (w : World) (y : Scene) (d : Sent) (k : Keeps
     answer = rw (← k.state) (answered t.page_size x y.bytes (completion_at y.bytes t.cq (slot t w.done)) t.depth
         (number t w.done) x.cid (slot t (w.done + 1)) answer written.here sound
         (delivered_by x.request.asked answer x.request.transfer (places t.page_size x) w.mem one.moved y.bytes sound
-        own.can.command one.moves (are_places t x w.mem own) own_stays.read));
+        own.can.command one.moves (let size = length-places t.page_size x in
+        record { size = size; inside = λ i below. own.inside i (omega arith); distinct = own.distinct }) own_stays.read));
     cid = ap (λ (q : Cqe). q.cid) written.here;
     head = ap (λ (q : Cqe). q.sq_head) written.here;
   }

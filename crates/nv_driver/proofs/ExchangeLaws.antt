@@ -17,7 +17,7 @@ use Rattle.nv_driver.proofs.AnswerLaws.{IsAnswerTo, answer_sound}
 use Rattle.nv_driver.proofs.CommandPageLaws.{own_is}
 use Rattle.nv_driver.proofs.PaddingLaws.{length-padded}
 use Rattle.nv_driver.proofs.RequestLaws.{every_entry}
-use Rattle.nv_driver.proofs.ShareLaws.{few_of_entry}
+use Rattle.nv_driver.proofs.PointerLaws.{few_of_entry}
 use Rattle.nv_driver.proofs.TurnLaws.{no_command}
 use Rattle.nv_driver.proofs.UnderWayLaws.{request_is, room_few}
 
@@ -36,9 +36,8 @@ padded_same n came is =
 
 -- a list of one request
 only_one : (xs : List Sent) → length xs ≡ 1 → xs ≡ get_or xs 0 no_command ∷ []
-only_one [] one = absurd (omega arith)
 only_one (x ∷ []) one = refl
-only_one (x ∷ y ∷ ys) one = absurd (omega arith)
+only_one xs one = absurd (omega arith)
 
 -- a queue pair is as ready with other pages behind its rings, of which all are free
 pub ready_with : {g : Geometry} {bus : BusValue} {c : ℕ} {l : QueuePairFields} {now : ℕ} {bytes : List ℕ} (s : Pages)

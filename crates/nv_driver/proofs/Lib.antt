@@ -3,7 +3,6 @@ pub mod BatchLaws
 pub mod PageSetLaws
 pub mod WindowPageLaws
 pub mod CommandPageLaws
-pub mod ShareLaws
 pub mod SubmittingLaws
 pub mod QuietLaws
 pub mod UnderWayLaws

@@ -39,12 +39,6 @@ pairs_more xs x g i h e =
     ∙ (ap (λ ys. ys ++ pair_value x ∷ []) h
     ∙ (ap (λ y. pairs_of g i ++ y ∷ []) e ∙ sym (map-range_with_len_more (pair_of g) 0 i i (zero-add i))))
 
--- rings fit in their pages
-rings_fit : (g : Geometry) → 0 < g.page_size
-    → (64 * g.depth ≤ submission_pages g * g.page_size) × (16 * g.depth ≤ completion_pages g * g.page_size)
-unfolding submission_pages completion_pages
-rings_fit g h = ((div_ceil_times (64 * g.depth) g.page_size h).0, (div_ceil_times (16 * g.depth) g.page_size h).0)
-
 -- n bytes that begin at page x and fit in s pages end at page x + s or before
 after : (x s p n : ℕ) → n ≤ s * p → x * p + n ≤ (x + s) * p
 after x s p n h = omega arith
@@ -72,25 +66,6 @@ pub pair_count : (g : Geometry) (n : ℕ) (ls : List QueuePairFields) → map pa
 pair_count g n ls are =
     sym (length-map ls pair_value) ∙ ap (λ (vs : List QueuePair). length vs) are
     ∙ length-map-range_with_len (pair_of g) 0 n
-
--- each queue pair lies in a memory with this number of pages
-pub all_laid : (g : Geometry) (n size : ℕ) → IsGeometry g → pages_of g n * g.page_size ≤ size
-    → All (IsLaid g.page_size size) (pairs_of g n)
-all_laid g n size is e i d h =
-    let many = length-map-range_with_len (pair_of g) 0 n in
-    let below : i < n = omega arith in
-    let page = page_size_bounds g.page_size is.page_size in
-    let fit = rings_fit g (omega arith) in
-    let deep = is.depth in
-    let first = i * pair_pages g in
-    rw (pair_at g n i d below) (record {
-      deep = deep;
-      number = omega arith;
-      next_cid = omega arith;
-      rings = after first (submission_pages g) g.page_size (64 * g.depth) fit.0;
-      pages = after (first + submission_pages g) (completion_pages g) g.page_size (16 * g.depth) fit.1;
-      inside = omega (arith, pair_ends g i n below, e);
-    })
 
 -- if all queue pairs lie in a memory, so does the queue pair of controller i
 pub laid_in : (g : Geometry) (n i size : ℕ) → All (IsLaid g.page_size size) (pairs_of g n) → i < n
@@ -151,9 +126,24 @@ module _ {g : Geometry} {n m pages : ℕ} {made : PagedBytes} (more : ℕ) (is :
 
   -- each queue pair lies in the new memory
   pub has_pairs : All (IsLaid g.page_size (length made.bytes)) (pairs_of g n)
-  has_pairs =
-      let some : pages_of g n ≤ pages = omega (arith, many, ap (pages_of g) same) in
-      all_laid g n (length made.bytes) is (omega (arith, memory_size, mul-le-mul_right g.page_size some))
+  unfolding submission_pages completion_pages
+  has_pairs i d h =
+      let few : pages_of g n ≤ pages = omega (arith, many, ap (pages_of g) same) in
+      let count = length-map-range_with_len (pair_of g) 0 n in
+      let below : i < n = omega arith in
+      let page = page_size_bounds g.page_size is.page_size in
+      let deep = is.depth in
+      let first = i * pair_pages g in
+      rw (pair_at g n i d below) (record {
+        deep = deep;
+        number = omega arith;
+        next_cid = omega arith;
+        rings = after first (submission_pages g) g.page_size (64 * g.depth)
+            (div_ceil_times (64 * g.depth) g.page_size (omega arith)).0;
+        pages = after (first + submission_pages g) (completion_pages g) g.page_size (16 * g.depth)
+            (div_ceil_times (16 * g.depth) g.page_size (omega arith)).0;
+        inside = omega (arith, pair_ends g i n below, memory_size, mul-le-mul_right g.page_size few);
+      })
 
   -- queue pairs that were laid out in such a memory belong to a new driver
   pub driver_at_first : {mem : PagedBytes} {pairs : List QueuePairFields} → pages < 2 ^ 32

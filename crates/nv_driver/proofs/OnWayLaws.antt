@@ -46,12 +46,6 @@ pub bank_set : (banks : List RegisterBank) (c : ℕ) (p : RegisterBank) → c < 
     → bank_at (slice_set banks c p) c ≡ p
 bank_set banks c p below = get_or-set_same banks c p new_bank below
 
--- setting one register bank keeps how many there are
-pub banks_long : (banks new : List RegisterBank) (c : ℕ) (p : RegisterBank)
-    → c < length banks → new ≡ slice_set banks c p → c < length new
-banks_long banks new c p below is =
-    let size = ap (λ (x : List RegisterBank). length x) is ∙ length-set banks c p in omega arith
-
 -- setting a register bank twice sets it to the value that it has in the end
 pub set_again : (banks one two : List RegisterBank) (c : ℕ) (p q : RegisterBank) → c < length banks
     → one ≡ slice_set banks c p → two ≡ slice_set one c q
@@ -101,7 +95,9 @@ module _ {B : Type 0} {doing : Doing B} {start on : B} {w : Way} {bus : BusValue
 
   -- the controller has registers
   pub has_bank : w.run.controller < length bus.banks
-  has_bank = banks_long w.run.bus.banks bus.banks w.run.controller _ u.begun.controller u.banks
+  has_bank =
+      let size = ap (λ (x : List RegisterBank). length x) u.banks ∙ length-set w.run.bus.banks w.run.controller _ in
+      omega (arith, u.begun.controller)
 
   -- one more event, which was due
   abbrev pub more_events : Event → Course

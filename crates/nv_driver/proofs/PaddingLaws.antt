@@ -22,17 +22,6 @@ length-padded n bytes =
     let zeros = length-replicate {A = ℕ} n 0 in
     let first = length-take n (bytes ++ replicate n 0) in omega (arith, whole, zeros, first)
 
--- the first n are those of the bytes, which count as 0 past the last one
-abbrev pub HasFirst : ℕ → List ℕ → List ℕ → Type 0
-HasFirst n bytes out = (i : ℕ) → i < n → get_or out i 0 ≡ get_or bytes i 0
-
--- n bytes that are equal to the given ones, and 0 past their end, are the padded bytes
-pub padded_by : (n : ℕ) (out bytes : List ℕ) → length out ≡ n → HasFirst n bytes out → out ≡ padded n bytes
-padded_by n out bytes size first =
-    same_number_lists out (padded n bytes) (size ∙ sym (length-padded n bytes))
-    (λ i below. let low : i < n = omega arith in
-    first i low ∙ sym (get_or-take n (bytes ++ replicate n 0) i 0 low ∙ get_or-past bytes 0 n i))
-
 -- a part of bytes with zeros after them: it begins at a byte or past the last one
 pub padded_part : (n at first count m k len : ℕ) (bytes out : List ℕ) → first ≡ min at (length bytes)
     → count ≡ min len (length bytes - first) → m ≡ count → k ≡ len - count → at + len ≤ n
@@ -118,16 +107,19 @@ padded_read mem page_size pages offset len count n k out few room all rest is =
     let whole = read_at mem (buffer_places page_size pages offset len) in
     let here = length-read mem page_size pages offset count in
     let size = ap (λ (xs : List ℕ). length xs) is in
-    padded_by n out whole
-    (omega (arith, size, length-append part (replicate k 0), length-replicate {A = ℕ} k 0, here, rest, room))
-    (λ i below.
+    let long : length out ≡ n =
+    omega (arith, size, length-append part (replicate k 0), length-replicate {A = ℕ} k 0, here, rest, room) in
+    same_number_lists out (padded n whole) (long ∙ sym (length-padded n whole))
+    (λ i inside.
+    let below : i < n = omega (arith, long, inside) in
     ap (λ xs. get_or xs i 0) is ∙ get_or-past part 0 k i
     ∙ elim (cases_lt i count) [
       | inl low ↦ read_first mem page_size pages offset count i low
           ∙ sym (read_first mem page_size pages offset len i (omega arith))
       | inr past ↦ get_or_past part i 0 (omega (arith, here))
           ∙ sym (get_or_past whole i 0 (omega (arith, length-read mem page_size pages offset len, all (omega arith))))
-    ])
+    ]
+    ∙ sym (get_or-take n (whole ++ replicate n 0) i 0 below ∙ get_or-past whole 0 n i))
 
 -- how many bytes came by the status, and they are none if it refuses
 pub came_as : (m : Transfer) (done : Bool) (mem : List ℕ) (page_size : ℕ) (pages : List ℕ) (offset : ℕ)

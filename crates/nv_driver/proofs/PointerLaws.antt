@@ -5,6 +5,7 @@ use Rattle.nv_driver.proofs.Words.{StatusCode, StaysNamed, ToHost, Transfer, ap,
 use Rattle.nv_driver.proofs.Words.{data_length, div_ceil, div_ceil_times, entry, inl, inr, length, length_of, moves_of}
 use Rattle.nv_driver.proofs.Words.{mul-le-mul_right, page_size_bounds, pages_for, pages_of_entry, places, pointed, refl}
 use Rattle.nv_driver.proofs.Words.{sent_from, sym, transfer_of, within}
+use Rattle.nv_driver.proofs.Words.{Geometry, IsGeometry, data_count, greatest_limit}
 use Rattle.nv_host.specs.Pages.{IsPageSize}
 use Rattle.nv_prp.specs.Buffer.{IsFor, buffer_place, buffer_places}
 use Rattle.nv_prp.proofs.PlaceLaws.{table-same}
@@ -38,6 +39,17 @@ pub entry_pages_few : (size : ℕ) → IsPageSize size → pages_of_entry size �
 entry_pages_few size is =
     let bounds = page_size_bounds size is in
     let whole = (div_ceil_times 1048576 size (omega (arith, bounds))).1 in grind (arith, bounds, whole)
+
+-- the data fits in its pages, which with those of a list are no more than the pages for `most` bytes
+pub data_fits : (g : Geometry) (len most : ℕ) → IsGeometry g → len ≤ most
+    → (g.offset + len ≤ data_count g len * g.page_size) × (data_count g len + 2 ≤ pages_for most g.page_size)
+data_fits g len most is few =
+    enough_of most g.offset len g.page_size (data_count g len) is.page_size is.offset.1 few refl
+
+-- the data of a request and two pages for a list
+pub few_of_entry : (g : Geometry) (len : ℕ) → IsGeometry g → len ≤ greatest_limit → data_count g len + 2 ≤ 259
+few_of_entry g len is few =
+    omega (arith, (data_fits g len greatest_limit is few).1, entry_pages_few g.page_size is.page_size)
 
 -- ---- the data pointer of a command
 

@@ -44,15 +44,6 @@ collect_ring_is g c limit bytes l quiet below =
 
 -- ---- the end
 
--- a part outside a queue pair overlaps none of its rings and pages
-outside_pair : (s : Pages) (x : Sent) (page_size sq from n : ℕ)
-    → ((i d : ℕ) → i < length (own_pages x) → IsOf s.first s.count (get_or (own_pages x) i d))
-    → sq ≤ s.first * page_size → sq ≤ (s.first + s.count) * page_size
-    → IsApart sq ((s.first + s.count) * page_size - sq) from n → AreOutside page_size x from n
-outside_pair s x page_size sq from n own low high apart i d h =
-    let last : get_or (own_pages x) i d + 1 ≤ s.first + s.count = omega (arith, (own i d h).1) in
-    grind (arith, apart, low, mul-le-mul_right page_size (own i d h).0, mul-le-mul_right page_size last)
-
 -- if each request's pages were those of the set, what is in no ring and no such page doesn't change
 pub outside_kept : (g : Geometry) {c limit : ℕ} (l : QueuePairFields) {bytes : List ℕ} {w : World}
     → OthersStay (setting g c limit (pair_value l)) 0 bytes w
@@ -60,13 +51,14 @@ pub outside_kept : (g : Geometry) {c limit : ℕ} (l : QueuePairFields) {bytes :
     → All (λ p. IsOf l.pages.first l.pages.count p) (own_pages (get_or w.sent i d)))
     → KeepsOutside g.page_size (pair_value l) bytes w.mem
 outside_kept g l {w = w} others own from n sq cq pages =
-    let s = l.pages in
-    let size : s.count * g.page_size ≡ (s.first + s.count) * g.page_size - s.first * g.page_size = omega arith in
     others.same from n (record {
       submissions = sq;
       completions = cq;
-      pages = λ i d low h. outside_pair s (get_or w.sent i d) g.page_size (s.first * g.page_size) from n (own i d h)
-          (omega arith) (omega arith) (subst (λ m. IsApart (s.first * g.page_size) m from n) size pages);
+      pages = λ i d low h j e inside.
+          let one = own i d h j e inside in
+          let last : get_or (own_pages (get_or w.sent i d)) j e + 1 ≤ l.pages.first + l.pages.count =
+          omega (arith, one.1) in
+          grind (arith, pages, mul-le-mul_right g.page_size one.0, mul-le-mul_right g.page_size last);
     })
 
 -- so nothing outside the queue pair changes

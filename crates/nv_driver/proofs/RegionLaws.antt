@@ -45,19 +45,6 @@ place_page page_size pages offset len k some enough below =
       to = omega (arith, is, rest);
     }
 
--- a place is not among the n bytes from `from` on
-abbrev IsBeside : ℕ → ℕ → ℕ → Type 0
-IsBeside place from n = (place < from) ⊎ (from + n ≤ place)
-
--- a place of a command's data is in no part that is outside its pages
-pub place_beside : (page_size : ℕ) (x : Sent) (from n k : ℕ) → 0 < page_size
-    → x.offset + data_length x ≤ length x.pages * page_size → AreOutside page_size x from n
-    → k < data_length x → IsBeside (get_or (places page_size x) k 0) from n
-place_beside page_size x from n k some enough outside below =
-    let page = place_page page_size x.pages x.offset (data_length x) k some enough below in
-    let one = page.is_one in
-    grind (arith, page.from, page.to, outside (suc (suc page.index)) 0 (omega arith))
-
 -- two distinct pages don't overlap
 pages_apart : (page_size p q : ℕ) → p ≢ q
     → (p * page_size + page_size ≤ q * page_size) ⊎ (q * page_size + page_size ≤ p * page_size)
@@ -66,11 +53,6 @@ pages_apart page_size p q differ =
       | inl l ↦ inl (omega (arith, mul-le-mul_right page_size l))
       | inr g ↦ let after : q + 1 ≤ p = omega (arith, differ) in inr (omega (arith, mul-le-mul_right page_size after))
     ]
-
--- a place in one page is outside each other page
-other_page : (page_size p q place : ℕ) → p ≢ q → p * page_size ≤ place
-    → place < p * page_size + page_size → IsOutside page_size q place 1
-other_page page_size p q place differ low high = grind (arith, pages_apart page_size p q differ)
 
 -- if x and y have no page in common, y and x have none
 pub apart-sym : (x y : Sent) → AreApart x y → AreApart y x
@@ -111,7 +93,9 @@ data_keeps page_size x bytes written from n some enough outside =
     part_stays bytes (places page_size x) written from n
     (λ k h.
     let size = length-places page_size x in
-    place_beside page_size x from n k some enough outside (omega arith))
+    let page = place_page page_size x.pages x.offset (data_length x) k some enough (omega arith) in
+    let one = page.is_one in
+    grind (arith, page.from, page.to, outside (suc (suc page.index)) 0 (omega arith)))
 
 -- a part outside a region doesn't change when bytes are written inside
 pub written_keeps : (bytes xs : List ℕ) (base size at from n : ℕ) → base ≤ at → at + length xs ≤ base + size
@@ -203,10 +187,6 @@ holds_sent_on t x old new same holds =
 
 -- ---- the pages of a command's list
 
--- the bytes of another page are outside a page
-whole_page : (page_size p q : ℕ) → p ≢ q → IsOutside page_size q (p * page_size) page_size
-whole_page page_size p q differ = grind (arith, pages_apart page_size p q differ)
-
 -- the list doesn't change when the command's own data is written
 pub written_list : (page_size : ℕ) (x : Sent) (bytes written : List ℕ) → 0 < page_size
     → x.offset + data_length x ≤ length x.pages * page_size → AreDistinct (own_pages x)
@@ -229,8 +209,10 @@ written_list page_size x bytes written some enough distinct = record {
         let inside = one.is_one in
         grind (
           arith,
-          other_page page_size (get_or x.pages one.index 0) page at
-              (λ same. distinct i (suc (suc one.index)) 0 (omega arith) (omega arith) (sym same)) one.from one.to,
+          pages_apart page_size (get_or x.pages one.index 0) page
+              (λ same. distinct i (suc (suc one.index)) 0 (omega arith) (omega arith) (sym same)),
+          one.from,
+          one.to,
         ))
 
 -- a part outside a page is apart from the bytes of the page
@@ -273,5 +255,5 @@ pub stays_apart : (t : Setting) (x y : Sent) (base n : ℕ) (old new : List ℕ)
 stays_apart t x y base n old new some len only enough apart outside =
     same_stays t y old new some len enough (λ i d h. let page = get_or (own_pages y) i d in
     only (page * t.page_size) t.page_size
-    (λ j e low. whole_page t.page_size page (get_or (own_pages x) j e) (apart i d h j e low))
+    (λ j e low. grind (arith, pages_apart t.page_size page (get_or (own_pages x) j e) (apart i d h j e low)))
     (beside t.page_size page base n (outside i d h)))

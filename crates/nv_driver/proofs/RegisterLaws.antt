@@ -62,14 +62,6 @@ queues_read m h =
 address_read : (old address : ℕ) → with_high (with_low old (address % 2 ^ 32)) (address / 2 ^ 32) ≡ address
 address_read old address = omega arith
 
--- the five writes of a controller that is off
-queues_by : (p : RegisterBank) (l : QueuePair) → p.readiness ≡ Off → l.depth ≤ 4096
-    → with_register_at (with_register_at (with_register_at (with_register_at (with_register_at p 0x24
-    ((l.depth - 1) * 65536 + (l.depth - 1))) 0x28 (l.sq % 2 ^ 32)) 0x2c (l.sq / 2 ^ 32)) 0x30 (l.cq % 2 ^ 32)) 0x34
-    (l.cq / 2 ^ 32) ≡ with_queues p l
-queues_by p l off deep =
-    rw (off, queues_read (l.depth - 1) (omega arith), address_read p.asq l.sq, address_read p.acq l.cq) refl
-
 -- after one more write, the controller has the registers after both writes
 wrote : (a : List RegisterBank) {b e : List RegisterBank} {c : ℕ} (o v : ℕ) (p : RegisterBank) → c < length a
     → b ≡ slice_set a c p → e ≡ slice_set b c (with_register_at (bank_at b c) o v)
@@ -89,7 +81,8 @@ pub queues_written : (a : List RegisterBank) {b d e f k : List RegisterBank} {c 
 queues_written a {c = c} x s1 s2 q1 q2 l h off deep is low high behind above first second third fourth fifth =
     wrote a 0x34 q2 _ h (wrote a 0x30 q1 _ h (wrote a 0x2c s2 _ h (wrote a 0x28 s1 _ h first second) third) fourth)
     fifth
-    ∙ ap (slice_set a c) (rw (is, low, high, behind, above) (queues_by (bank_at a c) l off deep))
+    ∙ ap (slice_set a c) (rw (is, low, high, behind, above, off, queues_read (l.depth - 1) (omega arith),
+    address_read (bank_at a c).asq l.sq, address_read (bank_at a c).acq l.cq) refl)
 
 -- ---- EN is set
 

@@ -174,10 +174,6 @@ module _ {B : Type 0} {wrote : Write B} {rang : TailWrite B} {turned : BusTurn B
     pub number_inside : b.collected < length r.requests
     number_inside = omega (arith, more, no_more, u.some)
 
-    -- the awaited answer is held
-    held_here : Holds (setting_of r) r.bus.state (world u) b.collected next_one
-    held_here = u.keeps.held b.collected no_command (omega (arith, u.collected)) more
-
     -- the request whose answer is awaited was sent with its data in its pages
     pub kept_here : LiesInPages r b.collected next_one
     kept_here = u.kept b.collected no_command (omega (arith, no_more, more))
@@ -203,13 +199,13 @@ module _ {B : Type 0} {wrote : Write B} {rang : TailWrite B} {turned : BusTurn B
         (subst (All (λ n. IsOf r.pair.pages.first r.pair.pages.count n)) (own_is kept_here) first.own)
         (subst (AllPairs (λ n m. n ≢ m)) (own_is kept_here) first.distinct) kept_here.many
 
-    module _ {o : CommandPages} (here : o ≡ get_or places (b.collected % 16) o) where
-      -- what was put into its slot are its pages
-      pub held_one : IsHeld o next_one
-      held_one = subst (λ p. IsHeld p next_one) (sym here) (held_at o)
+    module _ (e : CommandPages) where
+      -- what is in its slot
+      abbrev o : CommandPages
+      o = get_or places (b.collected % 16) e
 
       all_is : held u ≡ all_pages o ++ held_pages (b.collected + 1) u.course.sent
-      all_is = held_is ∙ ap (λ ps. ps ++ held_pages (b.collected + 1) u.course.sent) (sym held_one.pages)
+      all_is = held_is ∙ ap (λ ps. ps ++ held_pages (b.collected + 1) u.course.sent) (sym (held_at e).pages)
 
       taken_all : AreTaken r.pair.pages (all_pages o ++ held_pages (b.collected + 1) u.course.sent)
       taken_all = subst (AreTaken r.pair.pages) all_is u.taken
@@ -222,9 +218,9 @@ module _ {B : Type 0} {wrote : Write B} {rang : TailWrite B} {turned : BusTurn B
           omega (
             arith,
             pages,
-            ap (λ (ps : List ℕ). length ps) held_one.pages,
+            ap (λ (ps : List ℕ). length ps) (held_at e).pages,
             length-take o.count o.numbers,
-            held_one.few,
+            (held_at e).few,
             entry_pages_few r.geometry.page_size u.begun.geometry.page_size,
           )
 
@@ -251,15 +247,15 @@ module _ {B : Type 0} {wrote : Write B} {rang : TailWrite B} {turned : BusTurn B
           ∙ ap (λ n. completion_at bytes (setting_of r).cq (slot (setting_of r) n)) u.collected
 
       -- the awaited completion was collected, and the pages were given back
-      pub collects : {o : CommandPages} {l1 l' : QueuePairFields} → o ≡ get_or places (b.collected % 16) o
+      pub collects : (e : CommandPages) {l1 l' : QueuePairFields}
           → l1 ≡ record l { submission = known_to l.submission p.sq_head; completion = collected_one l.completion }
-          → l' ≡ record l1 { pages = with_pages l1.pages (all_pages o) } → IsToldInTime r b
+          → l' ≡ record l1 { pages = with_pages l1.pages (all_pages (o e)) } → IsToldInTime r b
           → IsUnderWay wrote rang turned start r bells turns (record b { collected = b.collected + 1 }) bus on l' now
           bytes
           places
-      collects {o} here first back near =
+      collects e first back near =
           let window : b.sent ≤ b.collected + 1 + r.geometry.window = omega (arith, u.window) in
-          let all = back ∙ ap (λ (x : QueuePairFields). record x { pages = with_pages x.pages (all_pages o) }) first in
+          let all = back ∙ ap (λ (x : QueuePairFields). record x { pages = with_pages x.pages (all_pages (o e)) }) first in
           record {
             course = record u.course {
               answers = u.course.answers ++ W.answer_next u.on_way awaits ∷ [];
@@ -276,11 +272,11 @@ module _ {B : Type 0} {wrote : Write B} {rang : TailWrite B} {turned : BusTurn B
               requests = u.requests;
               kept = u.kept;
               own = u.own;
-              taken = taken_rest r.pair.pages (all_pages o) _ (taken_all here);
+              taken = taken_rest r.pair.pages (all_pages (o e)) _ (taken_all e);
             };
             collected = length-append u.course.answers (W.answer_next u.on_way awaits ∷ [])
                 ∙ ap (λ n. n + 1) u.collected;
-            left = ap (λ (x : QueuePairFields). x.pages) all ∙ pages_back here;
+            left = ap (λ (x : QueuePairFields). x.pages) all ∙ pages_back e;
             room = u.room;
             slots = u.slots;
           }
@@ -292,7 +288,7 @@ module _ {B : Type 0} {wrote : Write B} {rang : TailWrite B} {turned : BusTurn B
           (step_after r.controller r.bus.state u.course.sent b.collected next_one).answer
       answer_here = subst (λ e. IsAnswered r.geometry.page_size next_one bytes e
           (step_after r.controller r.bus.state u.course.sent b.collected next_one).answer)
-          (sym completion_is) held_here.answer
+          (sym completion_is) (u.keeps.held b.collected no_command (omega (arith, u.collected)) more).answer
 
       -- what it says and the first request's pages hold the answer to that
       pub hears : b.collected ≡ 0 → {last : CommandResult} → last ≡ command_result_with p.command_specific p.status
@@ -317,10 +313,10 @@ module _ {B : Type 0} {wrote : Write B} {rang : TailWrite B} {turned : BusTurn B
         same = request_is kept_here ∙ get_or_default r.requests b.collected next_one.request q number_inside
             ∙ sym of_run
 
-        module _ {at : RequestPlace} {size : ℕ} {o : CommandPages} (mine : o ≡ get_or places (b.collected % 16) o)
-            (its : at ≡ place_in r.geometry (all_pages o)) (page : size ≡ r.geometry.page_size) where
-          pages_same : all_pages o ≡ kept_here.pages
-          pages_same = (held_one mine).pages ∙ own_is kept_here
+        module _ {at : RequestPlace} {size : ℕ} (e : CommandPages) (its : at ≡ place_in r.geometry (all_pages (o e)))
+            (page : size ≡ r.geometry.page_size) where
+          pages_same : all_pages (o e) ≡ kept_here.pages
+          pages_same = (held_at e).pages ∙ own_is kept_here
 
           -- the data of request q in these pages has the places of the request
           pub places_are : buffer_places size at.pages at.offset (length_of q.transfer)
@@ -345,22 +341,8 @@ module _ {B : Type 0} {wrote : Write B} {rang : TailWrite B} {turned : BusTurn B
               ) own_place.buffer
 
       module _ {k : Command} (of_run : request_of k ≡ get_or r.requests b.collected (request_of k))
-          (sends : IsSendable k) {at : RequestPlace} {size : ℕ} {o : CommandPages}
-          (mine : o ≡ get_or places (b.collected % 16) o) (its : at ≡ place_in r.geometry (all_pages o))
-          (page : size ≡ r.geometry.page_size) where
-        -- the answer that is read is the one that the requests get one at a time
-        answer_is : (d : Answer) → answer_from k p (received_from (transfer_by k) bytes
-            (buffer_places size at.pages at.offset (length_of (transfer_by k))))
-            ≡ get_or (answers_to r.controller r.bus.state u.course.sent) b.collected d
-        answer_is d =
-            let page_size = r.geometry.page_size in
-            ap (λ ps. answer_from k p (received_from (transfer_by k) bytes ps)) (places_are of_run mine its page)
-            ∙ ap (λ (e : Request). answer_to e.asked p
-            (received_from e.transfer bytes (places_of page_size next_one))) (sym (same of_run))
-            ∙ answer_here.reads (subst (λ (e : Request). IsReadable e.asked) (sym (same of_run)) sends)
-            ∙ sym (answer_at r.controller r.bus.state u.course.sent b.collected no_command d
-            (omega (arith, no_more, more, u.sent)))
-
+          (sends : IsSendable k) {at : RequestPlace} {size : ℕ} (e : CommandPages)
+          (its : at ≡ place_in r.geometry (all_pages (o e))) (page : size ≡ r.geometry.page_size) where
         -- the answer that is read is the next one of the list
         pub answers_more : {answers : List Answer} {a : Answer} → HasAnswers r b.collected answers
             → a ≡ answer_from k p (received_from (transfer_by k) bytes
@@ -377,7 +359,12 @@ module _ {B : Type 0} {wrote : Write B} {rang : TailWrite B} {turned : BusTurn B
               len = length-set answers b.collected a ∙ has.len;
               first = take_more_set answers b.collected a (omega (arith, has.len, number_inside))
                   ∙ ap (λ ys. ys ++ a ∷ []) (has.first ∙ sym (all b.collected (omega (arith, few))))
-                  ∙ ap (λ y. take b.collected (answers_to c state xs) ++ y ∷ []) (value ∙ answer_is a)
+                  ∙ ap (λ y. take b.collected (answers_to c state xs) ++ y ∷ []) (value
+                  ∙ ap (λ ps. answer_from k p (received_from (transfer_by k) bytes ps)) (places_are of_run e its page)
+                  ∙ ap (λ (e : Request). answer_to e.asked p (received_from e.transfer bytes
+                  (places_of r.geometry.page_size next_one))) (sym (same of_run))
+                  ∙ answer_here.reads (subst (λ (e : Request). IsReadable e.asked) (sym (same of_run)) sends)
+                  ∙ sym (answer_at c state xs b.collected no_command a (omega (arith, few, more, u.sent))))
                   ∙ sym (take_more (answers_to c state xs) b.collected a (omega (arith, size, u.sent, few, more)))
                   ∙ all (b.collected + 1) (omega (arith, few, more));
             }

@@ -93,10 +93,6 @@ written t s w new k leaves =
       answers = k.answers;
     }
 
--- a write elsewhere keeps what holds for the schedule
-pub elsewhere_keeps : (t : Setting) (s : State) (w w' : World) → Keeps t s w → Happens t Elsewhere w w' → Keeps t s w'
-elsewhere_keeps t s w w' k happens = subst (Keeps t s) (sym happens.1) (written t s w w'.mem k happens.0)
-
 -- ---- every schedule
 
 -- each event keeps what holds for the schedule, and none but a write elsewhere changes other bytes
@@ -113,7 +109,7 @@ event_stays t s Collect w w' k happens =
 event_stays t s Tell w w' k happens =
     (tell_keeps t s w w' k happens, λ first old other stay. tell_others t first old w w' stay happens)
 event_stays t s Elsewhere w w' k happens =
-    (elsewhere_keeps t s w w' k happens, λ first old other stay. absurd (other refl))
+    (subst (Keeps t s) (sym happens.1) (written t s w w'.mem k happens.0), λ first old other stay. absurd (other refl))
 
 -- events, one after another, keep what holds, and none but writes elsewhere change other bytes
 runs_stay : (t : Setting) (s : State) (events : List Event) (w w' : World) → Keeps t s w → Runs t events w w'

@@ -116,35 +116,6 @@ module _ (t : Setting) (s : State) (x : Sent) (w : World) (ready : List ℕ) (k 
       stays_apart t x (get_or w.sent n d) t.sq (64 * t.depth) w.mem next.mem some len only other.enough
       (may.apart n d from below) other.submissions
 
-  -- the entries that wait to be executed are in their slots, with the new one
-  waiting_more : (n : ℕ) (d : Sent) → w.done ≤ n → n < length next.sent
-      → submission_at next.mem t.sq (slot t n) ≡ entry (get_or next.sent n d)
-  waiting_more =
-      let c = k.counts in
-      let fits : SqeFits (entry x) = assumption (prepared.prp1, prepared.prp2, may.cid, may.can.fits) in
-      let written = push_written ready ring (entry x) some_slots inside fits in
-      each_more (λ n y. submission_at next.mem t.sq (slot t n) ≡ entry y) w.done w.sent x
-      (λ n d from below.
-      let low = slot_inside t n some_slots in
-      written.others (slot t n) low
-      (λ e. slots_differ t n (length w.sent) below (omega (arith, c.few, c.collected)) (sym e))
-      ∙ submission_same t w.mem ready (slot t n) (others t.sq (64 * t.depth) may.submissions) low
-      ∙ k.waiting n d from below)
-      written.here
-
-  -- the answers that were held are held after the submission too
-  held_still : (n : ℕ) (d : Sent) → length w.answers ≤ n → n < w.done → Holds t s next n (get_or next.sent n d)
-  held_still n d from below =
-      let c = k.counts in
-      let y = get_or w.sent n d in
-      let early : n < length w.sent = omega (arith, c.done, c.rung) in
-      subst (Holds t s next n) (sym (get_or_append_left w.sent (x ∷ []) d n early))
-      (holds_on t s w next n y (completion_same t w.mem next.mem (slot t n) completions_stay
-      (slot_inside t n some_slots))
-      (other_stays n d from early).read
-      (take-append-le n w.sent (x ∷ []) (omega arith))
-      (k.held n d from below))
-
   -- what holds for the schedule holds after the submission too
   submitted : Keeps t s next
   submitted =
@@ -165,12 +136,25 @@ module _ (t : Setting) (s : State) (x : Sent) (w : World) (ready : List ℕ) (k 
             (λ n d from below. stays_in t.page_size (get_or w.sent n d) w.mem next.mem (other_stays n d from below).list
             (k.named n d from below))
             (stays_in t.page_size x ready next.mem own_stays.list prepared.stays);
-        waiting = waiting_more;
+        waiting =
+            let fits : SqeFits (entry x) = assumption (prepared.prp1, prepared.prp2, may.cid, may.can.fits) in
+            let written = push_written ready ring (entry x) some_slots inside fits in
+            each_more (λ n y. submission_at next.mem t.sq (slot t n) ≡ entry y) w.done w.sent x (λ n d from below.
+            let low = slot_inside t n some_slots in
+            written.others (slot t n) low
+            (λ e. slots_differ t n (length w.sent) below (omega (arith, c.few, c.collected)) (sym e))
+            ∙ submission_same t w.mem ready (slot t n) (others t.sq (64 * t.depth) may.submissions) low
+            ∙ k.waiting n d from below) written.here;
         to_send = each_more (λ n y. HoldsSent t.page_size y next.mem) w.done w.sent x
             (λ n d from below. holds_sent_on t (get_or w.sent n d) w.mem next.mem
             (other_stays n d (omega (arith, c.collected)) below).read (k.to_send n d from below))
             (holds_sent_on t x ready next.mem own_stays.read prepared.sent);
-        held = held_still;
+        held = λ n d from below.
+            let early : n < length w.sent = omega (arith, c.done, c.rung) in
+            subst (Holds t s next n) (sym (get_or_append_left w.sent (x ∷ []) d n early))
+            (holds_on t s w next n (get_or w.sent n d) (completion_same t w.mem next.mem (slot t n) completions_stay
+            (slot_inside t n some_slots)) (other_stays n d from early).read
+            (take-append-le n w.sent (x ∷ []) (omega arith)) (k.held n d from below));
         tags = λ slot below. ap (λ e. e.phase) (completion_same t w.mem next.mem slot completions_stay below)
             ∙ k.tags slot below;
         answers = λ n below d e can.

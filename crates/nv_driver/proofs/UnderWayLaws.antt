@@ -16,9 +16,9 @@ use Rattle.nv_queue.specs.Numbers.{next, slot_of}
 use Rattle.nv_driver.specs.UnderWay.{HasCollected, sent_in_window}
 use Rattle.nv_driver.proofs.BatchLaws.{length-from_cid, request_at}
 use Rattle.nv_driver.proofs.CommandPageLaws.{first_two, own_is, place_of_set}
-use Rattle.nv_driver.proofs.ShareLaws.{data_fits}
-use Rattle.nv_driver.proofs.PageSetLaws.{in_of, is_in}
-use Rattle.nv_driver.proofs.WindowPageLaws.{few_pages, fresh, page_of_one, pages-append, taken_also, taken_len}
+use Rattle.nv_driver.proofs.PointerLaws.{data_fits}
+use Rattle.nv_driver.proofs.PageSetLaws.{in_of, is_in, left_in}
+use Rattle.nv_driver.proofs.WindowPageLaws.{few_pages, page_of_one, pages-append, taken_also, taken_len}
 use Rattle.nv_driver.proofs.WindowPageLaws.{without_also}
 use Rattle.nv_bits.proofs.NumberLaws.{len-all_of}
 use Rattle.nv_driver.proofs.SubmitLaws.{each_more}
@@ -46,10 +46,6 @@ module _ {B : Type 0} {wrote : Write B} {rang : TailWrite B} {turned : BusTurn B
   -- the schedule of the list
   abbrev pub world : World
   world = world_of (way r u.course bells turns b.told) bus bytes
-
-  -- its geometry is that of the run
-  pub geometry_is : l.geometry ≡ r.geometry
-  geometry_is = W.geometry_is u.on_way
 
   -- what is due is said of the numbers of the batch
   pub has_collected : turns ≡ b.collected → IsToldInTime r b → HasCollected r world
@@ -187,35 +183,15 @@ module _ {B : Type 0} {wrote : Write B} {rang : TailWrite B} {turned : BusTurn B
       let there = page_of_one (drop b.collected xs) (n - b.collected) d p
       (omega (arith, length-drop b.collected xs, from, below, u.collected)) one in
       both_ways (is_in (held u) p) (ap (is_in (held u)) same
-      ∙ fresh r.pair.pages (held u) (own_pages new_one) taken_new j f low) there
+      ∙ (left_in r.pair.pages (held u) _ (taken_new.had j f low)).1) there
 
-  -- the requests with this one are on their way
-  on_way_more : IsDue r u.course.events (world u) (Submit new_one)
-      → IsOnWay (DoesNext wrote rang turned r) start (way r course_more bells turns b.told) bus on l' now' mem
-  on_way_more its_time =
-      W.submits_on u.on_way sub.one
-      (subst (λ p. IsRequest (limit_of r.bus.state r.controller) p) (sym is) (u.can b.sent q below))
-      (place_of_set r.geometry l.pages (all_pages o) bytes now (length_of q.transfer) u.begun.geometry u.page_size
-      (still_inside u) sub.taken.own sub.taken.distinct (all_long ∙ sub.many))
-      (λ i d h. (taken_new.own i d h).0)
-      (omega arith)
-      (omega (arith, more, u.sent, u.collected, u.begun.geometry.window.2, u.begun.depth)) apart_new
-      (its_time, refl)
-
-  -- the pages of the outstanding commands, and those that are free then
+  -- the pages of the outstanding commands then
   all_held : held_pages b.collected (u.course.sent ++ new_one ∷ []) ≡ held u ++ own_pages new_one
   all_held =
       let c = counts u in
       let xs = u.course.sent in
       ap pages_of_all (drop-append-le b.collected xs (new_one ∷ []) (omega (arith, c.collected, c.done, c.rung, u.sent)))
       ∙ pages-append (drop b.collected xs) new_one
-
-  pages_new : l'.pages ≡ free_pages r b.collected (u.course.sent ++ new_one ∷ [])
-  pages_new =
-      ap (λ (p : QueuePairFields). p.pages) sub.one.pair ∙ ap (λ s. without s (all_pages o)) u.left
-      ∙ without_also r.pair.pages (held u) (all_pages o)
-      ∙ ap (λ ps. without r.pair.pages (held u ++ ps)) (sym own_new)
-      ∙ ap (without r.pair.pages) (sym all_held)
 
   -- the window keeps the slots of the others, and has one more
   slots_more : {k : ℕ} → b.sent ≡ k → (n : ℕ) (p : CommandPages) (d : Sent) → b.sent + 1 ≤ n + 16 → n < b.sent + 1
@@ -230,23 +206,6 @@ module _ {B : Type 0} {wrote : Write B} {rang : TailWrite B} {turned : BusTurn B
       (omega (arith, u.room, mod_below k 16 (omega arith)))) (record { few = sub.long; pages = sym own_new }))
       n d (omega arith) (omega (arith, below, u.sent, length-append u.course.sent (new_one ∷ [])))
 
-  -- it is the next of the run's requests
-  next_numbered : numbered new_one ≡ get_or (numbered_of r) b.sent (numbered new_one)
-  next_numbered = ap numbered kept_new.sent
-      ∙ sym (request_at r.pair.next_cid b.sent r.requests (numbered new_one) q u.begun.laid.next_cid below)
-
-  -- and its turn has come
-  is_due : turns ≡ b.collected → IsToldInTime r b → IsDue r u.course.events (world u) (Submit new_one)
-  is_due all near = (
-    has_collected u all near,
-    omega (arith, u.sent, u.collected, more, below),
-    record {
-      kept = subst (λ n. LiesInPages r n new_one) (sym u.sent) kept_new;
-      taken = subst (λ c. AreTaken (free_pages r c u.course.sent) (own_pages new_one)) (sym u.collected) taken_new;
-      lowest = rw (u.collected, own_new, ← u.left) sub.lowest;
-    },
-  )
-
   -- the list goes on with this request sent, by the number that a loop has reached
   pub submits : {k : ℕ} → b.sent ≡ k → turns ≡ b.collected → IsToldInTime r b
       → IsUnderWay wrote rang turned start r bells turns (record b { sent = b.sent + 1 }) bus on l' now' mem
@@ -256,7 +215,19 @@ module _ {B : Type 0} {wrote : Write B} {rang : TailWrite B} {turned : BusTurn B
       let more_sent = length-append xs (new_one ∷ []) in
       record {
         course = course_more;
-        on_way = on_way_more (is_due all near);
+        on_way = W.submits_on u.on_way sub.one
+            (subst (λ p. IsRequest (limit_of r.bus.state r.controller) p) (sym is) (u.can b.sent q below))
+            (place_of_set r.geometry l.pages (all_pages o) bytes now (length_of q.transfer) u.begun.geometry
+            u.page_size (still_inside u) sub.taken.own sub.taken.distinct (all_long ∙ sub.many))
+            (λ i d h. (taken_new.own i d h).0)
+            (omega arith)
+            (omega (arith, more, u.sent, u.collected, u.begun.geometry.window.2, u.begun.depth)) apart_new
+            ((has_collected u all near, omega (arith, u.sent, u.collected, more, below), record {
+              kept = subst (λ n. LiesInPages r n new_one) (sym u.sent) kept_new;
+              taken = subst (λ c. AreTaken (free_pages r c u.course.sent) (own_pages new_one)) (sym u.collected)
+                  taken_new;
+              lowest = rw (u.collected, own_new, ← u.left) sub.lowest;
+            }), refl);
         awake = λ h. h;
         can = u.can;
         controller = u.controller;
@@ -265,7 +236,8 @@ module _ {B : Type 0} {wrote : Write B} {rang : TailWrite B} {turned : BusTurn B
           some = omega (arith, below);
           sent = more_sent ∙ ap (λ n. n + 1) u.sent;
           requests = map_push numbered xs new_one ∙ ap (λ ys. ys ++ numbered new_one ∷ []) u.requests
-              ∙ ap (λ y. take b.sent (numbered_of r) ++ y ∷ []) next_numbered
+              ∙ ap (λ y. take b.sent (numbered_of r) ++ y ∷ []) (ap numbered kept_new.sent
+              ∙ sym (request_at r.pair.next_cid b.sent r.requests (numbered new_one) q u.begun.laid.next_cid below))
               ∙ sym (take_more (numbered_of r) b.sent (numbered new_one)
               (omega (arith, below, length-from_cid r.pair.next_cid r.requests)));
           kept = λ n d h. each_more (λ i y. LiesInPages r i y) 0 xs new_one
@@ -278,7 +250,10 @@ module _ {B : Type 0} {wrote : Write B} {rang : TailWrite B} {turned : BusTurn B
           taken = rw all_held (taken_also r.pair.pages (held u) (own_pages new_one) u.taken taken_new);
         };
         collected = u.collected;
-        left = pages_new;
+        left = ap (λ (p : QueuePairFields). p.pages) sub.one.pair ∙ ap (λ s. without s (all_pages o)) u.left
+            ∙ without_also r.pair.pages (held u) (all_pages o)
+            ∙ ap (λ ps. without r.pair.pages (held u ++ ps)) (sym own_new)
+            ∙ ap (without r.pair.pages) (sym all_held);
         room = length-set places (k % 16) o ∙ u.room;
         slots = slots_more reached;
       }

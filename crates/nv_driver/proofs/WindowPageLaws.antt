@@ -28,16 +28,6 @@ all_right : (P : ℕ → Type 0) (ps qs : List ℕ) → All P (ps ++ qs) → All
 all_right P ps qs each i d h =
     subst P (get_or-append-add ps qs i d) (each (length ps + i) d (omega (arith, length-append ps qs)))
 
-pairs_left : (ps qs : List ℕ) → AllPairs (λ p q. p ≢ q) (ps ++ qs) → AllPairs (λ p q. p ≢ q) ps
-pairs_left ps qs each i j d before h = λ same.
-    each i j d before (omega (arith, length-append ps qs))
-    (get_or_append_left ps qs d i (omega arith) ∙ same ∙ sym (get_or_append_left ps qs d j h))
-
-pairs_right : (ps qs : List ℕ) → AllPairs (λ p q. p ≢ q) (ps ++ qs) → AllPairs (λ p q. p ≢ q) qs
-pairs_right ps qs each i j d before h = λ same.
-    each (length ps + i) (length ps + j) d (omega arith) (omega (arith, length-append ps qs))
-    (get_or-append-add ps qs i d ∙ same ∙ sym (get_or-append-add ps qs j d))
-
 -- a page of the first part is not in the second
 apart_in : (ps qs : List ℕ) → AllPairs (λ p q. p ≢ q) (ps ++ qs) → (q : ℕ) → is_in ps q ≡ true → is_in qs q ≡ false
 apart_in ps qs each q there =
@@ -90,23 +80,20 @@ taken_also s ps qs first second = record {
 pub without_also : (s : Pages) (ps qs : List ℕ) → without (without s ps) qs ≡ without s (ps ++ qs)
 without_also s ps qs = ap (λ m. record s { members = m }) (sym (fold-append map_of.remove s.members ps qs))
 
--- a page that is taken was not taken before
-pub fresh : (s : Pages) (ps qs : List ℕ) → AreTaken (without s ps) qs → (i d : ℕ) → i < length qs
-    → is_in ps (get_or qs i d) ≡ false
-fresh s ps qs second i d h = (left_in s ps (get_or qs i d) (second.had i d h)).1
-
 pub taken_first : (s : Pages) (qs ps : List ℕ) → AreTaken s (qs ++ ps) → AreTaken s qs
 taken_first s qs ps t = record {
   own = all_left (λ p. IsOf s.first s.count p) qs ps t.own;
   had = all_left (λ p. map_of.contains_key s.members p ≡ true) qs ps t.had;
-  distinct = pairs_left qs ps t.distinct;
+  distinct = λ i j d before h same. t.distinct i j d before (omega (arith, length-append qs ps))
+      (get_or_append_left qs ps d i (omega arith) ∙ same ∙ sym (get_or_append_left qs ps d j h));
 }
 
 pub taken_rest : (s : Pages) (qs ps : List ℕ) → AreTaken s (qs ++ ps) → AreTaken s ps
 taken_rest s qs ps t = record {
   own = all_right (λ p. IsOf s.first s.count p) qs ps t.own;
   had = all_right (λ p. map_of.contains_key s.members p ≡ true) qs ps t.had;
-  distinct = pairs_right qs ps t.distinct;
+  distinct = λ i j d before h same. t.distinct (length qs + i) (length qs + j) d (omega arith)
+      (omega (arith, length-append qs ps)) (get_or-append-add qs ps i d ∙ same ∙ sym (get_or-append-add qs ps j d));
 }
 
 pub gone : (s : Pages) (qs ps : List ℕ) (i d : ℕ) → i < length qs

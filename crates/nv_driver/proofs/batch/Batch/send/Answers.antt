@@ -2,13 +2,13 @@ use Rattle.nv_driver.proofs.Words.{[], ℕ, ◌%◌, ◌+◌, ◌<◌, ◌∙◌
 use Rattle.nv_driver.proofs.Words.{IsRequest, IsSubmittedAt, List, Request, all_pages, ap, arith, bytes_from_host}
 use Rattle.nv_driver.proofs.Words.{data_count, get_or, get_or-set_same, get_or_default, length, length_of, limit_of}
 use Rattle.nv_driver.proofs.Words.{mod_below, place_in, request_as, set, set-get_or, setting_of, slot, subst, sym}
-use Rattle.nv_driver.proofs.ShareLaws.{data_fits}
+use Rattle.nv_driver.proofs.PointerLaws.{data_fits}
 use Rattle.nv_driver.proofs.CommandPageLaws.{all_count, no_pages, place_of_set}
-use Rattle.nv_driver.proofs.OnWayLaws.{has_bank}
+use Rattle.nv_driver.proofs.OnWayLaws.{geometry_is, has_bank}
 use Rattle.nv_driver.proofs.RoundLaws.{rings}
 use Rattle.nv_driver.proofs.SubmittingLaws.{submitted_as}
 use Rattle.nv_driver.proofs.TurnLaws.{no_command}
-use Rattle.nv_driver.proofs.UnderWayLaws.{IsSentIn, free_slot, geometry_is, room_few, set_has, still_inside, submits}
+use Rattle.nv_driver.proofs.UnderWayLaws.{IsSentIn, free_slot, room_few, set_has, still_inside, submits}
 use Rattle.nv_driver.proofs.UnderWayLaws.{tail_after}
 use Rattle.nv_driver.proofs.batch.Batch.send.Goals.{After-outgoing-request}
 use Rattle.nv_driver.proofs.batch.Batch.send.Given as given
@@ -48,7 +48,7 @@ has_room : (g : given.Over) (c : After-outgoing-request g)
 has_room g c =
     let i = c.loop-number.invariant in
     let window = ap (λ (q : Geometry). q.window)
-    (c.geometry.view_is ∙ c.geometry-geometry.ensures ∙ geometry_is c.requires.1.1.1.0) in
+    (c.geometry.view_is ∙ c.geometry-geometry.ensures ∙ geometry_is c.requires.1.1.1.0.on_way) in
     let sent = ap (λ (b : Batch). b.sent) i.batch in
     let collected = ap (λ (b : Batch). b.collected) i.batch in
     omega (arith, c.min.ensures, c.from.ensures, window, sent, collected, c.loop-number-test.true)
@@ -64,7 +64,7 @@ take-requires g c =
     let of = c.requires.1.1.0 in
     let past = (goal.at.take-requires g c).After-outgoing-request in
     let one = sent_as g past in
-    let same = c.geometry-geometry.ensures ∙ geometry_is c.requires.1.1.1.0 in
+    let same = c.geometry-geometry.ensures ∙ geometry_is c.requires.1.1.1.0.on_way in
     let sent = ap (λ (b : Batch). b.sent) i.batch in
     let few : length_of c.outgoing-request.result.transfer ≤ of.most =
     let brief = of.brief c.loop-number.number no_command.request one.0 in
@@ -103,7 +103,7 @@ submit-next-requires g c =
     let u = i.under_way in
     let past = (goal.at.submit-next-requires g c).After-outgoing-request in
     let one = sent_as g past in
-    let same = c.geometry-geometry.ensures ∙ geometry_is c.requires.1.1.1.0 in
+    let same = c.geometry-geometry.ensures ∙ geometry_is c.requires.1.1.1.0.on_way in
     let e = c.take.ensures in
     let o = c.take.new.self in
     let x = c.outgoing-request.result in
@@ -130,7 +130,7 @@ loop-number-preserved g c =
     let u = i.under_way in
     let past = (goal.at.loop-number-preserved g c).After-outgoing-request in
     let one = sent_as g past in
-    let same = c.geometry-geometry.ensures ∙ geometry_is c.requires.1.1.1.0 in
+    let same = c.geometry-geometry.ensures ∙ geometry_is c.requires.1.1.1.0.on_way in
     let sent = ap (λ (b : Batch). b.sent) i.batch in
     let collected = ap (λ (b : Batch). b.collected) i.batch in
     let told = ap (λ (b : Batch). b.told) i.batch in
@@ -175,7 +175,7 @@ returns-in-Some-clause-under_way g c =
     let told = ap (λ (b : Batch). b.told) i.batch in
     let some = rw (c.in-Some.is) at i.tail in
     let window = ap (λ (q : Geometry). q.window)
-    (c.geometry.view_is ∙ c.geometry-geometry.ensures ∙ geometry_is c.requires.1.1.1.0) in
+    (c.geometry.view_is ∙ c.geometry-geometry.ensures ∙ geometry_is c.requires.1.1.1.0.on_way) in
     let of = c.requires.1.1.0 in
     let many = c.len.ensures (limit_of g.begun.run.bus.state g.begun.run.controller)
     ∙ ap (λ (qs : List Request). length qs) of.requests in

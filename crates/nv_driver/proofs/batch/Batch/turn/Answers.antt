@@ -4,12 +4,11 @@ use Rattle.nv_driver.proofs.Words.{Pages, QueuePairFields, Request, Sent, all_pa
 use Rattle.nv_driver.proofs.Words.{get_or_default, inl, length, length-map, length-take, limit_of, map, min, mod_below}
 use Rattle.nv_driver.proofs.Words.{place_in, refl, request_of, requests_in, set, set-get_or, subst, sym}
 use Rattle.nv_driver.proofs.CommandPageLaws.{no_pages}
-use Rattle.nv_driver.proofs.OnWayLaws.{can_collect}
+use Rattle.nv_driver.proofs.OnWayLaws.{can_collect, geometry_is}
 use Rattle.nv_driver.proofs.RoundLaws.{answer_buffer, answers_more, awaits, can_give, collects, count_few, hears}
-use Rattle.nv_driver.proofs.RoundLaws.{command_result_with, held_one, number_inside, received_on, takes, tells_on}
+use Rattle.nv_driver.proofs.RoundLaws.{command_result_with, held_at, number_inside, received_on, takes, tells_on}
 use Rattle.nv_driver.proofs.RoundLaws.{turns_idly}
 use Rattle.nv_driver.proofs.RoundLaws.{turns_on}
-use Rattle.nv_driver.proofs.UnderWayLaws.{geometry_is}
 use Rattle.nv_driver.proofs.batch.Batch.turn.Given.{Over}
 use Rattle.nv_driver.proofs.batch.Batch.turn.Goals.{else-self-pace, in-Commands, in-Entry, then-self-pace}
 use Rattle.nv_driver.proofs.batch.Batch.turn.Goals as goal
@@ -39,12 +38,6 @@ none_free most waiting depth done told count is none some waits deep =
     no_slot : (free : ℕ) → 0 ≡ min most (min waiting free) → free ≡ 0
     no_slot free e = omega arith
 
--- the slot of a number in the window, whatever stands outside the window
-slot_is : (places : List CommandPages) (n : ℕ) (e : CommandPages) → length places ≡ 16
-    → get_or places (n % 16) e ≡ get_or places (n % 16) (get_or places (n % 16) e)
-slot_is places n e room = get_or_default places (n % 16) e (get_or places (n % 16) e)
-    (omega (arith, room, mod_below n 16 (omega arith)))
-
 -- a command has at least the two pages for a list
 at_least : {o : CommandPages} {x : Sent} → IsHeld o x → 2 ≤ o.count
 at_least {o} {x} h = omega (arith, ap (λ (xs : List ℕ). length xs) h.pages, length-take o.count o.numbers)
@@ -60,7 +53,7 @@ returns-then-posted-eq0 g c =
     let u = c.requires.1.1.1.0 in
     let rest = c.requires.1.1.1.1 in
     let e = c.turn-posted.ensures in
-    let pace = ap (λ (q : Geometry). q.pace) (c.geometry.view_is ∙ c.geometry-geometry.ensures ∙ geometry_is u) in
+    let pace = ap (λ (q : Geometry). q.pace) (c.geometry.view_is ∙ c.geometry-geometry.ensures ∙ geometry_is u.on_way) in
     let some = u.begun.geometry.pace in
     let deep = u.begun.laid.deep in
     let none : c.turn-posted.result ≡ 0 = omega arith in
@@ -82,7 +75,7 @@ loop-init g c =
     let u = c.requires.1.1.1.0 in
     let rest = c.requires.1.1.1.1 in
     let e = c.turn-posted.ensures in
-    let pace = ap (λ (q : Geometry). q.pace) (c.geometry.view_is ∙ c.geometry-geometry.ensures ∙ geometry_is u) in
+    let pace = ap (λ (q : Geometry). q.pace) (c.geometry.view_is ∙ c.geometry-geometry.ensures ∙ geometry_is u.on_way) in
     let h = turns_on u e.turn e.turned pace e.bus e.len e.page refl rest.1.1.1 rest.1.1.0 refl rest.1.0 refl
     (omega arith) in
     record {
@@ -114,9 +107,8 @@ give-requires g c =
     let u = i.under_way in
     let n = c.loop.self.collected in
     let more : n < c.args.self.now.collected + c.turn-posted.result = omega (arith, i.collected, c.loop-test.true) in
-    let can = can_give u more (slot_is c.loop.host.taken n no_pages u.room)
-    (ap (λ (q : QueuePairFields). q.pages) c.next_completion-completion.ensures.pair) in
-    record { few = can.few; own = can.own; none = can.none; distinct = can.distinct }
+    assumption (can_give u more no_pages (ap (λ (q : QueuePairFields). q.pages)
+    c.next_completion-completion.ensures.pair))
 
 pub place-place-requires : goal.place-place-requires
 place-place-requires g c =
@@ -124,8 +116,7 @@ place-place-requires g c =
     let u = i.under_way in
     let n = c.loop.self.collected in
     let more : n < c.args.self.now.collected + c.turn-posted.result = omega (arith, i.collected, c.loop-test.true) in
-    let mine = slot_is c.loop.host.taken n no_pages u.room in
-    record { few = count_few u more mine; list = at_least (held_one u more mine) }
+    record { few = count_few u more no_pages; list = at_least (held_at u more no_pages) }
 
 pub receive-requires : goal.receive-requires
 receive-requires g c =
@@ -138,13 +129,13 @@ receive-requires g c =
     let are = ap (requests_in limit) (sym c.in-Commands.is) ∙ of.requests in
     let below : n < length c.in-Commands.commands.now = as_many _ are (number_inside u more) in
     let first = c.next_completion-completion.ensures in
-    let same = c.geometry-geometry.ensures ∙ geometry_is c.requires.1.1.1.0 in
+    let same = c.geometry-geometry.ensures ∙ geometry_is c.requires.1.1.1.0.on_way in
     let o = get_or c.loop.host.taken (n % 16) no_pages in
     let its = c.place-place.ensures.place ∙ ap (λ (q : Geometry). place_in q (all_pages o)) same in
     record {
       sends = sendable_at _ (subst AreSendable c.in-Commands.is of.sends) c.index-commands-number.is below;
       buffer = answer_buffer u more first.value (request_at_command _ are c.index-commands-number.is below)
-          (slot_is c.loop.host.taken n no_pages u.room) its u.page_size;
+          no_pages its u.page_size;
     }
 
 -- the answers with one more
@@ -162,9 +153,8 @@ received_more g c =
     let of = c.requires.1.1.0 in
     let limit = limit_of r.bus.state r.controller in
     let first = c.next_completion-completion.ensures in
-    let same = c.geometry-geometry.ensures ∙ geometry_is c.requires.1.1.1.0 in
+    let same = c.geometry-geometry.ensures ∙ geometry_is c.requires.1.1.1.0.on_way in
     let o = get_or c.loop.host.taken (n % 16) no_pages in
-    let mine = slot_is c.loop.host.taken n no_pages u.room in
     let places = c.loop.host.taken in
     let bytes = g.M.PagedMemory.bytes c.loop.host.mem in
     let last = command_result_with c.next_completion-completion.result.command_specific
@@ -176,7 +166,7 @@ received_more g c =
           let its = w.place-place.ensures.place ∙ ap (λ (q : Geometry). place_in q (all_pages o)) same in
           let has = rw w.in-Commands.is at i.received in
           let all = answers_more u more first.value (request_at_command _ are w.index-commands-number.is below)
-          (sendable_at _ (subst AreSendable w.in-Commands.is of.sends) w.index-commands-number.is below) mine its
+          (sendable_at _ (subst AreSendable w.in-Commands.is of.sends) w.index-commands-number.is below) no_pages its
           u.page_size has w.receive.ensures.answer in
           rw (w.host-is, w.answers-is) (
             refl,
@@ -207,10 +197,9 @@ loop-preserved g c =
     let first = c.next_completion-completion.ensures in
     let some = u.begun.geometry.pace in
     let limit = c.from-pace.ensures ∙ ap (λ (q : Geometry). q.pace)
-    (c.geometry.view_is ∙ c.geometry-geometry.ensures ∙ geometry_is c.requires.1.1.1.0) in
-    let mine = slot_is c.loop.host.taken n no_pages u.room in
+    (c.geometry.view_is ∙ c.geometry-geometry.ensures ∙ geometry_is c.requires.1.1.1.0.on_way) in
     let pair = c.next_completion-completion.new.self in
-    let here = collects u more first.value mine first.pair
+    let here = collects u more first.value no_pages first.pair
     (ap (λ (s : Pages). record pair { pages = s }) c.give.ensures) i.near in
     let got = received_more g c in
     let next = rw (← got.0, ← got.1) at here in

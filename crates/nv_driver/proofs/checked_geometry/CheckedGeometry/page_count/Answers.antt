@@ -1,6 +1,6 @@
 use Rattle.nv_driver.proofs.Words.{arith, page_size_bounds}
 use Rattle.nv_driver.specs.CheckedGeometry.{geometry_of}
-use Rattle.nv_driver.proofs.ShareLaws.{few_of_entry}
+use Rattle.nv_driver.proofs.PointerLaws.{few_of_entry}
 use Rattle.nv_driver.proofs.checked_geometry.CheckedGeometry.page_count.Goals as goal
 
 pub overflow_add-self-inside : goal.overflow_add-self-inside
