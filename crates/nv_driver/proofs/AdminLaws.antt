@@ -1,16 +1,13 @@
 -- Commands and resets of a driver, over the queue pairs of its controllers.
-use Rattle.nv_driver.proofs.Words.{ℕ, ◌*◌, ◌+◌, ◌-◌, ◌<◌, ◌∙◌, ◌≡◌, ◌≢◌, ◌≤◌, ◌⊎◌, BusValue, Cqe, DriverValue, Geometry}
-use Rattle.nv_driver.proofs.Words.{GoesOver, HoldsTags, IsApart, IsDriver, IsLaid, IsLeft, IsLinked, IsPlaced, IsQuiet}
-use Rattle.nv_driver.proofs.Words.{IsReady, IsSettled, KeepsBelow, List, PagedBytes, Pages, QueuePair, QueuePairFields}
-use Rattle.nv_driver.proofs.Words.{World, after_command, after_commands, ap, arith, bank_at, banks_of, cases_eq}
-use Rattle.nv_driver.proofs.Words.{cases_lt, cqe_of_bytes, driver_value, end_of, get_or, get_or-map, get_or-set_other}
-use Rattle.nv_driver.proofs.Words.{get_or-set_same, get_or_default, idle_bank, inl, inr, length, length-map, length-set}
-use Rattle.nv_driver.proofs.Words.{map, map-set, mps_of, mul-le-mul_right, new_bank, no_pair, page_count, pages_behind}
-use Rattle.nv_driver.proofs.Words.{pages_of_command, pair_at, pair_value, refl, side, slice_set, subst, sym}
-use Rattle.std.proofs.lemmas.List.Elements.{All-set}
-use Rattle.nv_queue.specs.Numbers.{kept_number, next}
-use Rattle.nv_driver.specs.Layout.{set_pages}
-use Rattle.nv_driver.specs.inner.Exchange.{Side}
+use Rattle.nv_driver.proofs.Words.{ℕ, ◌*◌, ◌+◌, ◌-◌, ◌<◌, ◌∙◌, ◌≡◌, ◌≢◌, ◌≤◌, ◌⊎◌, All-set, BusValue, Cqe, DriverValue}
+use Rattle.nv_driver.proofs.Words.{Geometry, GoesOver, HoldsTags, IsApart, IsDriver, IsLaid, IsLeft, IsLinked, IsPlaced}
+use Rattle.nv_driver.proofs.Words.{IsQuiet, IsReady, IsSettled, KeepsBelow, List, PagedBytes, Pages, QueuePair}
+use Rattle.nv_driver.proofs.Words.{QueuePairFields, Side, World, after_command, after_commands, ap, arith, bank_at}
+use Rattle.nv_driver.proofs.Words.{banks_of, cases_eq, cases_lt, cqe_of_bytes, driver_value, end_of, get_or, get_or-map}
+use Rattle.nv_driver.proofs.Words.{get_or-set_other, get_or-set_same, get_or_default, idle_bank, inl, inr, kept_number}
+use Rattle.nv_driver.proofs.Words.{length, length-map, length-set, map, map-set, mps_of, mul-le-mul_right, new_bank}
+use Rattle.nv_driver.proofs.Words.{next, no_pair, page_count, pages_behind, pages_of_command, pair_at, pair_value, refl}
+use Rattle.nv_driver.proofs.Words.{set_pages, side, slice_set, subst, sym}
 
 -- ---- before the command
 

@@ -1,27 +1,22 @@
 -- Answers: that they are sound, how they are read back from a completion and its data, and how they stay.
-use Rattle.nv_driver.proofs.Words.{ℕ, ◌<◌, ◌^◌, ◌∙◌, ◌≡◌, Answer, Asked, Command, Cqe, CqeFits, Delivers, Err, GoesBy}
-use Rattle.nv_driver.proofs.Words.{Holds, IsAnswered, IsReadable, IsWellFormed, List, None, Ok, Option, Sent, Setting}
-use Rattle.nv_driver.proofs.Words.{Some, State, Status, Transfer, World, answer_to, ap, arith, asked_step, bytes_read}
-use Rattle.nv_driver.proofs.Words.{completion_at, completion_with, data_of, false, is_success, length, limit_of, lit<}
-use Rattle.nv_driver.proofs.Words.{nat_tests, places, posted_as, received_as, refl, slot, step_after, subst, sym}
-use Rattle.nv_driver.proofs.Words.{tagged, take}
+use Rattle.nv_driver.proofs.Words.{ℕ, ◌<◌, ◌^◌, ◌∙◌, ◌≡◌, Answer, Asked, Command, Cqe, CqeFits, Delivers, Err}
+use Rattle.nv_driver.proofs.Words.{FitsRecord, GoesBy, Holds, IsAnswered, IsReadable, IsReplyTo, IsWellFormed, List}
+use Rattle.nv_driver.proofs.Words.{None, Ok, Option, Sent, Setting, Some, State, Status, Transfer, World, answer_to, ap}
+use Rattle.nv_driver.proofs.Words.{arith, asked_step, bytes_read, completion_at, completion_with, data_of, dword0_of}
+use Rattle.nv_driver.proofs.Words.{dword0_tagged, false, is_success, length, limit_of, lit<, nat_tests, places}
+use Rattle.nv_driver.proofs.Words.{posted_as, read_at, received_as, refl, refused, refused_limit, replies_travel}
+use Rattle.nv_driver.proofs.Words.{reply_in, slot, step_after, step_by, step_limit, subst, sym, tagged, take}
+use Rattle.nv_driver.proofs.Words.{with_refusal, without_phases}
 use Rattle.nv_layout.specs.Status.{StatusFits}
 use Rattle.nv_command.proofs.RefusalLaws.{is_refusal-refusal_by}
 use Rattle.nv_command.specs.Refusal.{IsRefusal, refusal_by}
-use Rattle.nv_command.specs.Reply.{FitsRecord, IsReplyTo, dword0_of, reply_in}
 use Rattle.nv_command.specs.declared.refusal.Refusal.{Refusal}
 use Rattle.nv_model.specs.Meaning.{refusal_of}
-use Rattle.nv_model.specs.Step.{refused, step_by, with_refusal}
 use Rattle.nv_model.proofs.ChangedAtLaws.{length-changed_at}
-use Rattle.nv_model.proofs.LimitLaws.{refused_limit, step_limit}
 use Rattle.nv_model.proofs.ReplyLaws.{reply_fits}
 use Rattle.nv_model.proofs.StepLaws.{refusal_fits, refused_keeps, step_controllers, step_keeps}
 use Rattle.nv_command.specs.Received.{received}
-use Rattle.nv_command.specs.Logs.{without_phases}
-use Rattle.nv_command.proofs.TravelLaws.{replies_travel}
 use Rattle.nv_command.specs.declared.reply.Reply.{Reply}
-use Rattle.nv_bus.proofs.TagLaws.{dword0_tagged}
-use Rattle.nv_prp.specs.Place.{read_at}
 use Rattle.nv_driver.proofs.DataLaws.{received_same}
 use Rattle.nv_command.specs.declared.reply.Reply.TheVariants as reply
 

@@ -1,10 +1,9 @@
 -- Requests one at a time: their answers, the state after them, and those of a list of requests.
-use Rattle.nv_driver.proofs.Words.{[], ℕ, ◌%◌, ◌++◌, ◌+◌, ◌<◌, ◌∙◌, ◌∷◌, ◌≡◌, ◌≤◌, Answer, List, Request, Sent, State}
-use Rattle.nv_driver.proofs.Words.{add-one, after, answers_of_all, answers_to, ap, arith, cid_after, from_cid, get_or}
-use Rattle.nv_driver.proofs.Words.{length, length-map, map, mod_below, numbered, numbered_request, received_as, refl}
-use Rattle.nv_driver.proofs.Words.{state_after_all, step_after, step_of, suc, sym, take, zero}
-use Rattle.std.proofs.lemmas.List.{take-map, take-take}
-use Rattle.nv_driver.specs.Schedule.{Numbered}
+use Rattle.nv_driver.proofs.Words.{[], ℕ, ◌%◌, ◌++◌, ◌+◌, ◌<◌, ◌∙◌, ◌∷◌, ◌≡◌, ◌≤◌, Answer, List, Numbered, Request}
+use Rattle.nv_driver.proofs.Words.{Sent, State, add-one, after, answers_of_all, answers_to, ap, arith, cid_after}
+use Rattle.nv_driver.proofs.Words.{from_cid, get_or, length, length-map, map, mod_below, numbered, numbered_request}
+use Rattle.nv_driver.proofs.Words.{received_as, refl, state_after_all, step_after, step_of, suc, sym, take, take-map}
+use Rattle.nv_driver.proofs.Words.{take-take, zero}
 
 -- ---- requests that were sent
 

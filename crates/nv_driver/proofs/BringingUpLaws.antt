@@ -1,8 +1,8 @@
 -- The calls of bringing up, put together.
-use Rattle.std.proofs.Common.{◌≡◌, ◌∙◌, ℕ, ◌+◌, ◌-◌, ◌*◌, ◌/◌, ◌%◌, ◌^◌, List, true, add-one, subst, sym}
+use Rattle.nv_driver.proofs.Words.{ℕ, ◌%◌, ◌*◌, ◌+◌, ◌-◌, ◌/◌, ◌^◌, ◌∙◌, ◌≡◌, Configures, Enables, EnablesFirst}
+use Rattle.nv_driver.proofs.Words.{Geometry, IsQuiet, List, QueuePair, QueuePairFields, Read, SetsQueues, Write, Zeroes}
+use Rattle.nv_driver.proofs.Words.{add-one, pair_of, subst, sym, true}
 use Rattle.std.specs.Prelude.{Err, MatchResult, Ok, Result}
-use Rattle.nv_driver.proofs.Words.{Geometry, IsQuiet, QueuePair, QueuePairFields, pair_of}
-use Rattle.nv_driver.specs.BringingUp.{Configures, Enables, EnablesFirst, Read, SetsQueues, Write, Zeroes}
 use Rattle.nv_driver.specs.inner.BringingUp.{GivesUp}
 
 pub sets_queues : {B : Type 0} (wrote : Write B) (c : ℕ) (l : QueuePair) (x s1 s2 q1 q2 : ℕ)

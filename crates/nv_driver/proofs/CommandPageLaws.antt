@@ -1,10 +1,9 @@
 -- The pages of a command, as `build` requires them.
 use Rattle.nv_driver.proofs.Words.{[], ℕ, ◌*◌, ◌+◌, ◌∙◌, ◌∷◌, ◌≡◌, ◌≤◌, All, AreDistinct, CommandPages, Geometry}
-use Rattle.nv_driver.proofs.Words.{IsGeometry, IsOf, IsPlaceFor, LiesInPages, List, Pages, Run, Sent, all_pages, ap}
-use Rattle.nv_driver.proofs.Words.{arith, data_count, drop, get_or, length, length-drop, length-take, mul-le-mul_right}
-use Rattle.nv_driver.proofs.Words.{own_pages, place_in, refl, subst, suc, sym}
+use Rattle.nv_driver.proofs.Words.{HasPage, IsGeometry, IsOf, IsPlaceFor, LiesInPages, List, Pages, Run, Sent}
+use Rattle.nv_driver.proofs.Words.{all_pages, ap, arith, data_count, drop, get_or, length, length-drop, length-take}
+use Rattle.nv_driver.proofs.Words.{mul-le-mul_right, own_pages, place_in, refl, subst, suc, sym}
 use Rattle.std.specs.Prelude.{slice_index}
-use Rattle.nv_host.specs.Pages.{HasPage}
 use Rattle.nv_driver.proofs.PointerLaws.{data_fits}
 
 -- pages that stand for those of a slot outside the window

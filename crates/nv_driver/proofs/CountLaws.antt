@@ -1,12 +1,10 @@
 -- The counts of a schedule, and how rings and doorbells represent them.
-use Rattle.std.proofs.Common.{◌≡◌, ◌≢◌, ◌∙◌, ℕ, ◌+◌, ◌-◌, ◌*◌, ◌<◌, ◌≤◌, true, nat_le, nat_lt, ap, arith, refl, sym}
-use Rattle.nv_queue.specs.Numbers.{IsSlotBetween, ahead, distance, kept_number, next}
+use Rattle.nv_driver.proofs.Words.{ℕ, ◌*◌, ◌+◌, ◌-◌, ◌<◌, ◌∙◌, ◌≡◌, ◌≢◌, ◌≤◌, FetchNumbers, IsSlotBetween, PostNumbers}
+use Rattle.nv_driver.proofs.Words.{Setting, ahead, ap, arith, bank_with, between_kept, device_rings, distance}
+use Rattle.nv_driver.proofs.Words.{distance_kept, first_kept, kept_below, kept_next, kept_number, nat_le, nat_lt}
+use Rattle.nv_driver.proofs.Words.{nat_tests, next, number, refl, rung_by, slot, slot_kept, slots_apart, sym, told_by}
+use Rattle.nv_driver.proofs.Words.{true, with_register_at}
 use Rattle.nv_queue.proofs.NumberLaws.{distance_cases, slot_below}
-use Rattle.nv_queue.proofs.KeptLaws.{between_kept, distance_kept, first_kept, kept_below, kept_next, slot_kept}
-use Rattle.nv_queue.proofs.KeptLaws.{slots_apart}
-use Rattle.nv_queue.specs.Rings.{FetchNumbers, PostNumbers}
-use Rattle.nv_register.specs.RegisterBank.{rung_by, told_by}
-use Rattle.nv_driver.proofs.Words.{Setting, bank_with, device_rings, nat_tests, number, slot, with_register_at}
 
 -- the number of a command is below twice the depth
 pub number_below : (t : Setting) (n : ℕ) → 0 < t.depth → number t n < 2 * t.depth

@@ -1,20 +1,14 @@
 -- The data of a command: none, a page from the host, or up to 16,384 bytes from the controller.
-use Rattle.std.proofs.Common.{◌≡◌, ◌∙◌, ◌*◌, ◌<◌, ◌≤◌, ℕ, true, List, [], ◌∷◌, ◌++◌, ap, append-nil, arith}
-use Rattle.std.proofs.Common.{◌+◌, drop, get_or, length, length-drop, lit<, lit≤, refl, sym, take}
-use Rattle.std.proofs.lemmas.List.{drop-append-le, take-append-le, take_all}
-use Rattle.nv_prp.specs.Place.{read_at, written_at}
-use Rattle.nv_prp.proofs.PlaceLaws.{read_written}
-use Rattle.nv_command.specs.Command.{CommandFits, host_data_of}
-use Rattle.nv_command.specs.Logs.{IsSendable, IsWhole}
+use Rattle.nv_driver.proofs.Words.{[], ℕ, ◌*◌, ◌++◌, ◌+◌, ◌<◌, ◌∙◌, ◌∷◌, ◌≡◌, ◌≤◌, AreDistinct, Command, CommandFits}
+use Rattle.nv_driver.proofs.Words.{FromHost, GetLog, IsSendable, IsWhole, List, NoData, ToHost, Transfer, ap}
+use Rattle.nv_driver.proofs.Words.{append-nil, arith, bytes_from_host, bytes_to_host, commands_travel, drop}
+use Rattle.nv_driver.proofs.Words.{drop-append-le, get_or, host_data_of, length, length-drop, length_of, lit<, lit≤}
+use Rattle.nv_driver.proofs.Words.{read_at, read_written, received_from, refl, sent_from, sym, take, take-append-le}
+use Rattle.nv_driver.proofs.Words.{take_all, transfer_by, true, with_data, written_at}
 use Rattle.nv_command.specs.LogPage.{log_asked}
 use Rattle.nv_command.specs.declared.log_page.LogPage.{LogPage}
 use Rattle.nv_command.specs.declared.log_page.LogPage.TheVariants.{ErrorInformation, Health}
-use Rattle.nv_command.specs.Reply.{with_data}
 use Rattle.nv_command.proofs.FormLaws.{a_page, at_most_a_page}
-use Rattle.nv_command.proofs.TravelLaws.{commands_travel}
-use Rattle.nv_command.specs.declared.command.Command.TheVariants.{GetLog}
-use Rattle.nv_driver.proofs.Words.{AreDistinct, Command, FromHost, NoData, ToHost, Transfer, bytes_from_host}
-use Rattle.nv_driver.proofs.Words.{bytes_to_host, length_of, received_from, sent_from, transfer_by}
 
 -- ---- by commands
 

@@ -1,15 +1,12 @@
 -- A list of requests: its beginning, its progress and its end.
 use Rattle.nv_driver.proofs.Words.{[], ℕ, ◌<◌, ◌∙◌, ◌≡◌, ◌≤◌, All, Answer, Batch, BusTurn, BusValue, CommandPages}
-use Rattle.nv_driver.proofs.Words.{Geometry, HasAnswers, IsLeft, IsReady, IsRequest, IsTold, IsUnderWay, KeepsOutside}
-use Rattle.nv_driver.proofs.Words.{List, QueuePairFields, Request, Run, TailWrite, Write, after_some, answers_of_all}
-use Rattle.nv_driver.proofs.Words.{ap, arith, cases_eq, cases_lt, drop, false, from_cid, inl, inr, left_of, length}
-use Rattle.nv_driver.proofs.Words.{limit_of, numbered_of, pages_of_all, pair_value, refl, run_of, run_on, side}
-use Rattle.nv_driver.proofs.Words.{state_after_all, subst, sym, take, take-length, true, without}
-use Rattle.nv_queue.specs.Numbers.{slot_of}
-use Rattle.nv_driver.specs.UnderWay.{RunOn}
-use Rattle.std.proofs.Math.Seq.{drop-length}
+use Rattle.nv_driver.proofs.Words.{Geometry, HasAnswers, IsLeft, IsPaced, IsReady, IsRequest, IsTold, IsUnderWay}
+use Rattle.nv_driver.proofs.Words.{KeepsOutside, List, QueuePairFields, Request, Run, RunOn, TailWrite, Write}
+use Rattle.nv_driver.proofs.Words.{after_some, answers_of_all, ap, arith, cases_eq, cases_lt, drop, drop-length, false}
+use Rattle.nv_driver.proofs.Words.{from_cid, inl, inr, left_of, length, limit_of, numbered_of, pages_of_all, pair_value}
+use Rattle.nv_driver.proofs.Words.{refl, run_of, run_on, side, slot_of, state_after_all, subst, sym, take, take-length}
+use Rattle.nv_driver.proofs.Words.{true, without}
 use Rattle.nv_driver.proofs.WindowPageLaws.{taken_none}
-use Rattle.nv_driver.specs.inner.Pace.{IsPaced}
 use Rattle.nv_driver.proofs.BatchLaws.{length-answers_of_all, length-from_cid}
 use Rattle.nv_driver.proofs.UnderWayLaws.{counts, world}
 use Rattle.nv_driver.proofs.OnWayLaws.{begins, left_after}

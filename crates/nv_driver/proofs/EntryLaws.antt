@@ -1,24 +1,17 @@
 -- The effect of taking one entry in a turn, and what doesn't change.
 use Rattle.nv_driver.proofs.Words.{[], ℕ, ◌*◌, ◌+◌, ◌-◌, ◌<◌, ◌∙◌, ◌≡◌, ◌≢◌, ◌≤◌, Answer, AreApart, AreOthers}
 use Rattle.nv_driver.proofs.Words.{AreOutside, Asked, Call, ChangesOnly, Cqe, CqeFits, Delivers, Err, GoesBy, HasRings}
-use Rattle.nv_driver.proofs.Words.{Holds, HoldsTags, IsAnswered, IsOwn, IsWellFormed, Keeps, KeepsList, List, Ok}
-use Rattle.nv_driver.proofs.Words.{Result, Scene, Sent, Setting, Sqe, State, StatusCode, StaysNamed, Takes, Transfer}
-use Rattle.nv_driver.proofs.Words.{World, ap, arith, asked_step, bank_with, bytes_at, bytes_to_host, call_of, cases_eq}
-use Rattle.nv_driver.proofs.Words.{cases_lt, completion_at, completion_with, data_of, device_rings, distance, entry}
-use Rattle.nv_driver.proofs.Words.{get_or, get_or_default, inl, inr, length, length-written_at, limit_of, number}
-use Rattle.nv_driver.proofs.Words.{numbered, page_size_bounds, places, pointed, posted_as, received_from, refl, scene}
-use Rattle.nv_driver.proofs.Words.{slot, step_of, subst, sym, tagged, true, with_completion}
-use Rattle.nv_prp.specs.Place.{read_at, written_at}
+use Rattle.nv_driver.proofs.Words.{Holds, HoldsTags, IsAnswered, IsOwn, IsWellFormed, Keeps, KeepsList, List, MovesBy}
+use Rattle.nv_driver.proofs.Words.{Ok, One, Result, Scene, Sent, Setting, Sqe, State, StatusCode, StaysNamed, Step}
+use Rattle.nv_driver.proofs.Words.{Takes, Transfer, World, ap, arith, asked_step, bank_with, bytes_at, bytes_to_host}
+use Rattle.nv_driver.proofs.Words.{call_of, can_means, can_take, cases_eq, cases_lt, command_in, completion_at}
+use Rattle.nv_driver.proofs.Words.{completion_with, data_of, device_rings, distance, entry, get_or, get_or_default, inl}
+use Rattle.nv_driver.proofs.Words.{inr, length, length-with_completion, length-written_at, limit_of, number, numbered}
+use Rattle.nv_driver.proofs.Words.{page_size_bounds, places, pointed, posted_as, put_written, read_at, received_from}
+use Rattle.nv_driver.proofs.Words.{refl, replies_fit, scene, slot, step_of, step_unless, subst, sym, tagged, tags_after}
+use Rattle.nv_driver.proofs.Words.{true, with_completion, written_at}
 use Rattle.nv_queue.specs.inner.Slots.{WritesCompletion}
-use Rattle.nv_queue.proofs.SlotLaws.{length-with_completion, put_written}
-use Rattle.nv_queue.proofs.TagLaws.{tags_after}
-use Rattle.nv_command.proofs.TravelLaws.{replies_fit}
 use Rattle.nv_register.specs.declared.rings.Rings.{Rings}
-use Rattle.nv_model.specs.Step.{Step}
-use Rattle.nv_bus.specs.Call.{command_in}
-use Rattle.nv_bus.specs.Entry.{MovesBy, One, step_unless}
-use Rattle.nv_bus.proofs.TurnLaws.{can_means}
-use Rattle.nv_bus.specs.Turn.{can_take}
 use Rattle.nv_driver.proofs.AnswerLaws.{IsAnswerTo, answer_sound, answered, asked_controllers, asked_keeps, asked_limit}
 use Rattle.nv_driver.proofs.AnswerLaws.{completion_fits, holds_on}
 use Rattle.nv_driver.proofs.DataLaws.{ArePlaces, received_back, received_same, written-nothing}

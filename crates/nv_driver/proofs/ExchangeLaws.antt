@@ -1,18 +1,15 @@
 -- A single entry: a run of one request, with its data in the pages behind those of all controllers.
 use Rattle.nv_driver.proofs.Words.{[], ℕ, ◌%◌, ◌*◌, ◌+◌, ◌∙◌, ◌∷◌, ◌≡◌, ◌≤◌, Answer, AreSendable, Asked, BusTurn}
-use Rattle.nv_driver.proofs.Words.{BusValue, CommandPages, Delivers, Err, Geometry, HasRoom, IsBuffer, IsHeard, IsHeld}
-use Rattle.nv_driver.proofs.Words.{IsLeft, IsReady, IsReceived, IsRequest, IsRunOf, KeepsOutside, LiesInPages, List}
-use Rattle.nv_driver.proofs.Words.{NumberSet, Ok, Pages, QueuePair, QueuePairFields, Request, RequestPlace, Requests}
-use Rattle.nv_driver.proofs.Words.{Run, Sent, Sqe, SqeFits, Status, TailWrite, Transfer, Write, after_some}
-use Rattle.nv_driver.proofs.Words.{all_of, all_pages, ap, arith, asked_in, bytes_read, entry_step, get_or}
+use Rattle.nv_driver.proofs.Words.{BusValue, Comes, CommandPages, CommandResult, Delivers, Err, Geometry, HasRoom}
+use Rattle.nv_driver.proofs.Words.{IsBuffer, IsHeard, IsHeld, IsLeft, IsPaced, IsReadIn, IsReady, IsReceived, IsRequest}
+use Rattle.nv_driver.proofs.Words.{IsRunOf, KeepsOutside, LiesInPages, List, NumberSet, Ok, Pages, QueuePair}
+use Rattle.nv_driver.proofs.Words.{QueuePairFields, Request, RequestPlace, Requests, Run, Sent, Sqe, SqeFits, Status}
+use Rattle.nv_driver.proofs.Words.{TailWrite, Transfer, Write, after_some, all_of, all_pages, ap, arith, asked_in}
+use Rattle.nv_driver.proofs.Words.{buffer_places, bytes_read, came_with, command_result_of, entry_step, get_or}
 use Rattle.nv_driver.proofs.Words.{greatest_limit, length, length-take, length_of, limit_bounds, limit_of, min}
 use Rattle.nv_driver.proofs.Words.{mul-le-mul_right, numbered, numbered_request, padded, pages_of_entry, pair_value}
-use Rattle.nv_driver.proofs.Words.{place_in, received_from, refl, request_for, requests_in, run_of, side, step_of}
-use Rattle.nv_driver.proofs.Words.{CommandResult, command_result_of, subst, sym, transfer_for}
-use Rattle.nv_prp.specs.Buffer.{buffer_places}
-use Rattle.nv_bus.specs.Entry.{status_in}
-use Rattle.nv_driver.specs.Alone.{Comes, IsReadIn, came_with}
-use Rattle.nv_driver.specs.inner.Pace.{IsPaced}
+use Rattle.nv_driver.proofs.Words.{place_in, received_from, refl, request_for, requests_in, run_of, side, status_in}
+use Rattle.nv_driver.proofs.Words.{step_of, subst, sym, transfer_for}
 use Rattle.nv_driver.proofs.AnswerLaws.{IsAnswerTo, answer_sound}
 use Rattle.nv_driver.proofs.CommandPageLaws.{own_is}
 use Rattle.nv_driver.proofs.PaddingLaws.{length-padded}

@@ -3,11 +3,9 @@ use Rattle.nv_driver.proofs.Words.{[], ℕ, ◌%◌, ◌*◌, ◌++◌, ◌+◌,
 use Rattle.nv_driver.proofs.Words.{Happens, Holds, HoldsTags, IsAwaitedThere, IsIdle, IsReadable, Keeps, RegisterBank}
 use Rattle.nv_driver.proofs.Words.{Sent, Setting, State, Tell, World, answer_awaited, answers_to, ap, arith, awaited}
 use Rattle.nv_driver.proofs.Words.{bank_with, cases_lt, completion_at, device_rings, get_or, get_or_append_left}
-use Rattle.nv_driver.proofs.Words.{get_or_default, get_or_push, inl, inr, length, length-append, mod-eq_of_lt, number}
-use Rattle.nv_driver.proofs.Words.{refl, slot, subst, sym, with_register_at}
-use Rattle.nv_queue.specs.Numbers.{kept_number, phase_of}
-use Rattle.nv_queue.proofs.SlotLaws.{not_own}
-use Rattle.nv_queue.proofs.TagLaws.{tag_below_here, tag_there}
+use Rattle.nv_driver.proofs.Words.{get_or_default, get_or_push, inl, inr, kept_number, length, length-append}
+use Rattle.nv_driver.proofs.Words.{mod-eq_of_lt, not_own, number, phase_of, refl, slot, subst, sym, tag_below_here}
+use Rattle.nv_driver.proofs.Words.{tag_there, with_register_at}
 use Rattle.nv_driver.proofs.CountLaws.{head_told, number_above, number_below, numbers_differ, slot_inside, tail_rung}
 use Rattle.nv_driver.proofs.AnswerLaws.{holds_on}
 use Rattle.nv_driver.proofs.BatchLaws.{answer_at}

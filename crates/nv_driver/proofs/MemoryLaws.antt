@@ -2,13 +2,12 @@
 use Rattle.nv_driver.proofs.Words.{[], ℕ, ◌*◌, ◌++◌, ◌+◌, ◌-◌, ◌<◌, ◌^◌, ◌∙◌, ◌∷◌, ◌≡◌, ◌≤◌, All, All-push, Geometry}
 use Rattle.nv_driver.proofs.Words.{HoldsTags, IsDriver, IsGeometry, IsLaid, IsQuiet, IsSettled, KeepsBelow, List}
 use Rattle.nv_driver.proofs.Words.{PagedBytes, Pages, QueuePair, QueuePairFields, all_of, ap, arith, below_more}
-use Rattle.nv_driver.proofs.Words.{div_ceil_times, driver_value, driver_with, end_of, get_or-map}
+use Rattle.nv_driver.proofs.Words.{completion_pages, div_ceil_times, driver_value, driver_with, end_of, get_or-map}
 use Rattle.nv_driver.proofs.Words.{get_or-map-range_with_len, inl, length, length-map, length-map-range_with_len}
-use Rattle.nv_driver.proofs.Words.{length-replicate, map, map-append, map-range_with_len_more, mul-le-mul_right}
-use Rattle.nv_driver.proofs.Words.{page_count, page_size_bounds, pages_behind, pages_of, pair_of, pair_pages}
-use Rattle.nv_driver.proofs.Words.{pair_value, pairs_of, refl, replicate, slice_index_or, subst, sym, zero-add}
-use Rattle.std.proofs.Math.Nat.{mul-div_cancel, mul-le-mul}
-use Rattle.nv_driver.specs.Layout.{completion_pages, set_pages, submission_pages}
+use Rattle.nv_driver.proofs.Words.{length-replicate, map, map-append, map-range_with_len_more, mul-div_cancel}
+use Rattle.nv_driver.proofs.Words.{mul-le-mul, mul-le-mul_right, page_count, page_size_bounds, pages_behind, pages_of}
+use Rattle.nv_driver.proofs.Words.{pair_of, pair_pages, pair_value, pairs_of, refl, replicate, set_pages}
+use Rattle.nv_driver.proofs.Words.{slice_index_or, submission_pages, subst, sym, zero-add}
 use Rattle.nv_driver.proofs.AdminLaws.{slots_stay}
 
 -- ---- the numbers of pages

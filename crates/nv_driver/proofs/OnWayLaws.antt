@@ -1,21 +1,18 @@
 -- Requests on their way: what submissions, doorbells, turns and collections leave.
 use Rattle.nv_driver.proofs.Words.{[], ℕ, ◌*◌, ◌++◌, ◌+◌, ◌-◌, ◌<◌, ◌==◌, ◌∙◌, ◌∷◌, ◌≡◌, ◌≤◌, Answer, AreApart, Bell}
-use Rattle.nv_driver.proofs.Words.{BusValue, Collect, Course, Cqe, Event, Geometry, Happens, HasFreeSlot, Holds}
-use Rattle.nv_driver.proofs.Words.{IsAwaitedThere, IsBus, IsLeft, IsOnWay, IsPlaceFor, IsReady, IsRequest}
-use Rattle.nv_driver.proofs.Words.{IsSubmittedAt, IsTold, KeepsBelow, List, MaySubmit, Pages, QueuePairFields}
-use Rattle.nv_driver.proofs.Words.{RegisterBank, Request, RequestPlace, Run, Sent, Setting, State, Submit, Tell, Turn}
-use Rattle.nv_driver.proofs.Words.{World, after_some, answer_awaited, ap, arith, awaited, awaited_completion, bank_at}
-use Rattle.nv_driver.proofs.Words.{beginning, between_kept, cid_after, cid_at, collect_ring, collected_one}
-use Rattle.nv_driver.proofs.Words.{completion_at, entry, false, first_kept, get_or, get_or-set_same, inl, known_to}
-use Rattle.nv_driver.proofs.Words.{length, length-append, length-set, length_of, limit_of, min, mod_below}
-use Rattle.nv_driver.proofs.Words.{mul-le-mul_right, nat_tests, new_bank, not, number, pair_value, refl, run_of}
-use Rattle.nv_driver.proofs.Words.{sent_at, set-get_or, set-set, setting_of, side, slice_set, slot, submit_ring, subst}
-use Rattle.nv_driver.proofs.Words.{sym, true, way, with_register_at, with_submission, world_of}
-use Rattle.nv_queue.specs.Numbers.{first_in_slot, next, slot_of}
-use Rattle.nv_queue.specs.Rings.{submitted_one, told_all}
-use Rattle.nv_driver.specs.Schedule.{Doing, Follows}
-use Rattle.nv_driver.specs.inner.Submitting.{CanCollect}
-use Rattle.nv_driver.specs.UnderWay.{Way, first_world, pair_after, world_by}
+use Rattle.nv_driver.proofs.Words.{BusValue, CanCollect, Collect, Course, Cqe, Doing, Event, Follows, Geometry, Happens}
+use Rattle.nv_driver.proofs.Words.{HasFreeSlot, Holds, IsAwaitedThere, IsBus, IsLeft, IsOnWay, IsPlaceFor, IsReady}
+use Rattle.nv_driver.proofs.Words.{IsRequest, IsSubmittedAt, IsTold, KeepsBelow, List, MaySubmit, Pages}
+use Rattle.nv_driver.proofs.Words.{QueuePairFields, RegisterBank, Request, RequestPlace, Run, Sent, Setting, State}
+use Rattle.nv_driver.proofs.Words.{Submit, Tell, Turn, Way, World, after_some, answer_awaited, ap, arith, awaited}
+use Rattle.nv_driver.proofs.Words.{awaited_completion, bank_at, beginning, between_kept, cid_after, cid_at}
+use Rattle.nv_driver.proofs.Words.{collect_ring, collected_one, completion_at, entry, false, first_in_slot, first_kept}
+use Rattle.nv_driver.proofs.Words.{first_world, get_or, get_or-set_same, inl, known_to, length, length-append}
+use Rattle.nv_driver.proofs.Words.{length-set, length_of, limit_of, min, mod_below, mul-le-mul_right, nat_tests}
+use Rattle.nv_driver.proofs.Words.{new_bank, next, not, number, pair_after, pair_value, refl, run_of, sent_at}
+use Rattle.nv_driver.proofs.Words.{set-get_or, set-set, setting_of, side, slice_set, slot, slot_of, submit_ring}
+use Rattle.nv_driver.proofs.Words.{submitted_one, subst, sym, told_all, true, way, with_register_at, with_submission}
+use Rattle.nv_driver.proofs.Words.{world_by, world_of}
 use Rattle.nv_driver.proofs.BatchLaws.{cid_next}
 use Rattle.nv_driver.proofs.CountLaws.{number_above, number_below, number_next}
 use Rattle.nv_driver.proofs.KeptLaws.{bell_keeps, collect_keeps, idle_keeps, is_found, tell_keeps}

@@ -1,18 +1,15 @@
 -- Bytes with zeros after them.
-use Rattle.std.proofs.Common.{◌≡◌, ◌∙◌, ℕ, ◌+◌, ◌-◌, ◌<◌, ◌≤◌, ◌++◌, Bool, List, [], ap, arith, false, get_or, inl, inr}
-use Rattle.std.proofs.Common.{◌*◌, ◌/◌, ◌%◌, drop, length, length-append, length-drop, length-take, min, refl}
-use Rattle.std.proofs.Common.{replicate, slice_index, sym, take, true}
-use Rattle.std.proofs.Math.Nat.{div-eq_of_lt, mod-eq_of_lt}
-use Rattle.std.proofs.lemmas.Grind.{same_number_lists}
-use Rattle.std.proofs.lemmas.List.{get_or-drop, get_or-take, get_or_past}
+use Rattle.nv_driver.proofs.Words.{[], ℕ, ◌%◌, ◌*◌, ◌++◌, ◌+◌, ◌-◌, ◌/◌, ◌<◌, ◌∙◌, ◌≡◌, ◌≤◌, Bool, FromHost, List}
+use Rattle.nv_driver.proofs.Words.{NoData, ToHost, Transfer, ap, arith, buffer_place, buffer_places, bytes_at}
+use Rattle.nv_driver.proofs.Words.{bytes_to_host, cases_lt, div-eq_of_lt, drop, false, get_or, get_or-bytes_at}
+use Rattle.nv_driver.proofs.Words.{get_or-drop, get_or-map, get_or-table, get_or-take, get_or_past, if◌then◌else◌, inl}
+use Rattle.nv_driver.proofs.Words.{inr, length, length-append, length-drop, length-read_at, length-replicate}
+use Rattle.nv_driver.proofs.Words.{length-table, length-take, length_of, min, mod-eq_of_lt, padded, page_size_bounds}
+use Rattle.nv_driver.proofs.Words.{read_at, received_from, refl, same_number_lists, sym, table, take, true}
+use Rattle.std.proofs.Common.{replicate, slice_index}
 use Rattle.nv_host.proofs.BytesLaws.{length-bytes_at}
-use Rattle.nv_prp.specs.Buffer.{buffer_place, buffer_places}
-use Rattle.nv_prp.specs.Place.{read_at, table}
 use Rattle.nv_prp.proofs.CopyLaws.{read_part}
-use Rattle.nv_prp.proofs.PlaceLaws.{get_or-bytes_at, get_or-table, length-read_at, length-table}
 use Rattle.nv_layout.proofs.PartLaws.{get_or-past}
-use Rattle.nv_driver.proofs.Words.{FromHost, NoData, ToHost, Transfer, bytes_at, bytes_to_host, cases_lt, get_or-map}
-use Rattle.nv_driver.proofs.Words.{if◌then◌else◌, length-replicate, length_of, padded, page_size_bounds, received_from}
 use Rattle.nv_driver.proofs.DataLaws.{data_part, few_data, nothing}
 
 -- padded bytes are as many as were asked for

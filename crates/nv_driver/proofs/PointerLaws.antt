@@ -1,16 +1,13 @@
 -- A command whose pages are prepared: what a controller reads of its entry.
-use Rattle.nv_driver.proofs.Words.{ℕ, ◌*◌, ◌+◌, ◌<◌, ◌>>=◌, ◌^◌, ◌∙◌, ◌≡◌, ◌≤◌, Asked, Call, Err, FromHost, HasRoom}
-use Rattle.nv_driver.proofs.Words.{HoldsSent, IsRequest, KeepsList, List, NoData, Ok, Result, Sent, Setting, Sqe}
-use Rattle.nv_driver.proofs.Words.{StatusCode, StaysNamed, ToHost, Transfer, ap, arith, call_of, cases_lt, command_of}
-use Rattle.nv_driver.proofs.Words.{data_length, div_ceil, div_ceil_times, entry, inl, inr, length, length_of, moves_of}
-use Rattle.nv_driver.proofs.Words.{mul-le-mul_right, page_size_bounds, pages_for, pages_of_entry, places, pointed, refl}
-use Rattle.nv_driver.proofs.Words.{sent_from, sym, transfer_of, within}
-use Rattle.nv_driver.proofs.Words.{Geometry, IsGeometry, data_count, greatest_limit}
-use Rattle.nv_host.specs.Pages.{IsPageSize}
-use Rattle.nv_prp.specs.Buffer.{IsFor, buffer_place, buffer_places}
-use Rattle.nv_prp.proofs.PlaceLaws.{table-same}
+use Rattle.nv_driver.proofs.Words.{ℕ, ◌*◌, ◌+◌, ◌<◌, ◌>>=◌, ◌^◌, ◌∙◌, ◌≡◌, ◌≤◌, Asked, Call, Err, FromHost, Geometry}
+use Rattle.nv_driver.proofs.Words.{HasRoom, HoldsSent, IsFor, IsGeometry, IsPageSize, IsRequest, KeepsList, List}
+use Rattle.nv_driver.proofs.Words.{NoData, Ok, Result, Sent, Setting, Sqe, StatusCode, StaysNamed, ToHost, Transfer, ap}
+use Rattle.nv_driver.proofs.Words.{arith, buffer_place, buffer_places, call_of, cases_lt, command_of, data_count}
+use Rattle.nv_driver.proofs.Words.{data_length, data_places, div_ceil, div_ceil_times, entry, greatest_limit, inl, inr}
+use Rattle.nv_driver.proofs.Words.{length, length_of, moves_of, mul-le-mul_right, page_size_bounds, pages_for}
+use Rattle.nv_driver.proofs.Words.{pages_of_entry, places, places_of, pointed, refl, sent_from, sym, table-same}
+use Rattle.nv_driver.proofs.Words.{transfer_of, within}
 use Rattle.nv_prp.specs.Transfer.{IsLegal, PrpTransfer, place_of, transfer, transfer_places}
-use Rattle.nv_bus.specs.Call.{data_places, places_of}
 use Rattle.nv_bus.proofs.CallLaws.{legal_places, no_places}
 use Rattle.nv_driver.proofs.DataLaws.{nothing}
 use Rattle.nv_driver.proofs.RegionLaws.{length-places}

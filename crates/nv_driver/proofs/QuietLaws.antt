@@ -3,8 +3,7 @@ use Rattle.nv_driver.proofs.Words.{ℕ, ◌*◌, ◌+◌, ◌-◌, ◌<◌, ◌�
 use Rattle.nv_driver.proofs.Words.{Geometry, IsApart, IsIdle, IsLaid, IsOf, IsQuiet, IsReady, KeepsBelow, KeepsOutside}
 use Rattle.nv_driver.proofs.Words.{List, OthersStay, Pages, QueuePair, QueuePairFields, Sent, World, ap, arith}
 use Rattle.nv_driver.proofs.Words.{bank_with, beginning, collect_ring, device_rings, false, get_or, inr, length}
-use Rattle.nv_driver.proofs.Words.{limit_of, mul-le-mul_right, own_pages, pair_value, refl, submit_ring, subst}
-use Rattle.nv_driver.specs.UnderWay.{setting}
+use Rattle.nv_driver.proofs.Words.{limit_of, mul-le-mul_right, own_pages, pair_value, refl, setting, submit_ring, subst}
 use Rattle.nv_driver.proofs.KeptLaws.{number_zero}
 
 -- ---- the beginning

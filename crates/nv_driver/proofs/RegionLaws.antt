@@ -1,23 +1,16 @@
 -- Parts of the memory that don't overlap a command's pages, its list or a slot of a ring.
 use Rattle.nv_driver.proofs.Words.{ℕ, ◌*◌, ◌+◌, ◌-◌, ◌/◌, ◌<◌, ◌∙◌, ◌≡◌, ◌≢◌, ◌≤◌, ◌⊎◌, AreApart, AreDistinct}
-use Rattle.nv_driver.proofs.Words.{AreOutside, ChangesOnly, Cqe, HoldsSent, IsApart, IsBuffer, KeepsList, List}
-use Rattle.nv_driver.proofs.Words.{PostNumbers, Sent, Setting, Sqe, SubmitNumbers, ap, arith, bytes_at, cases_lt}
-use Rattle.nv_driver.proofs.Words.{completion_at, cqe_of_bytes, data_length, get_or, get_or-bytes_at, get_or-map}
-use Rattle.nv_driver.proofs.Words.{get_or-table, inl, inr, length, length-read_at, length-table, length-written_at}
-use Rattle.nv_driver.proofs.Words.{mod_below, mul-le-mul_right, own_pages, places, pointed, same_number_lists}
-use Rattle.nv_driver.proofs.Words.{submission_at, suc, sym, with_bytes, with_completion, with_submission}
-use Rattle.std.proofs.lemmas.Nat.{div_below}
+use Rattle.nv_driver.proofs.Words.{AreOutside, ChangesOnly, Cqe, HoldsSent, IsApart, IsBuffer, IsOutside, KeepsList}
+use Rattle.nv_driver.proofs.Words.{List, PagesStay, PostNumbers, Sent, Setting, Sqe, SubmitNumbers, ap, arith}
+use Rattle.nv_driver.proofs.Words.{buffer_distinct, buffer_place, buffer_places, bytes_at, bytes_of_cqe, bytes_of_sqe}
+use Rattle.nv_driver.proofs.Words.{cases_lt, completion_at, cqe_of_bytes, data_length, div_below, get_or}
+use Rattle.nv_driver.proofs.Words.{get_or-bytes_at, get_or-map, get_or-table, inl, inr, length, length-read_at}
+use Rattle.nv_driver.proofs.Words.{length-table, length-written_at, mod_below, mul-le-mul_right, own_pages, part_stays}
+use Rattle.nv_driver.proofs.Words.{places, pointed, read_at, same_number_lists, slot_within, sqe_of_bytes}
+use Rattle.nv_driver.proofs.Words.{submission_at, suc, sym, with_bytes, with_completion, with_submission, written_at}
 use Rattle.nv_host.proofs.BytesLaws.{bytes_at-bytes_at, bytes_at-with_after, bytes_at-with_before}
-use Rattle.nv_layout.specs.Cqe.{bytes_of_cqe}
 use Rattle.nv_layout.proofs.RecordLaws.{length-bytes_of_cqe, length-bytes_of_sqe}
-use Rattle.nv_layout.specs.Sqe.{bytes_of_sqe, sqe_of_bytes}
-use Rattle.nv_prp.specs.Buffer.{IsOutside, buffer_place, buffer_places}
-use Rattle.nv_prp.proofs.BufferLaws.{buffer_distinct}
-use Rattle.nv_prp.specs.Place.{read_at, written_at}
-use Rattle.nv_prp.proofs.PlaceLaws.{part_stays}
 use Rattle.nv_queue.specs.Slots.{completion_place, put_as, submission_place}
-use Rattle.nv_queue.proofs.SlotLaws.{slot_within}
-use Rattle.nv_driver.specs.Schedule.{PagesStay}
 use Rattle.nv_driver.proofs.DataLaws.{ArePlaces, sent_same}
 
 -- ---- places and pages

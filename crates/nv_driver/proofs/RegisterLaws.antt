@@ -1,21 +1,17 @@
 -- The registers of a controller while it is enabled.
 use Rattle.nv_driver.proofs.Words.{ℕ, ◌%◌, ◌*◌, ◌+◌, ◌-◌, ◌/◌, ◌<◌, ◌^◌, ◌∙◌, ◌≡◌, ◌≤◌, BusValue, Geometry, IsGeometry}
-use Rattle.nv_driver.proofs.Words.{List, QueuePair, RegisterBank, ap, arith, bank_at, below_more, enabled_in, false}
-use Rattle.nv_driver.proofs.Words.{get_or-map, get_or-map-range_with_len, get_or-set_other, get_or-set_same}
-use Rattle.nv_driver.proofs.Words.{get_or_default, idle_bank, idle_banks, if◌then◌else◌, is_enabled, length, length-map}
-use Rattle.nv_driver.proofs.Words.{length-map-range_with_len, map, mps_of, nat_tests, new_bank, pair_of, pair_pages}
-use Rattle.nv_driver.proofs.Words.{pairs_of, refl, reset_if, set-get_or, set-set, slice_index_or, state_written, suc}
-use Rattle.nv_driver.proofs.Words.{sym, true, with_queues, with_register_at, zero, zero-add}
+use Rattle.nv_driver.proofs.Words.{IsPageSize, List, QueuePair, RegisterBank, ap, arith, bank_at, below_more, can_start}
+use Rattle.nv_driver.proofs.Words.{enabled_in, false, get_or-map, get_or-map-range_with_len, get_or-set_other}
+use Rattle.nv_driver.proofs.Words.{get_or-set_same, get_or_default, idle_bank, idle_banks, if◌then◌else◌, is_enabled}
+use Rattle.nv_driver.proofs.Words.{length, length-map, length-map-range_with_len, map, mps_of, mul-mod_left, nat_tests}
+use Rattle.nv_driver.proofs.Words.{new_bank, new_rings, pair_of, pair_pages, pairs_of, refl, reset_if, same_lists}
+use Rattle.nv_driver.proofs.Words.{set-get_or, set-set, slice_index_or, state_written, submission_pages, suc, sym, true}
+use Rattle.nv_driver.proofs.Words.{with_cc, with_high, with_low, with_queues, with_register_at, zero, zero-add}
 use Rattle.std.proofs.Common.{slice_set}
-use Rattle.std.proofs.Math.Nat.{mul-mod_left}
-use Rattle.std.proofs.lemmas.List.{same_lists}
-use Rattle.nv_host.specs.Pages.{IsPageSize}
 use Rattle.nv_layout.specs.Bits.{bits}
 use Rattle.nv_register.specs.Dwords.{aqa_of_dword, cc_of_dword}
-use Rattle.nv_register.specs.RegisterBank.{can_start, new_rings, with_cc, with_high, with_low}
 use Rattle.nv_register.specs.declared.register.Sizes.{Sizes}
 use Rattle.nv_register.specs.declared.readiness.Readiness.TheVariants.{Failed, Off, Ready}
-use Rattle.nv_driver.specs.Layout.{submission_pages}
 
 -- ---- writes of one controller, one after another
 

@@ -4,11 +4,9 @@ use Rattle.nv_driver.proofs.Words.{IsLeft, IsPlaced, IsQuiet, IsReady, KeepsBelo
 use Rattle.nv_driver.proofs.Words.{RegisterBank, State, ap, arith, bank_at, bytes_at, enabled_in, get_or-set_same}
 use Rattle.nv_driver.proofs.Words.{idle_bank, if◌then◌else◌, is_enabled, length, length-map, length-replicate}
 use Rattle.nv_driver.proofs.Words.{length-set, mps_of, new_bank, pair_of, pair_value, refl, renewed_pair, replicate}
-use Rattle.nv_driver.proofs.Words.{reset_first, reset_if, side, slice_set, subst, sym, with_bytes, with_queues}
-use Rattle.nv_driver.proofs.Words.{with_register_at}
+use Rattle.nv_driver.proofs.Words.{reset, reset_first, reset_first_more, reset_if, reset_where, side, slice_set, subst}
+use Rattle.nv_driver.proofs.Words.{sym, with_bytes, with_queues, with_register_at}
 use Rattle.nv_host.proofs.BytesLaws.{length-with_bytes}
-use Rattle.nv_model.specs.Step.{reset, reset_where}
-use Rattle.nv_model.proofs.ResetLaws.{reset_first_more}
 use Rattle.nv_driver.proofs.RegionLaws.{written_keeps}
 use Rattle.nv_driver.proofs.RegisterLaws.{enabled_at, kept_queues}
 

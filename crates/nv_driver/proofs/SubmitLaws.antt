@@ -4,9 +4,8 @@ use Rattle.nv_driver.proofs.Words.{Happens, HasRings, Holds, HoldsSent, IsOwn, I
 use Rattle.nv_driver.proofs.Words.{MaySubmit, OthersStay, Sent, Setting, SqeFits, State, StaysNamed, Submit}
 use Rattle.nv_driver.proofs.Words.{SubmitNumbers, World, after, answers_to, ap, arith, bytes_at, cases_lt, data_length}
 use Rattle.nv_driver.proofs.Words.{entry, get_or, get_or_append_left, get_or_push, inl, inr, length, length-append}
-use Rattle.nv_driver.proofs.Words.{page_size_bounds, places, refl, rest_distinct, slot, submission_at, submit_ring}
-use Rattle.nv_driver.proofs.Words.{subst, sym, take-append-le, with_submission}
-use Rattle.nv_queue.proofs.SlotLaws.{length-with_submission, push_written}
+use Rattle.nv_driver.proofs.Words.{length-with_submission, page_size_bounds, places, push_written, refl, rest_distinct}
+use Rattle.nv_driver.proofs.Words.{slot, submission_at, submit_ring, subst, sym, take-append-le, with_submission}
 use Rattle.nv_driver.proofs.CountLaws.{slot_inside, slots_differ}
 use Rattle.nv_driver.proofs.AnswerLaws.{holds_on}
 use Rattle.nv_driver.proofs.RegionLaws.{ChangesOnlyAt, Stays, buffer_data, completion_same, holds_sent_on, stays_apart}

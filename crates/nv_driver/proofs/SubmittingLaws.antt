@@ -1,20 +1,14 @@
 -- The pages of a command, as `build` requires them.
 use Rattle.nv_driver.proofs.Words.{ℕ, ◌%◌, ◌*◌, ◌+◌, ◌-◌, ◌/◌, ◌<◌, ◌^◌, ◌∙◌, ◌≡◌, ◌≤◌, AreDistinct, AreOutside}
-use Rattle.nv_driver.proofs.Words.{CollectNumbers, Geometry, IsBuffer, IsPrepared, IsSubmittedAt, KeepsList, List, Ok}
-use Rattle.nv_driver.proofs.Words.{Pages, QueuePairFields, Request, RequestPlace, Result, Sent, StaysNamed}
-use Rattle.nv_driver.proofs.Words.{SubmitNumbers, ap, arith, bytes_at, bytes_from_host, cases_lt, data_length, div_ceil}
-use Rattle.nv_driver.proofs.Words.{div_ceil_times, get_or, inl, inr, length, length-written_at, mod_below}
-use Rattle.nv_driver.proofs.Words.{mul-le-mul_right, own_pages, page_size_bounds, places, pointed, refl, rest_distinct}
-use Rattle.nv_driver.proofs.Words.{sent_from, subst, sym}
-use Rattle.std.proofs.Common.{OnOk}
-use Rattle.nv_host.specs.Pages.{IsPageSize}
-use Rattle.nv_prp.specs.Buffer.{IsListPlace, KeepsOutsideList}
-use Rattle.nv_prp.specs.Place.{written_at}
+use Rattle.nv_driver.proofs.Words.{ChangesList, CollectNumbers, Geometry, IsBuffer, IsListPlace, IsPageSize, IsPrepared}
+use Rattle.nv_driver.proofs.Words.{IsSubmittedAt, KeepsList, KeepsOutsideList, List, Ok, OnOk, Pages, QueuePairFields}
+use Rattle.nv_driver.proofs.Words.{Request, RequestPlace, Result, Sent, StaysNamed, SubmitNumbers, ap, arith, bytes_at}
+use Rattle.nv_driver.proofs.Words.{bytes_from_host, cases_lt, data_length, div_ceil, div_ceil_times, get_or, inl, inr}
+use Rattle.nv_driver.proofs.Words.{length, length-written_at, mod_below, mul-le-mul_right, own_pages, page_size_bounds}
+use Rattle.nv_driver.proofs.Words.{pages_at, places, pointed, refl, rest_distinct, sent_from, subst, sym, written_at}
 use Rattle.nv_prp.specs.Transfer.{data_pages, most_bytes, room}
 use Rattle.nv_prp.proofs.PageLaws.{at_most_257}
 use Rattle.nv_prp.proofs.WriteLaws.{lies_at, pages_kept}
-use Rattle.nv_driver.specs.Schedule.{ChangesList}
-use Rattle.nv_driver.specs.inner.Submitting.{pages_at}
 use Rattle.nv_driver.proofs.DataLaws.{ArePlaces, sent_back}
 use Rattle.nv_driver.proofs.RegionLaws.{buffer_data, data_keeps, written_list}
 use Rattle.nv_driver.proofs.PointerLaws.{stays_in}

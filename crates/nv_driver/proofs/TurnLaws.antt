@@ -1,10 +1,8 @@
 -- What doesn't change in a turn.
-use Rattle.nv_driver.proofs.Words.{[], ℕ, ◌+◌, ◌<◌, ◌∙◌, ◌≡◌, ActiveList, AreOthers, Happens, Keeps, Scene, Sent}
-use Rattle.nv_driver.proofs.Words.{Setting, State, Takes, Turn, World, ap, arith, bank_with, bytes_at, device_rings}
-use Rattle.nv_driver.proofs.Words.{length, refl, request_of, scene, subst, suc, sym, zero}
-use Rattle.nv_bus.proofs.TurnLaws.{turn_count_is}
-use Rattle.nv_bus.specs.Turn.{BankTurn, RingsLie, Site, Taken, ready_bank, site, turn_count}
-use Rattle.nv_driver.specs.Schedule.{least}
+use Rattle.nv_driver.proofs.Words.{[], ℕ, ◌+◌, ◌<◌, ◌∙◌, ◌≡◌, ActiveList, AreOthers, BankTurn, Happens, Keeps, RingsLie}
+use Rattle.nv_driver.proofs.Words.{Scene, Sent, Setting, Site, State, Taken, Takes, Turn, World, ap, arith, bank_with}
+use Rattle.nv_driver.proofs.Words.{bytes_at, device_rings, least, length, ready_bank, refl, request_of, scene, site}
+use Rattle.nv_driver.proofs.Words.{subst, suc, sym, turn_count, turn_count_is, zero}
 use Rattle.nv_driver.proofs.CountLaws.{number_above, number_below}
 use Rattle.nv_driver.proofs.EntryLaws.{can_go, entry_keeps, entry_others, is_done, now, world_after}
 

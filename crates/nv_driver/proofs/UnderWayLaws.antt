@@ -1,26 +1,22 @@
 -- A list of commands while a controller executes it: what holds meanwhile, and submissions.
 use Rattle.nv_driver.proofs.Words.{[], ℕ, ◌%◌, ◌*◌, ◌++◌, ◌+◌, ◌-◌, ◌<◌, ◌∙◌, ◌∷◌, ◌≡◌, ◌≢◌, ◌≤◌, All, AreApart}
 use Rattle.nv_driver.proofs.Words.{AreInOrder, AreLowest, AreTaken, Batch, BusTurn, BusValue, CommandPages, Course}
-use Rattle.nv_driver.proofs.Words.{DoesNext, FromHost, Geometry, HasFreeSlot, HasRoom, IsDue, IsHeld, IsOf, IsOnWay}
-use Rattle.nv_driver.proofs.Words.{IsRequest, IsRunOf, IsSubmittedAt, IsToldInTime, IsUnderWay, LiesInPages, List}
-use Rattle.nv_driver.proofs.Words.{NoData, NumberSet, Pages, QueuePairFields, Request, Requests, Run, Sent, Submit}
-use Rattle.nv_driver.proofs.Words.{TailWrite, ToHost, Transfer, World, Write, all_pages, ap, arith, both_ways, cid_at}
-use Rattle.nv_driver.proofs.Words.{data_count, drop, drop-append-le, free_pages, get_or, get_or-drop, get_or-set_other}
-use Rattle.nv_driver.proofs.Words.{get_or-set_same, greatest_limit, held_pages, length, length-append, length-drop}
-use Rattle.nv_driver.proofs.Words.{length-set, length-take, length_of, limit_of, min, mod_below, mul-le-mul_right}
-use Rattle.nv_driver.proofs.Words.{numbered, numbered_of, own_pages, pages_for, pages_of_all, place_in, refl, sent_at}
-use Rattle.nv_driver.proofs.Words.{set, setting_of, slot, slots_apart, subst, sym, take, take_more, true, way, without}
-use Rattle.nv_driver.proofs.Words.{world_of}
-use Rattle.std.proofs.lemmas.List.{map_push}
-use Rattle.nv_queue.specs.Numbers.{next, slot_of}
-use Rattle.nv_driver.specs.UnderWay.{HasCollected, sent_in_window}
+use Rattle.nv_driver.proofs.Words.{DoesNext, FromHost, Geometry, HasCollected, HasFreeSlot, HasRoom, IsDue, IsHeld}
+use Rattle.nv_driver.proofs.Words.{IsOf, IsOnWay, IsRequest, IsRunOf, IsSubmittedAt, IsToldInTime, IsUnderWay}
+use Rattle.nv_driver.proofs.Words.{LiesInPages, List, NoData, NumberSet, Pages, QueuePairFields, Request, Requests, Run}
+use Rattle.nv_driver.proofs.Words.{Sent, Submit, TailWrite, ToHost, Transfer, World, Write, all_pages, ap, arith}
+use Rattle.nv_driver.proofs.Words.{both_ways, cid_at, data_count, drop, drop-append-le, free_pages, get_or, get_or-drop}
+use Rattle.nv_driver.proofs.Words.{get_or-set_other, get_or-set_same, greatest_limit, held_pages, len-all_of, length}
+use Rattle.nv_driver.proofs.Words.{length-append, length-drop, length-set, length-take, length_of, limit_of, map_push}
+use Rattle.nv_driver.proofs.Words.{min, mod_below, mul-le-mul_right, next, numbered, numbered_of, own_pages, pages_for}
+use Rattle.nv_driver.proofs.Words.{pages_of_all, place_in, refl, sent_at, sent_in_window, set, setting_of, slot}
+use Rattle.nv_driver.proofs.Words.{slot_of, slots_apart, subst, sym, take, take_more, true, way, without, world_of}
 use Rattle.nv_driver.proofs.BatchLaws.{length-from_cid, request_at}
 use Rattle.nv_driver.proofs.CommandPageLaws.{first_two, own_is, place_of_set}
 use Rattle.nv_driver.proofs.PointerLaws.{data_fits}
 use Rattle.nv_driver.proofs.PageSetLaws.{in_of, is_in, left_in}
 use Rattle.nv_driver.proofs.WindowPageLaws.{few_pages, page_of_one, pages-append, taken_also, taken_len}
 use Rattle.nv_driver.proofs.WindowPageLaws.{without_also}
-use Rattle.nv_bits.proofs.NumberLaws.{len-all_of}
 use Rattle.nv_driver.proofs.SubmitLaws.{each_more}
 use Rattle.std.specs.FinMap as map_of
 use Rattle.nv_driver.proofs.OnWayLaws as W

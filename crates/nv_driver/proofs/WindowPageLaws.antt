@@ -1,15 +1,11 @@
 -- The pages of several outstanding commands.
-use Rattle.nv_driver.proofs.Words.{[], ℕ, ◌&&◌, ◌*◌, ◌++◌, ◌+◌, ◌<◌, ◌||◌, ◌∙◌, ◌∷◌, ◌≡◌, ◌≢◌, ◌≤◌, All, AllPairs}
-use Rattle.nv_driver.proofs.Words.{AreTaken, Bool, IsOf, List, Pages, Sent, add-one, ap, append-nil, arith, both_ways}
-use Rattle.nv_driver.proofs.Words.{false, fold, get_or, get_or_append_left, get_or_default, length, length-append}
-use Rattle.nv_driver.proofs.Words.{list_any-append, nat_eq, nat_tests, not, own_pages, pages_of_all, refl, subst, suc}
-use Rattle.nv_driver.proofs.Words.{sym, take, take-length, take_more, true, with_pages, without, zero}
-use Rattle.std.proofs.Common.{append_assoc}
-use Rattle.std.proofs.lemmas.Bool.{or_parts}
+use Rattle.nv_driver.proofs.Words.{[], ℕ, ◌&&◌, ◌*◌, ◌++◌, ◌+◌, ◌<◌, ◌||◌, ◌∙◌, ◌∷◌, ◌≡◌, ◌≢◌, ◌≤◌, All, All-append}
+use Rattle.nv_driver.proofs.Words.{AllPairs, AreTaken, Bool, IsOf, List, Pages, Sent, add-one, ap, append-nil}
+use Rattle.nv_driver.proofs.Words.{append_assoc, arith, both_ways, false, fold, fold-append, get_or, get_or-append-add}
+use Rattle.nv_driver.proofs.Words.{get_or_append_left, get_or_default, length, length-append, list_any-append, nat_eq}
+use Rattle.nv_driver.proofs.Words.{nat_tests, not, or_parts, own_pages, pages_of_all, refl, subst, suc, sym, take}
+use Rattle.nv_driver.proofs.Words.{take-length, take_more, true, with_pages, without, zero}
 use Rattle.std.proofs.lemmas.List.Kept.{AllPairs-cons}
-use Rattle.std.proofs.lemmas.List.{get_or-append-add}
-use Rattle.std.proofs.lemmas.List.Elements.{All-append}
-use Rattle.std.proofs.lemmas.Grind.{fold-append}
 use Rattle.nv_driver.proofs.PageSetLaws.{Taking, in_all, is_in, left_in, not_before, not_in, same_pages, taking_more}
 use Rattle.nv_driver.proofs.PageSetLaws.{taking_none, with_in, without_in, without_none}
 use Rattle.std.specs.FinMap as map_of

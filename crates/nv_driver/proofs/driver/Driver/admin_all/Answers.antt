@@ -1,12 +1,10 @@
 use Rattle.nv_driver.proofs.Words.{◌<◌, ◌∙◌, ◌≤◌, ActiveList, All, Command, IsRequest, List, Request, SendsAll}
-use Rattle.nv_driver.proofs.Words.{after_some, ap, arith, get_or, get_or-map, length, length-map, length_of}
-use Rattle.nv_driver.proofs.Words.{limit_bounds, limit_of, map, min, mul-le-mul_right, pages_of_command, refl}
-use Rattle.nv_driver.proofs.Words.{request_of, rules, run_of, subst, sym, transfer_by}
+use Rattle.nv_driver.proofs.Words.{after_some, answers_of, ap, arith, get_or, get_or-map, length, length-map, length_of}
+use Rattle.nv_driver.proofs.Words.{limit_bounds, limit_of, map, min, most_bytes, mul-le-mul_right, pages_of_command}
+use Rattle.nv_driver.proofs.Words.{refl, request_of, rules, run_of, state_after, subst, sym, transfer_by}
 use Rattle.nv_driver.proofs.DataLaws.{most, shape}
 use Rattle.nv_driver.proofs.EndLaws.{answers_all}
 use Rattle.nv_driver.proofs.RequestLaws.{is_request}
-use Rattle.nv_driver.specs.Batch.{answers_of, state_after}
-use Rattle.nv_driver.specs.Layout.{most_bytes}
 use Rattle.nv_driver.proofs.AdminLaws.{HasPair, cid_is, driver_after, ends_inside, goes_over, left_at, linked_after}
 use Rattle.nv_driver.proofs.AdminLaws.{ready_by, room_by, value_after}
 use Rattle.nv_driver.proofs.driver.Driver.admin_all.Given.{Over}

@@ -1,8 +1,7 @@
-use Rattle.nv_driver.proofs.Words.{[], ℕ, ◌∙◌, ◌∷◌, CommandPages, Geometry, GoesOver, HasEntryPages, IsReceived, List}
-use Rattle.nv_driver.proofs.Words.{Pages, QueuePairFields, SendsAll, after_some, all_pages, ap, arith, asked_in}
-use Rattle.nv_driver.proofs.Words.{entry_step, get_or, length, limit_of, place_in, refl, request_for, rules, run_of}
-use Rattle.nv_driver.proofs.Words.{World, subst, sym, command_result_of}
-use Rattle.nv_driver.specs.Alone.{IsReadIn}
+use Rattle.nv_driver.proofs.Words.{[], ℕ, ◌∙◌, ◌∷◌, CommandPages, Geometry, GoesOver, HasEntryPages, IsReadIn}
+use Rattle.nv_driver.proofs.Words.{IsReceived, List, Pages, QueuePairFields, SendsAll, World, after_some, all_pages, ap}
+use Rattle.nv_driver.proofs.Words.{arith, asked_in, command_result_of, entry_step, get_or, length, limit_of, place_in}
+use Rattle.nv_driver.proofs.Words.{refl, request_for, rules, run_of, subst, sym}
 use Rattle.nv_driver.proofs.CommandPageLaws.{no_pages}
 use Rattle.nv_driver.proofs.AdminLaws.{HasPair, after_first, cid_is, driver_after, goes_over, left_at, linked_after}
 use Rattle.nv_driver.proofs.AdminLaws.{ready_by, shape_at, value_after}
