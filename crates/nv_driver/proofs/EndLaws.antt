@@ -10,7 +10,7 @@ use Rattle.nv_driver.proofs.WindowPageLaws.{taken_none}
 use Rattle.nv_driver.proofs.BatchLaws.{length-answers_of_all, length-from_cid}
 use Rattle.nv_driver.proofs.UnderWayLaws.{counts, world}
 use Rattle.nv_driver.proofs.OnWayLaws.{begins, left_after}
-use Rattle.nv_driver.proofs.QuietLaws.{outside_kept, pair_kept}
+use Rattle.nv_driver.proofs.KeptLaws.{outside_kept, pair_kept}
 use Rattle.nv_driver.proofs.RoundLaws.{no_more, state_on, tells_on}
 use Rattle.nv_driver.proofs.OnWayLaws as W
 

@@ -11,10 +11,9 @@ use Rattle.nv_driver.proofs.Words.{mul-le-mul_right, numbered, numbered_request,
 use Rattle.nv_driver.proofs.Words.{place_in, received_from, refl, request_for, requests_in, run_of, side, status_in}
 use Rattle.nv_driver.proofs.Words.{step_of, subst, sym, transfer_for}
 use Rattle.nv_driver.proofs.AnswerLaws.{IsAnswerTo, answer_sound}
-use Rattle.nv_driver.proofs.CommandPageLaws.{own_is}
+use Rattle.nv_driver.proofs.PointerLaws.{few_of_entry, own_is}
 use Rattle.nv_driver.proofs.PaddingLaws.{length-padded}
 use Rattle.nv_driver.proofs.RequestLaws.{every_entry}
-use Rattle.nv_driver.proofs.PointerLaws.{few_of_entry}
 use Rattle.nv_driver.proofs.TurnLaws.{no_command}
 use Rattle.nv_driver.proofs.UnderWayLaws.{request_is, room_few}
 

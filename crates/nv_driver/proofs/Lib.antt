@@ -2,9 +2,7 @@ pub mod Words
 pub mod BatchLaws
 pub mod PageSetLaws
 pub mod WindowPageLaws
-pub mod CommandPageLaws
 pub mod SubmittingLaws
-pub mod QuietLaws
 pub mod UnderWayLaws
 pub mod RoundLaws
 pub mod EndLaws

@@ -15,8 +15,8 @@ use Rattle.nv_driver.proofs.Words.{submitted_one, subst, sym, told_all, true, wa
 use Rattle.nv_driver.proofs.Words.{world_by, world_of}
 use Rattle.nv_driver.proofs.BatchLaws.{cid_next}
 use Rattle.nv_driver.proofs.CountLaws.{number_above, number_below, number_next}
-use Rattle.nv_driver.proofs.KeptLaws.{bell_keeps, collect_keeps, idle_keeps, is_found, tell_keeps}
-use Rattle.nv_driver.proofs.QuietLaws.{collect_ring_is, is_idle, submit_ring_is}
+use Rattle.nv_driver.proofs.KeptLaws.{bell_keeps, collect_keeps, collect_ring_is, idle_keeps, is_found, is_idle}
+use Rattle.nv_driver.proofs.KeptLaws.{submit_ring_is, tell_keeps}
 use Rattle.nv_driver.proofs.ScheduleLaws.{bell_others, collect_others, others_now, tell_others, turn_others}
 use Rattle.nv_driver.proofs.SubmitLaws.{submit_keeps, submit_others}
 use Rattle.nv_driver.proofs.SubmittingLaws.{AreFrom, outside_before, pairs_same}

@@ -162,9 +162,6 @@ lowest_next s now new ps r p left is found low =
 
 -- ---- giving back
 
-pub giving_none : (s : Pages) → s ≡ with_pages s []
-giving_none s = refl
-
 pub giving_more : (s now next : Pages) (ps : List ℕ) (p : ℕ) → now ≡ with_pages s ps
     → next ≡ record now { members = insert now.members p }
     → next ≡ with_pages s (ps ++ p ∷ [])

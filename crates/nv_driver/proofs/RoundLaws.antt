@@ -14,11 +14,10 @@ use Rattle.nv_driver.proofs.Words.{place_in, places as places_of, received_from,
 use Rattle.nv_driver.proofs.Words.{slice_set, slot, slot_of, state_after_all, step_after, subst, sym, take, take_more}
 use Rattle.nv_driver.proofs.Words.{take_more_set, transfer_by, true, way, with_pages, with_register_at, without}
 use Rattle.nv_driver.proofs.Words.{world_of}
-use Rattle.nv_driver.proofs.CommandPageLaws.{own_is, place_of_set}
+use Rattle.nv_driver.proofs.PointerLaws.{entry_pages_few, own_is, place_of_set}
 use Rattle.nv_driver.proofs.WindowPageLaws.{given_back, gone, taken_first, taken_rest}
 use Rattle.nv_driver.proofs.BatchLaws.{answer_at, answers_are, length-answers, state_is}
 use Rattle.nv_driver.proofs.UnderWayLaws.{counts, few_of, has_collected, held, is_full, request_is, room_few, world}
-use Rattle.nv_driver.proofs.PointerLaws.{entry_pages_few}
 use Rattle.nv_driver.proofs.TurnLaws.{no_command}
 use Rattle.std.specs.FinMap as map_of
 use Rattle.nv_driver.specs.declared.requests.Requests.TheVariants as sends

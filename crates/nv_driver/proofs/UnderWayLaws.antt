@@ -12,12 +12,12 @@ use Rattle.nv_driver.proofs.Words.{min, mod_below, mul-le-mul_right, next, numbe
 use Rattle.nv_driver.proofs.Words.{pages_of_all, place_in, refl, sent_at, sent_in_window, set, setting_of, slot}
 use Rattle.nv_driver.proofs.Words.{slot_of, slots_apart, subst, sym, take, take_more, true, way, without, world_of}
 use Rattle.nv_driver.proofs.BatchLaws.{length-from_cid, request_at}
-use Rattle.nv_driver.proofs.CommandPageLaws.{first_two, own_is, place_of_set}
-use Rattle.nv_driver.proofs.PointerLaws.{data_fits}
+use Rattle.nv_driver.proofs.PointerLaws.{data_fits, first_two, own_is, place_of_set}
 use Rattle.nv_driver.proofs.PageSetLaws.{in_of, is_in, left_in}
 use Rattle.nv_driver.proofs.WindowPageLaws.{few_pages, page_of_one, pages-append, taken_also, taken_len}
 use Rattle.nv_driver.proofs.WindowPageLaws.{without_also}
 use Rattle.nv_driver.proofs.SubmitLaws.{each_more}
+use Rattle.nv_driver.proofs.Words.{requests_in}
 use Rattle.std.specs.FinMap as map_of
 use Rattle.nv_driver.proofs.OnWayLaws as W
 
@@ -26,6 +26,11 @@ use Rattle.nv_driver.proofs.OnWayLaws as W
 -- the request that was sent is request n of the run
 pub request_is : {r : Run} {n : ℕ} {x : Sent} (k : LiesInPages r n x) → x.request ≡ get_or r.requests n x.request
 request_is k = ap (λ (y : Sent). y.request) k.sent
+
+-- a list of the run's requests has as many as the run
+pub counted : {r : Run} {what : Requests} {n : ℕ} → IsRunOf r what
+    → n ≡ length (requests_in (limit_of r.bus.state r.controller) what) → n ≡ length r.requests
+counted of is = is ∙ ap (λ (qs : List Request). length qs) of.requests
 
 -- data that a data pointer can have isn't longer than any limit
 pub room_few : (m : Transfer) → HasRoom m → length_of m ≤ greatest_limit

@@ -3,6 +3,7 @@ use Rattle.nv_driver.proofs.Words.{after_some, ap, arith, length, limit_of, numb
 use Rattle.nv_driver.proofs.Words.{state_after_all, subst, sym}
 use Rattle.nv_driver.proofs.EndLaws.{HasEnded, all_collected, begins_all, comes_further, ends_all, run_is}
 use Rattle.nv_driver.proofs.RoundLaws.{received_on}
+use Rattle.nv_driver.proofs.UnderWayLaws.{counted}
 use Rattle.nv_driver.proofs.batch.exchange_all.Given.{Over}
 use Rattle.nv_driver.proofs.batch.exchange_all.Goals as goal
 
@@ -23,12 +24,8 @@ turn-requires g c κs within =
     let sent = ap (λ (b : Batch). b.sent) s.batch in
     let told = ap (λ (b : Batch). b.told) s.batch in
     let of = c.requires.1.1.1.1.0 in
-    let more : c.loop-batch.batch.collected < length g.begun.run.requests = omega (
-      arith,
-      c.loop-batch-test.true,
-      c.len.ensures (limit_of g.begun.run.bus.state g.begun.run.controller),
-      ap (λ (qs : List Request). length qs) of.requests,
-    ) in (
+    let more : c.loop-batch.batch.collected < length g.begun.run.requests =
+    omega (arith, c.loop-batch-test.true, counted of (c.len.ensures _)) in (
       search rules,
       (
         search rules,
@@ -60,30 +57,18 @@ loop-batch-smaller g c =
     let e = c.turn.ensures in
     let collected = ap (λ (b : Batch). b.collected) s.batch in
     let told = ap (λ (b : Batch). b.told) s.batch in
-    let more : c.loop-batch.batch.collected < length g.begun.run.requests = omega (
-      arith,
-      c.loop-batch-test.true,
-      c.len.ensures (limit_of g.begun.run.bus.state g.begun.run.controller),
-      ap (λ (qs : List Request). length qs) c.requires.1.1.1.1.0.requests,
-    ) in
+    let more : c.loop-batch.batch.collected < length g.begun.run.requests =
+    omega (arith, c.loop-batch-test.true, counted c.requires.1.1.1.1.0 (c.len.ensures _)) in
     comes_further _ c.loop-batch.batch c.turn.new.self more
     (omega (arith, e.count, collected)) (λ same. let none = e.none (same ∙ sym collected) in
     (omega (arith, none.0, told, collected), none.1 ∙ collected))
-
--- as many answers were collected as there are requests
-enough : (g : Over) (c : goal.After-tell g) → length g.begun.run.requests ≤ c.loop-batch.batch.collected
-enough g c = omega (
-  arith,
-  c.loop-batch-test.false,
-  c.len.ensures (limit_of g.begun.run.bus.state g.begun.run.controller),
-  ap (λ (qs : List Request). length qs) c.requires.1.1.1.1.0.requests,
-)
 
 pub returns : goal.returns
 returns g c =
     let i = c.loop-batch.invariant in
     let is = run_is c.requires.1.1.0 in
-    let all = enough g c in
+    let all : length g.begun.run.requests ≤ c.loop-batch.batch.collected =
+    omega (arith, c.loop-batch-test.false, counted c.requires.1.1.1.1.0 (c.len.ensures _)) in
     let end = ends_all g.B.Bus.meaning i.under_way all c.tell.ensures.told c.tell.ensures.written c.tell.ensures.silent
     (c.requires.1.1.1.0.page_size ∙ ap (λ (r : Run). r.geometry.page_size) (sym is)) in
     record {

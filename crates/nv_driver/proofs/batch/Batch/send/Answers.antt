@@ -2,13 +2,12 @@ use Rattle.nv_driver.proofs.Words.{[], ℕ, ◌%◌, ◌+◌, ◌<◌, ◌∙◌
 use Rattle.nv_driver.proofs.Words.{IsRequest, IsSubmittedAt, List, Request, all_pages, ap, arith, bytes_from_host}
 use Rattle.nv_driver.proofs.Words.{data_count, get_or, get_or-set_same, get_or_default, length, length_of, limit_of}
 use Rattle.nv_driver.proofs.Words.{mod_below, place_in, request_as, set, set-get_or, setting_of, slot, subst, sym}
-use Rattle.nv_driver.proofs.PointerLaws.{data_fits}
-use Rattle.nv_driver.proofs.CommandPageLaws.{all_count, no_pages, place_of_set}
+use Rattle.nv_driver.proofs.PointerLaws.{all_count, data_fits, no_pages, place_of_set}
 use Rattle.nv_driver.proofs.OnWayLaws.{geometry_is, has_bank}
 use Rattle.nv_driver.proofs.RoundLaws.{rings}
 use Rattle.nv_driver.proofs.SubmittingLaws.{submitted_as}
 use Rattle.nv_driver.proofs.TurnLaws.{no_command}
-use Rattle.nv_driver.proofs.UnderWayLaws.{IsSentIn, free_slot, room_few, set_has, still_inside, submits}
+use Rattle.nv_driver.proofs.UnderWayLaws.{IsSentIn, counted, free_slot, room_few, set_has, still_inside, submits}
 use Rattle.nv_driver.proofs.UnderWayLaws.{tail_after}
 use Rattle.nv_driver.proofs.batch.Batch.send.Goals.{After-outgoing-request}
 use Rattle.nv_driver.proofs.batch.Batch.send.Given as given
@@ -29,14 +28,7 @@ sent_as g c =
     let limit = limit_of g.begun.run.bus.state g.begun.run.controller in
     let of = c.requires.1.1.0 in
     let below : n < length g.begun.run.requests =
-    omega (
-      arith,
-      c.len.ensures limit,
-      ap (λ (qs : List Request). length qs) of.requests,
-      c.min.ensures,
-      c.loop-number-test.true,
-      c.loop-number.auto.number,
-    ) in (
+    omega (arith, counted of (c.len.ensures _), c.min.ensures, c.loop-number-test.true, c.loop-number.auto.number) in (
       below,
       rw (← of.requests) (c.outgoing-request.ensures limit no_command.request),
       of.can n no_command.request below,
@@ -177,8 +169,7 @@ returns-in-Some-clause-under_way g c =
     let window = ap (λ (q : Geometry). q.window)
     (c.geometry.view_is ∙ c.geometry-geometry.ensures ∙ geometry_is c.requires.1.1.1.0.on_way) in
     let of = c.requires.1.1.0 in
-    let many = c.len.ensures (limit_of g.begun.run.bus.state g.begun.run.controller)
-    ∙ ap (λ (qs : List Request). length qs) of.requests in
+    let many = counted of (c.len.ensures _) in
     rw (← collected) at (rings i.under_way
     (some.0 ∙ ap (slot (setting_of g.begun.run)) (sym sent)) w.state w.banks w.bus w.written w.rung (sym collected)
     (omega (arith, c.requires.1.1.1.1, collected, told)) (omega (arith, sent, collected, window, many))

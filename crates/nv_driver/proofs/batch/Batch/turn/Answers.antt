@@ -3,7 +3,7 @@ use Rattle.nv_driver.proofs.Words.{Batch, Command, CommandPages, Geometry, IsHel
 use Rattle.nv_driver.proofs.Words.{Pages, QueuePairFields, Request, Sent, all_pages, ap, arith, get_or, get_or-map}
 use Rattle.nv_driver.proofs.Words.{get_or_default, inl, length, length-map, length-take, limit_of, map, min, mod_below}
 use Rattle.nv_driver.proofs.Words.{place_in, refl, request_of, requests_in, set, set-get_or, subst, sym}
-use Rattle.nv_driver.proofs.CommandPageLaws.{no_pages}
+use Rattle.nv_driver.proofs.PointerLaws.{no_pages}
 use Rattle.nv_driver.proofs.OnWayLaws.{can_collect, geometry_is}
 use Rattle.nv_driver.proofs.RoundLaws.{answer_buffer, answers_more, awaits, can_give, collects, count_few, hears}
 use Rattle.nv_driver.proofs.RoundLaws.{command_result_with, held_at, number_inside, received_on, takes, tells_on}

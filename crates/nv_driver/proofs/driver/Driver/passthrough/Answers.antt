@@ -2,7 +2,7 @@ use Rattle.nv_driver.proofs.Words.{[], ℕ, ◌∙◌, ◌∷◌, CommandPages, 
 use Rattle.nv_driver.proofs.Words.{IsReceived, List, Pages, QueuePairFields, SendsAll, World, after_some, all_pages, ap}
 use Rattle.nv_driver.proofs.Words.{arith, asked_in, command_result_of, entry_step, get_or, length, limit_of, place_in}
 use Rattle.nv_driver.proofs.Words.{refl, request_for, rules, run_of, subst, sym}
-use Rattle.nv_driver.proofs.CommandPageLaws.{no_pages}
+use Rattle.nv_driver.proofs.PointerLaws.{no_pages}
 use Rattle.nv_driver.proofs.AdminLaws.{HasPair, after_first, cid_is, driver_after, goes_over, left_at, linked_after}
 use Rattle.nv_driver.proofs.AdminLaws.{ready_by, shape_at, value_after}
 use Rattle.nv_driver.proofs.ExchangeLaws.{CanPass, few_pages, its_buffer, left_with, of_entry, own_ready, pages_back}
